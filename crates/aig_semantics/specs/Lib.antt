@@ -1,0 +1,5 @@
+pub mod Literals
+pub mod Circuits
+pub mod Valuations
+pub mod Runs
+pub mod Stimuli

@@ -1,0 +1,17 @@
+-- Variables, literals, and what a list of values makes of them (AIGER 1.9; Biere, Heljanko, Wieringa, 2011).
+use Rattle.std.specs.Prelude.{ℕ, ◌/◌, ◌%◌, ◌==◌, Bool, true, false, not, List, slice_index_or, if◌then◌else◌}
+
+-- variable v has the literals 2v and 2v + 1
+abbrev pub variable_of : ℕ → ℕ
+variable_of literal = literal / 2
+
+-- the second of them is the negated one
+abbrev pub is_negated : ℕ → Bool
+is_negated literal = (literal % 2) == 1
+
+-- a list of values has the value of variable v at place v
+abbrev pub variable_in : List Bool → ℕ → Bool
+variable_in values v = slice_index_or values v false
+
+abbrev pub literal_in : List Bool → ℕ → Bool
+literal_in values literal = if is_negated literal then not (variable_in values (variable_of literal)) else variable_in values (variable_of literal)

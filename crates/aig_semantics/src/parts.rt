@@ -1,0 +1,28 @@
+//! Latches and gates. A variable `v` has the literals `2v` and `2v + 1`, its negation; variable 0 is false.
+
+/// The value that a latch begins with.
+#[derive(Clone, Copy, Debug, PartialEq, Eq)]
+pub enum Reset {
+    /// The latch begins with 0.
+    Zero,
+    /// The latch begins with 1.
+    One,
+    /// The latch begins with either value.
+    Free,
+}
+
+/// A latch: its variable, the literal that gives its next value, and its reset.
+#[derive(Clone, Copy, Debug, PartialEq, Eq)]
+pub struct Latch {
+    pub var: u64,
+    pub next: u64,
+    pub reset: Reset,
+}
+
+/// An and gate: its variable, and the two literals whose conjunction it is.
+#[derive(Clone, Copy, Debug, PartialEq, Eq)]
+pub struct Gate {
+    pub var: u64,
+    pub rhs0: u64,
+    pub rhs1: u64,
+}
