@@ -6,6 +6,6 @@ mod limits;
 mod parts;
 mod traces;
 
-pub use limits::{MAX_NUMBER, MAX_PROPERTY_LITERALS, MAX_VARIABLE};
+pub use limits::{MAX_MODEL_BYTES, MAX_NUMBER, MAX_PROPERTY_LITERALS, MAX_VARIABLE};
 pub use parts::{Gate, Latch, Reset};
 pub use traces::{Lasso, Position, Stimulus};

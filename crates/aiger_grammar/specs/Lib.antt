@@ -1,0 +1,4 @@
+pub mod Models
+pub mod Lines
+pub mod Texts
+pub mod FirstForm

@@ -1,0 +1,22 @@
+-- Lines, which end with a line feed; one that is missing at the very end of a text is read as there.
+use Rattle.std.specs.Prelude.{ℕ, List, [], ◌∷◌, ◌++◌, flat_map}
+use Rattle.text_grammar.specs.Pieces.{IsCut, cut_at}
+
+-- line stands at the front of bytes, a line feed ends it, and rest follows that
+abbrev pub IsLine : List ℕ → List ℕ → List ℕ → Type 0
+IsLine line bytes rest = IsCut 10 line bytes rest
+
+-- the pieces but for an empty one at the end
+abbrev pub without_empty_end : List (List ℕ) → List (List ℕ)
+without_empty_end [] = []
+without_empty_end ([] ∷ []) = []
+without_empty_end ((byte ∷ bytes) ∷ []) = (byte ∷ bytes) ∷ []
+without_empty_end (piece ∷ next ∷ pieces) = piece ∷ without_empty_end (next ∷ pieces)
+
+-- the lines of a text: a and a line feed are the one line a, and so is a alone; the empty text has no line
+abbrev pub lines_of : List ℕ → List (List ℕ)
+lines_of bytes = without_empty_end (cut_at 10 bytes)
+
+-- the text of the lines, each with a line feed behind it
+abbrev pub ended_lines : List (List ℕ) → List ℕ
+ended_lines lines = flat_map (λ line. line ++ 10 ∷ []) lines
