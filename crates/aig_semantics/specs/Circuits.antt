@@ -51,7 +51,7 @@ pub record IsChecked (c : Circuit) : Type 0 where
   pub used_defined : AreDefined c (used c)
   pub acyclic : (v : ℕ) → IsOnCycle c v → ⊥
 
--- the limits of this program on a circuit
+-- the limits of this program on a circuit, and the range of its literals
 pub record IsWithinLimits (c : Circuit) : Type 0 where
   pub max : c.max ≤ MAX_VARIABLE
   pub literals : All (λ literal. literal ≤ 2 * c.max + 1) (used c)
@@ -64,5 +64,5 @@ pub record IsWithinLimits (c : Circuit) : Type 0 where
   pub fairness : length c.fairness ≤ MAX_NUMBER
 
 -- the literals of property j, and then those of fairness
-abbrev pub literals_of : Circuit → ℕ → List ℕ
-literals_of c j = slice_index_or c.justice j [] ++ c.fairness
+abbrev pub fair_literals : Circuit → ℕ → List ℕ
+fair_literals c j = slice_index_or c.justice j [] ++ c.fairness

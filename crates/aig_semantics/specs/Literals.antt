@@ -9,9 +9,13 @@ variable_of literal = literal / 2
 abbrev pub is_negated : ℕ → Bool
 is_negated literal = (literal % 2) == 1
 
+-- the value of a literal, from the values of variables
+abbrev pub literal_by : (ℕ → Bool) → ℕ → Bool
+literal_by value literal = if is_negated literal then not (value (variable_of literal)) else value (variable_of literal)
+
 -- a list of values has the value of variable v at place v
 abbrev pub variable_in : List Bool → ℕ → Bool
 variable_in values v = slice_index_or values v false
 
 abbrev pub literal_in : List Bool → ℕ → Bool
-literal_in values literal = if is_negated literal then not (variable_in values (variable_of literal)) else variable_in values (variable_of literal)
+literal_in values literal = literal_by (variable_in values) literal

@@ -1,4 +1,5 @@
--- Positions, their successors, runs and fair lassos (AIGER 1.9; Biere, Heljanko, Wieringa, 2011).
+-- Positions, successors and runs, with constraints, resets, justice and fairness as in AIGER 1.9 (Biere, Heljanko,
+-- Wieringa, 2011); a fair lasso as in Liveness Checking as Safety Checking (Biere, Artho, Schuppan, 2002).
 use Rattle.std.specs.Prelude.{◌≡◌, ℕ, ◌-◌, ◌<◌, Bool, true, false, List, [], ◌∷◌, map, length, drop, Option, Some, slice_get, IsTrue}
 use Rattle.std.specs.List.{All, Any, AllZip}
 use Rattle.aig_semantics.specs.declared.parts.Latch.{Latch}
@@ -6,7 +7,7 @@ use Rattle.aig_semantics.specs.declared.parts.Reset.{Reset}
 use Rattle.aig_semantics.specs.declared.parts.Reset.TheVariants.{Zero, One, Free}
 use Rattle.aig_semantics.specs.declared.traces.Position.{Position}
 use Rattle.aig_semantics.specs.Literals.{literal_in}
-use Rattle.aig_semantics.specs.Circuits.{Circuit, literals_of}
+use Rattle.aig_semantics.specs.Circuits.{Circuit, fair_literals}
 use Rattle.aig_semantics.specs.Valuations.{valuation}
 
 -- a position has a value for each latch and each input
@@ -26,15 +27,19 @@ abbrev pub successor : Circuit → Position → List Bool
 successor c p = map (λ latch. literal_at c p latch.next) c.latches
 
 -- a position at which every constraint is true
-pub record IsAllowed (c : Circuit) (p : Position) : Type 0 where
+pub record MeetsConstraints (c : Circuit) (p : Position) : Type 0 where
   pub position : IsPosition c p
   pub constraints : All (λ literal. IsTrue (literal_at c p literal)) c.constraints
 
--- positions, possibly none, at which every constraint is true, and each one's latches are the successor of the one before
+-- the first position, if there is one, has these latches
+abbrev pub StartsIn : List Bool → List Position → Type 0
+StartsIn state [] = Unit {0}
+StartsIn state (p ∷ run) = p.latches ≡ state
+
+-- positions, possibly none, at which every constraint is true, and each one's successor is the latches of the next
 abbrev pub IsRun : Circuit → List Position → Type 0
 IsRun c [] = Unit {0}
-IsRun c (p ∷ []) = IsAllowed c p
-IsRun c (p ∷ q ∷ run) = IsAllowed c p × (q.latches ≡ successor c p) × IsRun c (q ∷ run)
+IsRun c (p ∷ run) = MeetsConstraints c p × StartsIn (successor c p) run × IsRun c run
 
 -- a latch with this reset may begin with the value
 abbrev pub AgreesWith : Reset → Bool → Type 0
@@ -59,6 +64,10 @@ pub record ClosesAt (c : Circuit) (run : List Position) (from : ℕ) : Type 0 wh
   pub is_last : slice_get run (length run - 1) ≡ Some last
   pub closes : successor c last ≡ first.latches
 
+-- each literal of property j and each fairness literal is true at some of these positions
+abbrev pub MeetsFairness : Circuit → ℕ → List Position → Type 0
+MeetsFairness c j positions = All (λ literal. Any (λ p. IsTrue (literal_at c p literal)) positions) (fair_literals c j)
+
 -- An initial run whose last position steps back to place `from`, with each literal of property j and each fairness
 -- literal true at some position from there on.
 pub record IsFairLasso (c : Circuit) (j : ℕ) (run : List Position) (from : ℕ) : Type 0 where
@@ -66,4 +75,4 @@ pub record IsFairLasso (c : Circuit) (j : ℕ) (run : List Position) (from : ℕ
   pub initial : IsInitialRun c run
   pub inside : from < length run
   pub closes : ClosesAt c run from
-  pub fair : All (λ literal. Any (λ p. IsTrue (literal_at c p literal)) (drop from run)) (literals_of c j)
+  pub fair : MeetsFairness c j (drop from run)

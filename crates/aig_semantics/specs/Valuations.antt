@@ -3,17 +3,24 @@ use Rattle.std.specs.Prelude.{◌≡◌, ℕ, zero, suc, ◌+◌, ◌==◌, Bool
 use Rattle.std.specs.List.{All, Contains, find}
 use Rattle.aig_semantics.specs.declared.parts.Latch.{Latch}
 use Rattle.aig_semantics.specs.declared.parts.Gate.{Gate}
-use Rattle.aig_semantics.specs.Literals.{variable_of, is_negated, variable_in, literal_in}
+use Rattle.aig_semantics.specs.Literals.{literal_by, variable_in}
 use Rattle.aig_semantics.specs.Circuits.{Circuit, defined}
 
--- The values of the variables 0 to max: latches and inputs have the given values, each gate is the conjunction of
--- its right sides, and a variable that is defined nowhere, as variable 0, is false.
+-- the conjunction of a gate's right sides
+abbrev pub conjunction : (ℕ → Bool) → Gate → Bool
+conjunction value gate = literal_by value gate.rhs0 && literal_by value gate.rhs1
+
+-- Variable 0 is false, latches and inputs have the given values, and each gate is the conjunction of its right sides.
+pub record MeetsEquations (c : Circuit) (latches inputs : List Bool) (value : ℕ → Bool) : Type 0 where
+  pub constant : value 0 ≡ false
+  pub given_latches : map (λ latch. value latch.var) c.latches ≡ latches
+  pub given_inputs : map value c.inputs ≡ inputs
+  pub conjunctions : All (λ gate. value gate.var ≡ conjunction value gate) c.gates
+
+-- The values of the variables 0 to max: they meet the equations, and a variable that is defined nowhere is false.
 pub record IsValuation (c : Circuit) (latches inputs values : List Bool) : Type 0 where
   pub size : length values ≡ c.max + 1
-  pub constant : variable_in values 0 ≡ false
-  pub given_latches : map (λ latch. variable_in values latch.var) c.latches ≡ latches
-  pub given_inputs : map (variable_in values) c.inputs ≡ inputs
-  pub conjunctions : All (λ gate. variable_in values gate.var ≡ (literal_in values gate.rhs0 && literal_in values gate.rhs1)) c.gates
+  pub equations : MeetsEquations c latches inputs (variable_in values)
   pub nowhere : (v : ℕ) → (Contains (defined c) v → ⊥) → variable_in values v ≡ false
 
 -- The same values, computed. The value that stands beside v
@@ -22,15 +29,9 @@ value_beside [] values v = None
 value_beside (u ∷ us) [] v = None
 value_beside (u ∷ us) (b ∷ values) v = if u == v then Some b else value_beside us values v
 
--- the value of a variable that is a latch or an input
+-- the value of a variable that is an input or a latch
 unfoldable pub given_value : Circuit → List Bool → List Bool → ℕ → Option Bool
-given_value c latches inputs v = value_beside (map (λ latch. latch.var) c.latches ++ c.inputs) (latches ++ inputs) v
-
--- the conjunction of two literals, from the values of variables
-abbrev pub conjunction : (ℕ → Bool) → Gate → Bool
-conjunction value gate =
-    let literal_value : ℕ → Bool = λ literal. if is_negated literal then not (value (variable_of literal)) else value (variable_of literal)
-    in literal_value gate.rhs0 && literal_value gate.rhs1
+given_value c latches inputs v = value_beside (c.inputs ++ map (λ latch. latch.var) c.latches) (inputs ++ latches) v
 
 -- the value of a variable, through a chain of at most this many gates
 unfoldable pub value_through : ℕ → List Gate → (ℕ → Option Bool) → ℕ → Bool

@@ -11,7 +11,7 @@ pub enum Reset {
     Free,
 }
 
-/// A latch: its variable, the literal that gives its next value, and its reset.
+/// A latch: its variable, from 1 to the circuit's greatest; the literal that gives its next value; its reset.
 #[derive(Clone, Copy, Debug, PartialEq, Eq)]
 pub struct Latch {
     pub var: u64,
@@ -19,7 +19,7 @@ pub struct Latch {
     pub reset: Reset,
 }
 
-/// An and gate: its variable, and the two literals whose conjunction it is.
+/// An and gate: its variable, from 1 to the circuit's greatest, and the two literals whose conjunction it is.
 #[derive(Clone, Copy, Debug, PartialEq, Eq)]
 pub struct Gate {
     pub var: u64,

@@ -1,22 +1,23 @@
-//! Positions, stimuli and lassos, with latches and inputs in the order of the file.
+//! Positions, stimuli and lassos. A list of latch values has one value for each latch, a list of input values one for
+//! each input, in the order of the file.
 
 use items::Items;
 
-/// A moment of a run: the values of all latches and of all inputs.
+/// A moment of a run: the values of the latches and of the inputs.
 #[derive(Debug, Drop)]
 pub struct Position {
     pub latches: Items<bool>,
     pub inputs: Items<bool>,
 }
 
-/// The first values of the latches, and the values of the inputs at each position.
+/// The values that the latches begin with, and a list of input values for each position.
 #[derive(Debug, Drop)]
 pub struct Stimulus {
     pub latches: Items<bool>,
     pub inputs: Items<Items<bool>>,
 }
 
-/// A run that a stimulus of `start` and `inputs` lays out, whose last position steps back to the position number
+/// The run of the stimulus of `start` and `inputs`, whose last position steps back to the position with the number
 /// `from`, counted from 0.
 #[derive(Debug, Drop)]
 pub struct Lasso {
