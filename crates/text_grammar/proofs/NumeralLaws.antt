@@ -1,10 +1,12 @@
 -- The laws of numbers in decimal.
 use Rattle.std.proofs.Common.{◌≡◌, ◌≢◌, ℕ, ◌+◌, ◌-◌, ◌*◌, ◌<◌, ◌≤◌, ◌^◌, ◌↔◌, Bool, true, false, not, ◌&&◌, cond, eqb, leb, List, [], ◌∷◌, ◌++◌, length, get_or, take, drop, Option, Some, None, refl, ap, sym, ◌∙◌, subst, true≢false, inl, inr, eq-zero-or-pos, arith, rules}
-use Rattle.std.specs.Prelude.{decimal, IsInRange, take_while}
+use Rattle.std.specs.Prelude.{decimal, take_while}
 use Rattle.std.specs.Char.{digit_value}
+use Rattle.std.specs.Int.{IsInRange}
 use Rattle.std.specs.Str.Parse.{AllDigits, digits_value}
-use Rattle.std.proofs.lemmas.Bool.{ne_eqb, eq-eqb, le-leb, leb-true}
-use Rattle.std.proofs.lemmas.Option.{cond_some, same_Some}
+use Rattle.std.proofs.lemmas.Bool.{ne_eqb, eq-eqb, le-leb, leb-true, lt-leb}
+use Rattle.std.proofs.Math.Bool.{and-false}
+use Rattle.std.proofs.lemmas.Option.{cond_some, same_Some, none-some}
 use Rattle.std.proofs.lemmas.Str.{digit_value_digit}
 use Rattle.std.proofs.lemmas.Str.Parse.{IsNumeralModel, numerals_by_value, tells_digits, digit_from_value}
 use Rattle.std.proofs.lemmas.Fmt.{decimal_is_IsNumeral, decimal_digit, decimal_nonempty, first_decimal, decimal-digits_value, decimal_injective}
@@ -25,7 +27,7 @@ digit_from_range : (b : ℕ) → IsInRange 48 57 b → is_digit b ≡ true
 digit_from_range b h i = (le-leb 48 b h.0 i && le-leb b 57 h.1 i)
 
 -- digits are the front of a text that goes on with no digit
-pub IsFront : List ℕ → List ℕ → Type 0
+abbrev pub IsFront : List ℕ → List ℕ → Type 0
 IsFront digits bytes =
     AllDigits 10 digits × (bytes ≡ digits ++ drop (length digits) bytes) × (begins_with_digit (drop (length digits) bytes) ≡ false)
 
@@ -111,3 +113,30 @@ has_one_numeral limit m n bytes rest more low first second =
     let same : Some (m, rest) ≡ Some (n, more) = sym (stands_read limit m bytes rest low first) ∙ stands_read limit n bytes more low second in
     let pair : (m, rest) ≡ (n, more) = same_Some _ _ same in
     (ap (λ x. x.0) pair, ap (λ x. x.1) pair)
+
+-- the three ends of the reading, by the digits at the front
+pub reads_unplain : (limit : ℕ) (bytes digits : List ℕ) → digits ≡ take_while is_digit bytes → is_plain digits ≡ false → number_at limit bytes ≡ None
+unfolding number_at read_digits
+reads_unplain limit bytes digits front unplain =
+    ap (read_digits limit bytes) (sym front)
+    ∙ ap (λ t. cond (t && leb (digits_value 10 digits) limit) (Some (digits_value 10 digits, drop (length digits) bytes)) None) unplain
+
+pub reads_too_great : (limit : ℕ) (bytes digits : List ℕ) → digits ≡ take_while is_digit bytes → limit < digits_value 10 digits → number_at limit bytes ≡ None
+unfolding number_at read_digits
+reads_too_great limit bytes digits front great =
+    ap (read_digits limit bytes) (sym front)
+    ∙ ap (λ t. cond (is_plain digits && t) (Some (digits_value 10 digits, drop (length digits) bytes)) None) (lt-leb (digits_value 10 digits) limit great)
+    ∙ ap (λ t. cond t (Some (digits_value 10 digits, drop (length digits) bytes)) None) (and-false (is_plain digits))
+
+pub reads_plain : (limit : ℕ) (bytes digits rest : List ℕ) → digits ≡ take_while is_digit bytes → rest ≡ drop (length digits) bytes
+    → is_plain digits ≡ true → digits_value 10 digits ≤ limit → number_at limit bytes ≡ Some (digits_value 10 digits, rest)
+unfolding number_at read_digits
+reads_plain limit bytes digits rest front behind plain small =
+    ap (read_digits limit bytes) (sym front)
+    ∙ ap (λ t. cond (t && leb (digits_value 10 digits) limit) (Some (digits_value 10 digits, drop (length digits) bytes)) None) plain
+    ∙ ap (λ t. cond t (Some (digits_value 10 digits, drop (length digits) bytes)) None) (le-leb _ limit small)
+    ∙ ap (λ r. Some (digits_value 10 digits, r)) (sym behind)
+
+-- where nothing is read, no number stands
+pub none_stands : (limit : ℕ) (bytes : List ℕ) → limit < 2 ^ 63 → number_at limit bytes ≡ None → (n : ℕ) (rest : List ℕ) → IsNumeral limit n bytes rest → ⊥
+none_stands limit bytes low none n rest stands = none-some _ (sym none ∙ stands_read limit n bytes rest low stands)
