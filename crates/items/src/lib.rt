@@ -95,3 +95,6 @@ impl<T: Copy> Items<T> {
         Items::from_slice(alloc, self.as_slice())
     }
 }
+
+#[cfg(test)]
+mod tests;

@@ -6,16 +6,20 @@ use Rattle.text_grammar.specs.Pieces.{IsCut, cut_at}
 abbrev pub IsLine : List ℕ → List ℕ → List ℕ → Type 0
 IsLine line bytes rest = IsCut 10 line bytes rest
 
--- the pieces but for an empty one at the end
-abbrev pub without_empty_end : List (List ℕ) → List (List ℕ)
-without_empty_end [] = []
-without_empty_end ([] ∷ []) = []
-without_empty_end ((byte ∷ bytes) ∷ []) = (byte ∷ bytes) ∷ []
-without_empty_end (piece ∷ next ∷ pieces) = piece ∷ without_empty_end (next ∷ pieces)
+-- what follows the last line feed is a line where it has a byte
+abbrev pub unended_line : List ℕ → List (List ℕ)
+unended_line [] = []
+unended_line (byte ∷ bytes) = (byte ∷ bytes) ∷ []
+
+-- the pieces between the line feeds, but for an empty one at the end
+abbrev pub lines_of_pieces : List (List ℕ) → List (List ℕ)
+lines_of_pieces [] = []
+lines_of_pieces (piece ∷ []) = unended_line piece
+lines_of_pieces (piece ∷ next ∷ pieces) = piece ∷ lines_of_pieces (next ∷ pieces)
 
 -- the lines of a text: a and a line feed are the one line a, and so is a alone; the empty text has no line
 abbrev pub lines_of : List ℕ → List (List ℕ)
-lines_of bytes = without_empty_end (cut_at 10 bytes)
+lines_of bytes = lines_of_pieces (cut_at 10 bytes)
 
 -- the text of the lines, each with a line feed behind it
 abbrev pub ended_lines : List (List ℕ) → List ℕ

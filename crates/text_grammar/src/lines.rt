@@ -26,6 +26,6 @@ pub fn next_line(bytes: &[u8]) -> Option<(&[u8], &[u8])>
     }
     match cut_line(bytes) {
         Some((line, rest)) => Some((line, rest)),
-        None => Some((bytes, &bytes[bytes.len()..])),
+        None => Some((bytes, &[])),
     }
 }
