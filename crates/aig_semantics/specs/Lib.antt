@@ -3,3 +3,4 @@ pub mod Circuits
 pub mod Valuations
 pub mod Runs
 pub mod Stimuli
+pub mod Examples

@@ -5,6 +5,7 @@
 mod limits;
 mod parts;
 mod traces;
+pub mod worked_rows;
 
 pub use limits::{MAX_MODEL_BYTES, MAX_NUMBER, MAX_PROPERTY_LITERALS, MAX_VARIABLE};
 pub use parts::{Gate, Latch, Reset};
