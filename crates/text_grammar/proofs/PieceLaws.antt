@@ -42,5 +42,5 @@ pub cuts_joined : CutsJoined
 cuts_joined byte piece [] lack = cuts_none byte piece (All-head (λ p. Lacks p byte) piece [] lack)
 cuts_joined byte piece (next ∷ pieces) lack =
     cuts_first byte piece _ (join_with_byte byte (next ∷ pieces))
-        (record { spelled = refl; first = All-head (λ p. Lacks p byte) piece (next ∷ pieces) lack })
+    (record { spelled = refl; first = All-head (λ p. Lacks p byte) piece (next ∷ pieces) lack })
     ∙ ap (λ ps. piece ∷ ps) (cuts_joined byte next pieces (All-tail (λ p. Lacks p byte) piece (next ∷ pieces) lack))
