@@ -1,9 +1,9 @@
 -- The laws of the lines of a text.
-use Rattle.std.proofs.Common.{◌≡◌, ◌≢◌, ℕ, ◌⊎◌, inl, inr, Bool, true, false, cond, eqb, List, [], ◌∷◌, ◌++◌, flat_map, refl, ap, sym, ◌∙◌, append_assoc, append-nil, subst, arith, rules}
+use Rattle.std.proofs.Common.{◌≡◌, ◌≢◌, ℕ, ◌⊎◌, inl, inr, Bool, true, false, cond, eqb, List, [], ◌∷◌, ◌++◌, refl, ap, sym, ◌∙◌, append_assoc, append-nil, subst}
 use Rattle.std.specs.List.{join_with_byte, onto_first, All}
 use Rattle.std.proofs.lemmas.List.Elements.{All-cons, All-head, All-tail, All-nil}
-use Rattle.text_grammar.specs.Pieces.{Lacks, IsCut, cut_at}
-use Rattle.text_grammar.specs.Lines.{IsLine, unended_line, lines_of_pieces, lines_of, ended_lines}
+use Rattle.text_grammar.specs.Pieces.{Lacks, cut_at}
+use Rattle.text_grammar.specs.Lines.{unended_line, lines_of_pieces, lines_of, ended_lines}
 use Rattle.text_grammar.specs.Laws.{FirstLine, LastLine, NoLine, LinesLackLineFeed, ReadsWrittenLines, LinesAreText}
 use Rattle.text_grammar.proofs.PieceLaws.{joins_pieces, pieces_lack_byte, cuts_first, cuts_none}
 
