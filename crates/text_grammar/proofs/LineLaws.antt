@@ -1,9 +1,9 @@
 -- The laws of the lines of a text.
-use Rattle.std.proofs.Common.{◌≡◌, ◌≢◌, ℕ, ◌⊎◌, inl, inr, Bool, true, false, cond, eqb, List, [], ◌∷◌, ◌++◌, flat_map, refl, ap, sym, ◌∙◌, append_assoc, append-nil, subst, arith, rules}
+use Rattle.std.proofs.Common.{◌≡◌, ◌≢◌, ℕ, ◌⊎◌, inl, inr, Bool, true, false, cond, eqb, List, [], ◌∷◌, ◌++◌, refl, ap, sym, ◌∙◌, append_assoc, append-nil, subst}
 use Rattle.std.specs.List.{join_with_byte, onto_first, All}
 use Rattle.std.proofs.lemmas.List.Elements.{All-cons, All-head, All-tail, All-nil}
-use Rattle.text_grammar.specs.Pieces.{Lacks, IsCut, cut_at}
-use Rattle.text_grammar.specs.Lines.{IsLine, unended_line, lines_of_pieces, lines_of, ended_lines}
+use Rattle.text_grammar.specs.Pieces.{Lacks, cut_at}
+use Rattle.text_grammar.specs.Lines.{unended_line, lines_of_pieces, lines_of, ended_lines}
 use Rattle.text_grammar.specs.Laws.{FirstLine, LastLine, NoLine, LinesLackLineFeed, ReadsWrittenLines, LinesAreText}
 use Rattle.text_grammar.proofs.PieceLaws.{joins_pieces, pieces_lack_byte, cuts_first, cuts_none}
 
@@ -51,7 +51,7 @@ lines_lack [] lack = All-nil _
 lines_lack (piece ∷ []) lack = unended_lacks piece (All-head (λ p. Lacks p 10) piece [] lack)
 lines_lack (piece ∷ next ∷ pieces) lack =
     All-cons (λ p. Lacks p 10) piece (lines_of_pieces (next ∷ pieces)) (All-head (λ p. Lacks p 10) piece (next ∷ pieces) lack)
-        (lines_lack (next ∷ pieces) (All-tail (λ p. Lacks p 10) piece (next ∷ pieces) lack))
+    (lines_lack (next ∷ pieces) (All-tail (λ p. Lacks p 10) piece (next ∷ pieces) lack))
 
 pub lines_lack_line_feed : LinesLackLineFeed
 lines_lack_line_feed bytes = lines_lack (cut_at 10 bytes) (pieces_lack_byte 10 bytes)
@@ -60,7 +60,7 @@ pub reads_written_lines : ReadsWrittenLines
 reads_written_lines [] lack = refl
 reads_written_lines (line ∷ lines) lack =
     first_line line (ended_lines (line ∷ lines)) (ended_lines lines)
-        (record { spelled = append_assoc line (10 ∷ []) (ended_lines lines); first = All-head (λ p. Lacks p 10) line lines lack })
+    (record { spelled = append_assoc line (10 ∷ []) (ended_lines lines); first = All-head (λ p. Lacks p 10) line lines lack })
     ∙ ap (λ ls. line ∷ ls) (reads_written_lines lines (All-tail (λ p. Lacks p 10) line lines lack))
 
 -- the ended lines are the text of the pieces, or lack its last line feed

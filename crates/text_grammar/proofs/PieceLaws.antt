@@ -1,10 +1,10 @@
 -- The laws of a text that is cut at a byte.
-use Rattle.std.proofs.Common.{◌≡◌, ◌≢◌, ℕ, ◌<◌, Bool, true, false, cond, eqb, List, [], ◌∷◌, ◌++◌, length, get_or, refl, ap, sym, ◌∙◌, subst, true≢false, arith, rules}
+use Rattle.std.proofs.Common.{◌≡◌, ◌≢◌, ℕ, Bool, true, false, cond, eqb, List, [], ◌∷◌, refl, ap, sym, ◌∙◌, true≢false}
 use Rattle.std.proofs.lemmas.Bool.{ne_eqb, eq-eqb}
-use Rattle.std.specs.List.{slice_split, onto_first, join_with_byte, All}
+use Rattle.std.specs.List.{onto_first, join_with_byte, All}
 use Rattle.std.proofs.lemmas.List.Elements.{All-cons, All-head, All-tail, All-nil, All-weaker}
 use Rattle.std.proofs.lemmas.List.Splits.{slice_split_none, slice_split_at, join_with_byte-slice_split}
-use Rattle.text_grammar.specs.Pieces.{Lacks, IsCut, cut_at}
+use Rattle.text_grammar.specs.Pieces.{Lacks, cut_at}
 use Rattle.text_grammar.specs.Laws.{JoinsPieces, PiecesLackByte, CutsJoined, CutsFirst, CutsNone}
 
 -- where the byte is lacked, the test for it fails everywhere
@@ -42,5 +42,5 @@ pub cuts_joined : CutsJoined
 cuts_joined byte piece [] lack = cuts_none byte piece (All-head (λ p. Lacks p byte) piece [] lack)
 cuts_joined byte piece (next ∷ pieces) lack =
     cuts_first byte piece _ (join_with_byte byte (next ∷ pieces))
-        (record { spelled = refl; first = All-head (λ p. Lacks p byte) piece (next ∷ pieces) lack })
+    (record { spelled = refl; first = All-head (λ p. Lacks p byte) piece (next ∷ pieces) lack })
     ∙ ap (λ ps. piece ∷ ps) (cuts_joined byte next pieces (All-tail (λ p. Lacks p byte) piece (next ∷ pieces) lack))

@@ -1,10 +1,14 @@
 -- Lines, which end with a line feed; one that is missing at the very end of a text is read as there.
-use Rattle.std.specs.Prelude.{ℕ, List, [], ◌∷◌, ◌++◌, flat_map}
-use Rattle.text_grammar.specs.Pieces.{IsCut, cut_at}
+use Rattle.std.specs.Prelude.{◌≡◌, ◌⊎◌, ℕ, List, [], ◌∷◌, ◌++◌, flat_map}
+use Rattle.text_grammar.specs.Pieces.{IsCut, Lacks, cut_at}
 
 -- line stands at the front of bytes, a line feed ends it, and rest follows that
 abbrev pub IsLine : List ℕ → List ℕ → List ℕ → Type 0
 IsLine line bytes rest = IsCut 10 line bytes rest
+
+-- line stands at the front of bytes, up to a line feed that rest follows, or up to the end of the text
+abbrev pub IsNextLine : List ℕ → List ℕ → List ℕ → Type 0
+IsNextLine line bytes rest = IsLine line bytes rest ⊎ ((line ≡ bytes) × (rest ≡ []) × Lacks bytes 10)
 
 -- what follows the last line feed is a line where it has a byte
 abbrev pub unended_line : List ℕ → List (List ℕ)

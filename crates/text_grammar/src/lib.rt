@@ -10,3 +10,6 @@ pub use laws::text_laws;
 pub use lines::{cut_line, next_line};
 pub use numbers::{push_number, read_number};
 pub use pieces::{cut_first, next_field};
+
+#[cfg(test)]
+mod tests;

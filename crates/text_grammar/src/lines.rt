@@ -1,6 +1,6 @@
 //! The lines of a text. The main calls are `cut_line`, which wants the line feed, and `next_line`.
 ghost use Rattle.std.specs.Prelude.{◌≡◌, ◌∷◌, ◌<◌, [], length, IfSome, IfNone};
-ghost use Rattle.text_grammar.specs.Lines.{IsLine, lines_of};
+ghost use Rattle.text_grammar.specs.Lines.{IsLine, IsNextLine, lines_of};
 ghost use Rattle.text_grammar.specs.Pieces.{Lacks};
 
 use crate::pieces::cut_first;
@@ -18,6 +18,7 @@ pub fn cut_line(bytes: &[u8]) -> Option<(&[u8], &[u8])>
 /// there. `None` where no line is left, which is at the end of the text.
 pub fn next_line(bytes: &[u8]) -> Option<(&[u8], &[u8])>
     ensures found { IfSome result (λ x. lines_of bytes.now ≡ x.0.now ∷ lines_of x.1.now) }
+    ensures stands { IfSome result (λ x. IsNextLine x.0.now bytes.now x.1.now) }
     ensures shorter { IfSome result (λ x. length x.1.now < length bytes.now) }
     ensures none { IfNone result (bytes.now ≡ []) }
 {

@@ -8,4 +8,4 @@ returns-in-Some-clause-found c = first_line _ _ _ c.in-Some.ensures.found
 pub returns-in-None-clause-found : goal.returns-in-None-clause-found
 returns-in-None-clause-found c =
     last_line c.args.bytes.now c.in-None.ensures.none
-        (λ none. true≢false (sym (ap (λ bytes. eqb (length bytes) 0) none) ∙ sym c.is_empty.ensures ∙ c.if-is_empty.false))
+    (λ none. true≢false (sym (ap (λ bytes. eqb (length bytes) 0) none) ∙ sym c.is_empty.ensures ∙ c.if-is_empty.false))

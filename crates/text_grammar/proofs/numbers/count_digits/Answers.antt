@@ -1,4 +1,4 @@
-use Rattle.std.proofs.Common.{lt_irrefl, ◌≡◌, ◌≤◌, ◌<◌, length, sym, ◌∙◌, arith}
+use Rattle.std.proofs.Common.{lt_irrefl, ◌≡◌, ◌≤◌, length, sym, ◌∙◌, arith}
 use Rattle.std.proofs.lemmas.List.Sums.{prefix_len_is}
 use Rattle.text_grammar.specs.Numerals.{is_digit}
 use Rattle.text_grammar.proofs.numbers.count_digits.Goals as goal

@@ -1,7 +1,7 @@
-use Rattle.std.proofs.Common.{◌≡◌, ◌≤◌, ◌∙◌, Some, option_map, ap, sym, take, drop, subst, length, arith, rules}
+use Rattle.std.proofs.Common.{◌≡◌, ◌≤◌, ◌∙◌, Some, option_map, ap, sym, take, drop, subst, arith}
 use Rattle.std.specs.Prelude.{take_while}
 use Rattle.std.specs.Str.Parse.{AllDigits, digits_value}
-use Rattle.text_grammar.specs.Numerals.{is_digit, number_at}
+use Rattle.text_grammar.specs.Numerals.{is_digit}
 use Rattle.text_grammar.proofs.NumeralLaws.{front_is, reads_unplain, reads_too_great, reads_plain, none_stands, read_stands}
 use Rattle.text_grammar.proofs.numbers.read_number.Goals as goal
 
