@@ -1,2 +1,4 @@
 pub mod Lassos
 pub mod Checking
+pub mod Lists
+pub mod Values

@@ -33,14 +33,16 @@ value_beside (u ∷ us) (b ∷ values) v = if u == v then Some b else value_besi
 unfoldable pub given_value : Circuit → List Bool → List Bool → ℕ → Option Bool
 given_value c latches inputs v = value_beside (c.inputs ++ map (λ latch. latch.var) c.latches) (inputs ++ latches) v
 
+-- the value of a gate, and false where there is none
+abbrev pub gate_value : (ℕ → Bool) → Option Gate → Bool
+gate_value value None = false
+gate_value value (Some gate) = conjunction value gate
+
 -- the value of a variable, through a chain of at most this many gates
 unfoldable pub value_through : ℕ → List Gate → (ℕ → Option Bool) → ℕ → Bool
 value_through zero gates given v = unwrap_or (given v) false
 value_through (suc depth) gates given v =
-    elim (given v) [
-      | Some b ↦ b
-      | None ↦ elim (find (λ gate. gate.var == v) gates) [ Some gate ↦ conjunction (value_through depth gates given) gate | None ↦ false ]
-    ]
+    unwrap_or (given v) (gate_value (value_through depth gates given) (find (λ gate. gate.var == v) gates))
 
 -- value 0, value 1, .. below n
 unfoldable pub values_below : ℕ → (ℕ → Bool) → List Bool

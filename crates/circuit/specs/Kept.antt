@@ -1,0 +1,21 @@
+-- What a `Circuit` keeps.
+use Rattle.std.specs.Prelude.{◌≡◌, []}
+use Rattle.aig_semantics.specs.Circuits.{Circuit, IsChecked, IsWithinLimits}
+use Rattle.circuit.specs.declared.circuits.Circuit.TheInside.{Inside}
+
+-- the circuit that it is seen as
+abbrev pub seen_as : Inside → Circuit
+seen_as s = record {
+  max = s.greatest;
+  inputs = s.inputs;
+  latches = s.latches;
+  gates = s.gates;
+  constraints = s.constraints;
+  justice = s.justice;
+  fairness = s.fairness
+}
+
+pub record IsKept (s : Inside) : Type 0 where
+  pub checked : IsChecked (seen_as s)
+  pub limits : IsWithinLimits (seen_as s)
+  pub no_gate : s.gates ≡ []

@@ -1,0 +1,12 @@
+//! Checked circuits and what is computed of them: the valuation of a position, its successor, which states are
+//! initial, and whether a lasso is fair. The meaning of circuits stands in `aig_semantics`.
+#![tactic(auto)]
+
+mod circuits;
+mod faults;
+mod parts;
+
+pub use aig_semantics::{Gate, Lasso, Latch, Position, Reset, Stimulus};
+pub use circuits::Circuit;
+pub use faults::{ModelEnd, ModelFault};
+pub use parts::Parts;
