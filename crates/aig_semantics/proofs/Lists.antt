@@ -34,6 +34,14 @@ AllDiffer-across vs us h v (i, first, at) (j, second, there) =
     h i (length vs + j) v (omega arith) (omega (arith, length-append vs us))
     (get_or_append_left vs us v i first ∙ at ∙ sym (get_or-append-add vs us j v ∙ there))
 
+-- ---- the parts of a list
+
+pub All-left : {X : Type 0} (P : X → Type 0) (xs ys : List X) → All P (xs ++ ys) → All P xs
+All-left P xs ys h = λ k d below. subst P (get_or_append_left xs ys d k below) (h k d (omega (arith, length-append xs ys)))
+
+pub All-right : {X : Type 0} (P : X → Type 0) (xs ys : List X) → All P (xs ++ ys) → All P ys
+All-right P xs ys h = λ k d below. subst P (get_or-append-add xs ys k d) (h (length xs + k) d (omega (arith, length-append xs ys)))
+
 -- ---- the value beside a variable
 
 -- where each variable has the value f beside it, the value that is found is f's

@@ -3,10 +3,12 @@
 #![tactic(auto)]
 
 mod circuits;
+mod evaluating;
 mod faults;
 mod parts;
 
 pub use aig_semantics::{Gate, Lasso, Latch, Position, Reset, Stimulus};
 pub use circuits::Circuit;
+pub use evaluating::{eval_into, literal_value, next_into, one_valuation};
 pub use faults::{ModelEnd, ModelFault};
 pub use parts::Parts;

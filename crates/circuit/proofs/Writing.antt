@@ -1,0 +1,133 @@
+-- The steps of writing a valuation.
+use Rattle.std.proofs.Common.{◌≡◌, ◌≢◌, ℕ, suc, ◌+◌, ◌<◌, ◌≤◌, Bool, true, false, cond, List, [], ◌∷◌, ◌++◌, map, length, get_or, drop, set, unwrap_or, replicate, refl, sym, ap, ◌∙◌, subst, ◌↔◌, Option, inl, inr, arith}
+use Rattle.std.specs.List.{All, Contains}
+use Rattle.std.proofs.lemmas.Bool.{cases_eq, cases_lt, eq-eqb, ne_eqb}
+use Rattle.std.proofs.lemmas.List.{drop_more, drop_all, length-map, get_or-map, length-set, length-replicate, get_or-replicate, get_or_past, ext_get_or, get_or-set_same, get_or-set_other}
+use Rattle.std.proofs.lemmas.List.Elements.{All-head, All-tail}
+use Rattle.aig_semantics.specs.declared.parts.Latch.{Latch}
+use Rattle.aig_semantics.specs.declared.parts.Gate.{Gate}
+use Rattle.aig_semantics.specs.Circuits.{Circuit, defined, IsChecked}
+use Rattle.aig_semantics.specs.Valuations.{value_beside, given_value, value_through, values_below, valuation, IsValuation}
+use Rattle.aig_semantics.proofs.Lists.{AllDiffer, AllDiffer-tail, AllDiffer-left, value_beside-none, All-left, All-right}
+use Rattle.aig_semantics.proofs.Values.{IsRanking, given_variables, gate_variables, length-values_below, get_or-values_below, length-valuation, valuation-only, valuation-meets}
+use Rattle.circuit.specs.Evaluation.{with_values}
+
+-- one variable more
+pub with_values_more : (vs : List ℕ) (given out : List Bool) (i e : ℕ) (d : Bool) → i < length vs → length given ≡ length vs → with_values (drop i vs) (drop i given) out ≡ with_values (drop (i + 1) vs) (drop (i + 1) given) (set out (get_or vs i e) (get_or given i d))
+unfolding with_values
+with_values_more vs given out i e d below fit =
+    let inside : i < length given = omega arith in
+    ap (λ xs. with_values xs (drop i given) out) (drop_more vs i e below)
+    ∙ ap (λ xs. with_values (get_or vs i e ∷ drop (i + 1) vs) xs out) (drop_more given i d inside)
+
+pub with_values_end : (vs : List ℕ) (given out : List Bool) (i : ℕ) → length vs ≤ i → with_values (drop i vs) given out ≡ out
+unfolding with_values
+with_values_end vs given out i all = ap (λ xs. with_values xs given out) (drop_all i vs all)
+
+-- the same, where the variables are those of a list
+pub with_values_of_more : {X : Type 0} (key : X → ℕ) (xs : List X) (given out : List Bool) (i : ℕ) (x : X) (d : Bool) → i < length xs → length given ≡ length xs → with_values (drop i (map key xs)) (drop i given) out ≡ with_values (drop (i + 1) (map key xs)) (drop (i + 1) given) (set out (key (get_or xs i x)) (get_or given i d))
+with_values_of_more key xs given out i x d below fit =
+    with_values_more (map key xs) given out i 0 d (omega (arith, length-map xs key)) (fit ∙ sym (length-map xs key))
+    ∙ ap (λ v. with_values (drop (i + 1) (map key xs)) (drop (i + 1) given) (set out v (get_or given i d))) (get_or-map key xs i x 0 below)
+
+pub with_values_of_end : {X : Type 0} (key : X → ℕ) (xs : List X) (given out : List Bool) (i : ℕ) → length xs ≤ i → with_values (drop i (map key xs)) given out ≡ out
+with_values_of_end key xs given out i all = with_values_end (map key xs) given out i (omega (arith, length-map xs key))
+
+-- ---- what the list is in the end
+
+pub length-with_values : (vs : List ℕ) (given out : List Bool) → length (with_values vs given out) ≡ length out
+unfolding with_values
+length-with_values [] given out = refl
+length-with_values (v ∷ vs) [] out = refl
+length-with_values (v ∷ vs) (b ∷ given) out = length-with_values vs given (set out v b) ∙ length-set out v b
+
+pub with_values-append : (vs us : List ℕ) (given more out : List Bool) → length vs ≡ length given → with_values (vs ++ us) (given ++ more) out ≡ with_values us more (with_values vs given out)
+unfolding with_values
+with_values-append [] us [] more out fit = refl
+with_values-append [] us (b ∷ given) more out fit = absurd (omega arith)
+with_values-append (v ∷ vs) us [] more out fit = absurd (omega arith)
+with_values-append (v ∷ vs) us (b ∷ given) more out fit = with_values-append vs us given more (set out v b) (omega arith)
+
+-- where the variables differ, each has the value beside it, and the other places are as they were
+pub get_or-with_values : (vs : List ℕ) (given out : List Bool) (v : ℕ) → AllDiffer vs → All (λ u. u < length out) vs → get_or (with_values vs given out) v false ≡ unwrap_or (value_beside vs given v) (get_or out v false)
+unfolding with_values value_beside
+get_or-with_values [] given out v differ inside = refl
+get_or-with_values (u ∷ us) [] out v differ inside = refl
+get_or-with_values (u ∷ us) (b ∷ given) out v differ inside =
+    let rest : All (λ w. w < length (set out u b)) us = λ k d below. rw length-set (All-tail (λ w. w < length out) u us inside k d below) in
+    get_or-with_values us given (set out u b) v (AllDiffer-tail u us differ) rest
+    ∙ elim (cases_eq u v) [
+      | inl e ↦
+        let gone = value_beside-none us given v (λ c. differ 0 (suc c.0) v (omega arith) (let l : c.0 < length us = c.1 in omega arith) (e ∙ sym c.2)) in
+        let at : get_or (set out u b) v false ≡ b =
+          ap (λ w. get_or (set out u b) w false) (sym e) ∙ get_or-set_same out u b false (All-head (λ w. w < length out) u us inside)
+        in
+        rw (gone, eq-eqb u v e) at
+      | inr ne ↦
+        rw (ne_eqb u v ne)
+        (ap (λ x. unwrap_or (value_beside us given v) x) (get_or-set_other out u v b false (λ e. ne (sym e))))
+    ]
+
+-- ---- a circuit without gates
+
+get_or-replicate_same : {X : Type 0} (n v : ℕ) (x : X) → get_or (replicate n x) v x ≡ x
+get_or-replicate_same n v x =
+    elim (cases_lt v n) [
+      | inl lt ↦ get_or-replicate n v x x lt
+      | inr ge ↦ get_or_past (replicate n x) v x (omega (arith, length-replicate n x))
+    ]
+
+-- inputs and latches on a list of false values
+abbrev pub given_list : Circuit → List Bool → List Bool → List Bool
+given_list c latches inputs =
+    with_values (map (λ latch. latch.var) c.latches) latches (with_values c.inputs inputs (replicate (c.max + 1) false))
+
+module _ (c : Circuit) (latches inputs : List Bool) (in_range : All (λ v. (1 ≤ v) × (v ≤ c.max)) (defined c)) (once : AllDiffer (defined c)) (latches_fit : length latches ≡ length c.latches) (inputs_fit : length inputs ≡ length c.inputs) where
+  pub length-given_list : length (given_list c latches inputs) ≡ c.max + 1
+  length-given_list =
+      length-with_values (map (λ latch. latch.var) c.latches) latches (with_values c.inputs inputs (replicate (c.max + 1) false))
+      ∙ (length-with_values c.inputs inputs (replicate (c.max + 1) false) ∙ length-replicate (c.max + 1) false)
+
+  pub get_or-given_list : (v : ℕ) → get_or (given_list c latches inputs) v false ≡ unwrap_or (given_value c latches inputs v) false
+  unfolding given_value
+  get_or-given_list v =
+      ap (λ xs. get_or xs v false) (sym (with_values-append c.inputs (map (λ latch. latch.var) c.latches) inputs latches (replicate (c.max + 1) false) (sym inputs_fit)))
+      ∙ (get_or-with_values (given_variables c) (inputs ++ latches) (replicate (c.max + 1) false) v
+        (AllDiffer-left (given_variables c) (gate_variables c) once)
+        (λ k d below.
+          let range = All-left (λ u. (1 ≤ u) × (u ≤ c.max)) (given_variables c) (gate_variables c) in_range k d below in
+          omega (arith, length-replicate (c.max + 1) false))
+      ∙ ap (λ x. unwrap_or (value_beside (given_variables c) (inputs ++ latches) v) x) (get_or-replicate_same (c.max + 1) v false))
+
+no_gate-through : (gates : List Gate) (given : ℕ → Option Bool) (v : ℕ) → gates ≡ [] → value_through (length gates) gates given v ≡ unwrap_or (given v) false
+unfolding value_through
+no_gate-through gates given v e = ap (λ gs. value_through (length gs) gs given v) e
+
+pub given_list-is_valuation : (c : Circuit) (latches inputs : List Bool) → c.gates ≡ [] → IsChecked c → length latches ≡ length c.latches → length inputs ≡ length c.inputs → given_list c latches inputs ≡ valuation c latches inputs
+unfolding valuation
+given_list-is_valuation c latches inputs no_gate checked latches_fit inputs_fit =
+    let through : ℕ → Bool = value_through (length c.gates) c.gates (given_value c latches inputs) in
+    let size = length-given_list c latches inputs checked.in_range checked.once latches_fit inputs_fit in
+    ext_get_or false (given_list c latches inputs) (values_below (c.max + 1) through) (size ∙ sym (length-values_below (c.max + 1) through))
+    (λ v below.
+      let inside : v < c.max + 1 = omega (arith, size) in
+      get_or-given_list c latches inputs checked.in_range checked.once latches_fit inputs_fit v
+      ∙ (sym (no_gate-through c.gates (given_value c latches inputs) v no_gate)
+      ∙ sym (get_or-values_below (c.max + 1) through v false inside)))
+
+-- without gates any rank will do
+no_gate-ranking : (c : Circuit) → c.gates ≡ [] → IsRanking c.gates (λ _. 0)
+no_gate-ranking c no_gate = record { above = λ k d below. absurd (omega (arith, ap length no_gate)); bound = λ v. omega arith }
+
+pub one_valuation-law : (c : Circuit) (latches inputs values : List Bool) → c.gates ≡ [] → IsChecked c → length latches ≡ length c.latches → length inputs ≡ length c.inputs → IsValuation c latches inputs values ↔ (values ≡ valuation c latches inputs)
+one_valuation-law c latches inputs values no_gate checked latches_fit inputs_fit =
+    let ranking = no_gate-ranking c no_gate in
+    (valuation-only c latches inputs values (λ _. 0) ranking,
+    λ e. subst (λ xs. IsValuation c latches inputs xs) (sym e) (valuation-meets c latches inputs (λ _. 0) ranking checked.in_range checked.once latches_fit inputs_fit))
+
+pub latches_in_range : (c : Circuit) → IsChecked c → All (λ latch. (1 ≤ latch.var) × (latch.var ≤ c.max)) c.latches
+latches_in_range c checked k d below =
+    let Range : ℕ → Type 0 = λ u. (1 ≤ u) × (u ≤ c.max) in
+    let given = All-left Range (given_variables c) (gate_variables c) checked.in_range in
+    let vars = All-right Range c.inputs (map (λ latch. latch.var) c.latches) given in
+    rw (get_or-map (λ latch. latch.var) c.latches k d 0 below) at (vars k 0 (omega (arith, length-map c.latches (λ latch. latch.var))))
