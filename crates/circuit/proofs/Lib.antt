@@ -1,1 +1,4 @@
 pub mod Writing
+pub mod Counting
+pub mod Marking
+pub mod Verdicts

@@ -70,7 +70,7 @@ get_or-with_values (u ∷ us) (b ∷ given) out v differ inside =
 
 -- ---- a circuit without gates
 
-get_or-replicate_same : {X : Type 0} (n v : ℕ) (x : X) → get_or (replicate n x) v x ≡ x
+pub get_or-replicate_same : {X : Type 0} (n v : ℕ) (x : X) → get_or (replicate n x) v x ≡ x
 get_or-replicate_same n v x =
     elim (cases_lt v n) [
       | inl lt ↦ get_or-replicate n v x x lt

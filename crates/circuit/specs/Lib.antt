@@ -1,3 +1,5 @@
 pub mod Sections
 pub mod Kept
 pub mod Evaluation
+pub mod Marks
+pub mod Faults

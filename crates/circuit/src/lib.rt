@@ -2,12 +2,15 @@
 //! initial, and whether a lasso is fair. The meaning of circuits stands in `aig_semantics`.
 #![tactic(auto)]
 
+mod checking;
 mod circuits;
 mod evaluating;
 mod faults;
+mod marks;
 mod parts;
 
 pub use aig_semantics::{Gate, Lasso, Latch, Position, Reset, Stimulus};
+pub use checking::check_circuit;
 pub use circuits::Circuit;
 pub use evaluating::{eval_into, literal_value, next_into, one_valuation};
 pub use faults::{ModelEnd, ModelFault};

@@ -1,0 +1,89 @@
+-- What the answer of the check of a circuit tells.
+use Rattle.std.proofs.Common.{◌≡◌, ◌≢◌, ℕ, suc, ◌+◌, ◌<◌, ◌≤◌, ◌==◌, ◌⊎◌, List, [], ◌∷◌, ◌++◌, length, get_or, Result, Ok, Err, refl, sym, ap, ◌∙◌, subst, inl, inr, arith}
+use Rattle.std.specs.List.{All, Any, Contains}
+use Rattle.std.proofs.lemmas.List.{append_assoc}
+use Rattle.aig_semantics.specs.declared.parts.Gate.{Gate}
+use Rattle.aig_semantics.specs.Literals.{variable_of}
+use Rattle.aig_semantics.specs.Circuits.{Circuit, defined, used, AreDefined, IsChecked, IsOnCycle, Reads, ReadsThrough}
+use Rattle.aig_semantics.proofs.Lists.{All-left}
+use Rattle.circuit.specs.declared.parts.Parts.{Parts}
+use Rattle.circuit.specs.declared.faults.ModelFault.{ModelFault}
+use Rattle.circuit.specs.declared.faults.ModelFault.TheVariants.{Header, Number, Range, Undefined, Twice, Cycle, Truncated, Limit, Trailing, Symbol}
+use Rattle.circuit.specs.declared.faults.ModelEnd.{ModelEnd}
+use Rattle.circuit.specs.declared.faults.ModelEnd.TheVariants.{Fault, Memory}
+use Rattle.circuit.specs.Sections.{circuit_of, used_by, AreInRange}
+use Rattle.circuit.specs.Faults.{IsLeast, IsTwice, IsFirstTwice, IsUndefined, IsFirstUndefined, IsOnce, IsDefined, HasFault, AnswersExactlyWhere}
+use Rattle.circuit.proofs.Counting.{count, count-differ}
+
+-- ---- a circuit that has no fault is checked
+
+Reads-none : (c : Circuit) → c.gates ≡ [] → (v w : ℕ) → Reads c v w → ⊥
+Reads-none c no_gate v w any = let below : any.0 < length c.gates = any.2 in omega (arith, ap length no_gate)
+
+IsOnCycle-none : (c : Circuit) → c.gates ≡ [] → (v w : ℕ) (between : List ℕ) → ReadsThrough c v between w → ⊥
+IsOnCycle-none c no_gate v w [] h = Reads-none c no_gate v w h
+IsOnCycle-none c no_gate v w (u ∷ between) h = Reads-none c no_gate v u h.0
+
+AreDefined-left : (c : Circuit) (ls more : List ℕ) → AreDefined c (ls ++ more) → AreDefined c ls
+AreDefined-left c ls more h = All-left (λ literal. (variable_of literal ≡ 0) ⊎ Contains (defined c) (variable_of literal)) ls more h
+
+pub IsChecked-from : (parts : Parts) → AreInRange parts → parts.gates ≡ [] → IsDefined parts → IsChecked (circuit_of parts)
+IsChecked-from parts h no_gate sound = record {
+  in_range = h.variables;
+  once = sound.once;
+  used_defined = AreDefined-left (circuit_of parts) (used (circuit_of parts)) (parts.outputs ++ parts.bad) (subst (λ ls. AreDefined (circuit_of parts) ls) (append_assoc (used (circuit_of parts)) parts.outputs parts.bad) sound.defined);
+  acyclic = λ v cycle. IsOnCycle-none (circuit_of parts) no_gate v v cycle.0 cycle.1
+}
+
+-- ---- faults exclude each other
+
+pub first-is_one : (P : ℕ → Type 0) (v w : ℕ) → IsLeast P v → IsLeast P w → v ≡ w
+first-is_one P v w a b = let l = a.least w b.holds in let m = b.least v a.holds in omega arith
+
+pub once-not_twice : (parts : Parts) (v : ℕ) → IsOnce parts → IsTwice parts v → ⊥
+once-not_twice parts v once twice = omega (arith, count-differ v (defined (circuit_of parts)) once)
+
+pub defined-not_undefined : (parts : Parts) (v : ℕ) → AreDefined (circuit_of parts) (used_by parts) → IsUndefined parts v → ⊥
+defined-not_undefined parts v all undefined =
+    let any = undefined.used in
+    let e : variable_of (get_or (used_by parts) any.0 any.1) ≡ v = ap variable_of any.3 ∙ any.4 in
+    elim (all any.0 any.1 any.2) [
+      | inl zero ↦ let positive = undefined.positive in omega arith
+      | inr there ↦ undefined.nowhere (subst (λ u. Contains (defined (circuit_of parts)) u) e there)
+    ]
+
+-- ---- each answer, clause by clause
+
+same-fault : (T : Type 0) (f g : ModelFault) → ◌≡◌ {A = Result T ModelEnd} (Err (Fault f)) (Err (Fault g)) → f ≡ g
+same-fault T f g e = cc
+
+fault-only : (T : Type 0) (parts : Parts) (f g : ModelFault) → HasFault parts f → ◌≡◌ {A = Result T ModelEnd} (Err (Fault f)) (Err (Fault g)) → HasFault parts g
+fault-only T parts f g has e = subst (λ x. HasFault parts x) (same-fault T f g e) has
+
+twice-is : (parts : Parts) (f : ModelFault) (v : ℕ) → HasFault parts f → IsFirstTwice parts v → f ≡ Twice v
+twice-is parts (Twice w) v has first = ap (λ x. Twice x) (first-is_one (IsTwice parts) w v has first)
+twice-is parts (Undefined w) v has first = absurd (once-not_twice parts v has.once first.holds)
+twice-is parts _ v has first = absurd has
+
+undefined-is : (parts : Parts) (f : ModelFault) (v : ℕ) → HasFault parts f → IsFirstUndefined parts v → f ≡ Undefined v
+undefined-is parts (Twice w) v has first = absurd (once-not_twice parts w first.once has.holds)
+undefined-is parts (Undefined w) v has first = ap (λ x. Undefined x) (first-is_one (IsUndefined parts) w v has.first first.first)
+undefined-is parts _ v has first = absurd has
+
+pub refused-twice : (T : Type 0) (parts : Parts) (f : ModelFault) → HasFault parts f → (v : ℕ) → AnswersExactlyWhere {T = T} (Err (Fault f)) (Twice v) (IsFirstTwice parts v)
+refused-twice T parts f has v = record {
+  only = fault-only T parts f (Twice v) has;
+  whenever = λ first. inl (ap (λ x. Err (Fault x)) (twice-is parts f v has first))
+}
+
+pub refused-undefined : (T : Type 0) (parts : Parts) (f : ModelFault) → HasFault parts f → (v : ℕ) → AnswersExactlyWhere {T = T} (Err (Fault f)) (Undefined v) (IsFirstUndefined parts v)
+refused-undefined T parts f has v = record {
+  only = fault-only T parts f (Undefined v) has;
+  whenever = λ first. inl (ap (λ x. Err (Fault x)) (undefined-is parts f v has first))
+}
+
+pub kept-twice : (T : Type 0) (x : T) (parts : Parts) → IsDefined parts → (v : ℕ) → AnswersExactlyWhere {T = T} (Ok x) (Twice v) (IsFirstTwice parts v)
+kept-twice T x parts sound v = record { only = λ e. cc; whenever = λ first. absurd (once-not_twice parts v sound.once first.holds) }
+
+pub kept-undefined : (T : Type 0) (x : T) (parts : Parts) → IsDefined parts → (v : ℕ) → AnswersExactlyWhere {T = T} (Ok x) (Undefined v) (IsFirstUndefined parts v)
+kept-undefined T x parts sound v = record { only = λ e. cc; whenever = λ first. absurd (defined-not_undefined parts v sound.defined first.first.holds) }

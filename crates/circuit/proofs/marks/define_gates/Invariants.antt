@@ -1,0 +1,6 @@
+use Rattle.std.proofs.Common.{◌≡◌, fold, take}
+use Rattle.circuit.specs.Marks.{with_definition, with_use}
+use Rattle.circuit.proofs.marks.define_gates.Given as goal
+
+abbrev pub invariant-loop-gate : goal.invariant-loop-gate
+invariant-loop-gate l = l.marks ≡ fold (λ m gate. with_definition m gate.var) l.initial.marks (take l.gate-index l.gates)
