@@ -28,8 +28,8 @@ Contains-from_count u (v ∷ vs) h =
     elim (cases_eq v u) [
       | inl e ↦ (0, omega arith, e)
       | inr ne ↦
-        let rest = Contains-from_count u vs (omega (arith, count-other u v vs ne)) in
-        (suc rest.0, (let l : rest.0 < length vs = rest.1 in omega arith), rest.2)
+          let rest = Contains-from_count u vs (omega (arith, count-other u v vs ne)) in
+          (suc rest.0, (let l : rest.0 < length vs = rest.1 in omega arith), rest.2)
     ]
 
 pub count-from_Contains : (u : ℕ) (vs : List ℕ) → Contains vs u → 1 ≤ count u vs
@@ -50,9 +50,9 @@ count-differ u (v ∷ vs) h =
     elim (cases_eq v u) [
       | inl e ↦ elim (cases_lt 0 (count u vs)) [
         | inl lt ↦
-          let there = Contains-from_count u vs (omega arith) in
-          let l : there.0 < length vs = there.1 in
-          absurd (h 0 (suc there.0) u (omega arith) (omega arith) (e ∙ sym there.2))
+            let there = Contains-from_count u vs (omega arith) in
+            let l : there.0 < length vs = there.1 in
+            absurd (h 0 (suc there.0) u (omega arith) (omega arith) (e ∙ sym there.2))
         | inr ge ↦ omega (arith, count-same u v vs e)
       ]
       | inr ne ↦ omega (arith, count-other u v vs ne)
@@ -71,10 +71,10 @@ AllDiffer-from_count (v ∷ vs) h =
     AllDiffer-cons v vs
     (λ there. omega (arith, count-from_Contains v vs there, count-same v v vs refl, h v))
     (AllDiffer-from_count vs (λ u.
-      elim (cases_eq v u) [
-        | inl e ↦ omega (arith, count-same u v vs e, h u)
-        | inr ne ↦ omega (arith, count-other u v vs ne, h u)
-      ]))
+    elim (cases_eq v u) [
+      | inl e ↦ omega (arith, count-same u v vs e, h u)
+      | inr ne ↦ omega (arith, count-other u v vs ne, h u)
+    ]))
 
 -- ---- lists of lists
 

@@ -2,3 +2,4 @@ pub mod Writing
 pub mod Counting
 pub mod Marking
 pub mod Verdicts
+pub mod Following

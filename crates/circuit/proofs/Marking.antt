@@ -45,7 +45,7 @@ uses-in_turn parts m0 m1 m2 m3 m4 m5 m6 m7 e1 e2 e3 e4 e5 e6 e7 =
     let g = fold-flat_map with_use (λ gate. gate.rhs0 ∷ gate.rhs1 ∷ []) m1 parts.gates in
     let j = fold-flat_map with_use (λ property. property) m3 parts.justice in
     let after = λ (ls : List ℕ) (xs : List ℕ) (m n : List Mark) (so_far : m ≡ fold with_use m0 ls) (next : n ≡ fold with_use m xs).
-      next ∙ (ap (λ z. fold with_use z xs) so_far ∙ sym (fold-append with_use m0 ls xs))
+    next ∙ (ap (λ z. fold with_use z xs) so_far ∙ sym (fold-append with_use m0 ls xs))
     in
     let s1 : m1 ≡ fold with_use m0 latches = e1 ∙ sym l in
     let s2 = after latches gates m1 m2 s1 (e2 ∙ sym g) in
@@ -66,8 +66,8 @@ DefinesBelow-from parts h =
       inputs = All-left Below parts.inputs (map (λ latch. latch.var) parts.latches) given;
       latches = All-unmap Below (λ latch. latch.var) parts.latches (All-right Below parts.inputs (map (λ latch. latch.var) parts.latches) given);
       gates =
-        All-unmap Below (λ gate. gate.var) parts.gates
-        (All-right Below (parts.inputs ++ map (λ latch. latch.var) parts.latches) (map (λ gate. gate.var) parts.gates) all)
+          All-unmap Below (λ gate. gate.var) parts.gates
+          (All-right Below (parts.inputs ++ map (λ latch. latch.var) parts.latches) (map (λ gate. gate.var) parts.gates) all);
     }
 
 -- a literal within the limits has its variable within them
@@ -103,7 +103,7 @@ UsesBelow-from parts h =
       justice = All-parts Below (λ property. property) parts.justice (All-right Below (latches ++ gates ++ parts.constraints) justice four);
       fairness = All-right Below (latches ++ gates ++ parts.constraints ++ justice) parts.fairness five;
       outputs = All-right Below (used (circuit_of parts)) parts.outputs six;
-      bad = All-right Below (used (circuit_of parts) ++ parts.outputs) parts.bad all
+      bad = All-right Below (used (circuit_of parts) ++ parts.outputs) parts.bad all;
     }
 
 -- ---- the mark of a variable after all definitions
@@ -129,19 +129,19 @@ unfolding with_definition
 mark-definitions [] marks u n inside e = e ∙ ap mark_for (omega arith)
 mark-definitions (v ∷ vs) marks u n inside e =
     let rest : All (λ w. w < length (with_definition marks v)) vs =
-      λ k d below. rw length-set (All-tail (λ w. w < length marks) v vs inside k d below)
+    λ k d below. rw length-set (All-tail (λ w. w < length marks) v vs inside k d below)
     in
     elim (cases_eq v u) [
       | inl same ↦
-        mark-definitions vs (with_definition marks v) u (suc n) rest
-        (ap (λ w. get_or (with_definition marks v) w Nowhere) (sym same)
-        ∙ (get_or-set_same marks v (defined_again (get_or marks v Nowhere)) Nowhere (All-head (λ w. w < length marks) v vs inside)
-        ∙ (ap (λ w. defined_again (get_or marks w Nowhere)) same ∙ (ap defined_again e ∙ defined_again-mark_for n))))
-        ∙ ap mark_for (omega (arith, count-same u v vs same))
+          mark-definitions vs (with_definition marks v) u (suc n) rest
+          (ap (λ w. get_or (with_definition marks v) w Nowhere) (sym same)
+          ∙ (get_or-set_same marks v (defined_again (get_or marks v Nowhere)) Nowhere (All-head (λ w. w < length marks) v vs inside)
+          ∙ (ap (λ w. defined_again (get_or marks w Nowhere)) same ∙ (ap defined_again e ∙ defined_again-mark_for n))))
+          ∙ ap mark_for (omega (arith, count-same u v vs same))
       | inr other ↦
-        mark-definitions vs (with_definition marks v) u n rest
-        (get_or-set_other marks v u (defined_again (get_or marks v Nowhere)) Nowhere (λ x. other (sym x)) ∙ e)
-        ∙ ap mark_for (omega (arith, count-other u v vs other))
+          mark-definitions vs (with_definition marks v) u n rest
+          (get_or-set_other marks v u (defined_again (get_or marks v Nowhere)) Nowhere (λ x. other (sym x)) ∙ e)
+          ∙ ap mark_for (omega (arith, count-other u v vs other))
     ]
 
 -- ---- the mark of a variable after all uses
@@ -177,22 +177,22 @@ unfolding with_use
 mark-uses [] marks u inside = refl
 mark-uses (l ∷ ls) marks u inside =
     let rest : All (λ literal. variable_of literal < length (with_use marks l)) ls =
-      λ k d below. rw length-set (All-tail (λ literal. variable_of literal < length marks) l ls inside k d below)
+    λ k d below. rw length-set (All-tail (λ literal. variable_of literal < length marks) l ls inside k d below)
     in
     mark-uses ls (with_use marks l) u rest
     ∙ elim (cases_eq (variable_of l) u) [
       | inl same ↦
-        let now : get_or (with_use marks l) u Nowhere ≡ when_used (get_or marks u Nowhere) =
+          let now : get_or (with_use marks l) u Nowhere ≡ when_used (get_or marks u Nowhere) =
           ap (λ w. get_or (with_use marks l) w Nowhere) (sym same)
           ∙ (get_or-set_same marks (variable_of l) (when_used (get_or marks (variable_of l) Nowhere)) Nowhere (All-head (λ literal. variable_of literal < length marks) l ls inside)
           ∙ ap (λ w. when_used (get_or marks w Nowhere)) same)
-        in
-        uses-same (mentions ls u) (variable_of l == u) (get_or (with_use marks l) u Nowhere) (get_or marks u Nowhere) (eq-eqb (variable_of l) u same) now
+          in
+          uses-same (mentions ls u) (variable_of l == u) (get_or (with_use marks l) u Nowhere) (get_or marks u Nowhere) (eq-eqb (variable_of l) u same) now
       | inr other ↦
-        let now : get_or (with_use marks l) u Nowhere ≡ get_or marks u Nowhere =
+          let now : get_or (with_use marks l) u Nowhere ≡ get_or marks u Nowhere =
           get_or-set_other marks (variable_of l) u (when_used (get_or marks (variable_of l) Nowhere)) Nowhere (λ x. other (sym x))
-        in
-        uses-other (mentions ls u) (variable_of l == u) (get_or (with_use marks l) u Nowhere) (get_or marks u Nowhere) (ne_eqb (variable_of l) u other) now
+          in
+          uses-other (mentions ls u) (variable_of l == u) (get_or (with_use marks l) u Nowhere) (get_or marks u Nowhere) (ne_eqb (variable_of l) u other) now
     ]
 
 -- ---- what a mark tells
@@ -297,10 +297,10 @@ module _ (parts : Parts) (h : AreInRange parts) where
   twice-first v m = record {
     holds = twice-of v m.here;
     least =
-      λ u more. elim (cases_lt u v) [
-        | inl lt ↦ absurd (m.before u lt (marked-twice u more))
-        | inr ge ↦ ge
-      ]
+        λ u more. elim (cases_lt u v) [
+          | inl lt ↦ absurd (m.before u lt (marked-twice u more))
+          | inr ge ↦ ge
+        ];
   }
 
   pub none-twice : All (λ mark. mark ≢ Twice) after_definitions → IsOnce parts
@@ -308,8 +308,8 @@ module _ (parts : Parts) (h : AreInRange parts) where
       AllDiffer-from_count all_defined
       (λ u. elim (cases_lt 1 (count u all_defined)) [
         | inl lt ↦
-          let range = range-of u (omega arith) in
-          absurd (all u Nowhere (omega (arith, length-definitions_of)) (marked-twice u lt))
+            let range = range-of u (omega arith) in
+            absurd (all u Nowhere (omega (arith, length-definitions_of)) (marked-twice u lt))
         | inr ge ↦ ge
       ])
 
@@ -331,7 +331,7 @@ module _ (parts : Parts) (h : AreInRange parts) where
       record {
         positive = omega arith;
         used = mentioned (used_by parts) (suc v) both.0;
-        nowhere = λ there. omega (arith, count-from_Contains (suc v) all_defined there, both.1)
+        nowhere = λ there. omega (arith, count-from_Contains (suc v) all_defined there, both.1);
       }
 
   marked-missing : (u : ℕ) → IsUndefined parts u → get_or after_uses u Nowhere ≡ Missing
@@ -350,11 +350,11 @@ module _ (parts : Parts) (h : AreInRange parts) where
     first = record {
       holds = missing-of v m.here;
       least =
-        λ u undefined. elim (cases_lt u v) [
-          | inl lt ↦ absurd (m.before u lt (marked-missing u undefined))
-          | inr ge ↦ ge
-        ]
-    }
+          λ u undefined. elim (cases_lt u v) [
+            | inl lt ↦ absurd (m.before u lt (marked-missing u undefined))
+            | inr ge ↦ ge
+          ];
+    };
   }
 
   defined-or : (k d u : ℕ) → All (λ mark. mark ≢ Missing) after_uses → k < length (used_by parts) → variable_of (get_or (used_by parts) k d) ≡ u → (u ≡ 0) ⊎ Contains all_defined u
@@ -363,13 +363,13 @@ module _ (parts : Parts) (h : AreInRange parts) where
       elim (cases_lt 0 (count (suc u) all_defined)) [
         | inl lt ↦ inr (Contains-from_count (suc u) all_defined (omega arith))
         | inr ge ↦
-          let range = used-below parts h k d below in
-          let undefined : IsUndefined parts (suc u) = record {
-            positive = omega arith;
-            used = (k, get_or (used_by parts) k d, below, get_or_default (used_by parts) k (get_or (used_by parts) k d) d below, e);
-            nowhere = λ there. omega (arith, count-from_Contains (suc u) all_defined there)
-          } in
-          absurd (all (suc u) Nowhere (omega (arith, length-uses_of)) (marked-missing (suc u) undefined))
+            let range = used-below parts h k d below in
+            let undefined : IsUndefined parts (suc u) = record {
+              positive = omega arith;
+              used = (k, get_or (used_by parts) k d, below, get_or_default (used_by parts) k (get_or (used_by parts) k d) d below, e);
+              nowhere = λ there. omega (arith, count-from_Contains (suc u) all_defined there);
+            } in
+            absurd (all (suc u) Nowhere (omega (arith, length-uses_of)) (marked-missing (suc u) undefined))
       ]
 
   pub none-missing : All (λ mark. mark ≢ Missing) after_uses → AreDefined (circuit_of parts) (used_by parts)

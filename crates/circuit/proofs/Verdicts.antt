@@ -32,7 +32,7 @@ IsChecked-from parts h no_gate sound = record {
   in_range = h.variables;
   once = sound.once;
   used_defined = AreDefined-left (circuit_of parts) (used (circuit_of parts)) (parts.outputs ++ parts.bad) (subst (λ ls. AreDefined (circuit_of parts) ls) (append_assoc (used (circuit_of parts)) parts.outputs parts.bad) sound.defined);
-  acyclic = λ v cycle. IsOnCycle-none (circuit_of parts) no_gate v v cycle.0 cycle.1
+  acyclic = λ v cycle. IsOnCycle-none (circuit_of parts) no_gate v v cycle.0 cycle.1;
 }
 
 -- ---- faults exclude each other
@@ -73,13 +73,13 @@ undefined-is parts _ v has first = absurd has
 pub refused-twice : (T : Type 0) (parts : Parts) (f : ModelFault) → HasFault parts f → (v : ℕ) → AnswersExactlyWhere {T = T} (Err (Fault f)) (Twice v) (IsFirstTwice parts v)
 refused-twice T parts f has v = record {
   only = fault-only T parts f (Twice v) has;
-  whenever = λ first. inl (ap (λ x. Err (Fault x)) (twice-is parts f v has first))
+  whenever = λ first. inl (ap (λ x. Err (Fault x)) (twice-is parts f v has first));
 }
 
 pub refused-undefined : (T : Type 0) (parts : Parts) (f : ModelFault) → HasFault parts f → (v : ℕ) → AnswersExactlyWhere {T = T} (Err (Fault f)) (Undefined v) (IsFirstUndefined parts v)
 refused-undefined T parts f has v = record {
   only = fault-only T parts f (Undefined v) has;
-  whenever = λ first. inl (ap (λ x. Err (Fault x)) (undefined-is parts f v has first))
+  whenever = λ first. inl (ap (λ x. Err (Fault x)) (undefined-is parts f v has first));
 }
 
 pub kept-twice : (T : Type 0) (x : T) (parts : Parts) → IsDefined parts → (v : ℕ) → AnswersExactlyWhere {T = T} (Ok x) (Twice v) (IsFirstTwice parts v)

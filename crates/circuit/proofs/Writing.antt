@@ -58,14 +58,14 @@ get_or-with_values (u ∷ us) (b ∷ given) out v differ inside =
     get_or-with_values us given (set out u b) v (AllDiffer-tail u us differ) rest
     ∙ elim (cases_eq u v) [
       | inl e ↦
-        let gone = value_beside-none us given v (λ c. differ 0 (suc c.0) v (omega arith) (let l : c.0 < length us = c.1 in omega arith) (e ∙ sym c.2)) in
-        let at : get_or (set out u b) v false ≡ b =
+          let gone = value_beside-none us given v (λ c. differ 0 (suc c.0) v (omega arith) (let l : c.0 < length us = c.1 in omega arith) (e ∙ sym c.2)) in
+          let at : get_or (set out u b) v false ≡ b =
           ap (λ w. get_or (set out u b) w false) (sym e) ∙ get_or-set_same out u b false (All-head (λ w. w < length out) u us inside)
-        in
-        rw (gone, eq-eqb u v e) at
+          in
+          rw (gone, eq-eqb u v e) at
       | inr ne ↦
-        rw (ne_eqb u v ne)
-        (ap (λ x. unwrap_or (value_beside us given v) x) (get_or-set_other out u v b false (λ e. ne (sym e))))
+          rw (ne_eqb u v ne)
+          (ap (λ x. unwrap_or (value_beside us given v) x) (get_or-set_other out u v b false (λ e. ne (sym e))))
     ]
 
 -- ---- a circuit without gates
@@ -93,10 +93,10 @@ module _ (c : Circuit) (latches inputs : List Bool) (in_range : All (λ v. (1 �
   get_or-given_list v =
       ap (λ xs. get_or xs v false) (sym (with_values-append c.inputs (map (λ latch. latch.var) c.latches) inputs latches (replicate (c.max + 1) false) (sym inputs_fit)))
       ∙ (get_or-with_values (given_variables c) (inputs ++ latches) (replicate (c.max + 1) false) v
-        (AllDiffer-left (given_variables c) (gate_variables c) once)
-        (λ k d below.
-          let range = All-left (λ u. (1 ≤ u) × (u ≤ c.max)) (given_variables c) (gate_variables c) in_range k d below in
-          omega (arith, length-replicate (c.max + 1) false))
+      (AllDiffer-left (given_variables c) (gate_variables c) once)
+      (λ k d below.
+      let range = All-left (λ u. (1 ≤ u) × (u ≤ c.max)) (given_variables c) (gate_variables c) in_range k d below in
+      omega (arith, length-replicate (c.max + 1) false))
       ∙ ap (λ x. unwrap_or (value_beside (given_variables c) (inputs ++ latches) v) x) (get_or-replicate_same (c.max + 1) v false))
 
 no_gate-through : (gates : List Gate) (given : ℕ → Option Bool) (v : ℕ) → gates ≡ [] → value_through (length gates) gates given v ≡ unwrap_or (given v) false
@@ -110,10 +110,10 @@ given_list-is_valuation c latches inputs no_gate checked latches_fit inputs_fit 
     let size = length-given_list c latches inputs checked.in_range checked.once latches_fit inputs_fit in
     ext_get_or false (given_list c latches inputs) (values_below (c.max + 1) through) (size ∙ sym (length-values_below (c.max + 1) through))
     (λ v below.
-      let inside : v < c.max + 1 = omega (arith, size) in
-      get_or-given_list c latches inputs checked.in_range checked.once latches_fit inputs_fit v
-      ∙ (sym (no_gate-through c.gates (given_value c latches inputs) v no_gate)
-      ∙ sym (get_or-values_below (c.max + 1) through v false inside)))
+    let inside : v < c.max + 1 = omega (arith, size) in
+    get_or-given_list c latches inputs checked.in_range checked.once latches_fit inputs_fit v
+    ∙ (sym (no_gate-through c.gates (given_value c latches inputs) v no_gate)
+    ∙ sym (get_or-values_below (c.max + 1) through v false inside)))
 
 -- without gates any rank will do
 no_gate-ranking : (c : Circuit) → c.gates ≡ [] → IsRanking c.gates (λ _. 0)
@@ -121,9 +121,10 @@ no_gate-ranking c no_gate = record { above = λ k d below. absurd (omega (arith,
 
 pub one_valuation-law : (c : Circuit) (latches inputs values : List Bool) → c.gates ≡ [] → IsChecked c → length latches ≡ length c.latches → length inputs ≡ length c.inputs → IsValuation c latches inputs values ↔ (values ≡ valuation c latches inputs)
 one_valuation-law c latches inputs values no_gate checked latches_fit inputs_fit =
-    let ranking = no_gate-ranking c no_gate in
-    (valuation-only c latches inputs values (λ _. 0) ranking,
-    λ e. subst (λ xs. IsValuation c latches inputs xs) (sym e) (valuation-meets c latches inputs (λ _. 0) ranking checked.in_range checked.once latches_fit inputs_fit))
+    let ranking = no_gate-ranking c no_gate in (
+      valuation-only c latches inputs values (λ _. 0) ranking,
+      λ e. subst (λ xs. IsValuation c latches inputs xs) (sym e) (valuation-meets c latches inputs (λ _. 0) ranking checked.in_range checked.once latches_fit inputs_fit),
+    )
 
 pub latches_in_range : (c : Circuit) → IsChecked c → All (λ latch. (1 ≤ latch.var) × (latch.var ≤ c.max)) c.latches
 latches_in_range c checked k d below =

@@ -12,7 +12,7 @@ seen_as s = record {
   gates = s.gates;
   constraints = s.constraints;
   justice = s.justice;
-  fairness = s.fairness
+  fairness = s.fairness;
 }
 
 pub record IsKept (s : Inside) : Type 0 where

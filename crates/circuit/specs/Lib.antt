@@ -3,3 +3,4 @@ pub mod Kept
 pub mod Evaluation
 pub mod Marks
 pub mod Faults
+pub mod Following

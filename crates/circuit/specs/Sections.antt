@@ -16,7 +16,7 @@ circuit_of parts = record {
   gates = parts.gates;
   constraints = parts.constraints;
   justice = parts.justice;
-  fairness = parts.fairness
+  fairness = parts.fairness;
 }
 
 -- what the text of a model shows of each number by itself, and of each list

@@ -8,7 +8,7 @@ ghost use Rattle.circuit.specs.Faults.{IsDefined, HasFault, IsFirstTwice, IsFirs
 
 use crate::circuits::Circuit;
 use crate::faults::{ModelEnd, ModelFault};
-use crate::marks::{first_marked, mark_definitions, mark_uses, Mark};
+use crate::marks::{Mark, first_marked, mark_definitions, mark_uses};
 use crate::parts::Parts;
 use aig_semantics::MAX_VARIABLE;
 use items::Items;

@@ -6,6 +6,7 @@ mod checking;
 mod circuits;
 mod evaluating;
 mod faults;
+mod lassos;
 mod marks;
 mod parts;
 
@@ -14,4 +15,5 @@ pub use checking::check_circuit;
 pub use circuits::Circuit;
 pub use evaluating::{eval_into, literal_value, next_into, one_valuation};
 pub use faults::{ModelEnd, ModelFault};
+pub use lassos::{is_fair_lasso, is_initial};
 pub use parts::Parts;

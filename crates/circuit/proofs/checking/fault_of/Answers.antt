@@ -25,6 +25,6 @@ pub returns : goal.returns
 returns c = record {
   once = once-told c.args.parts.now c.requires.in_range c.args.marks.now c.mark_definitions.new.marks c.requires.first c.mark_definitions.ensures c.in_default.ensures.none;
   defined =
-    defined-told c.args.parts.now c.requires.in_range c.args.marks.now c.mark_definitions.new.marks c.requires.first c.mark_definitions.ensures
-    c.mark_uses.new.marks c.mark_uses.ensures c.in_default-first_marked.ensures.none
+      defined-told c.args.parts.now c.requires.in_range c.args.marks.now c.mark_definitions.new.marks c.requires.first c.mark_definitions.ensures
+      c.mark_uses.new.marks c.mark_uses.ensures c.in_default-first_marked.ensures.none;
 }

@@ -10,9 +10,9 @@ put_latches-requires-clause-inside c =
     let checked = subst (λ x. IsChecked x) c.c.view_is c.c.invariant.checked in
     let same = c.as_slice-2.ensures ∙ ap (λ x. x.latches) c.c.view_is in
     let long : length c.put_inputs.new.out ≡ c.args.c.now.max + 1 =
-      ap length c.put_inputs.ensures
-      ∙ (length-with_values c.as_slice.result.now c.args.inputs.now c.clear.new.out
-      ∙ (ap length c.clear.ensures ∙ (length-replicate (length c.args.out.now) false ∙ c.requires.out)))
+    ap length c.put_inputs.ensures
+    ∙ (length-with_values c.as_slice.result.now c.args.inputs.now c.clear.new.out
+    ∙ (ap length c.clear.ensures ∙ (length-replicate (length c.args.out.now) false ∙ c.requires.out)))
     in
     subst (λ xs. All (λ latch. latch.var < length c.put_inputs.new.out) xs) (sym same)
     (λ k d below. let range = latches_in_range c.args.c.now checked k d below in omega arith)
