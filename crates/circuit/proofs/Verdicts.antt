@@ -87,3 +87,12 @@ kept-twice T x parts sound v = record { only = λ e. cc; whenever = λ first. ab
 
 pub kept-undefined : (T : Type 0) (x : T) (parts : Parts) → IsDefined parts → (v : ℕ) → AnswersExactlyWhere {T = T} (Ok x) (Undefined v) (IsFirstUndefined parts v)
 kept-undefined T x parts sound v = record { only = λ e. cc; whenever = λ first. absurd (defined-not_undefined parts v sound.defined first.first.holds) }
+
+-- a fault comes only where the model has no meaning
+has-no_meaning : (parts : Parts) (f : ModelFault) → HasFault parts f → IsChecked (circuit_of parts) → AreDefined (circuit_of parts) (used_by parts) → ⊥
+has-no_meaning parts (Twice v) has checked all = once-not_twice parts v checked.once has.holds
+has-no_meaning parts (Undefined v) has checked all = defined-not_undefined parts v all has.first.holds
+has-no_meaning parts _ has checked all = absurd has
+
+pub refused-faulty : (T : Type 0) (parts : Parts) (f : ModelFault) → HasFault parts f → (g : ModelFault) → ◌≡◌ {A = Result T ModelEnd} (Err (Fault f)) (Err (Fault g)) → IsChecked (circuit_of parts) → AreDefined (circuit_of parts) (used_by parts) → ⊥
+refused-faulty T parts f has g e = has-no_meaning parts g (fault-only T parts f g has e)

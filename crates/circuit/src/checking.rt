@@ -2,6 +2,7 @@
 
 ghost use Rattle.std.specs.Prelude.{◌≡◌, ◌≤◌, ℕ, [], IfOk, OnOk, MatchOption};
 ghost use Rattle.aig_semantics.specs.Circuits.{IsChecked, IsWithinLimits, AreDefined};
+ghost use Rattle.circuit.specs.declared.faults.ModelFault.{ModelFault};
 ghost use Rattle.circuit.specs.Sections.{circuit_of, used_by, AreInRange};
 ghost use Rattle.circuit.specs.Marks.{first_marks};
 ghost use Rattle.circuit.specs.Faults.{IsDefined, HasFault, IsFirstTwice, IsFirstUndefined, AnswersExactlyWhere, AnswersNoOther};
@@ -78,6 +79,9 @@ pub fn check_circuit(alloc: Global, parts: &Parts) -> Result<Circuit, ModelEnd>
     ensures ok { IfOk result (λ c. c ≡ circuit_of parts.now) }
     ensures checked { OnOk result (IsChecked (circuit_of parts.now)) }
     ensures defined { OnOk result (AreDefined (circuit_of parts.now) (used_by parts.now)) }
+
+    ensures faulty { (fault : ModelFault) → result ≡ Err (ModelEnd.Fault fault)
+        → IsChecked (circuit_of parts.now) → AreDefined (circuit_of parts.now) (used_by parts.now) → ⊥ }
 
     ensures twice { (v : ℕ) → AnswersExactlyWhere result (ModelFault.Twice v) (IsFirstTwice parts.now v) }
     ensures undefined { (v : ℕ) → AnswersExactlyWhere result (ModelFault.Undefined v) (IsFirstUndefined parts.now v) }

@@ -1,4 +1,4 @@
-use Rattle.circuit.proofs.Verdicts.{IsChecked-from, refused-twice, refused-undefined, kept-twice, kept-undefined}
+use Rattle.circuit.proofs.Verdicts.{IsChecked-from, refused-faulty, refused-twice, refused-undefined, kept-twice, kept-undefined}
 use Rattle.circuit.proofs.checking.check_circuit.Goals as goal
 
 pub returns-in-Some-clause-twice : goal.returns-in-Some-clause-twice
@@ -15,3 +15,6 @@ returns-clause-twice c = kept-twice _ _ c.args.parts.now c.in_default.ensures
 
 pub returns-clause-undefined : goal.returns-clause-undefined
 returns-clause-undefined c = kept-undefined _ _ c.args.parts.now c.in_default.ensures
+
+pub returns-in-Some-clause-faulty : goal.returns-in-Some-clause-faulty
+returns-in-Some-clause-faulty c = refused-faulty _ c.args.parts.now c.in-Some.fault c.in-Some.ensures
