@@ -39,7 +39,9 @@ impl<R: Files> FileShelf<R> {
     }
 
     /// The file of that name, which stays open from the last read of it.
-    fn open_file(&mut self, name: &str) -> io::Result<OpenFile<R::File>> {
+    fn open_file(&mut self, name: &str) -> io::Result<OpenFile<R::File>>
+        ensures { self.new.faults ≡ self.old.faults }
+    {
         if let Some(open) = self.open.take() {
             if open.name.as_str() == name {
                 return Ok(open);

@@ -1,5 +1,6 @@
 //! A shelf and a sink in memory, for tests: they tell all their bytes, move few at a time, and fail where they are told to.
-ghost use Rattle.std.specs.Prelude.{ℕ, List, [], ◌≡◌, ◌-◌, ◌<◌, ◌≤◌, ◌↔◌, min, length, take, drop, Some, option_copied, IfOk, IsErr, OnErr, Contains, is_err, if◌then◌else◌};
+ghost use Rattle.std.specs.Prelude.{ℕ, List, [], ◌≡◌, ◌-◌, ◌<◌, ◌≤◌, ◌↔◌, min, length, take, drop, Some, option_copied, find, string_bytes, IfOk, IsErr, OnErr, Contains, is_err, if◌then◌else◌};
+ghost use Rattle.std.specs.Str.{bytes_eq};
 ghost use Rattle.edge.specs.Faults.{one_more, HasCause, NoneFell};
 ghost use Rattle.edge.specs.Told.{IfTold};
 ghost use Rattle.edge.specs.Reads.{GivesBytes, KeepsTexts};
@@ -98,10 +99,15 @@ impl Shelf for MemShelf {
 fn find_text<'a>(texts: &'a [(String, Vec<u8>)], name: &str) -> Option<&'a [u8]>
     ensures { option_copied result ≡ text_of (named_texts texts.now) name.now }
 {
-    texts
-        .iter()
-        .find(|pair| pair.0.as_str() == name)
-        .map(|pair| pair.1.as_slice())
+    let pair = find_pair(texts, name)?;
+    Some(pair.1.as_slice())
+}
+
+/// The first pair with that name.
+fn find_pair<'a>(texts: &'a [(String, Vec<u8>)], name: &str) -> Option<&'a (String, Vec<u8>)>
+    ensures { option_copied result ≡ find (λ pair. bytes_eq (string_bytes pair.0) name.now) texts.now }
+{
+    texts.iter().find(|pair| pair.0.as_str() == name)
 }
 
 /// Copies the bytes of the text from the place `from` on to the front of the buffer, at most `most`, and says how many.

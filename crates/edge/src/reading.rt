@@ -1,6 +1,6 @@
 //! Shelves, by the texts that they hold under their names and by their counts of faults.
 //! The main call is `read_text`, which reads a text whole, however little a shelf gives at a time.
-ghost use Rattle.std.specs.Prelude.{ℕ, List, Option, ◌≡◌, ◌+◌, ◌^◌, ◌<◌, ◌≤◌, length, take, IfOk, IsErrOf, vec_len};
+ghost use Rattle.std.specs.Prelude.{ℕ, List, Option, ◌≡◌, ◌+◌, ◌^◌, ◌<◌, ◌≤◌, ◌++◌, length, take, IfOk, IsErrOf, vec_len};
 ghost use Rattle.edge.specs.Faults.{Rose, HasCause, NoneFell};
 ghost use Rattle.edge.specs.Told.{IfTold};
 ghost use Rattle.edge.specs.Reads.{GivesBytes, KeepsTexts};
@@ -76,15 +76,41 @@ pub fn read_text<H: Shelf>(
     ensures counts { NoneFell (H.faults shelf.old) (H.faults shelf.new) }
     ensures kept { KeepsTexts (H.held shelf.old) (H.held shelf.new) }
 {
-    let mut chunk = vec![in alloc; 0u8; CHUNK as usize]?;
+    let mut chunk = zeros(alloc, CHUNK as usize)?;
     let mut text = Vec::new(alloc);
     while text.len() as u64 <= limit {
         let room = CHUNK.min(limit + 1 - text.len() as u64) as usize;
-        let count = shelf.read_at(name, text.len() as u64, &mut chunk[..room])?;
+        let count = read_more(shelf, name, &mut chunk[..room], &mut text)?;
         if count == 0 {
             break;
         }
-        text.extend_from_slice(&chunk[..count])?;
     }
     Ok(text)
+}
+
+/// Reads on in a text of which `front` holds the front: as many bytes as the shelf gives into `room`.
+/// Adds them to `front` and says how many they are: none means the end of the text.
+fn read_more<H: Shelf>(
+    shelf: &mut H,
+    name: &str,
+    room: &mut [u8],
+    front: &mut Vec<u8>,
+) -> Result<usize, ReadEnd>
+    ensures bound { IfOk result (λ n. n ≤ length room.old) }
+    ensures bytes { IfOk result (λ n. IfTold (H.held shelf.old name.now) (λ text. GivesBytes text (vec_len front.old) n room.new)) }
+    ensures added { IfOk result (λ n. front.new.items ≡ front.old.items ++ take n room.new) }
+    ensures kept { KeepsTexts (H.held shelf.old) (H.held shelf.new) }
+    ensures failed { IsErrOf result ReadEnd.Failed → Rose (H.faults shelf.old name.now) (H.faults shelf.new name.now) }
+    ensures counts { NoneFell (H.faults shelf.old) (H.faults shelf.new) }
+{
+    let count = shelf.read_at(name, front.len() as u64, room)?;
+    front.extend_from_slice(&room[..count])?;
+    Ok(count)
+}
+
+/// A buffer of that length.
+fn zeros(alloc: Global, len: usize) -> Result<Vec<u8>, AllocError>
+    ensures { IfOk result (λ zeros. vec_len zeros ≡ len) }
+{
+    vec![in alloc; 0u8; len]
 }
