@@ -9,7 +9,7 @@ abbrev pub NamedText : Type 0
 NamedText = List ℕ × List ℕ
 
 -- a shelf in memory
-pub record Texts : Type 0 where
+pub record ShelfInMemory : Type 0 where
   pub texts : List NamedText
   -- the greatest number of bytes that a call gives
   pub most : ℕ
@@ -24,7 +24,7 @@ abbrev pub text_of : List NamedText → List ℕ → Option (List ℕ)
 text_of texts name = option_map (λ pair. pair.1) (find (λ pair. bytes_eq pair.0 name) texts)
 
 -- the next call is one that fails, or the name is missing
-abbrev pub IsRefused : Texts → List ℕ → Type 0
+abbrev pub IsRefused : ShelfInMemory → List ℕ → Type 0
 IsRefused shelf name = Contains shelf.failing (one_more shelf.calls) ⊎ IsNone (text_of shelf.texts name)
 
 -- each text with its name, as contracts see them
@@ -32,7 +32,7 @@ abbrev pub named_texts : List (String Global × Vec ℕ Global) → List NamedTe
 named_texts texts = map (λ pair. (string_bytes pair.0, pair.1.items)) texts
 
 -- a sink in memory
-pub record Taken : Type 0 where
+pub record SinkInMemory : Type 0 where
   -- the bytes that it took
   pub bytes : List ℕ
   -- the greatest number of bytes that a call takes

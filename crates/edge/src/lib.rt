@@ -6,15 +6,19 @@
 mod failures;
 mod files;
 mod gates;
-mod in_memory;
+mod mem_shelf;
+mod mem_sink;
 mod output;
 mod reading;
+#[cfg(test)]
+mod tests;
 mod writing;
 
 pub use failures::Failed;
 pub use files::FileShelf;
 pub use gates::{FreeGate, Gate, Point};
-pub use in_memory::{MemShelf, MemSink};
+pub use mem_shelf::MemShelf;
+pub use mem_sink::MemSink;
 pub use output::StdSink;
 pub use reading::{ReadEnd, Shelf, read_text};
 pub use writing::{Sink, write_all};

@@ -1,7 +1,7 @@
 use Rattle.std.proofs.Common.{Some, ap, ◌∙◌}
 use Rattle.std.specs.Prelude.{option_copied}
 use Rattle.edge.proofs.Named.{text_of-found}
-use Rattle.edge.proofs.in_memory.find_text.Goals as goal
+use Rattle.edge.proofs.mem_shelf.find_text.Goals as goal
 
 pub returns : goal.returns
 returns c = ap Some c.as_slice.ensures.value ∙ text_of-found c.args.texts.now c.args.name.now _ c.in_ok-pair.ensures

@@ -1,16 +1,13 @@
-//! A shelf and a sink in memory, for tests: they tell all their bytes, move few at a time, and fail where they are told to.
-ghost use Rattle.std.specs.Prelude.{ℕ, List, [], ◌≡◌, ◌-◌, ◌<◌, ◌≤◌, ◌↔◌, min, length, take, drop, Some, option_copied, find, string_bytes, IfOk, IsErr, OnErr, Contains, is_err, if◌then◌else◌};
+//! A shelf in memory, for tests: it tells its texts, gives few bytes at a time, and fails where it is told to.
+ghost use Rattle.std.specs.Prelude.{ℕ, List, [], ◌≡◌, ◌-◌, ◌≤◌, ◌↔◌, min, length, take, drop, find, option_copied, string_bytes, IfOk, IsOk, IsErr, IsSome, is_err, if◌then◌else◌};
 ghost use Rattle.std.specs.Str.{bytes_eq};
 ghost use Rattle.edge.specs.Faults.{one_more, HasCause, NoneFell};
 ghost use Rattle.edge.specs.Told.{IfTold};
 ghost use Rattle.edge.specs.Reads.{GivesBytes, KeepsTexts};
-ghost use Rattle.edge.specs.Writes.{Adds};
 ghost use Rattle.edge.specs.InMemory.{text_of, named_texts, IsRefused};
 
 use crate::failures::Failed;
 use crate::reading::Shelf;
-use crate::writing::Sink;
-use std::alloc::Global;
 use std::marker::Model;
 
 /// Named texts in memory. Its calls are numbered from 1.
@@ -25,9 +22,9 @@ pub struct MemShelf {
 
 impl Model for MemShelf {
     ghost use Rattle.std.specs.Prelude.{◌≤◌};
-    ghost use Rattle.edge.specs.InMemory.{Texts, named_texts};
+    ghost use Rattle.edge.specs.InMemory.{ShelfInMemory, named_texts};
 
-    ghost Value = { Texts };
+    ghost Value = { ShelfInMemory };
 
     ghost view = { λ s. record {
       texts = named_texts s.texts.items;
@@ -45,7 +42,8 @@ impl MemShelf {
     /// A call gives at most `most` bytes, and the calls whose numbers are in `failing` fail. Takes no memory.
     pub fn new(texts: Vec<(String, Vec<u8>)>, most: u64, failing: Vec<u64>) -> MemShelf
         requires { 1 ≤ most }
-        ensures { result ≡ record {
+        ensures held { (name : List ℕ) → ⟦<MemShelf as Shelf>⟧.held result name ≡ text_of (named_texts texts.items) name }
+        ensures state { result ≡ record {
           texts = named_texts texts.items;
           most = most;
           failing = failing.items;
@@ -77,6 +75,7 @@ impl Shelf for MemShelf {
 
         // It fails at the calls that are to fail and at missing names, and at no others.
         ensures refused { IsErr result ↔ IsRefused self.old name.now }
+        ensures ready { self.old.failing ≡ [] → IsSome (text_of self.old.texts name.now) → IsOk result }
         ensures amount { IfOk result (λ n. IfTold (text_of self.old.texts name.now)
             (λ text. n ≡ min self.old.most (min (length buf.new) (length text - from)))) }
         ensures counted { self.new ≡ record self.old {
@@ -120,95 +119,4 @@ fn copy_part(text: &[u8], from: u64, most: u64, buf: &mut [u8]) -> usize
     let count = most.min(rest.len().min(buf.len()) as u64) as usize;
     buf[..count].copy_from_slice(&rest[..count]);
     count
-}
-
-/// A sink that keeps the bytes that it takes. Its calls are numbered from 1.
-#[derive(Debug, Drop)]
-pub struct MemSink {
-    bytes: Vec<u8>,
-    most: u64,
-    failing: Vec<u64>,
-    calls: u64,
-    faults: u64,
-}
-
-impl Model for MemSink {
-    ghost use Rattle.std.specs.Prelude.{◌≤◌};
-    ghost use Rattle.edge.specs.InMemory.{Taken};
-
-    ghost Value = { Taken };
-
-    ghost view = { λ s. record {
-      bytes = s.bytes.items;
-      most = s.most;
-      failing = s.failing.items;
-      calls = s.calls;
-      faults = s.faults;
-    } };
-
-    ghost invariant = { λ s. 1 ≤ s.most };
-}
-
-impl MemSink {
-    /// A sink that took nothing yet. A call takes at most `most` bytes, and the calls whose numbers are in
-    /// `failing` fail. Takes no memory until it is written to.
-    pub fn new(alloc: Global, most: u64, failing: Vec<u64>) -> MemSink
-        requires { 1 ≤ most }
-        ensures { result ≡ record {
-          bytes = [];
-          most = most;
-          failing = failing.items;
-          calls = 0;
-          faults = 0;
-        } }
-    {
-        MemSink {
-            bytes: Vec::new(alloc),
-            most,
-            failing,
-            calls: 0,
-            faults: 0,
-        }
-    }
-
-    /// All the bytes that it took.
-    pub fn taken(&self) -> &[u8]
-        ensures { ⟦<MemSink as Sink>⟧.taken self.now ≡ Some result.now }
-    {
-        self.bytes.as_slice()
-    }
-}
-
-impl Sink for MemSink {
-    ghost taken = { λ s. Some s.bytes };
-
-    ghost faults = { λ s. s.faults };
-
-    /// A call for whose bytes memory has no room fails too.
-    fn write(&mut self, piece: &[u8]) -> Result<usize, Failed>
-        ensures bound { IfOk result (λ n. n ≤ length piece.now) }
-        ensures progress { IfOk result (λ n. 0 < length piece.now → 0 < n) }
-        ensures taken { IfOk result (λ n. Adds (Some self.old.bytes) (Some self.new.bytes) (take n piece.now)) }
-        ensures kept { OnErr result (Some self.new.bytes ≡ Some self.old.bytes) }
-        ensures cause { HasCause self.old.faults self.new.faults result }
-
-        // It fails at the calls that are to fail, and else for want of memory alone.
-        ensures refused { Contains self.old.failing (one_more self.old.calls) → IsErr result }
-        ensures amount { IfOk result (λ n. n ≡ min self.old.most (length piece.now)) }
-        ensures counted { self.new ≡ record self.old {
-          bytes = self.new.bytes;
-          calls = one_more self.old.calls;
-          faults = if is_err result then one_more self.old.faults else self.old.faults;
-        } }
-    {
-        self.calls = self.calls.saturating_add(1);
-        let count = self.most.min(piece.len() as u64) as usize;
-        if !self.failing.contains(&self.calls)
-            && self.bytes.extend_from_slice(&piece[..count]).is_ok()
-        {
-            return Ok(count);
-        }
-        self.faults = self.faults.saturating_add(1);
-        Err(Failed)
-    }
 }
