@@ -1,10 +1,12 @@
 //! The shelf of files: the part of the outside that is trusted, since no contract says what a file holds.
-ghost use Rattle.std.specs.Prelude.{ℕ, List, ◌≡◌, ◌≤◌, length, None, IfOk};
+ghost use Rattle.std.specs.Prelude.{◌≡◌, ◌≤◌, length, None, IfOk, is_err, if◌then◌else◌};
+ghost use Rattle.edge.specs.Faults.{one_more, HasCause, NoneFell};
 
 use crate::failures::Failed;
 use crate::reading::Shelf;
 use std::alloc::Global;
 use std::io::{Read, Seek, SeekFrom};
+use std::marker::Model;
 use std::rt::Files;
 use std::{fs, io};
 
@@ -16,7 +18,8 @@ struct OpenFile<F> {
     at: u64,
 }
 
-/// The files of a system, by their paths. It tells nothing of what they hold, and counts each failed read.
+/// The files of a system, by their paths. The last one that was read stays open.
+/// It tells nothing of what they hold. Contracts see it as the count of its failed reads.
 #[derive(Drop)]
 pub struct FileShelf<R: Files> {
     files: R,
@@ -25,10 +28,18 @@ pub struct FileShelf<R: Files> {
     faults: u64,
 }
 
+impl<R: Files> Model for FileShelf<R> {
+    ghost use Rattle.std.specs.Prelude.{ℕ};
+
+    ghost Value = { ℕ };
+
+    ghost view = { λ s. s.faults };
+}
+
 impl<R: Files> FileShelf<R> {
     /// The files that `files` gives access to, none of them open. Takes no memory.
     pub fn new(alloc: Global, files: R) -> FileShelf<R>
-        ensures { (name : List ℕ) → ⟦<FileShelf<R> as Shelf>⟧.faults result name ≡ 0 }
+        ensures { result ≡ 0 }
     {
         FileShelf {
             files,
@@ -38,9 +49,9 @@ impl<R: Files> FileShelf<R> {
         }
     }
 
-    /// The file of that name, which stays open from the last read of it.
+    /// The file of that name: the one that is open, or that file opened at its start.
     fn open_file(&mut self, name: &str) -> io::Result<OpenFile<R::File>>
-        ensures { self.new.faults ≡ self.old.faults }
+        ensures { self.new ≡ self.old }
     {
         if let Some(open) = self.open.take() {
             if open.name.as_str() == name {
@@ -54,42 +65,39 @@ impl<R: Files> FileShelf<R> {
             at: 0,
         })
     }
+
+    /// Reads from the place `from` on, where the file stands or else after a move there. Where that fails, no file is open.
+    fn read_file(&mut self, name: &str, from: u64, buf: &mut [u8]) -> io::Result<usize>
+        ensures bound { IfOk result (λ n. n ≤ length buf.new) }
+        ensures count { self.new ≡ self.old }
+    {
+        let mut open = self.open_file(name)?;
+        if open.at != from {
+            open.file.seek(SeekFrom::Start(from))?;
+        }
+        let count = open.file.read(buf)?;
+        open.at = from.saturating_add(count as u64);
+        self.open = Some(open);
+        Ok(count)
+    }
 }
 
 impl<R: Files> Shelf for FileShelf<R> {
     ghost held = { λ _ _. None };
 
-    ghost faults = { λ s _. s.faults };
+    ghost faults = { λ s _. s };
 
-    fn read_at(&mut self, name: &str, from: u64, buf: &mut [u8]) -> Result<usize, Failed> {
-        let read = self
-            .open_file(name)
-            .and_then(|open| read_from(open, from, buf));
-        match read {
-            Ok((open, count)) => {
-                self.open = Some(open);
-                Ok(count)
-            }
-            Err(_) => {
-                self.faults = self.faults.saturating_add(1);
-                Err(Failed)
-            }
+    /// A file that is missing or that may not be read fails, a folder too, and a path that memory has no room for.
+    fn read_at(&mut self, name: &str, from: u64, buf: &mut [u8]) -> Result<usize, Failed>
+        ensures bound { IfOk result (λ n. n ≤ length buf.new) }
+        ensures cause { HasCause self.old self.new result }
+        ensures others { NoneFell (λ _. self.old) (λ _. self.new) }
+        ensures counted { self.new ≡ (if is_err result then one_more self.old else self.old) }
+    {
+        let read = self.read_file(name, from, buf);
+        if read.is_err() {
+            self.faults = self.faults.saturating_add(1);
         }
+        read.map_err(|_| Failed)
     }
-}
-
-/// Reads on from the place `from`: where the file stands, if that is the place, else after a move there.
-fn read_from<F: Read + Seek + Drop>(
-    mut open: OpenFile<F>,
-    from: u64,
-    buf: &mut [u8],
-) -> io::Result<(OpenFile<F>, usize)>
-    ensures { IfOk result (λ read. read.1 ≤ length buf.new) }
-{
-    if open.at != from {
-        open.file.seek(SeekFrom::Start(from))?;
-    }
-    let count = open.file.read(buf)?;
-    open.at = from.saturating_add(count as u64);
-    Ok((open, count))
 }
