@@ -1,5 +1,5 @@
 -- Texts by their names.
-use Rattle.std.proofs.Common.{ℕ, ◌≡◌, List, [], ◌∷◌, Bool, true, false, cond, refl, Some, sym, ap, ◌∙◌}
+use Rattle.std.proofs.Common.{ℕ, ◌≡◌, List, [], ◌∷◌, true, false, cond, refl, Some, sym, ap, ◌∙◌}
 use Rattle.std.specs.Prelude.{find, Vec, String, string_bytes, Option, option_map}
 use Rattle.std.specs.Str.{bytes_eq}
 use Rattle.std.specs.declared.alloc.Global.{Global}

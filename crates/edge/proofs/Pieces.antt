@@ -1,7 +1,6 @@
 -- Texts that are read and written piece by piece.
-use Rattle.std.proofs.Common.{ℕ, ◌≡◌, ◌+◌, ◌-◌, ◌<◌, ◌≤◌, List, Option, Some, length, take, drop, ◌++◌, arith, ap, sym, ◌∙◌, append_assoc, length-take, length-drop}
+use Rattle.std.proofs.Common.{ℕ, ◌≡◌, ◌+◌, ◌-◌, ◌<◌, ◌≤◌, List, Option, Some, length, take, drop, ◌++◌, arith, ap, ◌∙◌, append_assoc}
 use Rattle.std.proofs.Math.Seq.{take-add}
-use Rattle.std.proofs.lemmas.List.{take-append-le}
 use Rattle.std.proofs.lemmas.Grind.{common_steps}
 use Rattle.edge.specs.Reads.{GivesBytes}
 use Rattle.edge.specs.Writes.{Adds}

@@ -1,4 +1,4 @@
-use Rattle.std.proofs.Common.{ℕ, List, ◌≡◌, ◌+◌, ◌≤◌, ◌<◌, ◌++◌, length, take, drop, Some, vec_len, arith, ◌∙◌, sym, ap, length-take, length-append}
+use Rattle.std.proofs.Common.{ℕ, ◌≡◌, ◌+◌, ◌<◌, ◌++◌, length, take, Some, vec_len, arith, ◌∙◌, sym, ap, length-take, length-append}
 use Rattle.edge.proofs.Pieces.{front_next, front_end}
 use Rattle.edge.proofs.reading.read_text.Goals as goal
 use Rattle.edge.proofs.reading.read_text.Goals.{else-loop-text-test, then-loop-text-test+in_ok-count+then-count-eq0}

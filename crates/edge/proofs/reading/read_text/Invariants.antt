@@ -1,4 +1,4 @@
-use Rattle.std.proofs.Common.{◌≡◌, ◌+◌, ◌-◌, ◌≤◌, length, take, vec_len}
+use Rattle.std.proofs.Common.{◌≡◌, ◌+◌, ◌-◌, ◌≤◌, take, vec_len}
 use Rattle.edge.specs.Faults.{NoneFell}
 use Rattle.edge.specs.Told.{IfTold}
 use Rattle.edge.specs.Reads.{KeepsTexts}

@@ -1,4 +1,4 @@
-use Rattle.std.proofs.Common.{ℕ, arith, ◌≡◌, ◌≤◌, ◌+◌, ◌-◌, ◌++◌, take, drop, length, length-take, length-drop}
+use Rattle.std.proofs.Common.{ℕ, arith, ◌≤◌, ◌-◌, length, length-take, length-drop}
 use Rattle.edge.proofs.Pieces.{Adds-append, take_next}
 use Rattle.edge.proofs.writing.write_all.Goals as goal
 
