@@ -1,0 +1,44 @@
+-- A shelf and a sink in memory, as contracts see them. Their calls are numbered from 1.
+use Rattle.std.specs.Prelude.{ℕ, List, map, ◌⊎◌, Contains, Option, option_map, IsNone, find, Vec, String, string_bytes}
+use Rattle.std.specs.Str.{bytes_eq}
+use Rattle.std.specs.declared.alloc.Global.{Global}
+use Rattle.edge.specs.Faults.{one_more}
+
+-- a text with its name in front
+abbrev pub NamedText : Type 0
+NamedText = List ℕ × List ℕ
+
+-- a shelf in memory
+pub record ShelfInMemory : Type 0 where
+  pub texts : List NamedText
+  -- the greatest number of bytes that a call gives
+  pub most : ℕ
+  -- the numbers of the calls that fail
+  pub failing : List ℕ
+  -- how many calls there were, and how many of them failed
+  pub calls : ℕ
+  pub faults : ℕ
+
+-- the text of the first pair with that name
+abbrev pub text_of : List NamedText → List ℕ → Option (List ℕ)
+text_of texts name = option_map (λ pair. pair.1) (find (λ pair. bytes_eq pair.0 name) texts)
+
+-- the next call is one that fails, or the name is missing
+abbrev pub IsRefused : ShelfInMemory → List ℕ → Type 0
+IsRefused shelf name = Contains shelf.failing (one_more shelf.calls) ⊎ IsNone (text_of shelf.texts name)
+
+-- each text with its name, as contracts see them
+abbrev pub named_texts : List (String Global × Vec ℕ Global) → List NamedText
+named_texts texts = map (λ pair. (string_bytes pair.0, pair.1.items)) texts
+
+-- a sink in memory
+pub record SinkInMemory : Type 0 where
+  -- the bytes that it took
+  pub bytes : List ℕ
+  -- the greatest number of bytes that a call takes
+  pub most : ℕ
+  -- the numbers of the calls that fail
+  pub failing : List ℕ
+  -- how many calls there were, and how many of them failed
+  pub calls : ℕ
+  pub faults : ℕ

@@ -1,0 +1,5 @@
+pub mod Faults
+pub mod Told
+pub mod Reads
+pub mod Writes
+pub mod InMemory

@@ -1,0 +1,24 @@
+//! The outside, by what is asked of it: shelves that texts are read from, sinks that text is written to, gates.
+//! Code above is generic over the traits `Shelf`, `Sink` and `Gate`, and reads and writes by `read_text` and `write_all`.
+//! A failure is told as `Failed`, and each is counted by the object that failed.
+#![tactic(auto)]
+
+mod failures;
+mod files;
+mod gates;
+mod mem_shelf;
+mod mem_sink;
+mod output;
+mod reading;
+#[cfg(test)]
+mod tests;
+mod writing;
+
+pub use failures::Failed;
+pub use files::FileShelf;
+pub use gates::{FreeGate, Gate, Point};
+pub use mem_shelf::MemShelf;
+pub use mem_sink::MemSink;
+pub use output::StdSink;
+pub use reading::{ReadEnd, Shelf, read_text};
+pub use writing::{Sink, write_all};

@@ -1,0 +1,139 @@
+//! Each public call once, at the objects that tests and programs use.
+use crate::{
+    FileShelf, FreeGate, Gate, MemShelf, MemSink, Point, ReadEnd, Shelf, StdSink, read_text,
+    write_all,
+};
+use std::alloc::{AllocError, Global};
+use std::fs;
+use std::test::Fail;
+
+/// A shelf with a text of six bytes, an empty one, and another text under the first name.
+fn shelf(alloc: Global, most: u64, failing: &[u64]) -> Result<MemShelf, AllocError> {
+    let mut texts = Vec::new(alloc);
+    for (name, text) in [("model", "answer"), ("empty", ""), ("model", "second")] {
+        texts.push((
+            String::from_str(alloc, name)?,
+            text.as_bytes().to_vec(alloc)?,
+        ))?;
+    }
+    Ok(MemShelf::new(texts, most.max(1), failing.to_vec(alloc)?))
+}
+
+#[test]
+fn reads_to_the_limit_and_one_byte_more(rt: HostRuntime) -> Result<(), Fail> {
+    let cases = [
+        ("model", 0, "a"),
+        ("model", 4, "answe"),
+        ("model", 5, "answer"),
+        ("model", 6, "answer"),
+        ("model", 7, "answer"),
+        ("empty", 0, ""),
+    ];
+    for most in [1, 4, 100] {
+        let mut shelf = shelf(rt.alloc(), most, &[])?;
+        for (name, limit, want) in cases {
+            let text = read_text(rt.alloc(), &mut shelf, name, limit)?;
+            assert_eq!(rt;
+                text.as_slice(),
+                want.as_bytes(),
+                "{name} to {limit}, by {most}"
+            );
+        }
+        let missing = read_text(rt.alloc(), &mut shelf, "missing", 7);
+        assert_eq!(rt; missing.err(), Some(ReadEnd::Failed));
+    }
+    Ok(())
+}
+
+/// The text is six reads of a byte and one that finds its end.
+#[test]
+fn one_failing_read_fails_one_text(rt: HostRuntime) -> Result<(), Fail> {
+    for failing in 1..=8 {
+        let mut shelf = shelf(rt.alloc(), 1, &[failing])?;
+        for fails in [failing <= 7, failing > 7] {
+            match read_text(rt.alloc(), &mut shelf, "model", 100) {
+                Ok(text) => {
+                    assert!(rt; !fails, "call {failing}");
+                    assert_eq!(rt; text.as_slice(), b"answer".as_slice());
+                }
+                Err(end) => {
+                    assert!(rt; fails, "call {failing}");
+                    assert_eq!(rt; end, ReadEnd::Failed);
+                }
+            }
+        }
+    }
+    Ok(())
+}
+
+#[test]
+fn a_failing_write_ends_the_text(rt: HostRuntime) -> Result<(), Fail> {
+    let cases = [
+        (1, 1, ""),
+        (1, 2, "a"),
+        (1, 6, "answe"),
+        (1, 7, "answer"),
+        (4, 1, ""),
+        (4, 2, "answ"),
+        (4, 3, "answer"),
+        (6, 2, "answer"),
+    ];
+    for (most, failing, want) in cases {
+        let mut sink = MemSink::new(rt.alloc(), most, [failing].to_vec(rt.alloc())?);
+        let written = write_all(&mut sink, b"answer");
+        assert_eq!(rt; written.is_ok(), want == "answer", "{most}, call {failing}");
+        assert_eq!(rt; sink.taken(), want.as_bytes(), "{most}, call {failing}");
+    }
+    let mut sink = MemSink::new(rt.alloc(), 1, Vec::new(rt.alloc()));
+    assert!(rt; write_all(&mut sink, b"an").is_ok());
+    assert!(rt; write_all(&mut sink, b"").is_ok());
+    assert!(rt; write_all(&mut sink, b"swer").is_ok());
+    assert_eq!(rt; sink.taken(), b"answer".as_slice());
+    Ok(())
+}
+
+#[test]
+fn files_are_read_by_their_paths(rt: HostRuntime) -> Result<(), Fail> {
+    fs::write(&rt, "model", "answer")?;
+    fs::write(&rt, "other", "second")?;
+    fs::create_dir(&rt, "folder")?;
+    let mut files = FileShelf::new(rt.alloc(), &rt);
+    let texts = [
+        ("model", Some("answer")),
+        ("missing", None),
+        ("other", Some("second")),
+        ("folder", None),
+        ("model", Some("answer")),
+    ];
+    for (name, want) in texts {
+        match read_text(rt.alloc(), &mut files, name, 100) {
+            Ok(text) => assert_eq!(rt; Some(text.as_slice()), want.map(|text| text.as_bytes())),
+            Err(_) => assert!(rt; want.is_none(), "{name}"),
+        }
+    }
+    let mut buf = [0; 3];
+    for (name, from, want) in [
+        ("model", 3, "wer"),
+        ("model", 0, "ans"),
+        ("other", 4, "nd"),
+        ("model", 6, ""),
+    ] {
+        let count = files.read_at(name, from, &mut buf).ok().ok_or(name)?;
+        assert_eq!(rt; &buf[..count], want.as_bytes(), "{name} from {from}");
+    }
+    Ok(())
+}
+
+fn pass_all<G: Gate>(gate: &G) {
+    for at in [Point::Start, Point::Turn, Point::Done] {
+        gate.pass(1, at);
+    }
+}
+
+#[test]
+fn output_takes_text_and_the_gate_is_free(rt: HostRuntime) -> Result<(), Fail> {
+    let mut sink = StdSink::new(&rt);
+    assert!(rt; write_all(&mut sink, b"written\n").is_ok());
+    pass_all(&FreeGate);
+    Ok(())
+}
