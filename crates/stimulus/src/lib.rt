@@ -1,0 +1,8 @@
+//! Stimuli: the text of one is read, and one is replayed on a circuit to the fair lasso that it stands for.
+#![tactic(auto)]
+
+mod ends;
+mod reading;
+
+pub use ends::{ReplayEnd, ReplayFault};
+pub use reading::read;
