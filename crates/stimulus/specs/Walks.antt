@@ -1,8 +1,10 @@
--- A run under way: the state that comes next, and where literals were last seen true.
-use Rattle.std.specs.Prelude.{ℕ, ◌<◌, Bool, List, [], ◌∷◌, drop, IsTrue, Any}
+-- A run under way: the state that comes next, and where literals were last true.
+use Rattle.std.specs.Prelude.{◌≡◌, ℕ, ◌<◌, ◌≤◌, Bool, List, [], ◌∷◌, ◌++◌, drop, map, slice_get, Some, IsTrue, All, Any, if◌then◌else◌}
 use Rattle.aig_semantics.specs.declared.traces.Position.{Position}
 use Rattle.aig_semantics.specs.Circuits.{Circuit}
-use Rattle.aig_semantics.specs.Runs.{successor}
+use Rattle.aig_semantics.specs.Runs.{successor, literal_at}
+use Rattle.stimulus.specs.declared.walks.Walk.{Walk}
+use Rattle.stimulus.specs.declared.walks.Watched.{Watched}
 
 -- the state that follows the last of these positions
 unfoldable pub state_after : Circuit → List Bool → List (List Bool) → List Bool
@@ -14,3 +16,21 @@ state_after c latches (now ∷ later) =
 pub record IsEndOf {X : Type 0} (test : X → Bool) (xs : List X) (end : ℕ) : Type 0 where
   pub within : (k : ℕ) → k < end → Any (λ x. IsTrue (test x)) (drop k xs)
   pub behind : (k : ℕ) → Any (λ x. IsTrue (test x)) (drop k xs) → k < end
+
+abbrev pub position_at : List Bool → List Bool → Position
+position_at latches inputs = record { latches = latches; inputs = inputs }
+
+-- a literal that is watched, after a position that has this number
+abbrev pub watched_after : (ℕ → Bool) → ℕ → Watched → Watched
+watched_after value number w = record { literal = w.literal; end = if value w.literal then number else w.end }
+
+-- the walk has gone one position on, with these inputs and this number
+pub record GoesOn (c : Circuit) (inputs : List Bool) (number : ℕ) (old new : Walk) : Type 0 where
+  pub states : new.states ≡ old.states ++ old.next ∷ []
+  pub next : new.next ≡ successor c (position_at old.next inputs)
+  pub watched : new.watched.items ≡ map (watched_after (literal_at c (position_at old.next inputs)) number) old.watched.items
+
+-- a loop from this place closes and has all that is watched
+pub record LoopsFrom (states : List (List Bool)) (next : List Bool) (watched : List Watched) (from : ℕ) : Type 0 where
+  pub closes : slice_get states from ≡ Some next
+  pub seen : All (λ w. from < w.end) watched

@@ -3,6 +3,7 @@
 
 mod ends;
 mod reading;
+mod walks;
 
 pub use ends::{ReplayEnd, ReplayFault};
 pub use reading::read;
