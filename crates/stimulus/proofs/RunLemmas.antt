@@ -9,11 +9,7 @@ use Rattle.aig_semantics.specs.declared.traces.Position.{Position}
 use Rattle.aig_semantics.specs.Circuits.{Circuit}
 use Rattle.aig_semantics.specs.Runs.{successor, IsRun, MeetsConstraints}
 use Rattle.aig_semantics.specs.Stimuli.{simulated}
-use Rattle.stimulus.specs.Walks.{state_after, IsEndOf}
-
--- the position that comes next
-abbrev pub position_at : List Bool → List Bool → Position
-position_at latches now = record { latches = latches; inputs = now }
+use Rattle.stimulus.specs.Walks.{position_at, state_after, IsEndOf}
 
 pub state_after-push : (c : Circuit) (latches : List Bool) (inputs : List (List Bool)) (now : List Bool) → state_after c latches (inputs ++ now ∷ []) ≡ successor c (position_at (state_after c latches inputs) now)
 unfolding state_after

@@ -1,10 +1,18 @@
 -- A run under way: the state that comes next, and where literals were last true.
-use Rattle.std.specs.Prelude.{◌≡◌, ℕ, ◌<◌, ◌≤◌, Bool, List, [], ◌∷◌, ◌++◌, drop, map, slice_get, Some, IsTrue, All, Any, if◌then◌else◌}
+use Rattle.std.specs.Prelude.{◌≡◌, ℕ, ◌<◌, ◌≤◌, Bool, List, [], ◌∷◌, ◌++◌, drop, length, map, slice_get, Some, IsTrue, All, Any, if◌then◌else◌}
 use Rattle.aig_semantics.specs.declared.traces.Position.{Position}
+use Rattle.aig_semantics.specs.declared.traces.Stimulus.{Stimulus}
 use Rattle.aig_semantics.specs.Circuits.{Circuit}
-use Rattle.aig_semantics.specs.Runs.{successor, literal_at}
+use Rattle.aig_semantics.specs.Runs.{successor, literal_at, IsInitial}
+use Rattle.aig_semantics.specs.Stimuli.{FitsCircuit}
 use Rattle.stimulus.specs.declared.walks.Walk.{Walk}
 use Rattle.stimulus.specs.declared.walks.Watched.{Watched}
+
+-- the property is there, and the stimulus fits the circuit and begins with an initial state
+pub record CanBegin (c : Circuit) (j : ℕ) (stimulus : Stimulus) : Type 0 where
+  pub property : j < length c.justice
+  pub fits : FitsCircuit c stimulus
+  pub initial : IsInitial c stimulus.latches
 
 -- the state that follows the last of these positions
 unfoldable pub state_after : Circuit → List Bool → List (List Bool) → List Bool
@@ -19,6 +27,10 @@ pub record IsEndOf {X : Type 0} (test : X → Bool) (xs : List X) (end : ℕ) : 
 
 abbrev pub position_at : List Bool → List Bool → Position
 position_at latches inputs = record { latches = latches; inputs = inputs }
+
+-- a literal that was not met yet
+abbrev pub unmet : ℕ → Watched
+unmet literal = record { literal = literal; end = 0 }
 
 -- a literal that is watched, after a position that has this number
 abbrev pub watched_after : (ℕ → Bool) → ℕ → Watched → Watched

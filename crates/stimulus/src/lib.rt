@@ -3,7 +3,9 @@
 
 mod ends;
 mod reading;
+mod replaying;
 mod walks;
 
 pub use ends::{ReplayEnd, ReplayFault};
 pub use reading::read;
+pub use replaying::replay;
