@@ -1,15 +1,13 @@
 //! The replay of a stimulus on a circuit. The main call is `replay`.
 ghost use Rattle.std.specs.Prelude.{◌≡◌, ℕ, ◌+◌, ◌<◌, ◌≤◌, ◌↔◌, ◌++◌, [], length, map, take, All, IsTrue, IfOk, OnOk};
 ghost use Rattle.aig_semantics.specs.Circuits.{fair_literals};
-ghost use Rattle.aig_semantics.specs.Runs.{IsInitial, AgreesWith};
-ghost use Rattle.std.specs.List.{AllZip};
 ghost use Rattle.aig_semantics.specs.Stimuli.{FitsCircuit, HasLasso, StandsFor};
 ghost use Rattle.stimulus.specs.declared.ends.ReplayFault.TheVariants.{NoFairLoop};
 ghost use Rattle.stimulus.specs.Ends.{IfFault};
 ghost use Rattle.stimulus.specs.Walks.{CanBegin, unmet};
 
-use aig_semantics::{Lasso, Latch, Reset, Stimulus};
-use circuit::Circuit;
+use aig_semantics::{Lasso, Stimulus};
+use circuit::{Circuit, is_initial};
 use items::Items;
 use std::alloc::{AllocError, Global};
 
@@ -18,36 +16,6 @@ use crate::walks::{Walk, Watched, loop_from, visit};
 
 // The fault of a stimulus that has no lasso.
 const NO_FAIR_LOOP: ReplayEnd = ReplayEnd::Fault(ReplayFault::NoFairLoop);
-
-fn is_initial(c: &Circuit, latches: &[bool]) -> bool
-    ensures { IsTrue result ↔ IsInitial c.now latches.now }
-{
-    may_begin(c.latches(), latches)
-}
-
-fn agrees(reset: Reset, value: bool) -> bool
-    ensures { IsTrue result ↔ AgreesWith reset value }
-{
-    match reset {
-        Reset::Zero => !value,
-        Reset::One => value,
-        Reset::Free => true,
-    }
-}
-
-fn may_begin(all: &[Latch], latches: &[bool]) -> bool
-    ensures { IsTrue result ↔ AllZip (λ latch value. AgreesWith latch.reset value) all.now latches.now }
-{
-    if all.len() != latches.len() {
-        return false;
-    }
-    for (i, latch) in all.iter().enumerate() {
-        if !agrees(latch.reset, latches[i]) {
-            return false;
-        }
-    }
-    true
-}
 
 /// The lasso that a stimulus stands for: of the fair lassos of property `j`, counted from 0, that are its first
 /// positions the one with the fewest positions, and of these the one that goes back to the least place. The one
