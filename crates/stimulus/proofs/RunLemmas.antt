@@ -118,6 +118,7 @@ IsEndOf-push {X} test xs x end number is h = by_test (test x) refl
   where
     P : X → Type 0
     P x = IsTrue (test x)
+
     by_test : (b : Bool) → test x ≡ b → IsEndOf test (xs ++ x ∷ []) (if b then number else end)
     by_test true e = record {
       within = λ k inside. any_drop-last P k xs x (omega arith) e;

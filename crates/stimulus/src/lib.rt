@@ -9,3 +9,6 @@ mod walks;
 pub use ends::{ReplayEnd, ReplayFault};
 pub use reading::read;
 pub use replaying::replay;
+
+#[cfg(test)]
+mod tests;

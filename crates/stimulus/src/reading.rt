@@ -6,12 +6,11 @@ ghost use Rattle.stimulus.specs.declared.ends.ReplayFault.TheVariants.{Shape};
 ghost use Rattle.stimulus.specs.Texts.{digit_of, line_of, stimulus_lines};
 ghost use Rattle.stimulus.specs.Ends.{IfFault, GivesUnlessMemory};
 
+use crate::ends::{ReplayEnd, ReplayFault};
 use aig_semantics::Stimulus;
 use items::Items;
 use std::alloc::Global;
 use text_grammar::cut_line;
-
-use crate::ends::{ReplayEnd, ReplayFault};
 
 // The fault of a text that is not that of a stimulus.
 const NO_STIMULUS: ReplayEnd = ReplayEnd::Fault(ReplayFault::Shape(1));

@@ -6,13 +6,12 @@ ghost use Rattle.stimulus.specs.declared.ends.ReplayFault.TheVariants.{NoFairLoo
 ghost use Rattle.stimulus.specs.Ends.{IfFault};
 ghost use Rattle.stimulus.specs.Walks.{CanBegin, unmet};
 
+use crate::ends::{ReplayEnd, ReplayFault};
+use crate::walks::{Walk, Watched, loop_from, visit};
 use aig_semantics::{Lasso, Stimulus};
 use circuit::{Circuit, is_initial};
 use items::Items;
 use std::alloc::{AllocError, Global};
-
-use crate::ends::{ReplayEnd, ReplayFault};
-use crate::walks::{Walk, Watched, loop_from, visit};
 
 // The fault of a stimulus that has no lasso.
 const NO_FAIR_LOOP: ReplayEnd = ReplayEnd::Fault(ReplayFault::NoFairLoop);

@@ -36,7 +36,9 @@ pub(crate) struct Walk {
 fn are_true(values: &[bool], literals: &[u64]) -> bool
     ensures { IsTrue result ↔ All (λ literal. IsTrue (literal_in values.now literal)) literals.now }
 {
-    literals.iter().all(|literal| literal_value(values, *literal))
+    literals
+        .iter()
+        .all(|literal| literal_value(values, *literal))
 }
 
 // A watched literal after the position with these values and this number.

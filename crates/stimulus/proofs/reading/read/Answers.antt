@@ -12,19 +12,19 @@ behind latches rest bytes s spelled e = (line_of-apart latches s.latches rest (f
 pub returns-in_err-inputs-clause-every : goal.returns-in_err-inputs-clause-every
 returns-in_err-inputs-clause-every c s e =
     GivesUnlessMemory-passed _ c.from_residual-in_err-inputs.result _ s
-      (λ _. (lines : List (List Bool)) → c.in_ok-latches.rest.now ≡ flat_map line_of lines → ⊥)
-      c.from_residual-in_err-inputs.ensures.1
-      (λ _ none. none s.inputs (behind c.in_ok-latches.latches c.in_ok-latches.rest.now c.args.bytes.now s c.in_ok-latches.ensures.found e))
-      c.in_err-inputs.ensures.none
+    (λ _. (lines : List (List Bool)) → c.in_ok-latches.rest.now ≡ flat_map line_of lines → ⊥)
+    c.from_residual-in_err-inputs.ensures.1
+    (λ _ none. none s.inputs (behind c.in_ok-latches.latches c.in_ok-latches.rest.now c.args.bytes.now s c.in_ok-latches.ensures.found e))
+    c.in_err-inputs.ensures.none
 
 pub returns-in_err-inputs-clause-none : goal.returns-in_err-inputs-clause-none
 returns-in_err-inputs-clause-none c =
     IfFault-passed _ c.from_residual-in_err-inputs.result _
-      (λ _. (lines : List (List Bool)) → c.in_ok-latches.rest.now ≡ flat_map line_of lines → ⊥)
-      (λ _. (s : Stimulus) → c.args.bytes.now ≡ stimulus_lines s → ⊥)
-      c.from_residual-in_err-inputs.ensures.1
-      (λ _ none s e. none s.inputs (behind c.in_ok-latches.latches c.in_ok-latches.rest.now c.args.bytes.now s c.in_ok-latches.ensures.found e))
-      c.in_err-inputs.ensures.none
+    (λ _. (lines : List (List Bool)) → c.in_ok-latches.rest.now ≡ flat_map line_of lines → ⊥)
+    (λ _. (s : Stimulus) → c.args.bytes.now ≡ stimulus_lines s → ⊥)
+    c.from_residual-in_err-inputs.ensures.1
+    (λ _ none s e. none s.inputs (behind c.in_ok-latches.latches c.in_ok-latches.rest.now c.args.bytes.now s c.in_ok-latches.ensures.found e))
+    c.in_err-inputs.ensures.none
 
 pub returns-clause-every : goal.returns-clause-every
 returns-clause-every c s e =

@@ -9,11 +9,11 @@ returns-in_err-values-in-Some-clause-none c =
     let rest = c.in-Some.rest.now in
     let cut = c.in-Some.ensures.found in
     IfFault-passed _ c.from_residual.result _
-      (λ _. (values : List Bool) → line ≡ map digit_of values → ⊥)
-      (λ _. (values : List Bool) (later : List ℕ) → c.args.bytes.now ≡ line_of values ++ later → ⊥)
-      c.from_residual.ensures.1
-      (λ _ none values later e. none values (cut-line_of line rest cut.first values later (sym cut.spelled ∙ e)))
-      c.in_err-values-in-Some.ensures.none
+    (λ _. (values : List Bool) → line ≡ map digit_of values → ⊥)
+    (λ _. (values : List Bool) (later : List ℕ) → c.args.bytes.now ≡ line_of values ++ later → ⊥)
+    c.from_residual.ensures.1
+    (λ _ none values later e. none values (cut-line_of line rest cut.first values later (sym cut.spelled ∙ e)))
+    c.in_err-values-in-Some.ensures.none
 
 pub returns-in-None-clause-none : goal.returns-in-None-clause-none
 returns-in-None-clause-none c = lacks_line c.args.bytes.now c.in-None.ensures.none

@@ -20,9 +20,10 @@ returns-then-not-can_begin-clause-none c k from has =
 
 pub loop-k-init : goal.loop-k-init
 loop-k-init c =
-    let made = c.in_ok-walk.ensures in
-    (IsReplayed-none c.args.c.now c.args.j c.args.s.now c.in_ok-walk.walk made.states (made.next ∙ c.as_slice.ensures) made.watched,
-      search rules)
+    let made = c.in_ok-walk.ensures in (
+      IsReplayed-none c.args.c.now c.args.j c.args.s.now c.in_ok-walk.walk made.states (made.next ∙ c.as_slice.ensures) made.watched,
+      search rules,
+    )
 
 pub visit-requires-clause-latches : goal.visit-requires-clause-latches
 visit-requires-clause-latches c =
@@ -57,10 +58,10 @@ returns-then-not-allowed-clause-none c =
     let same = c.as_slice-inputs-items.ensures in
     let now = c.as_slice-in-loop-k.result.now in
     none_past c.args.c.now c.args.j c.args.s.now c.loop-k.k now c.loop-k.walk
-      (inside_place xs ys c.loop-k.k same c.loop-k-test.true)
-      (at_place xs ys c.loop-k.k now c.inputs-item.result same c.as_slice-in-loop-k.ensures c.inputs-item.is)
-      c.loop-k.invariant.0
-      (λ meets. false≢true (sym c.if-not-allowed.true ∙ c.in_ok-allowed.ensures.allowed.1 meets))
+    (inside_place xs ys c.loop-k.k same c.loop-k-test.true)
+    (at_place xs ys c.loop-k.k now c.inputs-item.result same c.as_slice-in-loop-k.ensures c.inputs-item.is)
+    c.loop-k.invariant.0
+    (λ meets. false≢true (sym c.if-not-allowed.true ∙ c.in_ok-allowed.ensures.allowed.1 meets))
 
 pub returns-in-Some-clause-found : goal.returns-in-Some-clause-found
 returns-in-Some-clause-found c =
@@ -71,12 +72,12 @@ returns-in-Some-clause-found c =
     let now = c.as_slice-in-loop-k.result.now in
     let inside = inside_place xs ys c.loop-k.k same c.loop-k-test.true in
     let tracks = Tracks-more c.args.c.now c.args.j c.args.s.now c.loop-k.k now (c.loop-k.k + 1) c.loop-k.walk c.visit.new.walk can inside
-      (at_place xs ys c.loop-k.k now c.inputs-item.result same c.as_slice-in-loop-k.ensures c.inputs-item.is)
-      refl c.loop-k.invariant.0 (c.in_ok-allowed.ensures.allowed.0 c.if-not-allowed.false) (on_true _ _ c.if-not-allowed.false c.in_ok-allowed.ensures.goes) in
+    (at_place xs ys c.loop-k.k now c.inputs-item.result same c.as_slice-in-loop-k.ensures c.inputs-item.is)
+    refl c.loop-k.invariant.0 (c.in_ok-allowed.ensures.allowed.0 c.if-not-allowed.false) (on_true _ _ c.if-not-allowed.false c.in_ok-allowed.ensures.goes) in
     let stands = StandsFor-first c.args.c.now c.args.j c.args.s.now c.loop-k.k c.in-Some.from c.loop-k.walk c.visit.new.walk can inside c.loop-k.invariant.0 tracks c.in-Some.ensures.found c.in-Some.ensures.least in
     let made = c.in_ok-lasso_of.ensures in
     stands_same c.args.c.now c.args.j c.args.s.now (c.loop-k.k + 1) (length c.in_ok-lasso_of.field-0.inputs) c.in-Some.from c.in_ok-lasso_of.field-0.from
-      (ap length made.inputs ∙ length-take-le (c.loop-k.k + 1) c.args.s.now.inputs (next_place c.loop-k.k c.args.s.now.inputs inside)) made.from stands
+    (ap length made.inputs ∙ length-take-le (c.loop-k.k + 1) c.args.s.now.inputs (next_place c.loop-k.k c.args.s.now.inputs inside)) made.from stands
 
 pub loop-k-preserved : goal.loop-k-preserved
 loop-k-preserved c =
@@ -87,8 +88,8 @@ loop-k-preserved c =
     let now = c.as_slice-in-loop-k.result.now in
     let inside = inside_place xs ys c.loop-k.k same c.loop-k-test.true in
     let tracks = Tracks-more c.args.c.now c.args.j c.args.s.now c.loop-k.k now (c.loop-k.k + 1) c.loop-k.walk c.visit.new.walk can inside
-      (at_place xs ys c.loop-k.k now c.inputs-item.result same c.as_slice-in-loop-k.ensures c.inputs-item.is)
-      refl c.loop-k.invariant.0 (c.in_ok-allowed.ensures.allowed.0 c.if-not-allowed.false) (on_true _ _ c.if-not-allowed.false c.in_ok-allowed.ensures.goes) in
+    (at_place xs ys c.loop-k.k now c.inputs-item.result same c.as_slice-in-loop-k.ensures c.inputs-item.is)
+    refl c.loop-k.invariant.0 (c.in_ok-allowed.ensures.allowed.0 c.if-not-allowed.false) (on_true _ _ c.if-not-allowed.false c.in_ok-allowed.ensures.goes) in
     (IsReplayed-more c.args.c.now c.args.j c.args.s.now c.loop-k.k c.loop-k.walk c.visit.new.walk inside c.loop-k.invariant.0 tracks c.in_default.ensures.none, kept c.loop-k.values.len c.visit.new.values c.loop-k.values.items (c.args.c.now.max + 1) c.loop-k.values.ok.0 (c.visit.auto.values ∙ ap length c.deref_mut.ensures.value) c.loop-k.invariant.1)
 
 pub returns-clause-none : goal.returns-clause-none
