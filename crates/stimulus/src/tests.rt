@@ -156,11 +156,11 @@ fn parts_of(alloc: Global, model: &Model) -> Result<Parts, AllocError> {
     })
 }
 
-fn circuit_of(rt: &HostRuntime, model: &Model) -> Result<Circuit, Fail> {
-    let parts = parts_of(rt.alloc(), model)?;
+fn circuit_of(rt: &impl Abort, alloc: Global, model: &Model) -> Result<Circuit, Fail> {
+    let parts = parts_of(alloc, model)?;
     assert!(rt; parts.is_in_range());
     assert!(rt; parts.gates.is_empty());
-    Ok(check_circuit(rt.alloc(), &parts)?)
+    Ok(check_circuit(alloc, &parts)?)
 }
 
 // A circuit, a property, a stimulus, and the number of positions of the lasso and the place that it goes back to.
@@ -194,7 +194,7 @@ const REPLAYS: [(&Model, u32, &str, Option<(usize, u64)>); 24] = [
 #[test]
 fn replays(rt: HostRuntime) -> Result<(), Fail> {
     for (model, j, text, wanted) in REPLAYS {
-        let c = circuit_of(&rt, model)?;
+        let c = circuit_of(&rt, rt.alloc(), model)?;
         let s = read(rt.alloc(), text.as_bytes())?;
         let found = match replay(rt.alloc(), &c, j, &s) {
             Ok(lasso) => {
