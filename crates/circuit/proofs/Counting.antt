@@ -4,6 +4,7 @@ use Rattle.std.specs.List.{All, Contains, flat_map, count_by}
 use Rattle.std.proofs.lemmas.Bool.{cases_eq, cases_lt, eq-eqb, ne_eqb}
 use Rattle.std.proofs.lemmas.List.{get_or-map, get_or_default, length-map}
 use Rattle.std.proofs.lemmas.List.Sums.{sum_by-cons}
+use Rattle.std.proofs.lemmas.List.Elements.{All-append, All-head, All-tail}
 use Rattle.aig_semantics.proofs.Lists.{AllDiffer, AllDiffer-tail, All-left, All-right}
 
 abbrev pub count : ℕ → List ℕ → ℕ
@@ -85,3 +86,13 @@ pub All-parts : {X : Type 0} (P : ℕ → Type 0) (f : X → List ℕ) (xs : Lis
 All-parts P f [] h k d below = absurd (omega arith)
 All-parts P f (x ∷ xs) h zero d below = All-left P (f x) (flat_map f xs) h
 All-parts P f (x ∷ xs) h (suc k) d below = All-parts P f xs (All-right P (f x) (flat_map f xs) h) k d (omega arith)
+
+pub All-joined : {X : Type 0} (P : ℕ → Type 0) (f : X → List ℕ) (xs : List X) → All (λ x. All P (f x)) xs → All P (flat_map f xs)
+All-joined P f [] h = λ k d below. absurd (omega arith)
+All-joined P f (x ∷ xs) h =
+    All-append P (f x) (flat_map f xs) (All-head (λ y. All P (f y)) x xs h) (All-joined P f xs (All-tail (λ y. All P (f y)) x xs h))
+
+pub All-pair : (P : ℕ → Type 0) (v w : ℕ) → P v → P w → All P (v ∷ w ∷ [])
+All-pair P v w p q zero d below = p
+All-pair P v w p q (suc zero) d below = q
+All-pair P v w p q (suc (suc k)) d below = absurd (omega arith)

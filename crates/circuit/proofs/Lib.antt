@@ -1,5 +1,6 @@
 pub mod Writing
 pub mod Counting
+pub mod Ranges
 pub mod Marking
 pub mod Verdicts
 pub mod Following

@@ -11,11 +11,12 @@ use Rattle.aig_semantics.specs.declared.parts.Gate.{Gate}
 use Rattle.aig_semantics.specs.Literals.{variable_of}
 use Rattle.aig_semantics.specs.Circuits.{Circuit, defined, used, AreDefined}
 use Rattle.aig_semantics.proofs.Lists.{AllDiffer, All-left, All-right}
-use Rattle.circuit.proofs.Counting.{count, count-same, count-other, Contains-from_count, count-from_Contains, count-differ, AllDiffer-from_count, All-unmap, All-parts}
+use Rattle.circuit.proofs.Counting.{count, count-same, count-other, Contains-from_count, count-from_Contains, count-differ, AllDiffer-from_count}
+use Rattle.circuit.proofs.Ranges.{DefinesAll-from, UsesAll-from, used-in_range}
 use Rattle.circuit.specs.declared.parts.Parts.{Parts}
 use Rattle.circuit.specs.declared.marks.Mark.{Mark}
 use Rattle.circuit.specs.declared.marks.Mark.TheVariants.{Nowhere, Once, Twice, Missing}
-use Rattle.circuit.specs.Sections.{circuit_of, used_by, AreInRange, DefinesBelow, UsesBelow}
+use Rattle.circuit.specs.Sections.{circuit_of, used_by, AreInRange, DefinesAll, UsesAll}
 use Rattle.circuit.specs.Marks.{defined_again, when_used, first_marks, with_definition, with_use, IsFirstMarked}
 use Rattle.circuit.specs.Faults.{IsLeast, IsTwice, IsFirstTwice, IsUndefined, IsOnce, IsFirstUndefined}
 use Rattle.circuit.proofs.Writing.{get_or-replicate_same}
@@ -57,18 +58,9 @@ uses-in_turn parts m0 m1 m2 m3 m4 m5 m6 m7 e1 e2 e3 e4 e5 e6 e7 =
 
 -- ---- what a reader has seen to
 
-pub DefinesBelow-from : (parts : Parts) → AreInRange parts → DefinesBelow (parts.max + 1) parts
-DefinesBelow-from parts h =
-    let Below : ℕ → Type 0 = λ v. v < parts.max + 1 in
-    let all : All Below (defined (circuit_of parts)) = λ k d below. let range = h.variables k d below in omega arith in
-    let given = All-left Below (parts.inputs ++ map (λ latch. latch.var) parts.latches) (map (λ gate. gate.var) parts.gates) all in
-    record {
-      inputs = All-left Below parts.inputs (map (λ latch. latch.var) parts.latches) given;
-      latches = All-unmap Below (λ latch. latch.var) parts.latches (All-right Below parts.inputs (map (λ latch. latch.var) parts.latches) given);
-      gates =
-          All-unmap Below (λ gate. gate.var) parts.gates
-          (All-right Below (parts.inputs ++ map (λ latch. latch.var) parts.latches) (map (λ gate. gate.var) parts.gates) all);
-    }
+pub DefinesAll-below : (parts : Parts) → AreInRange parts → DefinesAll (λ v. v < parts.max + 1) parts
+DefinesAll-below parts h =
+    DefinesAll-from (λ v. v < parts.max + 1) parts (λ k d below. let range = h.variables k d below in omega arith)
 
 -- a literal within the limits has its variable within them
 variable-below : (max literal : ℕ) → literal ≤ 2 * max + 1 → variable_of literal < max + 1
@@ -76,35 +68,10 @@ variable-below max literal h = omega arith
 
 -- each variable that is used is at most the greatest
 pub used-below : (parts : Parts) → AreInRange parts → All (λ literal. variable_of literal < parts.max + 1) (used_by parts)
-used-below parts h =
-    let Low : ℕ → Type 0 = λ literal. literal ≤ 2 * parts.max + 1 in
-    let outputs = All-left Low parts.outputs parts.bad h.literals in
-    let bad = All-right Low parts.outputs parts.bad h.literals in
-    let all = All-append Low (used (circuit_of parts) ++ parts.outputs) parts.bad (All-append Low (used (circuit_of parts)) parts.outputs h.limits.literals outputs) bad in
-    λ k d below. variable-below parts.max _ (all k d below)
+used-below parts h = λ k d below. variable-below parts.max _ (used-in_range parts h k d below)
 
-pub UsesBelow-from : (parts : Parts) → AreInRange parts → UsesBelow (parts.max + 1) parts
-UsesBelow-from parts h =
-    let Below : ℕ → Type 0 = λ literal. variable_of literal < parts.max + 1 in
-    let latches : List ℕ = map (λ latch. latch.next) parts.latches in
-    let gates : List ℕ = flat_map (λ gate. gate.rhs0 ∷ gate.rhs1 ∷ []) parts.gates in
-    let justice : List ℕ = flat_map (λ property. property) parts.justice in
-    let all = used-below parts h in
-    let six = All-left Below (used (circuit_of parts) ++ parts.outputs) parts.bad all in
-    let five = All-left Below (used (circuit_of parts)) parts.outputs six in
-    let four = All-left Below (latches ++ gates ++ parts.constraints ++ justice) parts.fairness five in
-    let three = All-left Below (latches ++ gates ++ parts.constraints) justice four in
-    let two = All-left Below (latches ++ gates) parts.constraints three in
-    let each = All-parts Below (λ gate. gate.rhs0 ∷ gate.rhs1 ∷ []) parts.gates (All-right Below latches gates two) in
-    record {
-      latches = All-unmap Below (λ latch. latch.next) parts.latches (All-left Below latches gates two);
-      gates = λ k d below. (each k d below 0 0 (omega arith), each k d below 1 0 (omega arith));
-      constraints = All-right Below (latches ++ gates) parts.constraints three;
-      justice = All-parts Below (λ property. property) parts.justice (All-right Below (latches ++ gates ++ parts.constraints) justice four);
-      fairness = All-right Below (latches ++ gates ++ parts.constraints ++ justice) parts.fairness five;
-      outputs = All-right Below (used (circuit_of parts)) parts.outputs six;
-      bad = All-right Below (used (circuit_of parts) ++ parts.outputs) parts.bad all;
-    }
+pub UsesAll-below : (parts : Parts) → AreInRange parts → UsesAll (λ literal. variable_of literal < parts.max + 1) parts
+UsesAll-below parts h = UsesAll-from (λ literal. variable_of literal < parts.max + 1) parts (used-below parts h)
 
 -- ---- the mark of a variable after all definitions
 
@@ -381,11 +348,11 @@ module _ (parts : Parts) (h : AreInRange parts) (m0 m1 : List Mark) (e0 : m0 ≡
   definitions-is : m1 ≡ after_definitions parts h
   definitions-is = e1 ∙ ap (λ marks. fold with_definition marks (defined (circuit_of parts))) e0
 
-  pub DefinesBelow-marks : DefinesBelow (length m0) parts
-  DefinesBelow-marks = subst (λ n. DefinesBelow n parts) (sym (ap length e0 ∙ length-first parts h)) (DefinesBelow-from parts h)
+  pub DefinesAll-marks : DefinesAll (λ v. v < length m0) parts
+  DefinesAll-marks = subst (λ n. DefinesAll (λ v. v < n) parts) (sym (ap length e0 ∙ length-first parts h)) (DefinesAll-below parts h)
 
-  pub UsesBelow-marks : UsesBelow (length m1) parts
-  UsesBelow-marks = subst (λ n. UsesBelow n parts) (sym (ap length definitions-is ∙ length-definitions_of parts h)) (UsesBelow-from parts h)
+  pub UsesAll-marks : UsesAll (λ literal. variable_of literal < length m1) parts
+  UsesAll-marks = subst (λ n. UsesAll (λ literal. variable_of literal < n) parts) (sym (ap length definitions-is ∙ length-definitions_of parts h)) (UsesAll-below parts h)
 
   pub twice-told : (v : ℕ) → IsFirstMarked m1 Twice v → IsFirstTwice parts v
   twice-told v m = twice-first parts h v (subst (λ marks. IsFirstMarked marks Twice v) definitions-is m)

@@ -4,7 +4,7 @@
 ghost use Rattle.std.specs.Prelude.{◌≡◌, ◌≢◌, ◌<◌, length, fold, All, IfSome, IfNone};
 ghost use Rattle.aig_semantics.specs.Literals.{variable_of};
 ghost use Rattle.aig_semantics.specs.Circuits.{defined};
-ghost use Rattle.circuit.specs.Sections.{circuit_of, used_by, DefinesBelow, UsesBelow};
+ghost use Rattle.circuit.specs.Sections.{circuit_of, used_by, DefinesAll, UsesAll};
 ghost use Rattle.circuit.specs.Marks.{defined_again, when_used, with_definition, with_use, IsFirstMarked};
 
 use crate::parts::Parts;
@@ -130,7 +130,7 @@ fn use_properties(justice: &[Items<u64>], marks: &mut [Mark])
 
 /// Goes through all definitions of a model.
 pub(crate) fn mark_definitions(parts: &Parts, marks: &mut [Mark])
-    requires { DefinesBelow (length marks.old) parts.now }
+    requires { DefinesAll (λ v. v < length marks.old) parts.now }
     ensures { marks.new ≡ fold with_definition marks.old (defined (circuit_of parts.now)) }
 {
     define_inputs(parts.inputs.as_slice(), marks);
@@ -140,7 +140,7 @@ pub(crate) fn mark_definitions(parts: &Parts, marks: &mut [Mark])
 
 /// Goes through all uses of a model.
 pub(crate) fn mark_uses(parts: &Parts, marks: &mut [Mark])
-    requires { UsesBelow (length marks.old) parts.now }
+    requires { UsesAll (λ literal. variable_of literal < length marks.old) parts.now }
     ensures { marks.new ≡ fold with_use marks.old (used_by parts.now) }
 {
     use_latches(parts.latches.as_slice(), marks);

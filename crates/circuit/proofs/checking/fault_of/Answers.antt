@@ -1,9 +1,9 @@
 use Rattle.std.proofs.Common.{refl}
-use Rattle.circuit.proofs.Marking.{DefinesBelow-marks, UsesBelow-marks, twice-told, once-told, undefined-told, defined-told}
+use Rattle.circuit.proofs.Marking.{DefinesAll-marks, UsesAll-marks, twice-told, once-told, undefined-told, defined-told}
 use Rattle.circuit.proofs.checking.fault_of.Goals as goal
 
 pub mark_definitions-requires : goal.mark_definitions-requires
-mark_definitions-requires c = DefinesBelow-marks c.args.parts.now c.requires.in_range c.args.marks.now _ c.requires.first refl
+mark_definitions-requires c = DefinesAll-marks c.args.parts.now c.requires.in_range c.args.marks.now _ c.requires.first refl
 
 pub returns-in-Some : goal.returns-in-Some
 returns-in-Some c =
@@ -12,7 +12,7 @@ returns-in-Some c =
 
 pub mark_uses-requires : goal.mark_uses-requires
 mark_uses-requires c =
-    UsesBelow-marks c.args.parts.now c.requires.in_range c.args.marks.now c.mark_definitions.new.marks c.requires.first c.mark_definitions.ensures
+    UsesAll-marks c.args.parts.now c.requires.in_range c.args.marks.now c.mark_definitions.new.marks c.requires.first c.mark_definitions.ensures
 
 pub returns-in-Some-first_marked : goal.returns-in-Some-first_marked
 returns-in-Some-first_marked c =

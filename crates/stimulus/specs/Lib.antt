@@ -1,0 +1,4 @@
+-- What the texts of stimuli are, and how reading and replay end.
+pub mod Texts
+pub mod Ends
+pub mod Walks
