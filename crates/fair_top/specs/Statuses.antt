@@ -1,0 +1,20 @@
+-- The statuses of runs that end without a text.
+use Rattle.std.specs.Prelude.{Bool, true, false}
+use Rattle.edge.specs.declared.reading.ReadEnd.{ReadEnd}
+use Rattle.edge.specs.declared.reading.ReadEnd.TheVariants as reads
+use Rattle.fair_top.specs.declared.status.Status.{Status}
+use Rattle.fair_top.specs.declared.status.Status.TheVariants as statuses
+
+abbrev pub status_of_read : ReadEnd → Status
+status_of_read reads.Failed = statuses.ReadFault
+status_of_read reads.Memory = statuses.Memory
+
+-- a run ends with this status before it writes
+abbrev pub ends_silently : Status → Bool
+ends_silently statuses.ReadFault = true
+ends_silently statuses.Memory = true
+ends_silently statuses.WriteFault = false
+ends_silently statuses.Usage = false
+ends_silently (statuses.Done done) = false
+ends_silently (statuses.Refused fault) = false
+ends_silently (statuses.BadModel fault) = false

@@ -1,0 +1,63 @@
+-- What each status writes, and the number with which the program ends.
+use Rattle.std.specs.Prelude.{ℕ, List, [], ◌++◌, decimal, codes}
+use Rattle.circuit.specs.declared.faults.ModelFault.{ModelFault}
+use Rattle.circuit.specs.declared.faults.ModelFault.TheVariants.{Header, Number, Range, Undefined, Twice, Cycle, Truncated, Limit, Trailing, Symbol}
+use Rattle.stimulus.specs.declared.ends.ReplayFault.{ReplayFault}
+use Rattle.stimulus.specs.declared.ends.ReplayFault.TheVariants.{Shape, Width, NotInitial, Constraint, NoFairLoop, NoProperty}
+use Rattle.fair_top.specs.declared.status.Status.{Status}
+use Rattle.fair_top.specs.declared.status.Status.TheVariants as statuses
+use Rattle.fair_top.specs.declared.status.Done.{Done}
+use Rattle.fair_top.specs.declared.status.Done.TheVariants.{Lasso}
+use Rattle.fair_top.specs.declared.status.AnswerFault.{AnswerFault}
+use Rattle.fair_top.specs.declared.status.AnswerFault.TheVariants.{UnknownStatus, Replay}
+
+abbrev pub exit_number : Status → ℕ
+exit_number (statuses.Done done) = 0
+exit_number (statuses.Refused fault) = 1
+exit_number (statuses.BadModel fault) = 3
+exit_number statuses.ReadFault = 4
+exit_number statuses.WriteFault = 5
+exit_number statuses.Memory = 6
+exit_number statuses.Usage = 64
+
+-- one line, of words, a number and a line feed
+abbrev pub line_with : List ℕ → ℕ → List ℕ
+line_with words n = words ++ decimal n ++ codes "\n"
+
+abbrev pub model_text : ModelFault → List ℕ
+model_text (Header place) = line_with (codes "model refused header ") place
+model_text (Number place) = line_with (codes "model refused number ") place
+model_text (Range place) = line_with (codes "model refused range ") place
+model_text (Undefined variable) = line_with (codes "model refused undefined ") variable
+model_text (Twice variable) = line_with (codes "model refused twice ") variable
+model_text (Cycle variable) = line_with (codes "model refused cycle ") variable
+model_text (Truncated place) = line_with (codes "model refused truncated ") place
+model_text (Limit place) = line_with (codes "model refused limit ") place
+model_text (Trailing place) = line_with (codes "model refused trailing ") place
+model_text (Symbol place) = line_with (codes "model refused symbol ") place
+
+abbrev pub replay_text : ReplayFault → List ℕ
+replay_text (Shape line) = line_with (codes "refused shape line ") line
+replay_text (Width item) = line_with (codes "refused width item ") item
+replay_text (NotInitial latch) = line_with (codes "refused initial latch ") latch
+replay_text (Constraint position) = line_with (codes "refused constraint position ") position
+replay_text NoFairLoop = codes "refused no fair loop\n"
+replay_text NoProperty = codes "refused property\n"
+
+abbrev pub answer_text : AnswerFault → List ℕ
+answer_text UnknownStatus = codes "refused unknown status\n"
+answer_text (Replay fault) = replay_text fault
+
+abbrev pub done_text : Done → List ℕ
+done_text (Lasso property positions from) =
+    codes "accepted lasso j" ++ decimal property ++ codes " positions " ++ decimal positions ++ codes " loop " ++ decimal from ++ codes "\n"
+
+-- the text of a status; three of them have none
+abbrev pub text_of : Status → List ℕ
+text_of (statuses.Done done) = done_text done
+text_of (statuses.Refused fault) = answer_text fault
+text_of (statuses.BadModel fault) = model_text fault
+text_of statuses.ReadFault = []
+text_of statuses.WriteFault = []
+text_of statuses.Memory = []
+text_of statuses.Usage = codes "usage: fairlive check MODEL ANSWER\n"

@@ -1,0 +1,80 @@
+//! How a run ends: the statuses, and the number with which the program ends for each.
+
+ghost use Rattle.std.specs.Prelude.{◌≡◌};
+ghost use Rattle.fair_top.specs.Texts.{exit_number};
+
+use circuit::ModelFault;
+use edge::ReadEnd;
+use stimulus::ReplayFault;
+
+/// How a run of the program ended.
+#[derive(Clone, Copy, Debug, PartialEq, Eq)]
+pub enum Status {
+    /// The command did its work.
+    Done(Done),
+    /// `check`: the answer is not a good one.
+    Refused(AnswerFault),
+    /// The bytes of MODEL are in no model text that the program reads.
+    BadModel(ModelFault),
+    /// A read of MODEL or ANSWER failed. Nothing was written.
+    ReadFault,
+    /// A write failed. What was written is a prefix of the text.
+    WriteFault,
+    /// Memory was refused. Nothing was written.
+    Memory,
+    /// The words are no command.
+    Usage,
+}
+
+/// What a command did.
+#[derive(Clone, Copy, Debug, PartialEq, Eq)]
+pub enum Done {
+    /// The stimulus of the answer stands for a fair lasso of this property: its number of positions, and the place,
+    /// from 0, that its last position steps back to.
+    Lasso {
+        property: u32,
+        positions: u64,
+        from: u64,
+    },
+}
+
+/// Why an answer is refused.
+#[derive(Clone, Copy, Debug, PartialEq, Eq)]
+pub enum AnswerFault {
+    /// The text is in none of the forms of an answer.
+    UnknownStatus,
+    /// The stimulus has no lasso.
+    Replay(ReplayFault),
+}
+
+impl Status {
+    /// The number with which the program ends: 0 for work done, 1 for a refused answer, 3 for a bad model, 4 and 5 for
+    /// failed reads and writes, 6 for want of memory, and 64 for words that are no command.
+    pub fn number(&self) -> u8
+        ensures { result ≡ exit_number self.now }
+    {
+        match self {
+            Status::Done(_) => 0,
+            Status::Refused(_) => 1,
+            Status::BadModel(_) => 3,
+            Status::ReadFault => 4,
+            Status::WriteFault => 5,
+            Status::Memory => 6,
+            Status::Usage => 64,
+        }
+    }
+}
+
+impl From<ReadEnd> for Status {
+    ghost use Rattle.std.specs.Prelude.{◌≡◌};
+    ghost use Rattle.fair_top.specs.Statuses.{status_of_read};
+
+    ghost from_gives = { λ end status. status ≡ status_of_read end };
+
+    fn from(end: ReadEnd) -> Status {
+        match end {
+            ReadEnd::Failed => Status::ReadFault,
+            ReadEnd::Memory => Status::Memory,
+        }
+    }
+}

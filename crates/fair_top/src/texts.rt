@@ -1,0 +1,99 @@
+//! The text that each status writes.
+
+ghost use Rattle.std.specs.Prelude.{◌≡◌, ◌++◌, IfOk, OnOk, codes, decimal};
+ghost use Rattle.fair_top.specs.Texts.{text_of, line_with, model_text, replay_text, answer_text, done_text};
+
+use crate::status::{AnswerFault, Done, Status};
+use circuit::ModelFault;
+use std::alloc::{AllocError, Global};
+use stimulus::ReplayFault;
+use text_grammar::push_number;
+
+/// The whole text of a status.
+pub(crate) fn status_text(alloc: Global, status: &Status) -> Result<Vec<u8>, AllocError>
+    ensures { IfOk result (λ text. text.items ≡ text_of status.now) }
+{
+    match status {
+        Status::Done(done) => text_of_done(alloc, done),
+        Status::Refused(fault) => text_of_answer(alloc, fault),
+        Status::BadModel(fault) => text_of_model(alloc, fault),
+        Status::Usage => words(alloc, "usage: fairlive check MODEL ANSWER\n"),
+        Status::ReadFault | Status::WriteFault | Status::Memory => Ok(Vec::new(alloc)),
+    }
+}
+
+fn words(alloc: Global, text: &str) -> Result<Vec<u8>, AllocError>
+    ensures { IfOk result (λ line. line.items ≡ text.now) }
+{
+    Vec::from_slice(alloc, text.as_bytes())
+}
+
+/// A line of words and a number.
+fn numbered(alloc: Global, text: &str, number: u64) -> Result<Vec<u8>, AllocError>
+    ensures { IfOk result (λ line. line.items ≡ line_with text.now number) }
+{
+    let mut line = words(alloc, text)?;
+    push_number(&mut line, number)?;
+    line.push(b'\n')?;
+    Ok(line)
+}
+
+fn text_of_model(alloc: Global, fault: &ModelFault) -> Result<Vec<u8>, AllocError>
+    ensures { IfOk result (λ line. line.items ≡ model_text fault.now) }
+{
+    match *fault {
+        ModelFault::Header(place) => numbered(alloc, "model refused header ", place),
+        ModelFault::Number(place) => numbered(alloc, "model refused number ", place),
+        ModelFault::Range(place) => numbered(alloc, "model refused range ", place),
+        ModelFault::Undefined(variable) => numbered(alloc, "model refused undefined ", variable),
+        ModelFault::Twice(variable) => numbered(alloc, "model refused twice ", variable),
+        ModelFault::Cycle(variable) => numbered(alloc, "model refused cycle ", variable),
+        ModelFault::Truncated(place) => numbered(alloc, "model refused truncated ", place),
+        ModelFault::Limit(place) => numbered(alloc, "model refused limit ", place),
+        ModelFault::Trailing(place) => numbered(alloc, "model refused trailing ", place),
+        ModelFault::Symbol(place) => numbered(alloc, "model refused symbol ", place),
+    }
+}
+
+fn text_of_answer(alloc: Global, fault: &AnswerFault) -> Result<Vec<u8>, AllocError>
+    ensures { IfOk result (λ line. line.items ≡ answer_text fault.now) }
+{
+    match fault {
+        AnswerFault::UnknownStatus => words(alloc, "refused unknown status\n"),
+        AnswerFault::Replay(fault) => text_of_replay(alloc, fault),
+    }
+}
+
+fn text_of_replay(alloc: Global, fault: &ReplayFault) -> Result<Vec<u8>, AllocError>
+    ensures { IfOk result (λ line. line.items ≡ replay_text fault.now) }
+{
+    match *fault {
+        ReplayFault::Shape(line) => numbered(alloc, "refused shape line ", line),
+        ReplayFault::Width(item) => numbered(alloc, "refused width item ", item),
+        ReplayFault::NotInitial(latch) => numbered(alloc, "refused initial latch ", latch),
+        ReplayFault::Constraint(place) => numbered(alloc, "refused constraint position ", place),
+        ReplayFault::NoFairLoop => words(alloc, "refused no fair loop\n"),
+        ReplayFault::NoProperty => words(alloc, "refused property\n"),
+    }
+}
+
+fn text_of_done(alloc: Global, done: &Done) -> Result<Vec<u8>, AllocError>
+    ensures { IfOk result (λ line. line.items ≡ done_text done.now) }
+{
+    match *done {
+        Done::Lasso {
+            property,
+            positions,
+            from,
+        } => {
+            let mut line = words(alloc, "accepted lasso j")?;
+            push_number(&mut line, u64::from(property))?;
+            line.extend_from_slice(b" positions ")?;
+            push_number(&mut line, positions)?;
+            line.extend_from_slice(b" loop ")?;
+            push_number(&mut line, from)?;
+            line.push(b'\n')?;
+            Ok(line)
+        }
+    }
+}
