@@ -1,4 +1,5 @@
--- The lines of a model's text. Each word says what stands at the front of bytes, and what follows it.
+-- The lines of a model's text. Each definition says what stands at the front of bytes, and what follows
+-- it.
 use Rattle.std.specs.Prelude.{◌≡◌, ◌≢◌, ℕ, ◌+◌, ◌*◌, ◌≤◌, ◌<◌, ◌⊎◌, List, [], ◌∷◌, ◌++◌, length, take, drop, Option, Some, None}
 use Rattle.std.specs.List.{All}
 use Rattle.aig_semantics.specs.declared.limits.TheConstants.{MAX_NUMBER}

@@ -6,6 +6,6 @@ use Rattle.edge.specs.Told.{IfTold}
 abbrev pub Adds : Option (List ℕ) → Option (List ℕ) → List ℕ → Type 0
 Adds old new bytes = IfTold old (λ taken. new ≡ Some (taken ++ bytes))
 
--- the same of some of the first of these bytes: at least the last one is missing
+-- the same of a proper prefix of these bytes
 abbrev pub AddsPart : Option (List ℕ) → Option (List ℕ) → List ℕ → Type 0
 AddsPart old new bytes = (k : ℕ) × (k < length bytes) × Adds old new (take k bytes)

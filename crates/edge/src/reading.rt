@@ -13,11 +13,12 @@ pub trait Shelf {
     // The bytes that it holds under a name, where it tells them.
     ghost held: { Self → List ℕ → Option (List ℕ) };
 
-    // How many reads of a name failed. A count never falls, and stands still at 2^64 - 1.
+    // A count of failed reads for each name; a shelf may keep one count for all its names. A count never falls, and
+    // stands still at 2^64 - 1.
     ghost faults: { Self → List ℕ → ℕ };
 
     /// Reads bytes of the text of a name, from the place `from` on, into the front of `buf`, and says how many.
-    /// None into a buffer that is not empty means the end of the text. A missing name is a failure.
+    /// 0 bytes into a buffer that is not empty mean the end of the text. A missing name is a failure.
     fn read_at(&mut self, name: &str, from: u64, buf: &mut [u8]) -> Result<usize, Failed>
         ensures bound { IfOk result (λ n. n ≤ length buf.new) }
         ensures bytes { IfOk result (λ n. IfTold (held self.old name.now) (λ text. GivesBytes text from n buf.new)) }

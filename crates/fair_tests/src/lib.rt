@@ -1,5 +1,7 @@
-//! Tests of the whole program over texts in memory.
+//! Tests of the whole program over texts in memory, and of circuits.
 #![tactic(auto)]
 
+#[cfg(test)]
+mod circuits;
 #[cfg(test)]
 mod tests;

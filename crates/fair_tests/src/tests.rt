@@ -180,37 +180,33 @@ fn answers_of_check(rt: HostRuntime) -> Result<(), Fail> {
     Ok(())
 }
 
-/// Each read failing in turn ends the run without a text; each write failing in turn leaves a part of the text.
+/// Each read failing in turn ends the run at once and without a text, and no read comes after the last one that is
+/// owed; each write failing in turn leaves a part of the text. Beside the bytes a call, how many calls a run makes.
 #[test]
 fn failing_calls(rt: HostRuntime) -> Result<(), Fail> {
     let text = b"accepted lasso j0 positions 2 loop 0\n".as_slice();
-    for most in [1, 5, 1000] {
-        let mut failed = false;
-        for k in 1..200 {
-            let ran = check(&rt, rt.alloc(), TOGGLE, TWO_POSITIONS, most, &[k], &[])?;
-            match ran.status {
-                Status::ReadFault => {
-                    assert_eq!(rt; ran.text.len(), 0);
-                    failed = true;
-                }
-                status => assert_eq!(rt; status.number(), 0),
-            }
+    for (most, reads, writes) in [(1, 43, 37), (5, 11, 8), (1000, 4, 1)] {
+        for k in 1..60 {
+            let read = check(&rt, rt.alloc(), TOGGLE, TWO_POSITIONS, most, &[k], &[])?;
+            assert_eq!(rt;
+                read.status.number(),
+                if k <= reads { 4 } else { 0 },
+                "read {k}"
+            );
+            assert_eq!(rt; read.text.is_empty(), k <= reads, "read {k}");
+            let written = check(&rt, rt.alloc(), TOGGLE, TWO_POSITIONS, most, &[], &[k])?;
+            assert_eq!(rt;
+                written.status.number(),
+                if k <= writes { 5 } else { 0 },
+                "write {k}"
+            );
+            assert!(rt; text.starts_with(written.text.as_slice()), "write {k}");
+            assert_eq!(rt; written.text.len() < text.len(), k <= writes, "write {k}");
         }
-        assert!(rt; failed);
-        failed = false;
-        for k in 1..200 {
-            let ran = check(&rt, rt.alloc(), TOGGLE, TWO_POSITIONS, most, &[], &[k])?;
-            match ran.status {
-                Status::WriteFault => {
-                    assert!(rt;
-                        text.starts_with(ran.text.as_slice()) && ran.text.len() < text.len()
-                    );
-                    failed = true;
-                }
-                status => assert_eq!(rt; status.number(), 0),
-            }
-        }
-        assert!(rt; failed);
+    }
+    for k in 1..20 {
+        let bad = check(&rt, rt.alloc(), "aag\n", TWO_POSITIONS, 1000, &[k], &[])?;
+        assert_eq!(rt; bad.status.number(), if k <= 2 { 4 } else { 3 }, "read {k}");
     }
     Ok(())
 }

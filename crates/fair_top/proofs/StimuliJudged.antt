@@ -84,9 +84,9 @@ answer_exact c s text statuses.Usage a one h verdict d = absurd h
 -- where the text gives no stimulus
 pub without_says : (c : Circuit) (text : List ℕ) (status : Status) → EndsWithoutStimulus text status → AnswerSays c text status
 without_says c text status h = elim h [
-    inl e ↦ subst (AnswerSays c text) (sym e) tt
+  | inl e ↦ subst (AnswerSays c text) (sym e) tt
   | inr p ↦ subst (AnswerSays c text) (sym p.0) p.1
-  ]
+]
 
 unknown_exact : (c : Circuit) (text : List ℕ) → IsNoAnswer text → (verdict : Status) → AnswerDecides c text verdict → statuses.Refused UnknownStatus ≡ verdict
 unknown_exact c text h (statuses.Done (Lasso i n place)) d = absurd (h d.1.0 d.1.1)
@@ -101,6 +101,6 @@ unknown_exact c text h statuses.Usage d = absurd d
 pub without_exact : (c : Circuit) (text : List ℕ) (status : Status) → EndsWithoutStimulus text status
     → (verdict : Status) → AnswerDecides c text verdict → (status ≡ verdict) ⊎ (status ≡ statuses.Memory)
 without_exact c text status h verdict d = elim h [
-    inl e ↦ inr e
+  | inl e ↦ inr e
   | inr p ↦ inl (p.0 ∙ unknown_exact c text p.1 verdict d)
-  ]
+]

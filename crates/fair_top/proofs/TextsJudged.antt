@@ -131,15 +131,15 @@ pub words_exact : (held : List ℕ → Option (List ℕ)) (words : List (List �
     → ((verdict : Status) → TextsDecide (held m) (held a) verdict → Answers status verdict)
     → (verdict : Status) → IsVerdict held words verdict → Answers status verdict
 words_exact held words m a status check exact verdict v = elim v [
-    inl usage ↦ absurd (usage.0 m a check)
+  | inl usage ↦ absurd (usage.0 m a check)
   | inr named ↦
-    let same : (named.0 ≡ m) × (named.1 ≡ a) = same_names words named.0 named.1 m a named.2 check in
-    exact verdict (subst (λ (x : List ℕ). TextsDecide (held m) (held x) verdict) same.1
-        (subst (λ (x : List ℕ). TextsDecide (held x) (held named.1) verdict) same.0 named.3))
-  ]
+      let same : (named.0 ≡ m) × (named.1 ≡ a) = same_names words named.0 named.1 m a named.2 check in
+      exact verdict (subst (λ (x : List ℕ). TextsDecide (held m) (held x) verdict) same.1
+      (subst (λ (x : List ℕ). TextsDecide (held x) (held named.1) verdict) same.0 named.3))
+]
 
 pub usage_exact : (held : List ℕ → Option (List ℕ)) (words : List (List ℕ)) → IsUsage words → (verdict : Status) → IsVerdict held words verdict → Answers statuses.Usage verdict
 usage_exact held words usage verdict v = elim v [
-    inl both ↦ inl (sym both.1)
+  | inl both ↦ inl (sym both.1)
   | inr named ↦ absurd (usage named.0 named.1 named.2)
-  ]
+]

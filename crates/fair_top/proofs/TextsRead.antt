@@ -39,5 +39,8 @@ circuit_read model read c told form one = record {
 
 pub bad_read : (model : Option (List ℕ)) (read : List ℕ) (fault : ModelFault) → IfTold model (λ text. read ≡ take (MAX_MODEL_BYTES + 1) text)
     → fault ≡ Header 0 → ((c : Circuit) → IsFirstForm c read → ⊥) → IfTold model (λ text. IsBadModel text fault)
-bad_read model read fault told header bad = λ text e. (header, λ c h.
-    bad c (subst (IsFirstForm c) (sym (whole MAX_MODEL_BYTES read text (told text e) (short_text c text h))) h))
+bad_read model read fault told header bad = λ text e. (
+  header,
+  λ c h.
+      bad c (subst (IsFirstForm c) (sym (whole MAX_MODEL_BYTES read text (told text e) (short_text c text h))) h),
+)

@@ -33,7 +33,7 @@ IsRefused c answer (Replay fault) = (fault ≡ NoFairLoop) × GivesNoLasso c ans
 abbrev pub IsAccepted : Circuit → List ℕ → Done → Type 0
 IsAccepted c answer (Lasso property positions from) = (property ≡ 0) × GivesLasso c answer positions from
 
--- MODEL is the text of a circuit of which the claim is so
+-- MODEL is the text of a circuit of which the claim holds
 abbrev pub OfCircuit : List ℕ → (Circuit → Type 0) → Type 0
 OfCircuit model Claim = (c : Circuit) × IsFirstForm c model × Claim c
 
@@ -66,11 +66,11 @@ TextsDecide model answer statuses.Usage = ⊥
 
 -- The same of the words and of what a shelf holds under each name.
 
--- the words are a command, and the claim is so of the names of MODEL and ANSWER
+-- the words are a command, and the claim holds of the names of MODEL and ANSWER
 abbrev pub OfNames : List (List ℕ) → (List ℕ → List ℕ → Type 0) → Type 0
 OfNames words Claim = (model : List ℕ) × (answer : List ℕ) × IsCheck words model answer × Claim model answer
 
--- what is so where a run answers a status
+-- what holds where a run answers a status
 abbrev pub IsFound : (List ℕ → Option (List ℕ)) → List (List ℕ) → Status → Type 0
 IsFound held words statuses.Usage = IsUsage words
 IsFound held words statuses.ReadFault = Unit {0}

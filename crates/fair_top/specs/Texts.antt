@@ -36,6 +36,7 @@ model_text (Limit place) = line_with (codes "model refused limit ") place
 model_text (Trailing place) = line_with (codes "model refused trailing ") place
 model_text (Symbol place) = line_with (codes "model refused symbol ") place
 
+-- `check` never answers NoProperty: the line of the property is judged before
 abbrev pub replay_text : ReplayFault → List ℕ
 replay_text (Shape line) = line_with (codes "refused shape line ") line
 replay_text (Width item) = line_with (codes "refused width item ") item
@@ -52,7 +53,7 @@ abbrev pub done_text : Done → List ℕ
 done_text (Lasso property positions from) =
     codes "accepted lasso j" ++ decimal property ++ codes " positions " ++ decimal positions ++ codes " loop " ++ decimal from ++ codes "\n"
 
--- the text of a status; three of them have none
+-- the text of a status; three have none of their own (a failed write leaves a part of another's: see Writes)
 abbrev pub text_of : Status → List ℕ
 text_of (statuses.Done done) = done_text done
 text_of (statuses.Refused fault) = answer_text fault

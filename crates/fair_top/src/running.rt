@@ -50,7 +50,8 @@ pub fn run_alone<H: Shelf, O: Sink>(
     // and what is so is answered, unless memory is refused or a read or write fails.
     ensures exactly { (verdict : Status) → IsVerdict (H.held shelf.old) (bytes_of words.now) verdict → Answers result verdict }
 
-    // The sink has taken the answer's text; after a failed write a part of it; after a failed read nothing.
+    // The sink has taken the answer's text; after a failed write a part of it; after a failed read or want
+    // of memory nothing.
     ensures text { Writes (H.held shelf.old) (bytes_of words.now) (O.taken out.old) (O.taken out.new) result }
 
     // A failed read or write is answered only where it came.

@@ -19,8 +19,9 @@ returns-in-Ok-clause-exactly g c =
 
 pub returns-in-Ok-clause-read : goal.returns-in-Ok-clause-read
 returns-in-Ok-clause-read g c = λ e. inr (
-    λ text told. (c.in-Ok.circuit, c.in-Ok.ensures.found.text text told, tt),
-    rose_since _ _ _ (c.in-Ok.ensures.counts c.args.answer.now) (c.judge_read.ensures.read e))
+  λ text told. (c.in-Ok.circuit, c.in-Ok.ensures.found.text text told, tt),
+  rose_since _ _ _ (c.in-Ok.ensures.counts c.args.answer.now) (c.judge_read.ensures.read e),
+)
 
 pub returns-in-Err-clause-found : goal.returns-in-Err-clause-found
 returns-in-Err-clause-found g c =
