@@ -25,8 +25,8 @@ use Rattle.fair_top.specs.Judged.{IsCircuitOf, EndsWithoutCircuit, EndsWithoutTe
 -- Where the answer was read.
 
 pub read_says : (c : Circuit) (told : Option (List ℕ)) (bytes : List ℕ) (status : Status) → IfTold told (λ text. bytes ≡ text) → AnswerSays c bytes status → ReadSays c told status
-read_says c told bytes (statuses.Done done) same h = λ text e. subst (λ (b : List ℕ). AnswerSays c b (statuses.Done done)) (same text e) h
-read_says c told bytes (statuses.Refused fault) same h = λ text e. subst (λ (b : List ℕ). AnswerSays c b (statuses.Refused fault)) (same text e) h
+read_says c told bytes (statuses.Done done) same h = (bytes, (λ text e. sym (same text e)), h)
+read_says c told bytes (statuses.Refused fault) same h = (bytes, (λ text e. sym (same text e)), h)
 read_says c told bytes statuses.Memory same h = tt
 read_says c told bytes statuses.ReadFault same h = tt
 read_says c told bytes (statuses.BadModel fault) same h = absurd h
@@ -47,9 +47,13 @@ unread_exact status verdict h = elim h [ inl e ↦ inr (inr (inl e)) | inr e ↦
 
 -- Where the circuit was read.
 
+-- a text that is told is the circuit's
+pub told_form : (model : Option (List ℕ)) (c : Circuit) → IsCircuitOf model c → (text : List ℕ) → model ≡ Some text → IsFirstForm c text
+told_form model c h text e = subst (IsFirstForm c) (sym (h.text.1 text e)) h.text.2
+
 pub texts_say : (c : Circuit) (model answer : Option (List ℕ)) (status : Status) → IsCircuitOf model c → ReadSays c answer status → TextsSay model answer status
-texts_say c model answer (statuses.Done done) h r = λ text e claimed f. (c, h.text text e, r claimed f)
-texts_say c model answer (statuses.Refused fault) h r = λ text e claimed f. (c, h.text text e, r claimed f)
+texts_say c model answer (statuses.Done done) h r = (h.text.0, r.0, h.text.1, r.1, (c, h.text.2, r.2))
+texts_say c model answer (statuses.Refused fault) h r = (h.text.0, r.0, h.text.1, r.1, (c, h.text.2, r.2))
 texts_say c model answer statuses.Memory h r = tt
 texts_say c model answer statuses.ReadFault h r = tt
 texts_say c model answer (statuses.BadModel fault) h r = absurd r
@@ -63,7 +67,7 @@ texts_exact c model answer status h exact (statuses.Done done) (text, claimed, e
     exact claimed (statuses.Done done) f (subst (λ (x : Circuit). AnswerDecides x claimed (statuses.Done done)) (sym (h.one text d e form)) said)
 texts_exact c model answer status h exact (statuses.Refused fault) (text, claimed, e, f, (d, form, said)) =
     exact claimed (statuses.Refused fault) f (subst (λ (x : Circuit). AnswerDecides x claimed (statuses.Refused fault)) (sym (h.one text d e form)) said)
-texts_exact c model answer status h exact (statuses.BadModel fault) (text, e, bad) = absurd (bad.1 c (h.text text e))
+texts_exact c model answer status h exact (statuses.BadModel fault) (text, e, bad) = absurd (bad.1 c (told_form model c h text e))
 texts_exact c model answer status h exact statuses.Memory d = absurd d
 texts_exact c model answer status h exact statuses.ReadFault d = absurd d
 texts_exact c model answer status h exact statuses.WriteFault d = absurd d
@@ -86,9 +90,9 @@ without_circuit_says model answer statuses.Usage h = absurd h
 
 bad_exact : (model answer : Option (List ℕ)) (fault : ModelFault) → EndsWithoutCircuit model (statuses.BadModel fault)
     → (verdict : Status) → TextsDecide model answer verdict → statuses.BadModel fault ≡ verdict
-bad_exact model answer fault h (statuses.BadModel other) (text, e, bad) = ap statuses.BadModel ((h text e).0 ∙ sym bad.0)
-bad_exact model answer fault h (statuses.Done done) (text, claimed, e, f, (d, form, said)) = absurd ((h text e).1 d form)
-bad_exact model answer fault h (statuses.Refused other) (text, claimed, e, f, (d, form, said)) = absurd ((h text e).1 d form)
+bad_exact model answer fault h (statuses.BadModel other) (text, e, bad) = ap statuses.BadModel (h.2.0 ∙ sym bad.0)
+bad_exact model answer fault h (statuses.Done done) (text, claimed, e, f, (d, form, said)) = absurd (h.2.1 d (subst (IsFirstForm d) (h.1 text e) form))
+bad_exact model answer fault h (statuses.Refused other) (text, claimed, e, f, (d, form, said)) = absurd (h.2.1 d (subst (IsFirstForm d) (h.1 text e) form))
 bad_exact model answer fault h statuses.Memory d = absurd d
 bad_exact model answer fault h statuses.ReadFault d = absurd d
 bad_exact model answer fault h statuses.WriteFault d = absurd d

@@ -1,8 +1,8 @@
 -- A text that is read to a limit, and one byte more where it is longer.
-use Rattle.std.proofs.Common.{◌≡◌, ℕ, ◌+◌, ◌-◌, ◌<◌, ◌≤◌, ◌⊎◌, min, List, length, take, Some, Ok, Err, sym, ◌∙◌, ap, subst, arith, inl, inr}
-use Rattle.std.specs.Prelude.{Option, Result}
+use Rattle.std.proofs.Common.{◌≡◌, ℕ, ◌+◌, ◌-◌, ◌<◌, ◌≤◌, ◌⊎◌, min, List, length, take, Some, Ok, Err, refl, sym, ◌∙◌, ap, subst, arith, inl, inr}
+use Rattle.std.specs.Prelude.{Option, None, Result}
 use Rattle.std.proofs.lemmas.List.{length-take, take_all}
-use Rattle.edge.specs.Told.{IfTold}
+use Rattle.edge.specs.Told.{IfTold, MayBe}
 use Rattle.aig_semantics.specs.declared.limits.TheConstants.{MAX_MODEL_BYTES}
 use Rattle.aig_semantics.specs.Circuits.{Circuit}
 use Rattle.aiger_grammar.specs.FirstForm.{IsFirstForm}
@@ -33,14 +33,23 @@ one_given c d h = elim h [ inl e ↦ cc | inr e ↦ cc ]
 pub circuit_read : (model : Option (List ℕ)) (read : List ℕ) (c : Circuit) → IfTold model (λ text. read ≡ take (MAX_MODEL_BYTES + 1) text)
     → IsFirstForm c read → ((d : Circuit) → IsFirstForm d read → c ≡ d) → IsCircuitOf model c
 circuit_read model read c told form one = record {
-  text = λ text e. subst (IsFirstForm c) (whole_read MAX_MODEL_BYTES read text (told text e) (short_text c read form)) form;
+  text = (read, (λ text e. sym (whole_read MAX_MODEL_BYTES read text (told text e) (short_text c read form))), form);
   one = λ text d e h. one d (subst (IsFirstForm d) (sym (whole MAX_MODEL_BYTES read text (told text e) (short_text d text h))) h);
 }
 
+-- a text that is told is the one that it is told to be
+one_told : (text other : List ℕ) → ◌≡◌ {A = Option (List ℕ)} (Some text) (Some other) → other ≡ text
+one_told text other e = cc
+
 pub bad_read : (model : Option (List ℕ)) (read : List ℕ) (fault : ModelFault) → IfTold model (λ text. read ≡ take (MAX_MODEL_BYTES + 1) text)
-    → fault ≡ Header 0 → ((c : Circuit) → IsFirstForm c read → ⊥) → IfTold model (λ text. IsBadModel text fault)
-bad_read model read fault told header bad = λ text e. (
-  header,
-  λ c h.
-      bad c (subst (IsFirstForm c) (sym (whole MAX_MODEL_BYTES read text (told text e) (short_text c text h))) h),
+    → fault ≡ Header 0 → ((c : Circuit) → IsFirstForm c read → ⊥) → (text : List ℕ) × MayBe model text × IsBadModel text fault
+bad_read None read fault told header bad = (read, (λ text e. (let wrong : ◌≡◌ {A = Option (List ℕ)} None (Some text) = e in cc)), (header, bad))
+bad_read (Some text) read fault told header bad = (
+  text,
+  (λ other e. one_told text other e),
+  (
+    header,
+    λ c h.
+        bad c (subst (IsFirstForm c) (sym (whole MAX_MODEL_BYTES read text (told text refl) (short_text c text h))) h),
+  ),
 )

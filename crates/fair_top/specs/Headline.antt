@@ -3,7 +3,7 @@ use Rattle.std.specs.Prelude.{◌≡◌, ◌⊎◌, ℕ, List, Option, Some}
 use Rattle.circuit.specs.declared.faults.ModelFault.{ModelFault}
 use Rattle.circuit.specs.declared.faults.ModelFault.TheVariants.{Header}
 use Rattle.stimulus.specs.declared.ends.ReplayFault.TheVariants.{NoFairLoop}
-use Rattle.edge.specs.Told.{IfTold}
+use Rattle.edge.specs.Told.{IfTold, MayBe}
 use Rattle.edge.specs.Faults.{Rose}
 use Rattle.edge.specs.Writes.{Adds, AddsPart}
 use Rattle.aig_semantics.specs.Circuits.{Circuit}
@@ -42,11 +42,13 @@ abbrev pub FailedFor : Option (List ℕ) → ℕ → ℕ → ℕ → ℕ → Typ
 FailedFor model model_before model_now answer_before answer_now =
     Rose model_before model_now ⊎ (IfTold model (λ text. OfCircuit text (λ c. Unit {0})) × Rose answer_before answer_now)
 
--- What the texts of MODEL and ANSWER say of a status, where they are told.
+-- What a status says of the texts of MODEL and ANSWER; where they are told, these are the texts.
 abbrev pub TextsSay : Option (List ℕ) → Option (List ℕ) → Status → Type 0
-TextsSay model answer (statuses.BadModel fault) = IfTold model (λ text. IsBadModel text fault)
-TextsSay model answer (statuses.Refused fault) = IfTold model (λ text. IfTold answer (λ claimed. OfCircuit text (λ c. IsRefused c claimed fault)))
-TextsSay model answer (statuses.Done done) = IfTold model (λ text. IfTold answer (λ claimed. OfCircuit text (λ c. IsAccepted c claimed done)))
+TextsSay model answer (statuses.BadModel fault) = (text : List ℕ) × MayBe model text × IsBadModel text fault
+TextsSay model answer (statuses.Refused fault) =
+    (text : List ℕ) × (claimed : List ℕ) × MayBe model text × MayBe answer claimed × OfCircuit text (λ c. IsRefused c claimed fault)
+TextsSay model answer (statuses.Done done) =
+    (text : List ℕ) × (claimed : List ℕ) × MayBe model text × MayBe answer claimed × OfCircuit text (λ c. IsAccepted c claimed done)
 TextsSay model answer statuses.ReadFault = Unit {0}
 TextsSay model answer statuses.WriteFault = ⊥
 TextsSay model answer statuses.Memory = Unit {0}

@@ -1,6 +1,6 @@
 -- What the parts of a check answer: the circuit, the bytes of the answer, and the verdict on them.
 use Rattle.std.specs.Prelude.{◌≡◌, ◌⊎◌, ℕ, List, Option, Some, Result, Ok, Err}
-use Rattle.edge.specs.Told.{IfTold}
+use Rattle.edge.specs.Told.{MayBe}
 use Rattle.aig_semantics.specs.Circuits.{Circuit}
 use Rattle.aiger_grammar.specs.FirstForm.{IsFirstForm}
 use Rattle.fair_top.specs.declared.status.Status.{Status}
@@ -19,14 +19,14 @@ abbrev pub status_of : Result Done Status → Status
 status_of (Ok done) = statuses.Done done
 status_of (Err status) = status
 
--- c is the one circuit whose text MODEL is, where it is told
+-- c is the one circuit whose text MODEL is
 pub record IsCircuitOf (model : Option (List ℕ)) (c : Circuit) : Type 0 where
-  pub text : IfTold model (λ text. IsFirstForm c text)
+  pub text : (text : List ℕ) × MayBe model text × IsFirstForm c text
   pub one : (text : List ℕ) (d : Circuit) → model ≡ Some text → IsFirstForm d text → c ≡ d
 
 -- a run may end with this status where it has no circuit
 abbrev pub EndsWithoutCircuit : Option (List ℕ) → Status → Type 0
-EndsWithoutCircuit model (statuses.BadModel fault) = IfTold model (λ text. IsBadModel text fault)
+EndsWithoutCircuit model (statuses.BadModel fault) = (text : List ℕ) × MayBe model text × IsBadModel text fault
 EndsWithoutCircuit model statuses.ReadFault = Unit {0}
 EndsWithoutCircuit model statuses.Memory = Unit {0}
 EndsWithoutCircuit model (statuses.Done done) = ⊥
@@ -74,10 +74,10 @@ StimulusSays c stimulus statuses.ReadFault = ⊥
 StimulusSays c stimulus statuses.WriteFault = ⊥
 StimulusSays c stimulus statuses.Usage = ⊥
 
--- what a status says of the answer's text, where it is told; want of memory and a failed read say nothing
+-- what a status says of the answer's text; want of memory and a failed read say nothing
 abbrev pub ReadSays : Circuit → Option (List ℕ) → Status → Type 0
-ReadSays c answer (statuses.Done done) = IfTold answer (λ text. IsAccepted c text done)
-ReadSays c answer (statuses.Refused fault) = IfTold answer (λ text. IsRefused c text fault)
+ReadSays c answer (statuses.Done done) = (text : List ℕ) × MayBe answer text × IsAccepted c text done
+ReadSays c answer (statuses.Refused fault) = (text : List ℕ) × MayBe answer text × IsRefused c text fault
 ReadSays c answer statuses.Memory = Unit {0}
 ReadSays c answer statuses.ReadFault = Unit {0}
 ReadSays c answer (statuses.BadModel fault) = ⊥

@@ -2,7 +2,7 @@ use Rattle.std.proofs.Common.{◌≡◌, ◌⊎◌, List, ℕ, Some, Err, ap, su
 use Rattle.fair_top.specs.declared.status.Status.{Status}
 use Rattle.fair_top.specs.declared.status.Status.TheVariants.{ReadFault}
 use Rattle.fair_top.specs.Judged.{status_of}
-use Rattle.fair_top.proofs.TextsJudged.{texts_say, texts_exact, answer_kept, without_circuit_says, without_circuit_exact, rose_since}
+use Rattle.fair_top.proofs.TextsJudged.{texts_say, texts_exact, answer_kept, told_form, without_circuit_says, without_circuit_exact, rose_since}
 use Rattle.fair_top.proofs.checking.judge_named.Goals as goal
 
 pub returns-in-Ok-clause-found : goal.returns-in-Ok-clause-found
@@ -19,7 +19,7 @@ returns-in-Ok-clause-exactly g c =
 
 pub returns-in-Ok-clause-read : goal.returns-in-Ok-clause-read
 returns-in-Ok-clause-read g c = λ e. inr (
-  λ text told. (c.in-Ok.circuit, c.in-Ok.ensures.found.text text told, tt),
+  λ text told. (c.in-Ok.circuit, told_form _ c.in-Ok.circuit c.in-Ok.ensures.found text told, tt),
   rose_since _ _ _ (c.in-Ok.ensures.counts c.args.answer.now) (c.judge_read.ensures.read e),
 )
 
