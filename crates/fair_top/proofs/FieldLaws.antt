@@ -1,16 +1,15 @@
 -- The laws of numbers, fields and bytes of a model's text.
-use Rattle.std.proofs.Common.{◌≡◌, ◌≢◌, ℕ, zero, suc, ◌+◌, ◌*◌, ◌/◌, ◌%◌, ◌<◌, ◌≤◌, ◌^◌, Bool, true, false, not, ◌&&◌, ◌||◌, cond, eqb, leb, ltb, List, [], ◌∷◌, ◌++◌, length, Option, Some, None, Result, Ok, Err, refl, sym, ap, subst, ◌∙◌, arith, lit<, inl, inr, true≢false}
+use Rattle.std.proofs.Common.{◌≡◌, ◌≢◌, ℕ, ◌+◌, ◌*◌, ◌%◌, ◌<◌, ◌≤◌, Bool, true, false, not, ◌&&◌, cond, eqb, leb, ltb, List, [], ◌∷◌, Option, Some, None, Ok, refl, sym, ap, subst, ◌∙◌, arith, lit<, true≢false}
 use Rattle.std.proofs.lemmas.Bool.{eqb-true, eq-eqb, leb-true, le-leb, ltb-true, lt-ltb, eqb-false, ne_eqb}
-use Rattle.aig_semantics.specs.declared.limits.TheConstants.{MAX_NUMBER, MAX_PROPERTY_LITERALS}
+use Rattle.aig_semantics.specs.declared.limits.TheConstants.{MAX_NUMBER}
 use Rattle.aig_semantics.specs.Literals.{variable_of, is_negated}
 use Rattle.text_grammar.specs.Numerals.{IsNumeral, IsField, number_at}
 use Rattle.text_grammar.proofs.NumeralLaws.{read_stands, stands_read, both}
-use Rattle.circuit.specs.declared.faults.ModelFault.{ModelFault}
 use Rattle.fair_top.specs.declared.model_text.fields.Test.{Test}
 use Rattle.fair_top.specs.declared.model_text.fields.Test.TheVariants as tests
 use Rattle.fair_top.specs.Reading.{Reader, ◌>>=◌}
 use Rattle.fair_top.specs.ModelText.{refused, or_refused, numeral_at, byte_at, passes, value_at, field_at}
-use Rattle.fair_top.proofs.ReaderLaws.{Reads, Then, bind_ok, then_reads, done_reads, map_reads, said}
+use Rattle.fair_top.proofs.ReaderLaws.{Reads, then_reads, done_reads, map_reads, said}
 
 or_ok : {A : Type 0} (o : Option A) (y : A) → or_refused o ≡ Ok y → o ≡ Some y
 or_ok (Some x) y e = cc

@@ -1,14 +1,12 @@
 -- The law of the first line.
-use Rattle.std.proofs.Common.{◌≡◌, ℕ, ◌≤◌, List, [], ◌∷◌, ◌++◌, length, take, drop, Result, Ok, Err, refl, sym, ap, subst, ◌∙◌, arith, lit≤}
+use Rattle.std.proofs.Common.{◌≡◌, ℕ, List, [], ◌∷◌, ◌++◌, refl, ap, subst, ◌∙◌, lit≤}
 use Rattle.std.specs.Prelude.{codes}
 use Rattle.std.proofs.lemmas.List.Elements.{All-nil}
 use Rattle.aig_semantics.specs.declared.limits.TheConstants.{MAX_NUMBER}
 use Rattle.text_grammar.specs.Numerals.{IsNumeral}
-use Rattle.aiger_grammar.specs.Lines.{Numbers, HeaderLine}
-use Rattle.circuit.specs.declared.faults.ModelFault.{ModelFault}
+use Rattle.aiger_grammar.specs.Lines.{HeaderLine}
 use Rattle.fair_top.specs.declared.model_text.heading.Heading.{Heading}
-use Rattle.fair_top.specs.Reading.{Reader, ◌>>=◌}
-use Rattle.fair_top.specs.ModelText.{numeral_at, byte_at, word_at, shown_at, heading_at}
+use Rattle.fair_top.specs.ModelText.{byte_at, word_at, shown_at, heading_at}
 use Rattle.fair_top.proofs.ReaderLaws.{Reads, Then, then_reads, map_reads, said}
 use Rattle.fair_top.proofs.FieldLaws.{numeral_reads, byte_reads}
 

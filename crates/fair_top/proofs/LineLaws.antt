@@ -1,20 +1,19 @@
 -- The laws of lines and of sections.
-use Rattle.std.proofs.Common.{◌≡◌, ◌≢◌, ℕ, zero, suc, ◌+◌, ◌*◌, ◌/◌, ◌%◌, ◌<◌, ◌≤◌, ◌^◌, ◌⊎◌, Bool, true, false, not, ◌&&◌, ◌||◌, cond, eqb, leb, ltb, List, [], ◌∷◌, ◌++◌, length, Option, Some, None, Result, Ok, Err, refl, sym, ap, subst, ◌∙◌, arith, inl, inr, true≢false}
+use Rattle.std.proofs.Common.{◌≡◌, ◌≢◌, ℕ, zero, suc, ◌+◌, ◌*◌, ◌≤◌, ◌⊎◌, Bool, true, false, ◌||◌, cond, eqb, leb, List, [], ◌∷◌, length, Result, Ok, refl, sym, ap, subst, ◌∙◌, arith, inl, inr}
 use Rattle.std.specs.List.{AllByRecursion}
-use Rattle.std.proofs.lemmas.Bool.{eqb-true, eq-eqb, leb-true, le-leb, eqb-false, ne_eqb, lt-leb}
+use Rattle.std.proofs.lemmas.Bool.{eqb-true, eq-eqb, eqb-false, ne_eqb, lt-leb}
 use Rattle.std.proofs.Math.Bool.{or-true}
-use Rattle.aig_semantics.specs.declared.limits.TheConstants.{MAX_NUMBER, MAX_PROPERTY_LITERALS}
+use Rattle.aig_semantics.specs.declared.limits.TheConstants.{MAX_NUMBER}
 use Rattle.aig_semantics.specs.declared.parts.Latch.{Latch}
 use Rattle.aig_semantics.specs.declared.parts.Reset.{Reset}
 use Rattle.aig_semantics.specs.declared.parts.Reset.TheVariants.{Zero, One, Free}
-use Rattle.aig_semantics.specs.Literals.{variable_of, is_negated}
+use Rattle.aig_semantics.specs.Literals.{variable_of}
 use Rattle.text_grammar.specs.Numerals.{IsNumeral, IsField}
 use Rattle.aiger_grammar.specs.Lines.{BeforeSpace, EndsLine, LinesOf, InputLine, LatchLine, reset_number}
 use Rattle.circuit.specs.declared.faults.ModelFault.{ModelFault}
-use Rattle.fair_top.specs.declared.model_text.fields.Test.{Test}
 use Rattle.fair_top.specs.declared.model_text.fields.Test.TheVariants as tests
 use Rattle.fair_top.specs.Reading.{Reader, ◌>>=◌, many}
-use Rattle.fair_top.specs.ModelText.{refused, passes, value_at, field_at, input_at, reset_of, reset_at, latch_at, literal_at}
+use Rattle.fair_top.specs.ModelText.{refused, passes, field_at, input_at, reset_of, reset_at, latch_at, literal_at}
 use Rattle.fair_top.proofs.ReaderLaws.{Reads, Then, bind_ok, then_reads, done_reads, map_reads, said}
 use Rattle.fair_top.proofs.FieldLaws.{value_reads, field_reads, variable_passes, passes_variable, literal_passes, passes_literal}
 

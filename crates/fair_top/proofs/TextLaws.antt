@@ -1,33 +1,29 @@
 -- The law of the whole text.
-use Rattle.std.proofs.Common.{◌≡◌, ◌≢◌, ℕ, zero, suc, ◌+◌, ◌-◌, ◌*◌, ◌<◌, ◌≤◌, ◌⊎◌, Bool, true, false, ◌&&◌, cond, eqb, leb, ltb, List, [], ◌∷◌, ◌++◌, length, map, drop, take, Option, Some, None, Result, Ok, Err, refl, sym, ap, subst, ◌∙◌, arith, inl, inr, lit≤}
+use Rattle.std.proofs.Common.{◌≡◌, ℕ, ◌+◌, ◌-◌, ◌*◌, ◌≤◌, Bool, true, false, ◌&&◌, cond, eqb, leb, ltb, List, [], ◌∷◌, ◌++◌, length, map, Result, Ok, Err, refl, sym, ap, subst, ◌∙◌, arith, lit≤}
 use Rattle.std.specs.Prelude.{codes, IfOk, OnOk}
-use Rattle.std.specs.List.{All, AllByRecursion, flat_map}
+use Rattle.std.specs.List.{AllByRecursion, flat_map}
 use Rattle.std.proofs.lemmas.Bool.{eqb-true, eq-eqb, leb-true, le-leb, ltb-false, le-ltb}
 use Rattle.std.proofs.lemmas.List.{append-nil, nil_from_length}
 use Rattle.std.proofs.lemmas.List.Concat.{flat_map-cons}
-use Rattle.std.proofs.lemmas.List.Elements.{All-nil, All-cons, All-head, All-append, All-map, All-weaker, All-from_recursion, recursion_from_All}
+use Rattle.std.proofs.lemmas.List.Elements.{All-nil, All-cons, All-head, All-from_recursion, recursion_from_All}
 use Rattle.aig_semantics.specs.declared.limits.TheConstants.{MAX_NUMBER, MAX_PROPERTY_LITERALS, MAX_VARIABLE, MAX_MODEL_BYTES}
 use Rattle.aig_semantics.specs.declared.parts.Latch.{Latch}
 use Rattle.aig_semantics.specs.declared.parts.Gate.{Gate}
-use Rattle.aig_semantics.specs.Circuits.{Circuit, IsChecked, IsWithinLimits, AreDefined, defined, used}
+use Rattle.aig_semantics.specs.Circuits.{Circuit, IsChecked, AreDefined, defined, used}
 use Rattle.text_grammar.specs.Numerals.{IsField}
 use Rattle.text_grammar.proofs.NumeralLaws.{both}
 use Rattle.aiger_grammar.specs.Lines.{EndsLine, LinesOf, InputLine, LatchLine, HeaderLine}
-use Rattle.aiger_grammar.specs.Models.{IsModel, NamesElement}
-use Rattle.aiger_grammar.specs.Texts.{IsAsciiText, header_numbers}
+use Rattle.aiger_grammar.specs.Models.{NamesElement}
 use Rattle.aiger_grammar.specs.FirstForm.{plain_model, IsNarrow, IsFirstForm}
 use Rattle.circuit.specs.declared.parts.Parts.{Parts}
 use Rattle.circuit.specs.declared.faults.ModelFault.{ModelFault}
-use Rattle.circuit.specs.declared.faults.ModelFault.TheVariants.{Header, Number, Range, Undefined, Twice, Cycle, Truncated, Limit, Trailing, Symbol}
 use Rattle.circuit.specs.declared.faults.ModelEnd.{ModelEnd}
 use Rattle.circuit.specs.declared.faults.ModelEnd.TheVariants.{Memory, Fault}
 use Rattle.circuit.specs.Sections.{circuit_of, used_by, AreInRange}
-use Rattle.circuit.specs.Faults.{AnswersExactlyWhere, AnswersNoOther, IsFirstTwice, IsFirstUndefined}
-use Rattle.circuit.proofs.Verdicts.{once-not_twice, defined-not_undefined}
 use Rattle.fair_top.specs.declared.model_text.heading.Heading.{Heading}
 use Rattle.fair_top.specs.declared.model_text.fields.Test.TheVariants as tests
-use Rattle.fair_top.specs.Reading.{Reader, ◌>>=◌, many, Fails}
-use Rattle.fair_top.specs.ModelText.{refused, passes, field_at, input_at, latch_at, literal_at, heading_at, has_room, is_first_form, parts_of, sections_at, parts_at, IsAnswer}
+use Rattle.fair_top.specs.Reading.{◌>>=◌, many, Fails}
+use Rattle.fair_top.specs.ModelText.{refused, passes, input_at, latch_at, literal_at, heading_at, is_first_form, parts_of, sections_at, parts_at, IsAnswer}
 use Rattle.fair_top.proofs.ReaderLaws.{Reads, Then, bind_ok, then_reads, map_reads, same_ok}
 use Rattle.fair_top.proofs.FieldLaws.{field_reads}
 use Rattle.fair_top.proofs.LineLaws.{IsVariable, LatchFits, input_reads, latch_reads, literal_reads, many_reads, lines_split, lines_join}
@@ -456,36 +452,22 @@ read_range bytes parts e = narrow_range parts bytes (parts_take bytes parts e)
 pub read_gates : (bytes : List ℕ) (parts : Parts) → parts_at bytes ≡ Ok parts → parts.gates ≡ []
 read_gates bytes parts e = narrow_gates parts bytes (parts_take bytes parts e)
 
--- a fault of the parts is a fault of their circuit
-faulty : (parts : Parts) (fault : ModelFault) → parts.outputs ≡ [] → parts.bad ≡ [] → AnswersNoOther {T = Circuit} (Err (Fault fault))
-    → ((v : ℕ) → AnswersExactlyWhere {T = Circuit} (Err (Fault fault)) (Twice v) (IsFirstTwice parts v))
-    → ((v : ℕ) → AnswersExactlyWhere {T = Circuit} (Err (Fault fault)) (Undefined v) (IsFirstUndefined parts v)) → IsChecked (circuit_of parts) → ⊥
-faulty parts (Twice v) outputs bad no_other twice undefined checked = once-not_twice parts v checked.once ((twice v).only refl).holds
-faulty parts (Undefined v) outputs bad no_other twice undefined checked =
-    let same : used (circuit_of parts) ≡ used_by parts = sym (ap (λ xs. used (circuit_of parts) ++ xs ++ parts.bad) outputs ∙ ap (λ xs. used (circuit_of parts) ++ [] ++ xs) bad
-    ∙ append-nil (used (circuit_of parts) ++ []) ∙ append-nil (used (circuit_of parts))) in
-    defined-not_undefined parts v (subst (AreDefined (circuit_of parts)) same checked.used_defined) ((undefined v).only refl).first.holds
-faulty parts (Header v) outputs bad no_other twice undefined checked = no_other
-faulty parts (Number v) outputs bad no_other twice undefined checked = no_other
-faulty parts (Range v) outputs bad no_other twice undefined checked = no_other
-faulty parts (Cycle v) outputs bad no_other twice undefined checked = no_other
-faulty parts (Truncated v) outputs bad no_other twice undefined checked = no_other
-faulty parts (Limit v) outputs bad no_other twice undefined checked = no_other
-faulty parts (Trailing v) outputs bad no_other twice undefined checked = no_other
-faulty parts (Symbol v) outputs bad no_other twice undefined checked = no_other
+-- without outputs and bad literals all uses are the circuit's
+narrow_uses : (parts : Parts) (bytes : List ℕ) → TextRead parts bytes → used_by parts ≡ used (circuit_of parts)
+narrow_uses parts bytes s =
+    let p = parted parts bytes s in
+    let all = used (circuit_of (parts_of p.max p.inputs p.latches p.literals)) in
+    subst (λ x. used_by x ≡ used (circuit_of x)) p.same (append-nil (all ++ []) ∙ append-nil all)
 
-narrow_outputs : (parts : Parts) (bytes : List ℕ) → TextRead parts bytes → (parts.outputs ≡ []) × (parts.bad ≡ [])
-narrow_outputs parts bytes s = let p = parted parts bytes s in subst (λ x. (x.outputs ≡ []) × (x.bad ≡ [])) p.same (refl, refl)
-
--- the circuit of the parts that were read is the answer, or a fault of it
+-- the circuit of the parts that were read is the answer, or a fault where it has no meaning
 pub checked_answer : (bytes : List ℕ) (parts : Parts) (result : Result Circuit ModelEnd) → parts_at bytes ≡ Ok parts
-    → IfOk result (λ c. c ≡ circuit_of parts) → OnOk result (IsChecked (circuit_of parts)) → AnswersNoOther result
-    → ((v : ℕ) → AnswersExactlyWhere result (Twice v) (IsFirstTwice parts v)) → ((v : ℕ) → AnswersExactlyWhere result (Undefined v) (IsFirstUndefined parts v)) → IsAnswer bytes result
-checked_answer bytes parts (Ok c) e ok checked no_other twice undefined =
+    → IfOk result (λ c. c ≡ circuit_of parts) → OnOk result (IsChecked (circuit_of parts))
+    → ((fault : ModelFault) → result ≡ Err (Fault fault) → IsChecked (circuit_of parts) → AreDefined (circuit_of parts) (used_by parts) → ⊥) → IsAnswer bytes result
+checked_answer bytes parts (Ok c) e ok checked faulty =
     subst (λ d. IsFirstForm d bytes) (sym ok) (first_form parts bytes (parts_take bytes parts e) checked)
-checked_answer bytes parts (Err Memory) e ok checked no_other twice undefined = tt
-checked_answer bytes parts (Err (Fault fault)) e ok checked no_other twice undefined = λ c s.
+checked_answer bytes parts (Err Memory) e ok checked faulty = tt
+checked_answer bytes parts (Err (Fault fault)) e ok checked faulty = λ c s.
     let a = text_is_read c bytes s in
     let same : circuit_of parts ≡ c = ap circuit_of (same_ok parts a.0 (sym e ∙ a.1)) ∙ a.2 in
-    let lists = narrow_outputs parts bytes (parts_take bytes parts e) in
-    faulty parts fault lists.0 lists.1 no_other twice undefined (subst IsChecked (sym same) s.text.model.checked)
+    let has_meaning : IsChecked (circuit_of parts) = subst IsChecked (sym same) s.text.model.checked in
+    faulty fault refl has_meaning (subst (AreDefined (circuit_of parts)) (sym (narrow_uses parts bytes (parts_take bytes parts e))) has_meaning.used_defined)

@@ -28,9 +28,12 @@ use std::alloc::Global;
 /// the header says.
 pub(crate) fn read_model(alloc: Global, bytes: &[u8]) -> Result<Circuit, ModelEnd>
     ensures found { IfOk result (λ c. IsFirstForm c bytes.now) }
-    ensures only { (c : Meaning) → IsFirstForm c bytes.now → (result ≡ Ok c) ⊎ (result ≡ Err ModelEnd.Memory) }
-    ensures refused { AnswersExactlyWhere result (ModelFault.Header 0) ((c : Meaning) → IsFirstForm c bytes.now → ⊥) }
-    ensures one_fault { (fault : ModelFault) → result ≡ Err (ModelEnd.Fault fault) → fault ≡ ModelFault.Header 0 }
+    ensures only { (c : Meaning) → IsFirstForm c bytes.now
+        → (result ≡ Ok c) ⊎ (result ≡ Err ModelEnd.Memory) }
+    ensures refused { AnswersExactlyWhere result (ModelFault.Header 0)
+        ((c : Meaning) → IsFirstForm c bytes.now → ⊥) }
+    ensures one_fault { (fault : ModelFault) → result ≡ Err (ModelEnd.Fault fault)
+        → fault ≡ ModelFault.Header 0 }
 {
     match read_checked(alloc, bytes) {
         Ok(circuit) => Ok(circuit),

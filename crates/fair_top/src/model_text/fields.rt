@@ -1,5 +1,5 @@
 //! Numbers and bytes of a model's text. The main call is `field`, a number that passes a test and the byte behind it.
-ghost use Rattle.std.specs.Prelude.{◌≡◌, ◌*◌, ◌+◌, ◌≤◌};
+ghost use Rattle.std.specs.Prelude.{◌≡◌};
 ghost use Rattle.fair_top.specs.Reading.{Gives};
 ghost use Rattle.fair_top.specs.ModelText.{numeral_at, byte_at, passes, value_at, field_at};
 
@@ -57,6 +57,7 @@ pub fn behind(bytes: &[u8], byte: u8) -> Result<&[u8], ModelEnd>
     }
 }
 
+/// The number at the front, which passes the test, and the bytes behind it.
 #[tactic(auto, unfolding(crate::specs::ModelText::value_at))]
 pub fn value(bytes: &[u8], test: Test) -> Result<(u64, &[u8]), ModelEnd>
     ensures { Gives (λ x. (x.0, x.1.now)) result (value_at test bytes.now) }
@@ -68,6 +69,7 @@ pub fn value(bytes: &[u8], test: Test) -> Result<(u64, &[u8]), ModelEnd>
     Ok((n, rest))
 }
 
+/// The number at the front, which passes the test, and the bytes behind the byte that ends it.
 #[tactic(auto, unfolding(crate::specs::ModelText::field_at))]
 pub fn field(bytes: &[u8], test: Test, stop: u8) -> Result<(u64, &[u8]), ModelEnd>
     ensures { Gives (λ x. (x.0, x.1.now)) result (field_at test stop bytes.now) }

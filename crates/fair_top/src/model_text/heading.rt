@@ -1,5 +1,5 @@
 //! The first line of a model's text. The main call is `read_heading`.
-ghost use Rattle.std.specs.Prelude.{◌≡◌, ◌+◌, ◌≤◌};
+ghost use Rattle.std.specs.Prelude.{◌≡◌};
 ghost use Rattle.fair_top.specs.Reading.{Gives};
 ghost use Rattle.fair_top.specs.ModelText.{word_at, shown_at, heading_at, has_room, is_first_form};
 

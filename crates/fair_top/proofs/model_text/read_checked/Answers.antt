@@ -1,6 +1,4 @@
-use Rattle.std.proofs.Common.{◌≡◌, subst, sym}
 use Rattle.std.proofs.lemmas.Result.{err_from_is_err_and}
-use Rattle.fair_top.specs.ModelText.{IsAnswer}
 use Rattle.fair_top.proofs.TextLaws.{unread, read_range, read_gates, checked_answer}
 use Rattle.fair_top.proofs.model_text.read_checked.Goals as goal
 
@@ -16,4 +14,4 @@ pub check_circuit-requires-clause-no_gate : goal.check_circuit-requires-clause-n
 check_circuit-requires-clause-no_gate c = read_gates c.args.bytes.now c.in_ok-parts.parts c.in_ok-parts.ensures
 
 pub returns : goal.returns
-returns c = let e = c.check_circuit.ensures in checked_answer c.args.bytes.now c.in_ok-parts.parts c.check_circuit.result c.in_ok-parts.ensures e.ok e.checked e.no_other e.twice e.undefined
+returns c = let e = c.check_circuit.ensures in checked_answer c.args.bytes.now c.in_ok-parts.parts c.check_circuit.result c.in_ok-parts.ensures e.ok e.checked e.faulty

@@ -1,6 +1,4 @@
-use Rattle.std.proofs.Common.{◌≡◌, ◌++◌, ◌∷◌, []}
 use Rattle.std.proofs.lemmas.Result.{err_from_is_err_and}
-use Rattle.fair_top.specs.Reading.{many}
 use Rattle.fair_top.proofs.ReaderLaws.{goes_on, ends_so, is_done}
 use Rattle.fair_top.proofs.model_text.lines.read_lines.Goals as goal
 
