@@ -1,0 +1,4 @@
+pub mod Clauses
+pub mod Propagation
+pub mod Lines
+pub mod Proofs
