@@ -10,6 +10,7 @@ use Rattle.proof_semantics.specs.declared.faults.LratFault.TheVariants.{BadLine,
 
 abbrev p : ℕ → Lit
 p n = record { var = n; positive = true }
+
 abbrev m : ℕ → Lit
 m n = record { var = n; positive = false }
 

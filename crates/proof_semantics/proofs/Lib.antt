@@ -1,1 +1,3 @@
+pub mod LiteralLaws
+pub mod Soundness
 mod Examples

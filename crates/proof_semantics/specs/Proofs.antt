@@ -1,8 +1,8 @@
 -- Which lines of a proof are accepted, and which proofs refute a list of clauses: LRAT (Cruz-Filipe, Heule, Hunt,
 -- Kaufmann, Schneider-Kamp, 2017) without its RAT steps.
 use Rattle.std.specs.Prelude.{◌≡◌, ℕ, ◌+◌, Bool, true, false, not, ◌||◌, List, [], ◌∷◌, ◌++◌, map, length, Option, Some, None, Result, Ok, Err, if◌then◌else◌, is_none, nat_eq, nat_le, ◌==◌, IsOkAnd}
-use Rattle.std.specs.List.{filter, find, list_any}
-use Rattle.proof_semantics.specs.Clauses.{negation}
+use Rattle.std.specs.List.{filter, find, list_any, AllByRecursion}
+use Rattle.proof_semantics.specs.Clauses.{negation, IsImplied, IsUnsatisfiable}
 use Rattle.proof_semantics.specs.Propagation.{hints_fault}
 use Rattle.proof_semantics.specs.Lines.{Line, addition, deletion, line_of}
 use Rattle.proof_semantics.specs.declared.literals.Lit.{Lit}
@@ -54,7 +54,7 @@ judge_addition s id clause hints =
     if nat_le id s.last then Err IdOrder
     else if list_any (λ hint. not hint.positive) hints then Err RatRefused
     else ok_without_fault (hints_fault (clause_at s.held) (map negation clause) (map (λ hint. hint.var) hints))
-        (record s { held = s.held ++ (id, clause) ∷ []; last = id; finished = s.finished || is_empty clause })
+    (record s { held = s.held ++ (id, clause) ∷ []; last = id; finished = s.finished || is_empty clause })
 
 -- The state after a deletion, or the first fault: under each of the ids a clause is held.
 abbrev pub deletion_result : ProofState → List ℕ → Option ℕ → Result ProofState LratFault
@@ -85,3 +85,19 @@ judge_all s (line ∷ lines) = judge_next (judge s line) (λ t. judge_all t line
 -- The lines are accepted in their order, and an empty clause was given or added.
 abbrev pub Refutes : List (List Lit) → List (List ℕ) → Type 0
 Refutes given lines = IsOkAnd (judge_all (start given) lines) (λ s. s.finished ≡ true)
+
+-- What every state of a proof keeps: its held clauses are implied by the given ones, and these have no model once an
+-- empty clause was given or added.
+pub record IsSound (s : ProofState) : Type 0 where
+  pub held_implied : AllByRecursion (λ entry. IsImplied s.given entry.1) s.held
+  pub finished_only : s.finished ≡ true → IsUnsatisfiable s.given
+
+-- Accepted lines keep the given clauses, and lead to a state of this kind.
+abbrev pub KeepsSound : Type 0
+KeepsSound =
+    (given : List (List Lit)) (lines : List (List ℕ)) (s : ProofState) → judge_all (start given) lines ≡ Ok s
+    → (s.given ≡ given) × IsSound s
+
+-- Clauses that a proof refutes have no model.
+abbrev pub RefutedHasNoModel : Type 0
+RefutedHasNoModel = (given : List (List Lit)) (lines : List (List ℕ)) → Refutes given lines → IsUnsatisfiable given

@@ -42,5 +42,5 @@ hints_fault at assumed [] = Some NoConflict
 hints_fault at assumed (id ∷ []) = with_clause (at id) id (λ clause. conflict_fault (open_literals assumed clause))
 hints_fault at assumed (id ∷ next ∷ ids) =
     with_clause (at id) id (λ clause.
-        with_unit (only_literal (open_literals assumed clause)) id (λ a.
-            hints_fault at (a ∷ assumed) (next ∷ ids)))
+    with_unit (only_literal (open_literals assumed clause)) id (λ a.
+    hints_fault at (a ∷ assumed) (next ∷ ids)))

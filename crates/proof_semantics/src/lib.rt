@@ -3,7 +3,9 @@
 #![tactic(auto)]
 
 mod faults;
+mod laws;
 mod literals;
 
-pub use literals::Lit;
 pub use faults::LratFault;
+pub use laws::{accepted_lines_are_implied, refuted_clauses_have_no_model};
+pub use literals::Lit;

@@ -1,0 +1,13 @@
+//! The laws of the definitions. Each call does nothing; its contract is the law.
+ghost use Rattle.proof_semantics.specs.Proofs.{KeepsSound, RefutedHasNoModel};
+
+/// Every clause that accepted lines leave is implied by the given clauses, and these have no model
+/// once an empty clause was given or added.
+pub fn accepted_lines_are_implied()
+    ensures { KeepsSound }
+{}
+
+/// Clauses that a proof refutes have no model.
+pub fn refuted_clauses_have_no_model()
+    ensures { RefutedHasNoModel }
+{}
