@@ -1,0 +1,24 @@
+//! Clauses, cubes, lists of clauses and proofs, and the tests of whether they hold.
+#![tactic(auto)]
+
+mod clause;
+mod cube;
+mod db;
+mod tests_of_values;
+
+pub use clause::Clause;
+pub use cube::Cube;
+pub use db::Db;
+pub use proof_semantics::Lit;
+pub use tests_of_values::{eval, holds, subset};
+
+use items::Items;
+
+/// The number of a variable, from 1.
+pub type Var = u64;
+
+/// The bytes of one line of a proof, without its line feed.
+pub type ProofLine = Items<u8>;
+
+/// The lines of a proof, in their order.
+pub type Proof = Items<ProofLine>;
