@@ -9,10 +9,9 @@ mod tests_of_values;
 pub use clause::Clause;
 pub use cube::Cube;
 pub use db::Db;
+use items::Items;
 pub use proof_semantics::Lit;
 pub use tests_of_values::{eval, holds, subset};
-
-use items::Items;
 
 /// The number of a variable, from 1.
 pub type Var = u64;

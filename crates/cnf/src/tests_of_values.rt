@@ -10,14 +10,19 @@ use crate::db::Db;
 pub fn holds(clause: &Clause, values: &[bool]) -> bool
     ensures { result ≡ clause_value (values_of values.now) clause.now }
 {
-    clause.as_slice().iter().any(|literal| literal.holds(values))
+    clause
+        .as_slice()
+        .iter()
+        .any(|literal| literal.holds(values))
 }
 
 /// Whether each literal of `part` is one of `whole`. Takes no memory.
 pub fn subset(part: &Clause, whole: &Clause) -> bool
     ensures { result ≡ is_part part.now whole.now }
 {
-    part.as_slice().iter().all(|literal| whole.contains(*literal))
+    part.as_slice()
+        .iter()
+        .all(|literal| whole.contains(*literal))
 }
 
 /// Whether every clause is true where variable v has the value at place v. A variable past the end

@@ -21,6 +21,14 @@ bool_eq-not true false = refl
 bool_eq-not false true = refl
 bool_eq-not false false = refl
 
+or-false : (b : Bool) → (b || false) ≡ b
+or-false true = refl
+or-false false = refl
+
+or-assoc : (b c d : Bool) → ((b || c) || d) ≡ (b || (c || d))
+or-assoc true c d = refl
+or-assoc false c d = refl
+
 pub not-or : (b c : Bool) → not (b || c) ≡ (not b && not c)
 not-or true c = refl
 not-or false c = refl
@@ -72,3 +80,15 @@ cube_value-negations v (a ∷ clause) =
     ap (λ b. b && cube_value v (map negation clause)) (literal_value-negation v a)
     ∙ ap (λ b. not (literal_value v a) && b) (cube_value-negations v clause)
     ∙ sym (not-or (literal_value v a) (clause_value v clause))
+
+-- One more true literal leaves all of them true.
+pub cube_value-push : (v : ℕ → Bool) (cube : List Lit) (a : Lit) → cube_value v cube ≡ true → literal_value v a ≡ true → cube_value v (cube ++ a ∷ []) ≡ true
+cube_value-push v [] a all holds = and_from _ _ holds refl
+cube_value-push v (b ∷ cube) a all holds =
+    let parts = and_parts _ _ all in and_from _ _ parts.0 (cube_value-push v cube a parts.1 holds)
+
+-- A literal is in a list with one more where it is in the list or is that one.
+pub has_literal-push : (lits : List Lit) (a b : Lit) → has_literal (lits ++ a ∷ []) b ≡ (has_literal lits b || lit_eq b a)
+has_literal-push [] a b = or-false (lit_eq b a)
+has_literal-push (c ∷ lits) a b =
+    ap (λ t. lit_eq b c || t) (has_literal-push lits a b) ∙ sym (or-assoc (lit_eq b c) (has_literal lits b) (lit_eq b a))

@@ -10,7 +10,7 @@ use Rattle.proof_semantics.specs.Lines.{Line, addition, deletion, line_of}
 use Rattle.proof_semantics.specs.declared.literals.Lit.{Lit}
 use Rattle.proof_semantics.specs.declared.faults.LratFault.{LratFault}
 use Rattle.proof_semantics.specs.declared.faults.LratFault.TheVariants.{BadLine, IdOrder, NoClause, NotUnit, NoConflict, RatRefused}
-use Rattle.proof_semantics.proofs.LiteralLaws.{lit_eq-true, literal_value-negation, cube_value-has, cube_value-negations}
+use Rattle.proof_semantics.proofs.LiteralLaws.{lit_eq-true, literal_value-negation, cube_value-has, cube_value-push, cube_value-negations}
 
 -- a literal whose negation is assumed is false under an assignment that makes the assumed ones true
 false_value : (v : ℕ → Bool) (assumed : List Lit) (a : Lit) → cube_value v assumed ≡ true → is_false assumed a ≡ true → literal_value v a ≡ false
@@ -71,17 +71,17 @@ last_refutes v assumed id (Some clause) all holds e =
 
 -- what the rest of the hints refutes, a hint in front of them refutes too
 abbrev Refuting : (ℕ → Bool) → List Lit → (List Lit → Option LratFault) → Type 0
-Refuting v assumed rest = (a : Lit) → literal_value v a ≡ true → rest (a ∷ assumed) ≡ None → ⊥
+Refuting v assumed rest = (a : Lit) → literal_value v a ≡ true → rest (assumed ++ a ∷ []) ≡ None → ⊥
 
 unit_refutes : (v : ℕ → Bool) (assumed lits : List Lit) (id : ℕ) (rest : List Lit → Option LratFault) (unit : Option Lit) → only_literal lits ≡ unit
     → clause_value v lits ≡ true → Refuting v assumed rest
-    → with_unit unit id (λ a. rest (a ∷ assumed)) ≡ None → ⊥
+    → with_unit unit id (λ a. rest (assumed ++ a ∷ [])) ≡ None → ⊥
 unit_refutes v assumed lits id rest None found holds refuting e = absurd (cc)
 unit_refutes v assumed lits id rest (Some a) found holds refuting e = refuting a (only_value v lits a found holds) e
 
 hint_refutes : (v : ℕ → Bool) (assumed : List Lit) (id : ℕ) (rest : List Lit → Option LratFault) (found : Option (List Lit)) → cube_value v assumed ≡ true
     → ((clause : List Lit) → found ≡ Some clause → clause_value v clause ≡ true) → Refuting v assumed rest
-    → with_clause found id (λ clause. with_unit (only_literal (open_literals assumed clause)) id (λ a. rest (a ∷ assumed))) ≡ None → ⊥
+    → with_clause found id (λ clause. with_unit (only_literal (open_literals assumed clause)) id (λ a. rest (assumed ++ a ∷ []))) ≡ None → ⊥
 hint_refutes v assumed id rest None all holds refuting e = absurd (cc)
 hint_refutes v assumed id rest (Some clause) all holds refuting e =
     unit_refutes v assumed (open_literals assumed clause) id rest _ refl (open_value v assumed clause all ∙ holds clause refl) refuting e
@@ -93,7 +93,7 @@ hints_refute v at assumed [] holds all e = absurd (cc)
 hints_refute v at assumed (id ∷ []) holds all e = last_refutes v assumed id (at id) all (holds id) e
 hints_refute v at assumed (id ∷ next ∷ ids) holds all e =
     hint_refutes v assumed id (λ more. hints_fault at more (next ∷ ids)) (at id) all (holds id)
-    (λ a h. hints_refute v at (a ∷ assumed) (next ∷ ids) holds (and_from _ _ h all)) e
+    (λ a h. hints_refute v at (assumed ++ a ∷ []) (next ∷ ids) holds (cube_value-push v assumed a all h)) e
 
 -- So a clause whose negations end in a conflict is true where the held ones are.
 pub conflict_implies : (v : ℕ → Bool) (at : ℕ → Option (List Lit)) (clause : List Lit) (ids : List ℕ) → AreTrue v at

@@ -1,6 +1,6 @@
 -- The text of a proof line: an addition is an id, literals, 0, hints, 0; a deletion is an id, d, ids, 0. Numbers are
 -- decimal and below 2 ^ 63 in size, and single spaces separate them.
-use Rattle.std.specs.Prelude.{◌≡◌, ℕ, zero, suc, ◌-◌, ◌^◌, ◌<◌, ◌↔◌, Bool, true, false, All, List, [], ◌∷◌, ◌++◌, map, Option, Some, None, if◌then◌else◌, ◌==◌, decimal}
+use Rattle.std.specs.Prelude.{◌≡◌, ℕ, ◌-◌, ◌^◌, ◌<◌, ◌↔◌, Bool, true, false, All, List, [], ◌∷◌, ◌++◌, map, Option, Some, None, if◌then◌else◌, ◌==◌, decimal}
 use Rattle.std.specs.List.{list_all, join_with_byte}
 use Rattle.std.specs.Option.{option_map}
 use Rattle.text_grammar.specs.Numerals.{number_at}
@@ -44,8 +44,7 @@ None >>= f = None
 abbrev pub whole_number : Option (ℕ × List ℕ) → Option ℕ
 whole_number None = None
 whole_number (Some (n, byte ∷ rest)) = None
-whole_number (Some (zero, [])) = None
-whole_number (Some (suc n, [])) = Some (suc n)
+whole_number (Some (n, [])) = if n == 0 then None else Some n
 
 abbrev pub size_in : List ℕ → Option ℕ
 size_in field = whole_number (number_at (2 ^ 63 - 1) field)

@@ -1,6 +1,6 @@
 -- Unit propagation along the hints of a proof line, as in LRAT (Cruz-Filipe, Heule, Hunt, Kaufmann, Schneider-Kamp,
 -- 2017). The clauses that are held are given by a look-up from ids.
-use Rattle.std.specs.Prelude.{ℕ, Bool, true, false, not, List, [], ◌∷◌, map, Option, Some, None, if◌then◌else◌}
+use Rattle.std.specs.Prelude.{ℕ, Bool, true, false, not, List, [], ◌∷◌, ◌++◌, Option, Some, None, if◌then◌else◌}
 use Rattle.std.specs.List.{filter, list_all}
 use Rattle.proof_semantics.specs.Clauses.{lit_eq, negation, has_literal}
 use Rattle.proof_semantics.specs.declared.literals.Lit.{Lit}
@@ -43,4 +43,4 @@ hints_fault at assumed (id ∷ []) = with_clause (at id) id (λ clause. conflict
 hints_fault at assumed (id ∷ next ∷ ids) =
     with_clause (at id) id (λ clause.
     with_unit (only_literal (open_literals assumed clause)) id (λ a.
-    hints_fault at (a ∷ assumed) (next ∷ ids)))
+    hints_fault at (assumed ++ a ∷ []) (next ∷ ids)))
