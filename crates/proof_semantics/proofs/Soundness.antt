@@ -5,7 +5,7 @@ use Rattle.std.specs.List.{filter, find, list_any, list_all, AllByRecursion}
 use Rattle.std.proofs.lemmas.Bool.{false≢true, true≢false, both_ways, and_parts, or_cases, or_parts, or_from, or_left, or_right, and_from, cases_Bool, not-true, not-false, false_from_ne_true}
 use Rattle.proof_semantics.specs.Clauses.{lit_eq, negation, literal_value, clause_value, cube_value, clauses_value, has_literal, IsImplied, IsUnsatisfiable}
 use Rattle.proof_semantics.specs.Propagation.{is_false, open_literals, only_literal, with_clause, with_unit, conflict_fault, hints_fault}
-use Rattle.proof_semantics.specs.Proofs.{ProofState, is_empty, numbered, start, clause_at, without, first_missing, ok_without_fault, judge_addition, deletion_result, judge_deletion, judge_line, judge, judge_next, judge_all, Refutes, IsSound, KeepsSound, RefutedHasNoModel}
+use Rattle.proof_semantics.specs.Proofs.{ProofState, is_empty, numbered, start, clause_at, without, with_addition, with_deletion, ids_of, first_missing, ok_without_fault, judge_addition, deletion_result, judge_deletion, judge_line, judge, judge_next, judge_all, Refutes, IsSound, KeepsSound, RefutedHasNoModel}
 use Rattle.proof_semantics.specs.Lines.{Line, addition, deletion, line_of}
 use Rattle.proof_semantics.specs.declared.literals.Lit.{Lit}
 use Rattle.proof_semantics.specs.declared.faults.LratFault.{LratFault}
@@ -170,11 +170,7 @@ addition_implied s clause ids sound e =
     λ v holds. conflict_implies v (clause_at s.held) clause ids
     (λ id found at. implied_at s.given s.held id found sound.held_implied at v holds) e
 
-added : ProofState → ℕ → List Lit → ProofState
-added s id clause = record s { held = s.held ++ (id, clause) ∷ []; last = id; finished = s.finished || is_empty clause }
-
-added_sound : (s : ProofState) (id : ℕ) (clause : List Lit) → IsSound s → IsImplied s.given clause → IsSound (added s id clause)
-unfolding added
+added_sound : (s : ProofState) (id : ℕ) (clause : List Lit) → IsSound s → IsImplied s.given clause → IsSound (with_addition s id clause)
 added_sound s id clause sound implied = record {
   held_implied = implied_append s.given s.held (id, clause) sound.held_implied implied;
   finished_only = λ e. elim (or_cases _ _ e) [
@@ -194,29 +190,42 @@ ok_addition s t true rat r e = absurd (cc)
 ok_addition s t false true r e = absurd (cc)
 ok_addition s t false false r e = e
 
-addition_keeps : (s t : ProofState) (id : ℕ) (clause hints : List Lit) → IsSound s → judge_addition s id clause hints ≡ Ok t → IsSound t
-unfolding added
+pub addition_keeps : (s t : ProofState) (id : ℕ) (clause hints : List Lit) → IsSound s → judge_addition s id clause hints ≡ Ok t → IsSound t
 addition_keeps s t id clause hints sound e =
-    let parts = ok_addition-3 s (added s id clause) t _ (ok_addition s t _ _ _ e) in
-    subst IsSound parts.1 (added_sound s id clause sound (addition_implied s clause (map (λ hint. hint.var) hints) sound parts.0))
+    let parts = ok_addition-3 s (with_addition s id clause) t _ (ok_addition s t _ _ _ e) in
+    subst IsSound parts.1 (added_sound s id clause sound (addition_implied s clause (ids_of hints) sound parts.0))
 
-deletion_keeps : (s t : ProofState) (ids : List ℕ) (missing : Option ℕ) → IsSound s → deletion_result s ids missing ≡ Ok t → IsSound t
-deletion_keeps s t ids (Some id) sound e = absurd (cc)
-deletion_keeps s t ids None sound e =
-    let same : record s { held = without s.held ids } ≡ t = cc in
+deletion_result_keeps : (s t : ProofState) (ids : List ℕ) (missing : Option ℕ) → IsSound s → deletion_result s ids missing ≡ Ok t → IsSound t
+deletion_result_keeps s t ids (Some id) sound e = absurd (cc)
+deletion_result_keeps s t ids None sound e =
+    let same : with_deletion s ids ≡ t = cc in
     subst IsSound same (record {
       held_implied = implied_filter s.given _ s.held sound.held_implied;
       finished_only = sound.finished_only;
     })
 
+pub deletion_keeps : (s t : ProofState) (ids : List ℕ) → IsSound s → judge_deletion s ids ≡ Ok t → IsSound t
+deletion_keeps s t ids sound e = deletion_result_keeps s t ids (first_missing s.held ids) sound e
+
 line_keeps : (s t : ProofState) (line : Option Line) → IsSound s → judge_line s line ≡ Ok t → IsSound t
 line_keeps s t None sound e = absurd (cc)
 line_keeps s t (Some (addition id clause hints)) sound e = addition_keeps s t id clause hints sound e
-line_keeps s t (Some (deletion id ids)) sound e = deletion_keeps s t ids (first_missing s.held ids) sound e
+line_keeps s t (Some (deletion id ids)) sound e = deletion_keeps s t ids sound e
 
 -- An accepted line keeps the state sound.
 pub judge-IsSound : (s t : ProofState) (bytes : List ℕ) → IsSound s → judge s bytes ≡ Ok t → IsSound t
 judge-IsSound s t bytes sound e = line_keeps s t (line_of bytes) sound e
+
+-- The clause of an accepted addition is implied by the given ones.
+judge_addition-implied : (s t : ProofState) (id : ℕ) (clause hints : List Lit) → IsSound s → judge_addition s id clause hints ≡ Ok t → IsImplied s.given clause
+judge_addition-implied s t id clause hints sound e =
+    let parts = ok_addition-3 s (with_addition s id clause) t _ (ok_addition s t _ _ _ e) in
+    addition_implied s clause (ids_of hints) sound parts.0
+
+pub judge-implied : (s t : ProofState) (bytes : List ℕ) (id : ℕ) (clause hints : List Lit) → IsSound s → judge s bytes ≡ Ok t
+    → line_of bytes ≡ Some (addition id clause hints) → IsImplied s.given clause
+judge-implied s t bytes id clause hints sound e is =
+    judge_addition-implied s t id clause hints sound (ap (judge_line s) (sym is) ∙ e)
 
 next_given : (s t : ProofState) (first : Result ProofState LratFault) (rest : ProofState → Result ProofState LratFault)
     → judge_next first rest ≡ Ok t → (u : ProofState) × (first ≡ Ok u) × (rest u ≡ Ok t)
@@ -230,14 +239,13 @@ judge_all-IsSound s t (line ∷ lines) sound e =
     judge_all-IsSound first.0 t lines (judge-IsSound s first.0 line sound first.1) first.2
 
 addition_given : (s t : ProofState) (id : ℕ) (clause hints : List Lit) → judge_addition s id clause hints ≡ Ok t → t.given ≡ s.given
-unfolding added
 addition_given s t id clause hints e =
-    let parts = ok_addition-3 s (added s id clause) t _ (ok_addition s t _ _ _ e) in sym (ap (λ (u : ProofState). u.given) parts.1)
+    let parts = ok_addition-3 s (with_addition s id clause) t _ (ok_addition s t _ _ _ e) in sym (ap (λ (u : ProofState). u.given) parts.1)
 
 deletion_given : (s t : ProofState) (ids : List ℕ) (missing : Option ℕ) → deletion_result s ids missing ≡ Ok t → t.given ≡ s.given
 deletion_given s t ids (Some id) e = absurd (cc)
 deletion_given s t ids None e =
-    let same : record s { held = without s.held ids } ≡ t = cc in sym (ap (λ (u : ProofState). u.given) same)
+    let same : with_deletion s ids ≡ t = cc in sym (ap (λ (u : ProofState). u.given) same)
 
 line_given : (s t : ProofState) (line : Option Line) → judge_line s line ≡ Ok t → t.given ≡ s.given
 line_given s t None e = absurd (cc)

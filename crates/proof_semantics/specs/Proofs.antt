@@ -43,6 +43,18 @@ without held ids = filter (λ entry. not (list_any (nat_eq entry.0) ids)) held
 abbrev pub first_missing : List (ℕ × List Lit) → List ℕ → Option ℕ
 first_missing held ids = find (λ id. is_none (clause_at held id)) ids
 
+-- the state with one more clause
+abbrev pub with_addition : ProofState → ℕ → List Lit → ProofState
+with_addition s id clause = record s { held = s.held ++ (id, clause) ∷ []; last = id; finished = s.finished || is_empty clause }
+
+-- the state without the clauses of these ids; which clauses were given or added stays
+abbrev pub with_deletion : ProofState → List ℕ → ProofState
+with_deletion s ids = record s { held = without s.held ids }
+
+-- signed ids without their signs
+abbrev pub ids_of : List Lit → List ℕ
+ids_of hints = map (λ hint. hint.var) hints
+
 abbrev pub ok_without_fault : Option LratFault → ProofState → Result ProofState LratFault
 ok_without_fault None s = Ok s
 ok_without_fault (Some fault) s = Err fault
@@ -53,12 +65,11 @@ abbrev pub judge_addition : ProofState → ℕ → List Lit → List Lit → Res
 judge_addition s id clause hints =
     if nat_le id s.last then Err IdOrder
     else if list_any (λ hint. not hint.positive) hints then Err RatRefused
-    else ok_without_fault (hints_fault (clause_at s.held) (map negation clause) (map (λ hint. hint.var) hints))
-    (record s { held = s.held ++ (id, clause) ∷ []; last = id; finished = s.finished || is_empty clause })
+    else ok_without_fault (hints_fault (clause_at s.held) (map negation clause) (ids_of hints)) (with_addition s id clause)
 
 -- The state after a deletion, or the first fault: under each of the ids a clause is held.
 abbrev pub deletion_result : ProofState → List ℕ → Option ℕ → Result ProofState LratFault
-deletion_result s ids None = Ok (record s { held = without s.held ids })
+deletion_result s ids None = Ok (with_deletion s ids)
 deletion_result s ids (Some id) = Err (NoClause id)
 
 abbrev pub judge_deletion : ProofState → List ℕ → Result ProofState LratFault
