@@ -1,3 +1,4 @@
 pub mod LiteralLaws
 pub mod Soundness
+pub mod LineLaws
 mod Examples

@@ -1,4 +1,5 @@
 //! The laws of the definitions. Each call does nothing; its contract is the law.
+ghost use Rattle.proof_semantics.specs.Lines.{ReadsSpelled};
 ghost use Rattle.proof_semantics.specs.Proofs.{KeepsSound, RefutedHasNoModel};
 
 /// Every clause that accepted lines leave is implied by the given clauses, and these have no model
@@ -10,4 +11,9 @@ pub fn accepted_lines_are_implied()
 /// Clauses that a proof refutes have no model.
 pub fn refuted_clauses_have_no_model()
     ensures { RefutedHasNoModel }
+{}
+
+/// What is read of a line is what its bytes spell, and every line that is spelled is read.
+pub fn lines_are_read_as_spelled()
+    ensures { ReadsSpelled }
 {}

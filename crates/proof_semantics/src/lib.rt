@@ -7,5 +7,7 @@ mod laws;
 mod literals;
 
 pub use faults::LratFault;
-pub use laws::{accepted_lines_are_implied, refuted_clauses_have_no_model};
+pub use laws::{
+    accepted_lines_are_implied, lines_are_read_as_spelled, refuted_clauses_have_no_model,
+};
 pub use literals::Lit;
