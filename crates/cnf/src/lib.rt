@@ -4,14 +4,14 @@
 mod clause;
 mod cube;
 mod db;
-mod tests_of_values;
+mod evaluation;
 
 pub use clause::Clause;
 pub use cube::Cube;
 pub use db::Db;
+pub use evaluation::{eval, holds, subset};
 use items::Items;
 pub use proof_semantics::Lit;
-pub use tests_of_values::{eval, holds, subset};
 
 /// The number of a variable, from 1.
 pub type Var = u64;
@@ -21,3 +21,6 @@ pub type ProofLine = Items<u8>;
 
 /// The lines of a proof, in their order.
 pub type Proof = Items<ProofLine>;
+
+#[cfg(test)]
+mod tests;

@@ -12,3 +12,6 @@ mod store;
 pub use checker::Checker;
 pub use faults::LratEnd;
 pub use proof_semantics::LratFault;
+
+#[cfg(test)]
+mod tests;

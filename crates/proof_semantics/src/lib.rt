@@ -8,6 +8,7 @@ mod literals;
 
 pub use faults::LratFault;
 pub use laws::{
-    accepted_lines_are_implied, lines_are_read_as_spelled, refuted_clauses_have_no_model,
+    accepted_lines_are_implied, lines_are_judged_as_accepted, lines_are_read_as_spelled,
+    refuted_clauses_have_no_model,
 };
 pub use literals::Lit;
