@@ -9,7 +9,6 @@ use Rattle.proof_semantics.specs.declared.faults.LratFault.{LratFault}
 use Rattle.proof_semantics.proofs.Soundness.{judge-implied}
 use Rattle.lrat.specs.Judging.{Judges}
 use Rattle.lrat.specs.declared.faults.LratEnd.{LratEnd}
-use Rattle.lrat.specs.declared.faults.LratEnd.TheVariants.{Fault, Memory}
 
 -- a state is sound after an answer, if it was before and the judgement keeps it so
 pub sound_after : (r : Result (Unit {0}) LratEnd) (old new : ProofState) (judgement : Result ProofState LratFault) → Judges r judgement new → OnErr r (new ≡ old)

@@ -1,6 +1,6 @@
 -- Laws of the fields that a line has.
 use Rattle.std.proofs.Common.{◌≡◌, ℕ, Bool, true, false, cond, eqb, List, [], ◌∷◌, Some, None, refl, ap, sym, ◌∙◌}
-use Rattle.std.specs.List.{slice_split, onto_first}
+use Rattle.std.specs.List.{onto_first}
 use Rattle.text_grammar.specs.Pieces.{fields}
 use Rattle.proof_semantics.specs.Lines.{Line, at_end, size_in, is_byte, line_of, line_in, line_behind, deletion_of, addition_of, ◌>>=◌}
 

@@ -1,7 +1,7 @@
 -- Which variables are marked.
 use Rattle.std.specs.Prelude.{ℕ, Bool, Option, None, Some, slice_get, if◌then◌else◌}
 use Rattle.std.specs.Ordering.{nat_cmp}
-use Rattle.std.specs.BTreeSet.{BTreeSet, contains}
+use Rattle.std.specs.BTreeSet.{contains}
 use Rattle.lrat.specs.declared.marks.Variables.{Variables}
 use Rattle.lrat.specs.declared.marks.Literals.{Literals}
 use Rattle.proof_semantics.specs.declared.literals.Lit.{Lit}

@@ -1,17 +1,17 @@
 -- The judgement of a line is the relation of accepted lines.
-use Rattle.std.proofs.Common.{◌≡◌, ◌≢◌, ℕ, zero, suc, ◌+◌, ◌<◌, ◌≤◌, Bool, true, false, not, ◌&&◌, ◌||◌, cond, leb, List, [], ◌∷◌, ◌++◌, map, length, get_or, Option, Some, None, Result, Ok, Err, refl, ap, sym, subst, ◌∙◌, inl, inr, arith}
-use Rattle.std.specs.Prelude.{All, Contains, IsSome, is_some, is_none}
-use Rattle.std.specs.List.{filter, find, list_all, list_any}
-use Rattle.std.proofs.lemmas.Bool.{false≢true, true≢false, cases_Bool, or_cases, or_left, or_right, or_parts, or_from, and_parts, and_from, leb-true, leb-false, lt-leb, not-true, not-false, true_from_ne_false, false_from_ne_true}
+use Rattle.std.proofs.Common.{◌≡◌, ℕ, zero, suc, ◌<◌, Bool, true, false, not, ◌||◌, cond, leb, List, [], ◌∷◌, ◌++◌, map, length, get_or, Option, Some, None, Result, Ok, Err, refl, ap, sym, subst, ◌∙◌, inl, inr, arith}
+use Rattle.std.specs.Prelude.{All, Contains, IsSome, is_some}
+use Rattle.std.specs.List.{list_all, list_any}
+use Rattle.std.proofs.lemmas.Bool.{false≢true, true≢false, cases_Bool, or_cases, or_left, or_right, or_parts, or_from, and_parts, and_from, leb-false, lt-leb, not-false, false_from_ne_true}
 use Rattle.std.proofs.lemmas.List.Elements.{All-nil, All-cons, All-head, All-tail}
 use Rattle.proof_semantics.specs.Clauses.{lit_eq, negation, has_literal}
 use Rattle.proof_semantics.specs.Propagation.{is_false, open_literals, only_literal, with_clause, with_unit, conflict_fault, hints_fault}
 use Rattle.proof_semantics.specs.Lines.{Line, addition, deletion, HasSizes, text_of, line_of}
-use Rattle.proof_semantics.specs.Proofs.{ProofState, clause_at, first_missing, with_addition, with_deletion, ids_of, ok_without_fault, judge_addition, deletion_result, judge_deletion, judge_line, judge}
+use Rattle.proof_semantics.specs.Proofs.{ProofState, clause_at, first_missing, with_addition, with_deletion, ids_of, ok_without_fault, judge_addition, deletion_result, judge_deletion, judge_line}
 use Rattle.proof_semantics.specs.Acceptance.{IsFalse, IsUnit, EndsInConflict, Accepts, JudgesAccepted}
 use Rattle.proof_semantics.specs.declared.literals.Lit.{Lit}
 use Rattle.proof_semantics.specs.declared.faults.LratFault.{LratFault}
-use Rattle.proof_semantics.specs.declared.faults.LratFault.TheVariants.{BadLine, IdOrder, NoClause, NotUnit, NoConflict, RatRefused}
+use Rattle.proof_semantics.specs.declared.faults.LratFault.TheVariants.{IdOrder, RatRefused}
 use Rattle.proof_semantics.proofs.LiteralLaws.{lit_eq-true, lit_eq-same}
 use Rattle.proof_semantics.proofs.LineLaws.{reads_spelled}
 

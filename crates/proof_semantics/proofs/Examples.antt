@@ -1,11 +1,10 @@
 -- The definitions, computed on small lines. The four clauses have no model.
 use Rattle.std.specs.Prelude.{codes, List}
-use Rattle.std.proofs.Common.{◌≡◌, refl, ℕ, true, false, [], ◌∷◌, Some, None, Ok, Err}
+use Rattle.std.proofs.Common.{◌≡◌, refl, ℕ, true, false, [], ◌∷◌, Some, Err}
 use Rattle.text_grammar.specs.Numerals.{number_at}
-use Rattle.proof_semantics.specs.Lines.{line_of, addition, deletion}
-use Rattle.proof_semantics.specs.Proofs.{judge, start, ProofState, Refutes}
+use Rattle.proof_semantics.specs.Lines.{line_of, deletion}
+use Rattle.proof_semantics.specs.Proofs.{judge, start, Refutes}
 use Rattle.proof_semantics.specs.declared.literals.Lit.{Lit}
-use Rattle.proof_semantics.specs.declared.faults.LratFault.{LratFault}
 use Rattle.proof_semantics.specs.declared.faults.LratFault.TheVariants.{BadLine, IdOrder, NoClause, NotUnit, NoConflict, RatRefused}
 
 abbrev p : ℕ → Lit

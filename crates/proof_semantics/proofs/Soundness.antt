@@ -1,15 +1,15 @@
 -- What is accepted is implied, and what is refuted has no model.
-use Rattle.std.proofs.Common.{◌≡◌, ℕ, ◌+◌, Bool, true, false, not, ◌&&◌, ◌||◌, cond, List, [], ◌∷◌, ◌++◌, map, length, Option, Some, None, Result, Ok, Err, refl, sym, ap, subst, ◌∙◌, ◌⊎◌, inl, inr, eqb, eqb-true}
+use Rattle.std.proofs.Common.{◌≡◌, ℕ, ◌+◌, Bool, true, false, not, ◌||◌, cond, List, [], ◌∷◌, ◌++◌, map, Option, Some, None, Result, Ok, Err, refl, sym, ap, subst, ◌∙◌, inl, inr, eqb}
 use Rattle.std.specs.Prelude.{IsOkAnd}
-use Rattle.std.specs.List.{filter, find, list_any, list_all, AllByRecursion}
-use Rattle.std.proofs.lemmas.Bool.{false≢true, true≢false, both_ways, and_parts, or_cases, or_parts, or_from, or_left, or_right, and_from, cases_Bool, not-true, not-false, false_from_ne_true}
-use Rattle.proof_semantics.specs.Clauses.{lit_eq, negation, literal_value, clause_value, cube_value, clauses_value, has_literal, IsImplied, IsUnsatisfiable}
+use Rattle.std.specs.List.{filter, list_any, list_all, AllByRecursion}
+use Rattle.std.proofs.lemmas.Bool.{false≢true, both_ways, and_parts, or_cases, cases_Bool, not-true, false_from_ne_true}
+use Rattle.proof_semantics.specs.Clauses.{lit_eq, negation, literal_value, clause_value, cube_value, clauses_value, IsImplied, IsUnsatisfiable}
 use Rattle.proof_semantics.specs.Propagation.{is_false, open_literals, only_literal, with_clause, with_unit, conflict_fault, hints_fault}
-use Rattle.proof_semantics.specs.Proofs.{ProofState, is_empty, numbered, start, clause_at, without, with_addition, with_deletion, ids_of, first_missing, ok_without_fault, judge_addition, deletion_result, judge_deletion, judge_line, judge, judge_next, judge_all, Refutes, IsSound, KeepsSound, RefutedHasNoModel}
+use Rattle.proof_semantics.specs.Proofs.{ProofState, is_empty, numbered, start, clause_at, with_addition, with_deletion, ids_of, first_missing, ok_without_fault, judge_addition, deletion_result, judge_deletion, judge_line, judge, judge_next, judge_all, IsSound, KeepsSound, RefutedHasNoModel}
 use Rattle.proof_semantics.specs.Lines.{Line, addition, deletion, line_of}
 use Rattle.proof_semantics.specs.declared.literals.Lit.{Lit}
 use Rattle.proof_semantics.specs.declared.faults.LratFault.{LratFault}
-use Rattle.proof_semantics.specs.declared.faults.LratFault.TheVariants.{BadLine, IdOrder, NoClause, NotUnit, NoConflict, RatRefused}
+use Rattle.proof_semantics.specs.declared.faults.LratFault.TheVariants.{IdOrder, RatRefused}
 use Rattle.proof_semantics.proofs.LiteralLaws.{lit_eq-true, literal_value-negation, cube_value-has, cube_value-push, cube_value-negations}
 
 -- a literal whose negation is assumed is false under an assignment that makes the assumed ones true

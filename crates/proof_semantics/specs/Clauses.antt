@@ -1,6 +1,6 @@
 -- What literals and clauses mean under a total assignment of truth values to variables: propositional logic in
 -- conjunctive normal form.
-use Rattle.std.specs.Prelude.{◌≡◌, ℕ, Bool, true, false, not, ◌&&◌, ◌==◌, List, slice_get, nat_eq}
+use Rattle.std.specs.Prelude.{◌≡◌, ℕ, Bool, true, false, not, ◌&&◌, List, slice_get, nat_eq}
 use Rattle.std.specs.List.{list_any, list_all}
 use Rattle.std.specs.Option.{unwrap_or}
 use Rattle.proof_semantics.specs.declared.literals.Lit.{Lit}

@@ -1,6 +1,6 @@
 -- Unit propagation along the hints of a proof line, as in LRAT (Cruz-Filipe, Heule, Hunt, Kaufmann, Schneider-Kamp,
 -- 2017). The clauses that are held are given by a look-up from ids.
-use Rattle.std.specs.Prelude.{ℕ, Bool, true, false, not, List, [], ◌∷◌, ◌++◌, Option, Some, None, if◌then◌else◌}
+use Rattle.std.specs.Prelude.{ℕ, Bool, not, List, [], ◌∷◌, ◌++◌, Option, Some, None, if◌then◌else◌}
 use Rattle.std.specs.List.{filter, list_all}
 use Rattle.proof_semantics.specs.Clauses.{lit_eq, negation, has_literal}
 use Rattle.proof_semantics.specs.declared.literals.Lit.{Lit}

@@ -1,4 +1,4 @@
-use Rattle.std.proofs.Common.{◌≡◌, sym, ◌∙◌, ap, map}
+use Rattle.std.proofs.Common.{sym, ◌∙◌, ap, map}
 use Rattle.proof_semantics.specs.Lines.{addition, deletion, addition_of}
 use Rattle.lrat.specs.Reading.{fields_behind, behind, given_if}
 use Rattle.lrat.proofs.ReadingLaws.{line_of-None, line_of-short, line_of-deletion, line_of-addition}

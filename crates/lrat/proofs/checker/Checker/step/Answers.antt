@@ -1,9 +1,5 @@
-use Rattle.std.proofs.Common.{◌≡◌, ℕ, List, Some, ap, sym, subst, rules}
-use Rattle.std.specs.Prelude.{OnOk}
-use Rattle.proof_semantics.specs.Clauses.{IsImplied}
-use Rattle.proof_semantics.specs.Lines.{addition, line_of}
-use Rattle.proof_semantics.specs.Proofs.{ProofState, IsSound, judge, judge_addition, judge_deletion, ids_of}
-use Rattle.proof_semantics.specs.declared.literals.Lit.{Lit}
+use Rattle.std.proofs.Common.{subst, rules}
+use Rattle.proof_semantics.specs.Proofs.{IsSound, judge, ids_of}
 use Rattle.proof_semantics.proofs.Soundness.{addition_keeps, deletion_keeps}
 use Rattle.lrat.specs.Judging.{Judges}
 use Rattle.lrat.proofs.CheckerLaws.{sound_after, implied_after}

@@ -1,4 +1,4 @@
-use Rattle.std.proofs.Common.{◌≡◌, Bool, false, vec_len}
+use Rattle.std.proofs.Common.{◌≡◌, false, vec_len}
 use Rattle.proof_semantics.specs.Clauses.{has_literal}
 use Rattle.proof_semantics.specs.declared.literals.Lit.{Lit}
 use Rattle.lrat.specs.Marking.{is_set}

@@ -1,4 +1,4 @@
-use Rattle.std.proofs.Common.{◌≡◌, ap, sym, ◌∙◌, refl, ◌++◌, ◌∷◌, [], true}
+use Rattle.std.proofs.Common.{ap, ◌∙◌, refl, ◌++◌, ◌∷◌, [], true}
 use Rattle.proof_semantics.specs.Proofs.{ProofState, with_addition}
 use Rattle.lrat.proofs.StoreLaws.{state_push}
 use Rattle.lrat.proofs.store.Store.add.Goals as goal

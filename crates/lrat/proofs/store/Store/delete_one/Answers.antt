@@ -1,5 +1,4 @@
 use Rattle.std.proofs.Common.{◌≡◌, subst, sym, ap, ◌∙◌, ◌∷◌, []}
-use Rattle.std.specs.Prelude.{length}
 use Rattle.proof_semantics.specs.Proofs.{ProofState, with_deletion}
 use Rattle.lrat.specs.StoreOf.{state_of}
 use Rattle.lrat.proofs.StoreLaws.{unset_at, absent_unset}
