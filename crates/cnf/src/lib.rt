@@ -1,0 +1,26 @@
+//! Clauses, cubes, lists of clauses and proofs, and the tests of whether they hold.
+#![tactic(auto)]
+
+mod clause;
+mod cube;
+mod db;
+mod evaluation;
+
+pub use clause::Clause;
+pub use cube::Cube;
+pub use db::Db;
+pub use evaluation::{eval, holds, subset};
+use items::Items;
+pub use proof_semantics::Lit;
+
+/// The number of a variable, from 1.
+pub type Var = u64;
+
+/// The bytes of one line of a proof, without its line feed.
+pub type ProofLine = Items<u8>;
+
+/// The lines of a proof, in their order.
+pub type Proof = Items<ProofLine>;
+
+#[cfg(test)]
+mod tests;

@@ -1,0 +1,4 @@
+mod ReadingLaws
+mod StoreLaws
+mod HintLaws
+mod CheckerLaws

@@ -1,0 +1,110 @@
+//! The checker of a proof, line by line. The main call is `Checker::step`; after a line that is
+//! refused the checker is as before.
+ghost use Rattle.std.specs.Prelude.{◌≡◌, ℕ, ◌↔◌, List, IsTrue, IfOk, OnOk, OnErr, Some};
+ghost use Rattle.proof_semantics.specs.Clauses.{IsImplied, IsUnsatisfiable};
+ghost use Rattle.proof_semantics.specs.Lines.{addition, line_of};
+ghost use Rattle.proof_semantics.specs.Proofs.{start, judge};
+ghost use Rattle.proof_semantics.specs.declared.literals.Lit.{Lit};
+ghost use Rattle.lrat.specs.Judging.{Judges};
+
+use crate::faults::LratEnd;
+use crate::judging::{add_judged, delete_judged};
+use crate::lines::{Kind, read_line};
+use crate::marks::Marks;
+use crate::store::Store;
+use cnf::{Clause, Db};
+use proof_semantics::{Lit, LratFault};
+use std::alloc::{AllocError, Global};
+use std::marker::Model;
+
+/// A checker of one proof. Contracts see where the proof stands: the given clauses, the clauses
+/// that are held with their ids, the greatest id so far, and whether an empty clause was given or
+/// added.
+#[derive(Debug, Drop)]
+pub struct Checker {
+    store: Store,
+    marks: Marks,
+    literals: Vec<Lit>,
+    hints: Vec<Lit>,
+}
+
+impl Model for Checker {
+    ghost use Rattle.proof_semantics.specs.Proofs.{ProofState};
+
+    ghost Value = { ProofState };
+
+    ghost use Rattle.lrat.specs.CheckerOf.{IsReady};
+
+    ghost view = { λ c. c.store };
+
+    ghost invariant = { IsReady };
+}
+
+impl Checker {
+    /// A checker before the first line. The given clauses have the ids from 1 on, in their order.
+    pub fn new(alloc: Global, given: Db) -> Result<Checker, AllocError>
+        ensures { IfOk result (λ checker. checker ≡ start given.clauses) }
+    {
+        let marks = Marks::new(alloc, small_variables(given.as_slice()))?;
+        let store = Store::new(alloc, given)?;
+        Ok(Checker {
+            store,
+            marks,
+            literals: Vec::new(alloc),
+            hints: Vec::new(alloc),
+        })
+    }
+
+    /// Tests a line, given without its line feed. `Ok` comes exactly for an accepted line, which
+    /// adds or deletes; `Fault` is the first test that the line fails, and never `Unfinished`. In
+    /// every other case but `Ok` the checker is as before.
+    pub fn step(&mut self, line: &[u8]) -> Result<(), LratEnd>
+        ensures judged { Judges result (judge self.old line.now) self.new }
+        ensures err { OnErr result (self.new ≡ self.old) }
+        ensures given { self.new.given ≡ self.old.given }
+
+        // A clause that is added is true wherever the given clauses are.
+        ensures implied { OnOk result ((id : ℕ) (clause hints : List Lit) → line_of line.now ≡ Some (addition id clause hints) → IsImplied self.old.given clause) }
+    {
+        let alloc = *self.literals.allocator();
+        let kind = read_line(line, &mut self.literals, &mut self.hints)?;
+        match kind {
+            None => Err(LratEnd::Fault(LratFault::BadLine)),
+            Some(Kind::Addition(id)) => add_judged(
+                alloc,
+                &mut self.store,
+                &mut self.marks,
+                id,
+                self.literals.as_slice(),
+                self.hints.as_slice(),
+            ),
+            Some(Kind::Deletion(_)) => delete_judged(&mut self.store, self.literals.as_slice()),
+        }
+    }
+
+    /// Whether an empty clause was given or added. Deletions do not undo this. Takes no memory.
+    pub fn proved_empty(&self) -> bool
+        ensures finished { result ≡ self.now.finished }
+
+        // No assignment makes the given clauses true then, whatever lines came.
+        ensures refuted { IsTrue result → IsUnsatisfiable self.now.given }
+    {
+        self.store.is_finished()
+    }
+}
+
+// How many variables have a place in the tables: those up to the greatest of the given clauses,
+// and at most sixteen for each literal there.
+fn small_variables(clauses: &[Clause]) -> usize {
+    let mut greatest: u64 = 0;
+    let mut count: usize = 0;
+    for clause in clauses {
+        count = count.saturating_add(clause.len());
+        for literal in clause.as_slice() {
+            greatest = greatest.max(literal.var);
+        }
+    }
+    (greatest as usize)
+        .min(count.saturating_mul(16))
+        .saturating_add(1)
+}

@@ -1,0 +1,5 @@
+pub mod LiteralLaws
+pub mod Soundness
+pub mod LineLaws
+pub mod AcceptanceLaws
+mod Examples

@@ -1,0 +1,5 @@
+pub mod Clauses
+pub mod Propagation
+pub mod Lines
+pub mod Proofs
+pub mod Acceptance
