@@ -18,15 +18,15 @@ AllDiffer-tail v vs h = λ i j d lt below. h (suc i) (suc j) d (omega arith) (om
 pub AllDiffer-left : (vs us : List ℕ) → AllDiffer (vs ++ us) → AllDiffer vs
 AllDiffer-left vs us h =
     λ i j d lt below e.
-      let first : i < length vs = omega arith in
-      h i j d lt (omega (arith, length-append vs us))
-      (get_or_append_left vs us d i first ∙ e ∙ sym (get_or_append_left vs us d j below))
+    let first : i < length vs = omega arith in
+    h i j d lt (omega (arith, length-append vs us))
+    (get_or_append_left vs us d i first ∙ e ∙ sym (get_or_append_left vs us d j below))
 
 pub AllDiffer-right : (vs us : List ℕ) → AllDiffer (vs ++ us) → AllDiffer us
 AllDiffer-right vs us h =
     λ i j d lt below e.
-      h (length vs + i) (length vs + j) d (omega arith) (omega (arith, length-append vs us))
-      (get_or-append-add vs us i d ∙ e ∙ sym (get_or-append-add vs us j d))
+    h (length vs + i) (length vs + j) d (omega arith) (omega (arith, length-append vs us))
+    (get_or-append-add vs us i d ∙ e ∙ sym (get_or-append-add vs us j d))
 
 -- an element of the first list is none of the second
 pub AllDiffer-across : (vs us : List ℕ) → AllDiffer (vs ++ us) → (v : ℕ) → Contains vs v → Contains us v → ⊥
@@ -92,8 +92,8 @@ find-some P p [] x h e = absurd (none-some x e)
 find-some P p (y ∷ xs) x h e =
     elim (cases_Bool (p y)) [
       | inl t ↦
-        let same = same_Some y x (rw t at e) in
-        (subst P same (All-head P y xs h), subst (λ z. p z ≡ true) same t)
+          let same = same_Some y x (rw t at e) in
+          (subst P same (All-head P y xs h), subst (λ z. p z ≡ true) same t)
       | inr t ↦ find-some P p xs x (All-tail P y xs h) (rw t at e)
     ]
 
@@ -117,7 +117,7 @@ find-at key (y ∷ xs) zero d h below = rw (eq-eqb (key y) (key y) refl)
 find-at key (y ∷ xs) (suc k) d h below =
     let inside : k < length xs = omega arith in
     let apart : key y ≢ key (get_or xs k d) =
-      λ e. h 0 (suc k) 0 (omega arith) (simp length-map (omega arith)) (e ∙ sym (get_or-map key xs k d 0 inside))
+    λ e. h 0 (suc k) 0 (omega arith) (simp length-map (omega arith)) (e ∙ sym (get_or-map key xs k d 0 inside))
     in
     rw (ne_eqb (key y) (key (get_or xs k d)) apart)
     (find-at key xs k d (AllDiffer-tail (key y) (map key xs) h) inside)

@@ -30,11 +30,11 @@ get_or-values_below zero value v d below = absurd (omega arith)
 get_or-values_below (suc n) value v d below =
     elim (cases_lt v n) [
       | inl lt ↦
-        get_or_append_left (values_below n value) (value n ∷ []) d v (omega (arith, length-values_below n value))
-        ∙ get_or-values_below n value v d lt
+          get_or_append_left (values_below n value) (value n ∷ []) d v (omega (arith, length-values_below n value))
+          ∙ get_or-values_below n value v d lt
       | inr ge ↦
-        let e : v ≡ n = omega arith in
-        get_or_push (values_below n value) (value n) d v (omega (arith, length-values_below n value)) ∙ ap value (sym e)
+          let e : v ≡ n = omega arith in
+          get_or_push (values_below n value) (value n) d v (omega (arith, length-values_below n value)) ∙ ap value (sym e)
     ]
 
 -- ---- one step of `value_through`
@@ -91,13 +91,13 @@ gate_of-absent : (c : Circuit) (v : ℕ) → (Contains (gate_variables c) v → 
 gate_of-absent c v none =
     elim (cases_option (gate_of c v)) [
       | inl (gate, f) ↦
-        let There : Gate → Type 0 = λ g. Contains (gate_variables c) g.var in
-        let found =
+          let There : Gate → Type 0 = λ g. Contains (gate_variables c) g.var in
+          let found =
           find-some There (λ g. g.var == v) c.gates gate
           (λ k d below. (k, (omega (arith, length-map c.gates (λ g. g.var))), get_or-map (λ g. g.var) c.gates k d (get_or c.gates k d).var below))
           f
-        in
-        absurd (none (rw (eqb-true gate.var v found.1) at found.0))
+          in
+          absurd (none (rw (eqb-true gate.var v found.1) at found.0))
       | inr f ↦ f
     ]
 
@@ -125,10 +125,10 @@ module _ (c : Circuit) (latches inputs : List Bool) (value : ℕ → Bool) (rank
   nowhere v e f =
       outside v
       (λ there.
-        elim (Contains-append_cases (given_variables c) (gate_variables c) v there) [
-          | inl a ↦ given-none v e a
-          | inr b ↦ gate_of-none c v f b
-        ])
+      elim (Contains-append_cases (given_variables c) (gate_variables c) v there) [
+        | inl a ↦ given-none v e a
+        | inr b ↦ gate_of-none c v f b
+      ])
 
   -- what is known of the gate that defines a variable
   gate-of : (v : ℕ) (gate : Gate) → gate_of c v ≡ Some gate → (rank (variable_of gate.rhs0) < rank v) × (rank (variable_of gate.rhs1) < rank v) × (value v ≡ conjunction value gate)
@@ -151,12 +151,12 @@ module _ (c : Circuit) (latches inputs : List Bool) (value : ℕ → Bool) (rank
         | inl (b, e) ↦ given-some v b e ∙ sym (value_through-given (suc depth) c.gates (given_value c latches inputs) v b e)
         | inr e ↦ elim (cases_option (gate_of c v)) [
           | inl (gate, f) ↦
-            let g = gate-of v gate f in
-            g.2
-            ∙ (conjunction-same value (value_through depth c.gates (given_value c latches inputs)) gate
-            (value-is_through depth (variable_of gate.rhs0) (omega arith))
-            (value-is_through depth (variable_of gate.rhs1) (omega arith))
-            ∙ sym (value_through-gate depth c.gates (given_value c latches inputs) v gate e f))
+              let g = gate-of v gate f in
+              g.2
+              ∙ (conjunction-same value (value_through depth c.gates (given_value c latches inputs)) gate
+              (value-is_through depth (variable_of gate.rhs0) (omega arith))
+              (value-is_through depth (variable_of gate.rhs1) (omega arith))
+              ∙ sym (value_through-gate depth c.gates (given_value c latches inputs) v gate e f))
           | inr f ↦ nowhere v e f ∙ sym (value_through-nowhere (suc depth) c.gates (given_value c latches inputs) v e f)
         ]
       ]
@@ -172,9 +172,9 @@ valuation-only c latches inputs values rank ranks h =
     let through : ℕ → Bool = value_through (length c.gates) c.gates (given_value c latches inputs) in
     ext_get_or false values (values_below (c.max + 1) through) (h.size ∙ sym (length-values_below (c.max + 1) through))
     (λ v below.
-      let inside : v < c.max + 1 = omega (arith, h.size) in
-      value-is_through c latches inputs (variable_in values) rank h.equations h.nowhere ranks (length c.gates) v (ranks.bound v)
-      ∙ sym (get_or-values_below (c.max + 1) through v false inside))
+    let inside : v < c.max + 1 = omega (arith, h.size) in
+    value-is_through c latches inputs (variable_in values) rank h.equations h.nowhere ranks (length c.gates) v (ranks.bound v)
+    ∙ sym (get_or-values_below (c.max + 1) through v false inside))
 
 -- ---- the valuation meets the equations
 
@@ -209,12 +209,12 @@ module _ (c : Circuit) (latches inputs : List Bool) (rank : ℕ → ℕ) (ranks 
         | inl (b, e) ↦ value_through-given (suc depth) c.gates given_of v b e ∙ sym (value_through-given (suc (suc depth)) c.gates given_of v b e)
         | inr e ↦ elim (cases_option (gate_of c v)) [
           | inl (gate, f) ↦
-            let g = rank-of v gate f in
-            value_through-gate depth c.gates given_of v gate e f
-            ∙ (conjunction-same (through depth) (through (suc depth)) gate
-            (through-stays depth (variable_of gate.rhs0) (omega arith))
-            (through-stays depth (variable_of gate.rhs1) (omega arith))
-            ∙ sym (value_through-gate (suc depth) c.gates given_of v gate e f))
+              let g = rank-of v gate f in
+              value_through-gate depth c.gates given_of v gate e f
+              ∙ (conjunction-same (through depth) (through (suc depth)) gate
+              (through-stays depth (variable_of gate.rhs0) (omega arith))
+              (through-stays depth (variable_of gate.rhs1) (omega arith))
+              ∙ sym (value_through-gate (suc depth) c.gates given_of v gate e f))
           | inr f ↦ value_through-nowhere (suc depth) c.gates given_of v e f ∙ sym (value_through-nowhere (suc (suc depth)) c.gates given_of v e f)
         ]
       ]
@@ -233,8 +233,8 @@ module _ (c : Circuit) (latches inputs : List Bool) (rank : ℕ → ℕ) (ranks 
   values-given =
       ext_get_or false (map value (given_variables c)) (inputs ++ latches) (length-map (given_variables c) value ∙ length-given)
       (λ k below.
-        let inside : k < length (given_variables c) = omega (arith, length-map (given_variables c) value) in
-        get_or-map value (given_variables c) k 0 false inside ∙ value-given k inside)
+      let inside : k < length (given_variables c) = omega (arith, length-map (given_variables c) value) in
+      get_or-map value (given_variables c) k 0 false inside ∙ value-given k inside)
 
   -- the k-th gate
   value-gate : (k : ℕ) (d : Gate) → k < length c.gates → value (get_or c.gates k d).var ≡ conjunction value (get_or c.gates k d)
@@ -243,8 +243,8 @@ module _ (c : Circuit) (latches inputs : List Bool) (rank : ℕ → ℕ) (ranks 
       let gate : Gate = get_or c.gates k d in
       let there : Contains (gate_variables c) gate.var = (k, (omega (arith, length-map c.gates (λ g. g.var))), get_or-map (λ g. g.var) c.gates k d gate.var below) in
       let no_given : given_of gate.var ≡ None =
-        value_beside-none (given_variables c) (inputs ++ latches) gate.var
-        (λ also. AllDiffer-across (given_variables c) (gate_variables c) once gate.var also there)
+      value_beside-none (given_variables c) (inputs ++ latches) gate.var
+      (λ also. AllDiffer-across (given_variables c) (gate_variables c) once gate.var also there)
       in
       through-stays (length c.gates) gate.var (ranks.bound gate.var)
       ∙ value_through-gate (length c.gates) c.gates given_of gate.var gate no_given
@@ -264,8 +264,8 @@ module _ (c : Circuit) (latches inputs : List Bool) (rank : ℕ → ℕ) (ranks 
       elim (cases_lt v (c.max + 1)) [
         | inl lt ↦ get_or-values_below (c.max + 1) value v false lt
         | inr ge ↦
-          get_or_past (values_below (c.max + 1) value) v false (omega (arith, length-values_below (c.max + 1) value))
-          ∙ sym (value-nowhere v (λ there. let range = All-contains (λ u. (1 ≤ u) × (u ≤ c.max)) (defined c) v in_range there in omega arith))
+            get_or_past (values_below (c.max + 1) value) v false (omega (arith, length-values_below (c.max + 1) value))
+            ∙ sym (value-nowhere v (λ there. let range = All-contains (λ u. (1 ≤ u) × (u ≤ c.max)) (defined c) v in_range there in omega arith))
       ]
 
   parts-given : map value c.inputs ++ map value (map (λ latch. latch.var) c.latches) ≡ inputs ++ latches
@@ -287,14 +287,14 @@ module _ (c : Circuit) (latches inputs : List Bool) (rank : ℕ → ℕ) (ranks 
     equations = record {
       constant = values-same 0 ∙ value-nowhere 0 (λ there. let range = All-contains (λ u. (1 ≤ u) × (u ≤ c.max)) (defined c) 0 in_range there in omega arith);
       given_latches =
-        map-same (λ latch. variable_in (valuation c latches inputs) latch.var) (λ latch. value latch.var) (λ latch. values-same latch.var) c.latches
-        ∙ (sym (map-map value (λ latch. latch.var) c.latches) ∙ latches-given);
+          map-same (λ latch. variable_in (valuation c latches inputs) latch.var) (λ latch. value latch.var) (λ latch. values-same latch.var) c.latches
+          ∙ (sym (map-map value (λ latch. latch.var) c.latches) ∙ latches-given);
       given_inputs = map-same (variable_in (valuation c latches inputs)) value values-same c.inputs ∙ inputs-given;
       conjunctions =
-        λ k d below.
+          λ k d below.
           values-same (get_or c.gates k d).var
           ∙ (value-gate k d below
-          ∙ sym (conjunction-same (variable_in (valuation c latches inputs)) value (get_or c.gates k d) (values-same _) (values-same _)))
+          ∙ sym (conjunction-same (variable_in (valuation c latches inputs)) value (get_or c.gates k d) (values-same _) (values-same _)));
     };
-    nowhere = λ v none. values-same v ∙ value-nowhere v none
+    nowhere = λ v none. values-same v ∙ value-nowhere v none;
   }
