@@ -4,3 +4,5 @@ pub mod Ranges
 pub mod Marking
 pub mod Verdicts
 pub mod Following
+pub mod Searching
+pub mod Tables

@@ -4,3 +4,4 @@ pub mod Evaluation
 pub mod Marks
 pub mod Faults
 pub mod Following
+pub mod Ordering

@@ -8,6 +8,7 @@ mod evaluating;
 mod faults;
 mod lassos;
 mod marks;
+mod ordering;
 mod parts;
 
 pub use aig_semantics::{Gate, Lasso, Latch, Position, Reset, Stimulus};
