@@ -1,5 +1,5 @@
 -- A circuit whose gates have ranks has one valuation for each list of latches and of inputs.
-use Rattle.std.proofs.Common.{◌≡◌, ◌≢◌, ℕ, zero, suc, ◌+◌, ◌<◌, ◌≤◌, ◌==◌, ◌⊎◌, Bool, true, false, cond, List, [], ◌∷◌, ◌++◌, map, length, get_or, take, drop, Option, Some, None, refl, sym, ap, ◌∙◌, subst, inl, inr, arith, length-append}
+use Rattle.std.proofs.Common.{◌≡◌, ◌≢◌, ℕ, zero, suc, ◌+◌, ◌<◌, ◌≤◌, ◌==◌, ◌⊎◌, Bool, true, false, cond, List, [], ◌∷◌, ◌++◌, map, length, get_or, take, drop, Option, Some, None, unwrap_or, refl, sym, ap, ◌∙◌, subst, inl, inr, arith, length-append}
 use Rattle.std.specs.List.{All, Contains, find}
 use Rattle.std.proofs.lemmas.Bool.{eqb-true, eqb-false, cases_Bool, cases_lt}
 use Rattle.std.proofs.lemmas.List.{map-append, length-map, get_or-map, ext_get_or, get_or_push, get_or_append_left, length_push, get_or_past, take_at, drop_at}
@@ -266,6 +266,15 @@ module _ (c : Circuit) (latches inputs : List Bool) (rank : ℕ → ℕ) (ranks 
         | inr ge ↦
             get_or_past (values_below (c.max + 1) value) v false (omega (arith, length-values_below (c.max + 1) value))
             ∙ sym (value-nowhere v (λ there. let range = All-contains (λ u. (1 ≤ u) × (u ≤ c.max)) (defined c) v in_range there in omega arith))
+      ]
+
+  -- a variable that is no gate's has the value that is given, or is false
+  pub value-no_gate : (v : ℕ) → (Contains (gate_variables c) v → ⊥) → variable_in (valuation c latches inputs) v ≡ unwrap_or (given_of v) false
+  value-no_gate v none =
+      values-same v
+      ∙ elim (cases_option (given_of v)) [
+        | inl (b, e) ↦ value_through-given (length c.gates) c.gates given_of v b e ∙ sym (ap (λ o. unwrap_or o false) e)
+        | inr e ↦ value_through-nowhere (length c.gates) c.gates given_of v e (gate_of-absent c v none) ∙ sym (ap (λ o. unwrap_or o false) e)
       ]
 
   parts-given : map value c.inputs ++ map value (map (λ latch. latch.var) c.latches) ≡ inputs ++ latches

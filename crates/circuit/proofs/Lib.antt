@@ -6,3 +6,5 @@ pub mod Verdicts
 pub mod Following
 pub mod Searching
 pub mod Tables
+pub mod Ranking
+pub mod Evaluated

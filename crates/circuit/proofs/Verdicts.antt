@@ -4,7 +4,7 @@ use Rattle.std.specs.List.{All, Any, Contains}
 use Rattle.std.proofs.lemmas.List.{append_assoc}
 use Rattle.aig_semantics.specs.declared.parts.Gate.{Gate}
 use Rattle.aig_semantics.specs.Literals.{variable_of}
-use Rattle.aig_semantics.specs.Circuits.{Circuit, defined, used, AreDefined, IsChecked, IsOnCycle, Reads, ReadsThrough}
+use Rattle.aig_semantics.specs.Circuits.{Circuit, defined, used, AreDefined, IsChecked, IsOnCycle}
 use Rattle.aig_semantics.proofs.Lists.{All-left}
 use Rattle.circuit.specs.declared.parts.Parts.{Parts}
 use Rattle.circuit.specs.declared.faults.ModelFault.{ModelFault}
@@ -12,27 +12,25 @@ use Rattle.circuit.specs.declared.faults.ModelFault.TheVariants.{Header, Number,
 use Rattle.circuit.specs.declared.faults.ModelEnd.{ModelEnd}
 use Rattle.circuit.specs.declared.faults.ModelEnd.TheVariants.{Fault, Memory}
 use Rattle.circuit.specs.Sections.{circuit_of, used_by, AreInRange}
-use Rattle.circuit.specs.Faults.{IsLeast, IsTwice, IsFirstTwice, IsUndefined, IsFirstUndefined, IsOnce, IsDefined, HasFault, AnswersExactlyWhere}
+use Rattle.circuit.specs.Faults.{IsLeast, IsTwice, IsFirstTwice, IsUndefined, IsFirstUndefined, IsOnce, IsDefined, HasFault, IsOnlyOnCycle, AnswersExactlyWhere, AnswersCycleExactlyWhere}
+use Rattle.circuit.specs.Ordering.{IsEvaluationOrder}
+use Rattle.circuit.proofs.Tables.{gates-apart}
+use Rattle.circuit.proofs.Ranking.{no-cycle}
 use Rattle.circuit.proofs.Counting.{count, count-differ}
 
 -- ---- a circuit that has no fault is checked
 
-Reads-none : (c : Circuit) → c.gates ≡ [] → (v w : ℕ) → Reads c v w → ⊥
-Reads-none c no_gate v w any = let below : any.0 < length c.gates = any.2 in omega (arith, ap length no_gate)
-
-IsOnCycle-none : (c : Circuit) → c.gates ≡ [] → (v w : ℕ) (between : List ℕ) → ReadsThrough c v between w → ⊥
-IsOnCycle-none c no_gate v w [] h = Reads-none c no_gate v w h
-IsOnCycle-none c no_gate v w (u ∷ between) h = Reads-none c no_gate v u h.0
-
 AreDefined-left : (c : Circuit) (ls more : List ℕ) → AreDefined c (ls ++ more) → AreDefined c ls
 AreDefined-left c ls more h = All-left (λ literal. (variable_of literal ≡ 0) ⊎ Contains (defined c) (variable_of literal)) ls more h
 
-pub IsChecked-from : (parts : Parts) → AreInRange parts → parts.gates ≡ [] → IsDefined parts → IsChecked (circuit_of parts)
-IsChecked-from parts h no_gate sound = record {
+pub IsChecked-from : (parts : Parts) (order : List Gate) → AreInRange parts → IsDefined parts → IsEvaluationOrder parts.gates order → IsChecked (circuit_of parts)
+IsChecked-from parts order h sound o = record {
   in_range = h.variables;
   once = sound.once;
-  used_defined = AreDefined-left (circuit_of parts) (used (circuit_of parts)) (parts.outputs ++ parts.bad) (subst (λ ls. AreDefined (circuit_of parts) ls) (append_assoc (used (circuit_of parts)) parts.outputs parts.bad) sound.defined);
-  acyclic = λ v cycle. IsOnCycle-none (circuit_of parts) no_gate v v cycle.0 cycle.1;
+  used_defined =
+      AreDefined-left (circuit_of parts) (used (circuit_of parts)) (parts.outputs ++ parts.bad)
+      (subst (λ ls. AreDefined (circuit_of parts) ls) (append_assoc (used (circuit_of parts)) parts.outputs parts.bad) sound.defined);
+  acyclic = no-cycle (circuit_of parts) order o (gates-apart parts sound.once);
 }
 
 -- ---- faults exclude each other
@@ -96,3 +94,42 @@ has-no_meaning parts _ has checked all = absurd has
 
 pub refused-faulty : (T : Type 0) (parts : Parts) (f : ModelFault) → HasFault parts f → (g : ModelFault) → ◌≡◌ {A = Result T ModelEnd} (Err (Fault f)) (Err (Fault g)) → IsChecked (circuit_of parts) → AreDefined (circuit_of parts) (used_by parts) → ⊥
 refused-faulty T parts f has g e = has-no_meaning parts g (fault-only T parts f g has e)
+
+-- ---- cycles
+
+pub refused-cycle : (T : Type 0) (parts : Parts) (f : ModelFault) → HasFault parts f → AnswersCycleExactlyWhere {T = T} (Err (Fault f)) (IsOnlyOnCycle parts)
+refused-cycle T parts f has = record {
+  only = λ v e. absurd (fault-only T parts f (Cycle v) has e);
+  whenever = λ v on. absurd (has-other parts f has on.defined);
+}
+  where
+    has-other : (parts : Parts) (f : ModelFault) → HasFault parts f → IsDefined parts → ⊥
+    has-other parts (Twice w) has sound = once-not_twice parts w sound.once has.holds
+    has-other parts (Undefined w) has sound = defined-not_undefined parts w sound.defined has.first.holds
+    has-other parts _ has sound = absurd has
+
+pub kept-cycle : (T : Type 0) (x : T) (parts : Parts) (order : List Gate) → IsDefined parts → IsEvaluationOrder parts.gates order → AnswersCycleExactlyWhere {T = T} (Ok x) (IsOnlyOnCycle parts)
+kept-cycle T x parts order sound o = record {
+  only = λ v e. cc;
+  whenever = λ v on. absurd (no-cycle (circuit_of parts) order o (gates-apart parts sound.once) v on.cycle);
+}
+
+-- a variable on a cycle is answered
+module _ (T : Type 0) (parts : Parts) (w : ℕ) (sound : IsDefined parts) (cycle : IsOnCycle (circuit_of parts) w) where
+  pub cyclic-twice : (v : ℕ) → AnswersExactlyWhere {T = T} (Err (Fault (Cycle w))) (Twice v) (IsFirstTwice parts v)
+  cyclic-twice v = record { only = λ e. cc; whenever = λ first. absurd (once-not_twice parts v sound.once first.holds) }
+
+  pub cyclic-undefined : (v : ℕ) → AnswersExactlyWhere {T = T} (Err (Fault (Cycle w))) (Undefined v) (IsFirstUndefined parts v)
+  cyclic-undefined v = record { only = λ e. cc; whenever = λ first. absurd (defined-not_undefined parts v sound.defined first.first.holds) }
+
+  same-cycle : (v : ℕ) → ◌≡◌ {A = Result T ModelEnd} (Err (Fault (Cycle w))) (Err (Fault (Cycle v))) → w ≡ v
+  same-cycle v e = cc
+
+  pub cyclic-cycle : AnswersCycleExactlyWhere {T = T} (Err (Fault (Cycle w))) (IsOnlyOnCycle parts)
+  cyclic-cycle = record {
+    only = λ v e. record { defined = sound; cycle = subst (λ u. IsOnCycle (circuit_of parts) u) (same-cycle v e) cycle };
+    whenever = λ v on. inl (w, refl);
+  }
+
+  pub cyclic-faulty : (g : ModelFault) → ◌≡◌ {A = Result T ModelEnd} (Err (Fault (Cycle w))) (Err (Fault g)) → IsChecked (circuit_of parts) → AreDefined (circuit_of parts) (used_by parts) → ⊥
+  cyclic-faulty g e checked all = checked.acyclic w cycle

@@ -1,15 +1,14 @@
 -- The steps of writing a valuation.
-use Rattle.std.proofs.Common.{◌≡◌, ◌≢◌, ℕ, suc, ◌+◌, ◌<◌, ◌≤◌, Bool, true, false, cond, List, [], ◌∷◌, ◌++◌, map, length, get_or, drop, set, unwrap_or, replicate, refl, sym, ap, ◌∙◌, subst, ◌↔◌, Option, inl, inr, arith}
+use Rattle.std.proofs.Common.{◌≡◌, ◌≢◌, ℕ, suc, ◌+◌, ◌<◌, ◌≤◌, Bool, true, false, cond, List, [], ◌∷◌, ◌++◌, map, length, get_or, drop, set, unwrap_or, replicate, refl, sym, ap, ◌∙◌, inl, inr, arith}
 use Rattle.std.specs.List.{All, Contains}
 use Rattle.std.proofs.lemmas.Bool.{cases_eq, cases_lt, eq-eqb, ne_eqb}
-use Rattle.std.proofs.lemmas.List.{drop_more, drop_all, length-map, get_or-map, length-set, length-replicate, get_or-replicate, get_or_past, ext_get_or, get_or-set_same, get_or-set_other}
+use Rattle.std.proofs.lemmas.List.{drop_more, drop_all, length-map, get_or-map, length-set, length-replicate, get_or-replicate, get_or_past, get_or-set_same, get_or-set_other}
 use Rattle.std.proofs.lemmas.List.Elements.{All-head, All-tail}
 use Rattle.aig_semantics.specs.declared.parts.Latch.{Latch}
-use Rattle.aig_semantics.specs.declared.parts.Gate.{Gate}
-use Rattle.aig_semantics.specs.Circuits.{Circuit, defined, IsChecked}
-use Rattle.aig_semantics.specs.Valuations.{value_beside, given_value, value_through, values_below, valuation, IsValuation}
-use Rattle.aig_semantics.proofs.Lists.{AllDiffer, AllDiffer-tail, AllDiffer-left, value_beside-none, All-left, All-right}
-use Rattle.aig_semantics.proofs.Values.{IsRanking, given_variables, gate_variables, length-values_below, get_or-values_below, length-valuation, valuation-only, valuation-meets}
+use Rattle.aig_semantics.specs.Circuits.{Circuit, defined}
+use Rattle.aig_semantics.specs.Valuations.{value_beside, given_value}
+use Rattle.aig_semantics.proofs.Lists.{AllDiffer, AllDiffer-tail, AllDiffer-left, value_beside-none, All-left}
+use Rattle.aig_semantics.proofs.Values.{given_variables, gate_variables}
 use Rattle.circuit.specs.Evaluation.{with_values}
 
 -- one variable more
@@ -68,7 +67,7 @@ get_or-with_values (u ∷ us) (b ∷ given) out v differ inside =
           (ap (λ x. unwrap_or (value_beside us given v) x) (get_or-set_other out u v b false (λ e. ne (sym e))))
     ]
 
--- ---- a circuit without gates
+-- ---- inputs and latches
 
 pub get_or-replicate_same : {X : Type 0} (n v : ℕ) (x : X) → get_or (replicate n x) v x ≡ x
 get_or-replicate_same n v x =
@@ -98,37 +97,3 @@ module _ (c : Circuit) (latches inputs : List Bool) (in_range : All (λ v. (1 �
       let range = All-left (λ u. (1 ≤ u) × (u ≤ c.max)) (given_variables c) (gate_variables c) in_range k d below in
       omega (arith, length-replicate (c.max + 1) false))
       ∙ ap (λ x. unwrap_or (value_beside (given_variables c) (inputs ++ latches) v) x) (get_or-replicate_same (c.max + 1) v false))
-
-no_gate-through : (gates : List Gate) (given : ℕ → Option Bool) (v : ℕ) → gates ≡ [] → value_through (length gates) gates given v ≡ unwrap_or (given v) false
-unfolding value_through
-no_gate-through gates given v e = ap (λ gs. value_through (length gs) gs given v) e
-
-pub given_list-is_valuation : (c : Circuit) (latches inputs : List Bool) → c.gates ≡ [] → IsChecked c → length latches ≡ length c.latches → length inputs ≡ length c.inputs → given_list c latches inputs ≡ valuation c latches inputs
-unfolding valuation
-given_list-is_valuation c latches inputs no_gate checked latches_fit inputs_fit =
-    let through : ℕ → Bool = value_through (length c.gates) c.gates (given_value c latches inputs) in
-    let size = length-given_list c latches inputs checked.in_range checked.once latches_fit inputs_fit in
-    ext_get_or false (given_list c latches inputs) (values_below (c.max + 1) through) (size ∙ sym (length-values_below (c.max + 1) through))
-    (λ v below.
-    let inside : v < c.max + 1 = omega (arith, size) in
-    get_or-given_list c latches inputs checked.in_range checked.once latches_fit inputs_fit v
-    ∙ (sym (no_gate-through c.gates (given_value c latches inputs) v no_gate)
-    ∙ sym (get_or-values_below (c.max + 1) through v false inside)))
-
--- without gates any rank will do
-no_gate-ranking : (c : Circuit) → c.gates ≡ [] → IsRanking c.gates (λ _. 0)
-no_gate-ranking c no_gate = record { above = λ k d below. absurd (omega (arith, ap length no_gate)); bound = λ v. omega arith }
-
-pub one_valuation-law : (c : Circuit) (latches inputs values : List Bool) → c.gates ≡ [] → IsChecked c → length latches ≡ length c.latches → length inputs ≡ length c.inputs → IsValuation c latches inputs values ↔ (values ≡ valuation c latches inputs)
-one_valuation-law c latches inputs values no_gate checked latches_fit inputs_fit =
-    let ranking = no_gate-ranking c no_gate in (
-      valuation-only c latches inputs values (λ _. 0) ranking,
-      λ e. subst (λ xs. IsValuation c latches inputs xs) (sym e) (valuation-meets c latches inputs (λ _. 0) ranking checked.in_range checked.once latches_fit inputs_fit),
-    )
-
-pub latches_in_range : (c : Circuit) → IsChecked c → All (λ latch. (1 ≤ latch.var) × (latch.var ≤ c.max)) c.latches
-latches_in_range c checked k d below =
-    let Range : ℕ → Type 0 = λ u. (1 ≤ u) × (u ≤ c.max) in
-    let given = All-left Range (given_variables c) (gate_variables c) checked.in_range in
-    let vars = All-right Range c.inputs (map (λ latch. latch.var) c.latches) given in
-    rw (get_or-map (λ latch. latch.var) c.latches k d 0 below) at (vars k 0 (omega (arith, length-map c.latches (λ latch. latch.var))))

@@ -44,21 +44,32 @@ pub record IsDefined (parts : Parts) : Type 0 where
   pub once : IsOnce parts
   pub defined : AreDefined (circuit_of parts) (used_by parts)
 
+-- nothing is wrong with the definitions and uses, and the gate of variable v depends on itself
+pub record IsOnlyOnCycle (parts : Parts) (v : ℕ) : Type 0 where
+  pub defined : IsDefined parts
+  pub cycle : IsOnCycle (circuit_of parts) v
+
 -- the call answers this fault exactly where the fact holds, want of memory aside
 pub record AnswersExactlyWhere {T : Type 0} (result : Result T ModelEnd) (fault : ModelFault) (P : Type 0) : Type 0 where
   pub only : result ≡ Err (Fault fault) → P
   pub whenever : P → (result ≡ Err (Fault fault)) ⊎ (result ≡ Err Memory)
 
--- the model has this fault
+-- the model has this fault in its definitions and uses
 abbrev pub HasFault : Parts → ModelFault → Type 0
 HasFault parts (Twice v) = IsFirstTwice parts v
 HasFault parts (Undefined v) = IsFirstUndefined parts v
 HasFault parts _ = ⊥
 
--- the call answers no fault but these
+-- the call answers a cycle only at a variable of which the fact holds, and wherever there is one, want of memory aside
+pub record AnswersCycleExactlyWhere {T : Type 0} (result : Result T ModelEnd) (P : ℕ → Type 0) : Type 0 where
+  pub only : (v : ℕ) → result ≡ Err (Fault (Cycle v)) → P v
+  pub whenever : (v : ℕ) → P v → ((w : ℕ) × (result ≡ Err (Fault (Cycle w)))) ⊎ (result ≡ Err Memory)
+
+-- the call answers no fault but these three
 abbrev pub AnswersNoOther : {T : Type 0} → Result T ModelEnd → Type 0
 AnswersNoOther (Ok c) = Unit {0}
 AnswersNoOther (Err Memory) = Unit {0}
 AnswersNoOther (Err (Fault (Twice v))) = Unit {0}
 AnswersNoOther (Err (Fault (Undefined v))) = Unit {0}
+AnswersNoOther (Err (Fault (Cycle v))) = Unit {0}
 AnswersNoOther (Err (Fault _)) = ⊥

@@ -1,9 +1,9 @@
--- What a `Circuit` keeps.
-use Rattle.std.specs.Prelude.{◌≡◌, []}
+-- What a `Circuit` keeps: a checked circuit, and its gates once more in an order in which they can be evaluated.
 use Rattle.aig_semantics.specs.Circuits.{Circuit, IsChecked, IsWithinLimits}
 use Rattle.circuit.specs.declared.circuits.Circuit.TheInside.{Inside}
+use Rattle.circuit.specs.Ordering.{IsEvaluationOrder}
 
--- the circuit that it is seen as
+-- the circuit that it is seen as, which knows nothing of that order
 abbrev pub seen_as : Inside → Circuit
 seen_as s = record {
   max = s.greatest;
@@ -18,4 +18,4 @@ seen_as s = record {
 pub record IsKept (s : Inside) : Type 0 where
   pub checked : IsChecked (seen_as s)
   pub limits : IsWithinLimits (seen_as s)
-  pub no_gate : s.gates ≡ []
+  pub order : IsEvaluationOrder s.gates s.order.items

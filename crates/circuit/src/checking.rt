@@ -1,17 +1,19 @@
 //! Which circuits have a meaning. The main call is `check_circuit`, the only one that makes a `Circuit`.
 
-ghost use Rattle.std.specs.Prelude.{◌≡◌, ◌≤◌, ℕ, [], IfOk, OnOk, MatchOption};
+ghost use Rattle.std.specs.Prelude.{◌≡◌, ◌≤◌, ℕ, IfOk, OnOk, MatchOption};
 ghost use Rattle.aig_semantics.specs.Circuits.{IsChecked, IsWithinLimits, AreDefined};
 ghost use Rattle.circuit.specs.declared.faults.ModelFault.{ModelFault};
 ghost use Rattle.circuit.specs.Sections.{circuit_of, used_by, AreInRange};
 ghost use Rattle.circuit.specs.Marks.{first_marks};
-ghost use Rattle.circuit.specs.Faults.{IsDefined, HasFault, IsFirstTwice, IsFirstUndefined, AnswersExactlyWhere, AnswersNoOther};
+ghost use Rattle.circuit.specs.Faults.{IsDefined, HasFault, IsFirstTwice, IsFirstUndefined, AnswersExactlyWhere, AnswersCycleExactlyWhere, IsOnlyOnCycle, AnswersNoOther};
+ghost use Rattle.circuit.specs.Ordering.{IsEvaluationOrder};
 
 use crate::circuits::Circuit;
 use crate::faults::{ModelEnd, ModelFault};
 use crate::marks::{Mark, first_marked, mark_definitions, mark_uses};
+use crate::ordering::{Ordered, order_gates};
 use crate::parts::Parts;
-use aig_semantics::MAX_VARIABLE;
+use aig_semantics::{Gate, MAX_VARIABLE};
 use items::Items;
 use std::alloc::{AllocError, Global};
 
@@ -53,10 +55,10 @@ fn copy_lists(alloc: Global, lists: &Items<Items<u64>>) -> Result<Items<Items<u6
 }
 
 /// Keeps the circuit of a model that was checked.
-fn keep(alloc: Global, parts: &Parts) -> Result<Circuit, AllocError>
+fn keep(alloc: Global, parts: &Parts, order: Vec<Gate>) -> Result<Circuit, AllocError>
     requires checked { IsChecked (circuit_of parts.now) }
     requires limits { IsWithinLimits (circuit_of parts.now) }
-    requires no_gate { parts.now.gates ≡ [] }
+    requires order { IsEvaluationOrder parts.now.gates order.items }
     ensures { IfOk result (λ c. c ≡ circuit_of parts.now) }
 {
     Ok(Circuit {
@@ -67,14 +69,14 @@ fn keep(alloc: Global, parts: &Parts) -> Result<Circuit, AllocError>
         constraints: parts.constraints.try_copy(alloc)?,
         justice: copy_lists(alloc, &parts.justice)?,
         fairness: parts.fairness.try_copy(alloc)?,
+        order,
     })
 }
 
 /// Checks the circuit of a model, and keeps it. Its faults are `Twice`, then `Undefined`, each with the least such
-/// variable.
+/// variable, then `Cycle` with a variable of a gate on a cycle. The work is in proportion to the lists and `max`.
 pub fn check_circuit(alloc: Global, parts: &Parts) -> Result<Circuit, ModelEnd>
     requires in_range { AreInRange parts.now }
-    requires no_gate { parts.now.gates ≡ [] }
 
     ensures ok { IfOk result (λ c. c ≡ circuit_of parts.now) }
     ensures checked { OnOk result (IsChecked (circuit_of parts.now)) }
@@ -85,11 +87,15 @@ pub fn check_circuit(alloc: Global, parts: &Parts) -> Result<Circuit, ModelEnd>
 
     ensures twice { (v : ℕ) → AnswersExactlyWhere result (ModelFault.Twice v) (IsFirstTwice parts.now v) }
     ensures undefined { (v : ℕ) → AnswersExactlyWhere result (ModelFault.Undefined v) (IsFirstUndefined parts.now v) }
+    ensures cycle { AnswersCycleExactlyWhere result (IsOnlyOnCycle parts.now) }
     ensures no_other { AnswersNoOther result }
 {
     let mut marks = make_marks(alloc, parts.max)?;
     if let Some(fault) = fault_of(parts, &mut marks) {
         return Err(ModelEnd::Fault(fault));
     }
-    Ok(keep(alloc, parts)?)
+    match order_gates(alloc, parts)? {
+        Ordered::Order(order) => Ok(keep(alloc, parts, order)?),
+        Ordered::Cycle(v) => Err(ModelEnd::Fault(ModelFault::Cycle(v))),
+    }
 }

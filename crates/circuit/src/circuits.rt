@@ -17,6 +17,8 @@ pub struct Circuit {
     pub(crate) constraints: Items<u64>,
     pub(crate) justice: Items<Items<u64>>,
     pub(crate) fairness: Items<u64>,
+    /// The gates in an order in which they can be evaluated.
+    pub(crate) order: Vec<Gate>,
 }
 
 impl Model for Circuit {

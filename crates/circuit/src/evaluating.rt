@@ -1,13 +1,13 @@
 //! The valuation of a position and its successor. The main call is `eval_into`, which writes into a buffer of the
 //! caller's; nothing here takes memory.
 
-ghost use Rattle.std.specs.Prelude.{◌≡◌, ◌↔◌, ◌+◌, ◌<◌, ◌≤◌, Bool, List, length, map, All, Contains, false, replicate};
-ghost use Rattle.aig_semantics.specs.Literals.{literal_in};
-ghost use Rattle.aig_semantics.specs.Valuations.{valuation, IsValuation};
-ghost use Rattle.circuit.specs.Evaluation.{with_values};
+ghost use Rattle.std.specs.Prelude.{◌≡◌, ◌↔◌, ◌+◌, ◌<◌, ◌≤◌, Bool, List, length, map, All, fold, false, replicate};
+ghost use Rattle.aig_semantics.specs.Literals.{literal_in, variable_in};
+ghost use Rattle.aig_semantics.specs.Valuations.{valuation, IsValuation, conjunction};
+ghost use Rattle.circuit.specs.Evaluation.{with_values, with_gate};
 
 use crate::circuits::Circuit;
-use aig_semantics::Latch;
+use aig_semantics::{Gate, Latch};
 
 /// The value of `literal`, where `values` has that of variable `v` at place `v`; a variable past the end is false.
 pub fn literal_value(values: &[bool], literal: u64) -> bool
@@ -45,6 +45,30 @@ fn put_latches(latches: &[Latch], values: &[bool], out: &mut [bool])
     }
 }
 
+fn gate_value(values: &[bool], gate: &Gate) -> bool
+    ensures { result ≡ conjunction (variable_in values.now) gate.now }
+{
+    literal_value(values, gate.rhs0) && literal_value(values, gate.rhs1)
+}
+
+#[tactic(auto, unfolding(crate::specs::Evaluation::with_gate))]
+fn put_gate(gate: &Gate, out: &mut [bool])
+    requires { gate.now.var < length out.old }
+    ensures { out.new ≡ with_gate out.old gate.now }
+{
+    let value = gate_value(out, gate);
+    out[gate.var as usize] = value;
+}
+
+fn put_gates(order: &[Gate], out: &mut [bool])
+    requires { All (λ gate. gate.var < length out.old) order.now }
+    ensures { out.new ≡ fold with_gate out.old order.now }
+{
+    for gate in order {
+        put_gate(gate, out);
+    }
+}
+
 /// Writes the valuation of the latches and inputs given: the value of each variable from 0 to the greatest at its
 /// place.
 pub fn eval_into(c: &Circuit, latches: &[bool], inputs: &[bool], out: &mut [bool])
@@ -56,6 +80,7 @@ pub fn eval_into(c: &Circuit, latches: &[bool], inputs: &[bool], out: &mut [bool
     clear(out);
     put_inputs(c.inputs.as_slice(), inputs, out);
     put_latches(c.latches.as_slice(), latches, out);
+    put_gates(&c.order, out);
 }
 
 /// Writes the next value of each latch, where `values` is the valuation of a position.

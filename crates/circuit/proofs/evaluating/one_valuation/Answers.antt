@@ -1,12 +1,13 @@
-use Rattle.std.proofs.Common.{◌≡◌, [], subst}
+use Rattle.std.proofs.Common.{subst}
 use Rattle.aig_semantics.specs.Circuits.{IsChecked}
-use Rattle.circuit.proofs.Writing.{one_valuation-law}
+use Rattle.circuit.specs.Ordering.{IsEvaluationOrder}
+use Rattle.circuit.proofs.Evaluated.{valuation-law}
 use Rattle.circuit.proofs.evaluating.one_valuation.Goals as goal
 
 pub returns : goal.returns
 returns c =
     λ latches inputs values latches_fit inputs_fit.
-    one_valuation-law c.args.c.now latches inputs values
-    (subst (λ x. x.gates ≡ []) c.c.view_is c.c.invariant.no_gate)
+    valuation-law c.args.c.now c.c.inside.order.items latches inputs
     (subst (λ x. IsChecked x) c.c.view_is c.c.invariant.checked)
-    latches_fit inputs_fit
+    (subst (λ x. IsEvaluationOrder x.gates c.c.inside.order.items) c.c.view_is c.c.invariant.order)
+    latches_fit inputs_fit values
