@@ -1,7 +1,5 @@
-//! Tests of the whole program over texts in memory, and of circuits.
+//! Tests of the whole program over texts in memory.
 #![tactic(auto)]
 
-#[cfg(test)]
-mod circuits;
 #[cfg(test)]
 mod tests;
