@@ -15,7 +15,14 @@ use Rattle.circuit.specs.declared.ordering.Progress.{Progress}
 use Rattle.circuit.specs.declared.ordering.Progress.TheVariants.{NoGate, Waiting, Open, Done}
 use Rattle.circuit.specs.declared.ordering.Next.{Next}
 use Rattle.circuit.specs.declared.ordering.Next.TheVariants.{Begin, Close, Cycle}
-use Rattle.circuit.specs.Ordering.{HasRightSide, variables_of, progress_at, is_settled, AreSettled, IsNext, Tells, is_pending, IsEvaluationOrder, IsSearch, is_waiting, KeepsBegun, steps_left}
+use Rattle.circuit.specs.Ordering.{HasRightSide, variables_of, progress_at, is_settled, AreSettled, IsNext, Tells, is_pending, IsEvaluationOrder, IsSearch, is_waiting, KeepsBegun}
+
+-- what is left to be done, in steps
+abbrev pub steps_left : Progress → ℕ
+steps_left NoGate = 0
+steps_left (Waiting k) = 2
+steps_left Open = 1
+steps_left Done = 0
 
 -- a search that has gone on from another
 pub record IsGoingOn (c : Circuit) (before progress : List Progress) (path order : List Gate) : Type 0 where

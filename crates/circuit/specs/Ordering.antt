@@ -86,13 +86,6 @@ is_waiting Done = false
 abbrev pub KeepsBegun : List Progress → List Progress → Type 0
 KeepsBegun old new = (v : ℕ) → is_waiting (progress_at old v) ≡ false → is_waiting (progress_at new v) ≡ false
 
--- what is left to be done, in steps
-abbrev pub steps_left : Progress → ℕ
-steps_left NoGate = 0
-steps_left (Waiting k) = 2
-steps_left Open = 1
-steps_left Done = 0
-
 -- what a search for an order comes to
 abbrev pub IsOrdered : Parts → Ordered → Type 0
 IsOrdered parts (Order order) = IsEvaluationOrder parts.gates order.items
