@@ -1,9 +1,9 @@
 -- Orders in which gates can be evaluated, and the search for one.
-use Rattle.std.specs.Prelude.{◌≡◌, ◌≢◌, ℕ, suc, ◌+◌, ◌≤◌, ◌<◌, ◌⊎◌, Bool, true, false, List, [], ◌∷◌, map, drop, length, slice_index_or, count_by}
+use Rattle.std.specs.Prelude.{◌≡◌, ◌≢◌, ℕ, suc, ◌+◌, ◌≤◌, ◌<◌, ◌⊎◌, Bool, true, false, List, map, drop, length, slice_index_or, count_by}
 use Rattle.std.specs.List.{All, AllPairs, Contains}
 use Rattle.aig_semantics.specs.declared.parts.Gate.{Gate}
 use Rattle.aig_semantics.specs.Literals.{variable_of}
-use Rattle.aig_semantics.specs.Circuits.{Circuit, Reads, IsOnCycle}
+use Rattle.aig_semantics.specs.Circuits.{Circuit, IsOnCycle}
 use Rattle.circuit.specs.declared.ordering.Progress.{Progress}
 use Rattle.circuit.specs.declared.ordering.Progress.TheVariants.{NoGate, Waiting, Open, Done}
 use Rattle.circuit.specs.declared.ordering.Next.{Next}
