@@ -1,14 +1,13 @@
 -- What the gates put in order make of a list of inputs and latches: the valuation.
-use Rattle.std.proofs.Common.{◌≡◌, ◌≢◌, ℕ, zero, suc, ◌+◌, ◌<◌, ◌≤◌, Bool, true, false, List, [], ◌∷◌, ◌++◌, map, length, get_or, drop, set, fold, unwrap_or, refl, sym, ap, ◌∙◌, subst, ◌↔◌, inl, inr, arith}
+use Rattle.std.proofs.Common.{◌≡◌, ◌≢◌, ℕ, zero, suc, ◌+◌, ◌<◌, ◌≤◌, Bool, false, List, [], ◌∷◌, map, length, get_or, drop, fold, refl, sym, ap, ◌∙◌, subst, ◌↔◌, inl, inr, arith}
 use Rattle.std.specs.List.{All, Contains}
 use Rattle.std.proofs.lemmas.Bool.{cases_eq}
 use Rattle.std.proofs.lemmas.List.{length-map, get_or-map, length-set, ext_get_or, get_or-set_same, get_or-set_other}
 use Rattle.std.proofs.lemmas.List.Elements.{All-head, All-tail}
-use Rattle.aig_semantics.specs.declared.parts.Latch.{Latch}
 use Rattle.aig_semantics.specs.declared.parts.Gate.{Gate}
 use Rattle.aig_semantics.specs.Literals.{variable_of, variable_in}
-use Rattle.aig_semantics.specs.Circuits.{Circuit, defined, IsChecked}
-use Rattle.aig_semantics.specs.Valuations.{conjunction, given_value, valuation, IsValuation}
+use Rattle.aig_semantics.specs.Circuits.{Circuit, IsChecked}
+use Rattle.aig_semantics.specs.Valuations.{conjunction, valuation, IsValuation}
 use Rattle.aig_semantics.proofs.Lists.{AllDiffer-right, All-left, All-right}
 use Rattle.aig_semantics.proofs.Values.{IsRanking, given_variables, gate_variables, conjunction-same, length-valuation, valuation-only, valuation-meets, value-no_gate}
 use Rattle.circuit.specs.Evaluation.{with_gate}

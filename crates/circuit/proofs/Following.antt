@@ -1,5 +1,5 @@
 -- A lasso that is followed to its end is fair, and the other way round.
-use Rattle.std.proofs.Common.{◌≡◌, ℕ, zero, suc, ◌+◌, ◌-◌, ◌<◌, ◌≤◌, ◌==◌, ◌&&◌, ◌||◌, ◌↔◌, Bool, true, false, not, List, [], ◌∷◌, ◌++◌, map, length, get_or, take, drop, set, replicate, Option, Some, None, IsTrue, refl, sym, ap, ◌∙◌, subst, inl, inr, arith}
+use Rattle.std.proofs.Common.{◌≡◌, ℕ, zero, suc, ◌+◌, ◌-◌, ◌<◌, ◌≤◌, ◌==◌, ◌&&◌, ◌||◌, ◌↔◌, Bool, true, false, not, List, [], ◌∷◌, ◌++◌, length, get_or, take, drop, set, replicate, Some, IsTrue, refl, sym, ap, ◌∙◌, subst, arith}
 use Rattle.std.specs.List.{All, Any, AllZip, list_all, list_any, slice_get}
 use Rattle.std.proofs.lemmas.Bool.{and_parts, and_from, and_right, eqb-true, eq-eqb, ne_eqb}
 use Rattle.std.proofs.lemmas.List.{append_assoc, take_more_set, drop-set-lt, drop_more, drop_all, take_all, length-map, length-replicate, get_or-replicate, get_or_default}
@@ -13,7 +13,7 @@ use Rattle.aig_semantics.specs.declared.traces.Position.{Position}
 use Rattle.aig_semantics.specs.Literals.{literal_in}
 use Rattle.aig_semantics.specs.Circuits.{Circuit, fair_literals}
 use Rattle.aig_semantics.specs.Valuations.{valuation}
-use Rattle.aig_semantics.specs.Runs.{IsPosition, MeetsConstraints, StartsIn, IsRun, IsInitial, IsInitialRun, AgreesWith, ClosesAt, MeetsFairness, IsFairLasso, successor, literal_at}
+use Rattle.aig_semantics.specs.Runs.{StartsIn, IsRun, IsInitial, IsInitialRun, AgreesWith, ClosesAt, MeetsFairness, IsFairLasso, successor, literal_at}
 use Rattle.aig_semantics.specs.Stimuli.{simulated}
 use Rattle.circuit.specs.Following.{agrees, all_agree, seen_with, position_of, follows, state_after, seen_after, state_at, IsFollowed}
 

@@ -1,17 +1,14 @@
 -- What the marks are in the end.
-use Rattle.std.proofs.Common.{◌≡◌, ◌≢◌, ℕ, zero, suc, ◌+◌, ◌*◌, ◌<◌, ◌≤◌, ◌==◌, ◌⊎◌, Bool, true, false, cond, ◌||◌, List, [], ◌∷◌, ◌++◌, map, length, get_or, set, fold, count_by, replicate, refl, sym, ap, ◌∙◌, subst, inl, inr, arith}
-use Rattle.std.specs.List.{All, Any, AllPairs, Contains, flat_map, list_any, sum_by}
+use Rattle.std.proofs.Common.{◌≡◌, ◌≢◌, ℕ, zero, suc, ◌+◌, ◌*◌, ◌<◌, ◌≤◌, ◌==◌, ◌⊎◌, Bool, true, false, cond, ◌||◌, List, [], ◌∷◌, ◌++◌, map, length, get_or, fold, replicate, refl, sym, ap, ◌∙◌, subst, inl, inr, arith}
+use Rattle.std.specs.List.{All, Any, Contains, flat_map, list_any}
 use Rattle.std.proofs.lemmas.Bool.{cases_eq, cases_lt, eqb-true, eq-eqb, ne_eqb}
 use Rattle.std.proofs.lemmas.List.{length-set, length-replicate, get_or_default, get_or-set_same, get_or-set_other}
-use Rattle.std.proofs.lemmas.List.Sums.{fold-append, sum_by-cons}
+use Rattle.std.proofs.lemmas.List.Sums.{fold-append}
 use Rattle.std.proofs.lemmas.List.Folds.{fold-map, Any-from_list_any, list_any-from_Any}
-use Rattle.std.proofs.lemmas.List.Elements.{All-head, All-tail, All-append, All-contains}
-use Rattle.aig_semantics.specs.declared.parts.Latch.{Latch}
-use Rattle.aig_semantics.specs.declared.parts.Gate.{Gate}
+use Rattle.std.proofs.lemmas.List.Elements.{All-head, All-tail, All-contains}
 use Rattle.aig_semantics.specs.Literals.{variable_of}
-use Rattle.aig_semantics.specs.Circuits.{Circuit, defined, used, AreDefined}
-use Rattle.aig_semantics.proofs.Lists.{AllDiffer, All-left, All-right}
-use Rattle.circuit.proofs.Counting.{count, count-same, count-other, Contains-from_count, count-from_Contains, count-differ, AllDiffer-from_count}
+use Rattle.aig_semantics.specs.Circuits.{defined, used, AreDefined}
+use Rattle.circuit.proofs.Counting.{count, count-same, count-other, Contains-from_count, count-from_Contains, AllDiffer-from_count}
 use Rattle.circuit.proofs.Ranges.{DefinesAll-from, UsesAll-from, used-in_range}
 use Rattle.circuit.specs.declared.parts.Parts.{Parts}
 use Rattle.circuit.specs.declared.marks.Mark.{Mark}

@@ -1,11 +1,11 @@
 -- A fact of each variable that is defined, or of each literal that is used, section by section and all at once.
-use Rattle.std.proofs.Common.{◌≡◌, ℕ, ◌+◌, ◌*◌, ◌<◌, ◌≤◌, List, [], ◌∷◌, ◌++◌, map, length, arith}
+use Rattle.std.proofs.Common.{ℕ, ◌+◌, ◌*◌, ◌≤◌, List, [], ◌∷◌, ◌++◌, map, arith}
 use Rattle.std.specs.List.{All, flat_map}
 use Rattle.std.proofs.lemmas.List.Elements.{All-append, All-map}
-use Rattle.aig_semantics.specs.Circuits.{Circuit, defined, used, IsWithinLimits}
+use Rattle.aig_semantics.specs.Circuits.{defined, used}
 use Rattle.aig_semantics.proofs.Lists.{All-left, All-right}
 use Rattle.circuit.specs.declared.parts.Parts.{Parts}
-use Rattle.circuit.specs.Sections.{circuit_of, used_by, AreInRange, DefinesAll, UsesAll, HasFittingLengths, IsFitting}
+use Rattle.circuit.specs.Sections.{circuit_of, used_by, AreInRange, DefinesAll, UsesAll, IsFitting}
 use Rattle.circuit.proofs.Counting.{All-unmap, All-parts, All-joined, All-pair}
 
 module _ (P : ℕ → Type 0) (parts : Parts) where

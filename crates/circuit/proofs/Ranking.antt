@@ -1,12 +1,12 @@
 -- In an order of evaluation each gate has a rank above those of what it reads; so no gate is on a cycle.
-use Rattle.std.proofs.Common.{◌≡◌, ◌≢◌, ℕ, zero, suc, ◌+◌, ◌<◌, ◌≤◌, ◌==◌, ◌⊎◌, Bool, true, false, List, [], ◌∷◌, map, length, get_or, drop, refl, sym, ap, ◌∙◌, subst, inl, inr, arith}
-use Rattle.std.specs.List.{All, Contains}
-use Rattle.std.proofs.lemmas.Bool.{cases_eq, cases_order, eq-eqb, ne_eqb}
+use Rattle.std.proofs.Common.{◌≡◌, ℕ, zero, suc, ◌<◌, ◌≤◌, ◌==◌, Bool, true, false, List, [], ◌∷◌, length, get_or, drop, refl, sym, ap, ◌∙◌, subst, inl, inr, arith}
+use Rattle.std.specs.List.{Contains}
+use Rattle.std.proofs.lemmas.Bool.{cases_order, eq-eqb, ne_eqb}
 use Rattle.std.proofs.lemmas.List.{length-map, get_or-map, get_or_default}
 use Rattle.aig_semantics.specs.declared.parts.Gate.{Gate}
 use Rattle.aig_semantics.specs.Literals.{variable_of}
-use Rattle.aig_semantics.specs.Circuits.{Circuit, defined, Reads, ReadsThrough, IsOnCycle}
-use Rattle.aig_semantics.proofs.Lists.{AllDiffer, AllDiffer-right}
+use Rattle.aig_semantics.specs.Circuits.{Circuit, Reads, ReadsThrough, IsOnCycle}
+use Rattle.aig_semantics.proofs.Lists.{AllDiffer}
 use Rattle.aig_semantics.proofs.Values.{IsRanking}
 use Rattle.circuit.specs.Ordering.{HasRightSide, variables_of, IsEvaluationOrder}
 

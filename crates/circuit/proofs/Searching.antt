@@ -1,21 +1,26 @@
 -- The steps of the search for an order of the gates.
-use Rattle.std.proofs.Common.{◌≡◌, ◌≢◌, ℕ, zero, suc, ◌+◌, ◌-◌, ◌<◌, ◌≤◌, ◌⊎◌, Bool, true, false, cond, List, [], ◌∷◌, ◌++◌, map, length, get_or, set, take, drop, Option, Some, None, refl, sym, ap, ◌∙◌, subst, inl, inr, arith, length-append}
-use Rattle.std.specs.List.{All, AllPairs, Contains, sum_by, count_by, slice_get}
+use Rattle.std.proofs.Common.{◌≡◌, ◌≢◌, ℕ, zero, suc, ◌+◌, ◌-◌, ◌<◌, ◌⊎◌, true, false, cond, List, [], ◌∷◌, ◌++◌, length, get_or, set, take, drop, Some, refl, sym, ap, ◌∙◌, subst, inl, inr, arith}
+use Rattle.std.specs.List.{All, Contains, sum_by, count_by, slice_get}
 use Rattle.std.proofs.lemmas.Bool.{cases_eq, cases_lt, false≢true}
-use Rattle.std.proofs.lemmas.List.{length-set, length-map, length_push, get_or-set_same, get_or-set_other, get_or_past, get_or_default, get_or-map, get_or_append_left, get_or_push, map_push, drop-append-le, drop_at, take-append-drop, drop_more, drop_all}
-use Rattle.std.proofs.lemmas.List.Elements.{All-push, All-get_or, Contains-append_left, Contains-push, Contains-push_cases, Contains-get_or}
+use Rattle.std.proofs.lemmas.List.{length-set, length-map, length_push, get_or-set_same, get_or-set_other, get_or_past, get_or-map, get_or_append_left, get_or_push, map_push, drop-append-le, drop_at, take-append-drop, drop_more, drop_all}
+use Rattle.std.proofs.lemmas.List.Elements.{All-push, Contains-append_left, Contains-push, Contains-push_cases, Contains-get_or}
 use Rattle.std.proofs.lemmas.List.Quantifiers.{all_pairs_push}
 use Rattle.std.proofs.lemmas.List.Sums.{sum_by-set}
-use Rattle.std.proofs.lemmas.Option.{slice_get-get_or, slice_get_within, same_Some, get_or_from_slice_get}
+use Rattle.std.proofs.lemmas.Option.{slice_get_within, get_or_from_slice_get}
 use Rattle.aig_semantics.specs.declared.parts.Gate.{Gate}
-use Rattle.aig_semantics.specs.Literals.{variable_of}
 use Rattle.aig_semantics.specs.Circuits.{Circuit, Reads, ReadsThrough, IsOnCycle}
 use Rattle.aig_semantics.proofs.Lists.{AllDiffer, AllDiffer-left, All-left}
 use Rattle.circuit.specs.declared.ordering.Progress.{Progress}
 use Rattle.circuit.specs.declared.ordering.Progress.TheVariants.{NoGate, Waiting, Open, Done}
-use Rattle.circuit.specs.declared.ordering.Next.{Next}
-use Rattle.circuit.specs.declared.ordering.Next.TheVariants.{Begin, Close, Cycle}
-use Rattle.circuit.specs.Ordering.{HasRightSide, variables_of, progress_at, is_settled, AreSettled, IsNext, Tells, is_pending, IsEvaluationOrder, IsSearch, is_waiting, KeepsBegun, steps_left}
+use Rattle.circuit.specs.declared.ordering.Next.TheVariants.{Begin, Cycle}
+use Rattle.circuit.specs.Ordering.{HasRightSide, variables_of, progress_at, is_settled, AreSettled, IsNext, Tells, is_pending, IsEvaluationOrder, IsSearch, is_waiting, KeepsBegun}
+
+-- what is left to be done, in steps
+abbrev pub steps_left : Progress → ℕ
+steps_left NoGate = 0
+steps_left (Waiting k) = 2
+steps_left Open = 1
+steps_left Done = 0
 
 -- a search that has gone on from another
 pub record IsGoingOn (c : Circuit) (before progress : List Progress) (path order : List Gate) : Type 0 where

@@ -1,12 +1,12 @@
 -- The table with which the search for an order begins.
-use Rattle.std.proofs.Common.{◌≡◌, ◌≢◌, ℕ, zero, suc, ◌+◌, ◌<◌, ◌≤◌, ◌⊎◌, Bool, true, false, cond, List, [], ◌∷◌, ◌++◌, map, length, get_or, set, take, replicate, refl, sym, ap, ◌∙◌, subst, inl, inr, arith}
-use Rattle.std.specs.List.{All, Contains, sum_by, count_by}
-use Rattle.std.proofs.lemmas.Bool.{cases_eq, cases_lt}
+use Rattle.std.proofs.Common.{◌≡◌, ◌≢◌, ℕ, ◌+◌, ◌<◌, ◌≤◌, false, cond, List, [], ◌++◌, map, length, get_or, set, take, replicate, refl, sym, ap, ◌∙◌, subst, inl, inr, arith}
+use Rattle.std.specs.List.{All, Contains, count_by}
+use Rattle.std.proofs.lemmas.Bool.{cases_eq}
 use Rattle.std.proofs.lemmas.List.{length-set, length-map, length-replicate, get_or-set_same, get_or-set_other, get_or-map, take_more, take_all}
 use Rattle.std.proofs.lemmas.List.Elements.{All-more, Contains-push_cases}
 use Rattle.std.proofs.lemmas.List.Folds.{sum_by-replicate}
 use Rattle.aig_semantics.specs.declared.parts.Gate.{Gate}
-use Rattle.aig_semantics.specs.Circuits.{Circuit, defined}
+use Rattle.aig_semantics.specs.Circuits.{Circuit}
 use Rattle.aig_semantics.proofs.Lists.{AllDiffer, AllDiffer-right}
 use Rattle.circuit.specs.declared.ordering.Progress.{Progress}
 use Rattle.circuit.specs.declared.ordering.Progress.TheVariants.{NoGate, Waiting, Open, Done}

@@ -1,6 +1,6 @@
 -- What the answer of the check of a circuit tells.
-use Rattle.std.proofs.Common.{◌≡◌, ◌≢◌, ℕ, suc, ◌+◌, ◌<◌, ◌≤◌, ◌==◌, ◌⊎◌, List, [], ◌∷◌, ◌++◌, length, get_or, Result, Ok, Err, refl, sym, ap, ◌∙◌, subst, inl, inr, arith}
-use Rattle.std.specs.List.{All, Any, Contains}
+use Rattle.std.proofs.Common.{◌≡◌, ℕ, ◌⊎◌, List, ◌++◌, get_or, Result, Ok, Err, refl, ap, ◌∙◌, subst, inl, inr, arith}
+use Rattle.std.specs.List.{Contains}
 use Rattle.std.proofs.lemmas.List.{append_assoc}
 use Rattle.aig_semantics.specs.declared.parts.Gate.{Gate}
 use Rattle.aig_semantics.specs.Literals.{variable_of}
@@ -8,15 +8,15 @@ use Rattle.aig_semantics.specs.Circuits.{Circuit, defined, used, AreDefined, IsC
 use Rattle.aig_semantics.proofs.Lists.{All-left}
 use Rattle.circuit.specs.declared.parts.Parts.{Parts}
 use Rattle.circuit.specs.declared.faults.ModelFault.{ModelFault}
-use Rattle.circuit.specs.declared.faults.ModelFault.TheVariants.{Header, Number, Range, Undefined, Twice, Cycle, Truncated, Limit, Trailing, Symbol}
+use Rattle.circuit.specs.declared.faults.ModelFault.TheVariants.{Undefined, Twice, Cycle}
 use Rattle.circuit.specs.declared.faults.ModelEnd.{ModelEnd}
-use Rattle.circuit.specs.declared.faults.ModelEnd.TheVariants.{Fault, Memory}
+use Rattle.circuit.specs.declared.faults.ModelEnd.TheVariants.{Fault}
 use Rattle.circuit.specs.Sections.{circuit_of, used_by, AreInRange}
 use Rattle.circuit.specs.Faults.{IsLeast, IsTwice, IsFirstTwice, IsUndefined, IsFirstUndefined, IsOnce, IsDefined, HasFault, IsOnlyOnCycle, AnswersExactlyWhere, AnswersCycleExactlyWhere}
 use Rattle.circuit.specs.Ordering.{IsEvaluationOrder}
 use Rattle.circuit.proofs.Tables.{gates-apart}
 use Rattle.circuit.proofs.Ranking.{no-cycle}
-use Rattle.circuit.proofs.Counting.{count, count-differ}
+use Rattle.circuit.proofs.Counting.{count-differ}
 
 -- ---- a circuit that has no fault is checked
 

@@ -1,10 +1,9 @@
 -- The steps of writing a valuation.
-use Rattle.std.proofs.Common.{◌≡◌, ◌≢◌, ℕ, suc, ◌+◌, ◌<◌, ◌≤◌, Bool, true, false, cond, List, [], ◌∷◌, ◌++◌, map, length, get_or, drop, set, unwrap_or, replicate, refl, sym, ap, ◌∙◌, inl, inr, arith}
-use Rattle.std.specs.List.{All, Contains}
+use Rattle.std.proofs.Common.{◌≡◌, ℕ, suc, ◌+◌, ◌<◌, ◌≤◌, Bool, false, List, [], ◌∷◌, ◌++◌, map, length, get_or, drop, set, unwrap_or, replicate, refl, sym, ap, ◌∙◌, inl, inr, arith}
+use Rattle.std.specs.List.{All}
 use Rattle.std.proofs.lemmas.Bool.{cases_eq, cases_lt, eq-eqb, ne_eqb}
 use Rattle.std.proofs.lemmas.List.{drop_more, drop_all, length-map, get_or-map, length-set, length-replicate, get_or-replicate, get_or_past, get_or-set_same, get_or-set_other}
 use Rattle.std.proofs.lemmas.List.Elements.{All-head, All-tail}
-use Rattle.aig_semantics.specs.declared.parts.Latch.{Latch}
 use Rattle.aig_semantics.specs.Circuits.{Circuit, defined}
 use Rattle.aig_semantics.specs.Valuations.{value_beside, given_value}
 use Rattle.aig_semantics.proofs.Lists.{AllDiffer, AllDiffer-tail, AllDiffer-left, value_beside-none, All-left}

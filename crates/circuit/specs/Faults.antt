@@ -1,6 +1,6 @@
 -- What may be wrong with the circuit of a model, and when it is said.
-use Rattle.std.specs.Prelude.{◌≡◌, ◌≢◌, ℕ, ◌≤◌, ◌<◌, ◌==◌, ◌⊎◌, List, count_by, Result, Ok, Err}
-use Rattle.std.specs.List.{All, Any, AllPairs, Contains}
+use Rattle.std.specs.Prelude.{◌≡◌, ◌≢◌, ℕ, ◌≤◌, ◌<◌, ◌==◌, ◌⊎◌, count_by, Result, Ok, Err}
+use Rattle.std.specs.List.{Any, AllPairs, Contains}
 use Rattle.aig_semantics.specs.Literals.{variable_of}
 use Rattle.aig_semantics.specs.Circuits.{defined, AreDefined, IsOnCycle}
 use Rattle.circuit.specs.declared.parts.Parts.{Parts}

@@ -1,9 +1,9 @@
 -- Orders in which gates can be evaluated, and the search for one.
-use Rattle.std.specs.Prelude.{◌≡◌, ◌≢◌, ℕ, suc, ◌+◌, ◌≤◌, ◌<◌, ◌⊎◌, Bool, true, false, List, [], ◌∷◌, map, drop, length, slice_index_or, count_by}
+use Rattle.std.specs.Prelude.{◌≡◌, ◌≢◌, ℕ, suc, ◌+◌, ◌≤◌, ◌<◌, ◌⊎◌, Bool, true, false, List, map, drop, length, slice_index_or, count_by}
 use Rattle.std.specs.List.{All, AllPairs, Contains}
 use Rattle.aig_semantics.specs.declared.parts.Gate.{Gate}
 use Rattle.aig_semantics.specs.Literals.{variable_of}
-use Rattle.aig_semantics.specs.Circuits.{Circuit, Reads, IsOnCycle}
+use Rattle.aig_semantics.specs.Circuits.{Circuit, IsOnCycle}
 use Rattle.circuit.specs.declared.ordering.Progress.{Progress}
 use Rattle.circuit.specs.declared.ordering.Progress.TheVariants.{NoGate, Waiting, Open, Done}
 use Rattle.circuit.specs.declared.ordering.Next.{Next}
@@ -85,13 +85,6 @@ is_waiting Done = false
 -- no gate that was begun waits again
 abbrev pub KeepsBegun : List Progress → List Progress → Type 0
 KeepsBegun old new = (v : ℕ) → is_waiting (progress_at old v) ≡ false → is_waiting (progress_at new v) ≡ false
-
--- what is left to be done, in steps
-abbrev pub steps_left : Progress → ℕ
-steps_left NoGate = 0
-steps_left (Waiting k) = 2
-steps_left Open = 1
-steps_left Done = 0
 
 -- what a search for an order comes to
 abbrev pub IsOrdered : Parts → Ordered → Type 0

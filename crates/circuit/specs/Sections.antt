@@ -1,9 +1,8 @@
 -- The sections of a model as a circuit, what a reader has seen to, and what may still be wrong (AIGER 1.9; Biere,
 -- Heljanko, Wieringa, 2011).
-use Rattle.std.specs.Prelude.{ℕ, ◌+◌, ◌*◌, ◌≤◌, ◌<◌, List, ◌++◌, length}
+use Rattle.std.specs.Prelude.{ℕ, ◌+◌, ◌*◌, ◌≤◌, List, ◌++◌, length}
 use Rattle.std.specs.List.{All}
 use Rattle.aig_semantics.specs.declared.limits.TheConstants.{MAX_VARIABLE, MAX_NUMBER, MAX_PROPERTY_LITERALS}
-use Rattle.aig_semantics.specs.Literals.{variable_of}
 use Rattle.aig_semantics.specs.Circuits.{Circuit, defined, used, IsWithinLimits}
 use Rattle.circuit.specs.declared.parts.Parts.{Parts}
 

@@ -76,7 +76,7 @@ fn keep(alloc: Global, parts: &Parts, order: Vec<Gate>) -> Result<Circuit, Alloc
 /// Checks the circuit of a model, and keeps it. Its faults are `Twice`, then `Undefined`, each with the least such
 /// variable, then `Cycle` with a variable of a gate on a cycle. The work is in proportion to the lists and `max`.
 pub fn check_circuit(alloc: Global, parts: &Parts) -> Result<Circuit, ModelEnd>
-    requires in_range { AreInRange parts.now }
+    requires { AreInRange parts.now }
 
     ensures ok { IfOk result (λ c. c ≡ circuit_of parts.now) }
     ensures checked { OnOk result (IsChecked (circuit_of parts.now)) }

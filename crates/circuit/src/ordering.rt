@@ -91,9 +91,7 @@ impl Search {
         self.progress[gate.var as usize] = Progress::Done;
         Ok(())
     }
-}
 
-impl Search {
     /// Goes on until the path is empty. Answers a variable on a cycle, if it meets one.
     fn finish(&mut self, parts: &Parts) -> Result<Option<u64>, AllocError>
         requires search { IsSearch (circuit_of parts.now) self.old.progress.items self.old.path.items self.old.order.items }
@@ -113,9 +111,7 @@ impl Search {
         }
         Ok(None)
     }
-}
 
-impl Search {
     /// Puts a gate into the order, and all that it reads before it. Answers a variable on a cycle, if it meets one.
     fn visit(&mut self, parts: &Parts, gate: Gate) -> Result<Option<u64>, AllocError>
         requires search { IsSearch (circuit_of parts.now) self.old.progress.items [] self.old.order.items }

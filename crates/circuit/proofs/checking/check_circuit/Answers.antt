@@ -15,7 +15,7 @@ returns-in-Some-clause-cycle c = refused-cycle _ c.args.parts.now c.in-Some.faul
 
 pub keep-requires-clause-checked : goal.keep-requires-clause-checked
 keep-requires-clause-checked c =
-    IsChecked-from c.args.parts.now c.in-Order.order.items c.requires.in_range c.in_default.ensures (rw c.in-Order.is at c.in_ok-order.ensures)
+    IsChecked-from c.args.parts.now c.in-Order.order.items c.requires c.in_default.ensures (rw c.in-Order.is at c.in_ok-order.ensures)
 
 pub returns-in-Order-clause-twice : goal.returns-in-Order-clause-twice
 returns-in-Order-clause-twice c = kept-twice _ _ c.args.parts.now c.in_default.ensures

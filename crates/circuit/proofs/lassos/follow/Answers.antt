@@ -1,4 +1,4 @@
-use Rattle.std.proofs.Common.{◌≡◌, length, sym, ap, ◌∙◌}
+use Rattle.std.proofs.Common.{length, sym, ap, ◌∙◌}
 use Rattle.circuit.specs.Following.{seen_with}
 use Rattle.circuit.proofs.Following.{way-apart, way-broken, way-on, way-end}
 use Rattle.circuit.proofs.lassos.follow.Goals as goal

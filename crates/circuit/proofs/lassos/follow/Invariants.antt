@@ -1,5 +1,4 @@
-use Rattle.std.proofs.Common.{◌≡◌, drop}
-use Rattle.circuit.specs.Following.{follows, state_after, seen_after}
+use Rattle.std.proofs.Common.{drop}
 use Rattle.circuit.proofs.Following.{IsOnTheWay}
 use Rattle.circuit.proofs.lassos.follow.Given as goal
 

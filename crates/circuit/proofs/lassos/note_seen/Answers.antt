@@ -1,4 +1,4 @@
-use Rattle.std.proofs.Common.{◌≡◌, ◌||◌, false, get_or, sym, ap, ◌∙◌}
+use Rattle.std.proofs.Common.{◌≡◌, ◌||◌, false, get_or, ◌∙◌}
 use Rattle.aig_semantics.specs.Literals.{literal_in}
 use Rattle.circuit.proofs.Following.{note_more}
 use Rattle.circuit.proofs.lassos.note_seen.Goals as goal

@@ -1,5 +1,5 @@
 use Rattle.std.proofs.Common.{◌≡◌, fold, take}
-use Rattle.circuit.specs.Marks.{with_definition, with_use}
+use Rattle.circuit.specs.Marks.{with_definition}
 use Rattle.circuit.proofs.marks.define_gates.Given as goal
 
 abbrev pub invariant-loop-gate : goal.invariant-loop-gate

@@ -1,5 +1,5 @@
 use Rattle.std.proofs.Common.{◌≡◌, fold, take}
-use Rattle.circuit.specs.Marks.{with_definition, with_use}
+use Rattle.circuit.specs.Marks.{with_definition}
 use Rattle.circuit.proofs.marks.define_inputs.Given as goal
 
 abbrev pub invariant-loop-variable : goal.invariant-loop-variable

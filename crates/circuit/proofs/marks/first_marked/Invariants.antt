@@ -1,4 +1,4 @@
-use Rattle.std.proofs.Common.{◌≡◌, ◌≢◌, ◌<◌, ℕ, get_or}
+use Rattle.std.proofs.Common.{◌≢◌, ◌<◌, ℕ, get_or}
 use Rattle.circuit.specs.declared.marks.Mark.TheVariants.{Nowhere}
 use Rattle.circuit.proofs.marks.first_marked.Given as goal
 

@@ -1,5 +1,5 @@
 use Rattle.std.proofs.Common.{◌≡◌, fold, take}
-use Rattle.circuit.specs.Marks.{with_definition, with_use}
+use Rattle.circuit.specs.Marks.{with_use}
 use Rattle.circuit.proofs.marks.use_literals.Given as goal
 
 abbrev pub invariant-loop-literal : goal.invariant-loop-literal

@@ -1,5 +1,5 @@
 use Rattle.std.proofs.Common.{◌≡◌, fold, take}
-use Rattle.circuit.specs.Marks.{with_definition, with_use}
+use Rattle.circuit.specs.Marks.{with_use}
 use Rattle.circuit.proofs.marks.use_properties.Given as goal
 
 abbrev pub invariant-loop-property : goal.invariant-loop-property

@@ -1,7 +1,6 @@
 use Rattle.std.proofs.Common.{sum_by}
 use Rattle.circuit.specs.Sections.{circuit_of}
-use Rattle.circuit.specs.Ordering.{IsSearch, KeepsBegun, steps_left}
-use Rattle.circuit.proofs.Searching.{IsGoingOn}
+use Rattle.circuit.proofs.Searching.{IsGoingOn, steps_left}
 use Rattle.circuit.proofs.ordering.Search.finish.Given as goal
 
 abbrev pub invariant-loop-gate : goal.invariant-loop-gate
