@@ -108,6 +108,18 @@ fn counter_counts(rt: HostRuntime) -> Result<(), Fail> {
     Ok(())
 }
 
+/// Which states of the counter a run may begin with, and the values of a literal and its negation.
+#[test]
+fn counter_begins_at_zero(rt: HostRuntime) -> Result<(), Fail> {
+    let c = counter(rt.alloc())?;
+    assert!(rt; is_initial(&c, &[false, false]));
+    assert!(rt; !is_initial(&c, &[true, false]));
+    assert!(rt; !is_initial(&c, &[false]));
+    assert!(rt; literal_value(&[false, true], 2));
+    assert!(rt; !literal_value(&[false, true], 3));
+    Ok(())
+}
+
 /// After four positions the counter is back, after three it is not.
 #[test]
 fn counter_closes(rt: HostRuntime) -> Result<(), Fail> {
