@@ -3,3 +3,4 @@ pub mod Told
 pub mod Reads
 pub mod Writes
 pub mod InMemory
+pub mod Units

@@ -1,8 +1,12 @@
 //! Each public call once, at the objects that tests and programs use.
+ghost use Rattle.std.specs.Prelude.{◌≡◌, IfOk};
+ghost use Rattle.edge.specs.Units.{SpentConflict};
+
 use crate::{
-    FileShelf, FreeGate, Gate, MemShelf, MemSink, Point, ReadEnd, Shelf, StdSink, read_text,
-    write_all,
+    Counted, FileShelf, FreeGate, Gate, Held, MemShelf, MemSink, Meter, Point, ReadEnd, Shelf,
+    SolveEnd, Spent, StdSink, read_text, write_all,
 };
+use cnf::{Clause, Db, Lit, holds};
 use std::alloc::{AllocError, Global};
 use std::fs;
 use std::test::Fail;
@@ -135,5 +139,86 @@ fn output_takes_text_and_the_gate_is_free(rt: HostRuntime) -> Result<(), Fail> {
     let mut sink = StdSink::new(&rt);
     assert!(rt; write_all(&mut sink, b"written\n").is_ok());
     pass_all(&FreeGate);
+    Ok(())
+}
+
+fn literal(var: u64, positive: bool) -> Lit
+    ensures { result ≡ record { var = var; positive = positive } }
+{
+    Lit { var, positive }
+}
+
+/// The clauses -1 and 1 2, and the clause 2, which follows from them.
+#[tactic(auto, using(crate::proofs::Learning::learned_from_both))]
+fn held_and_learned(alloc: Global) -> Result<(Db, Clause), AllocError>
+    ensures { IfOk result (λ made. SpentConflict made.0.clauses made.1) }
+{
+    let mut held = Db::new(alloc);
+    held.push(Clause::from_slice(alloc, &[literal(1, false)])?)?;
+    held.push(Clause::from_slice(alloc, &[literal(1, true), literal(2, true)])?)?;
+    Ok((held, Clause::from_slice(alloc, &[literal(2, true)])?))
+}
+
+/// Counts a conflict, as a solver does.
+fn count_conflict(meter: &mut Meter, held: &Db, learned: &Clause) -> Result<(), SolveEnd>
+    requires { SpentConflict held.now.clauses learned.now }
+{
+    meter.conflict(held, learned)?;
+    Ok(())
+}
+
+/// Counts a lemma that excludes the state, and then a frame.
+fn count_steps(meter: &mut Meter, held: &Db, lemma: &Clause) -> Result<(), Spent> {
+    let state = [false, false, true];
+    if held.allows(&state) && !holds(lemma, &state) {
+        meter.lemma(held, lemma, &state)?;
+    }
+    meter.frame(&[2, 1])
+}
+
+/// Three rounds of a conflict, a lemma and a frame.
+#[test]
+fn a_meter_counts_to_its_limits(rt: HostRuntime) -> Result<(), Fail> {
+    let (held, learned) = held_and_learned(rt.alloc())?;
+    let lemma = Clause::from_slice(rt.alloc(), &[literal(1, true)])?;
+    let cases = [
+        (0, 0, Some(0), Some(0), 0, 0),
+        (2, 1, Some(2), Some(1), 2, 1),
+        (3, 5, Some(3), Some(5), 3, 5),
+        (4, 6, Some(4), Some(6), 3, 6),
+        (
+            4_294_967_294,
+            4_294_967_295,
+            Some(4_294_967_294),
+            None,
+            3,
+            6,
+        ),
+        (18_446_744_073_709_551_615, 0, None, Some(0), 3, 0),
+    ];
+    for (conflicts, steps, conflict_limit, step_limit, spent_conflicts, spent_steps) in cases {
+        let mut meter = Meter::new(conflicts, steps);
+        for _ in 0..3 {
+            if let Err(end) = count_conflict(&mut meter, &held, &learned) {
+                let kind = Counted::Conflicts;
+                assert_eq!(rt;
+                    end,
+                    SolveEnd::Spent(Spent {
+                        kind,
+                        limit: conflicts
+                    })
+                );
+            }
+            if let Err(spent) = count_steps(&mut meter, &held, &lemma) {
+                let kind = Counted::Steps;
+                assert_eq!(rt; spent, Spent { kind, limit: steps });
+            }
+        }
+        let spending = meter.spending();
+        assert_eq!(rt; spending.conflicts(), spent_conflicts);
+        assert_eq!(rt; spending.conflict_limit(), conflict_limit);
+        assert_eq!(rt; spending.steps(), spent_steps);
+        assert_eq!(rt; spending.step_limit(), step_limit);
+    }
     Ok(())
 }

@@ -1,0 +1,46 @@
+//! How a search ends that gives no answer. The main type is `SolveEnd`.
+
+use crate::metering::Spent;
+use std::alloc::{AllocError, AllocFailed};
+
+/// Why a search ended without an answer.
+#[derive(Debug, Clone, Copy, PartialEq, Eq)]
+pub enum SolveEnd {
+    /// A limit of the meter is reached.
+    Spent(Spent),
+    /// Memory ran out.
+    Memory,
+}
+
+impl From<Spent> for SolveEnd {
+    ghost use Rattle.std.specs.Prelude.{◌≡◌};
+    ghost use Rattle.edge.specs.declared.solve_end.SolveEnd.TheVariants.{Spent};
+
+    ghost from_gives = { λ spent end. end ≡ Spent spent };
+
+    fn from(spent: Spent) -> SolveEnd {
+        SolveEnd::Spent(spent)
+    }
+}
+
+impl From<AllocError> for SolveEnd {
+    ghost use Rattle.std.specs.Prelude.{◌≡◌};
+    ghost use Rattle.edge.specs.declared.solve_end.SolveEnd.TheVariants.{Memory};
+
+    ghost from_gives = { λ _ end. end ≡ Memory };
+
+    fn from(_refused: AllocError) -> SolveEnd {
+        SolveEnd::Memory
+    }
+}
+
+impl<T: Drop> From<AllocFailed<T>> for SolveEnd {
+    ghost use Rattle.std.specs.Prelude.{◌≡◌};
+    ghost use Rattle.edge.specs.declared.solve_end.SolveEnd.TheVariants.{Memory};
+
+    ghost from_gives = { λ _ end. end ≡ Memory };
+
+    fn from(_refused: AllocFailed<T>) -> SolveEnd {
+        SolveEnd::Memory
+    }
+}
