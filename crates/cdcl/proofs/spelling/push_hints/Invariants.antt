@@ -1,0 +1,7 @@
+use Rattle.std.proofs.Common.{◌≡◌, ◌++◌, take, map}
+use Rattle.proof_semantics.specs.Lines.{signed_text}
+use Rattle.cdcl.specs.Writing.{spaced, hint_of}
+use Rattle.cdcl.proofs.spelling.push_hints.Given as goal
+
+abbrev pub invariant-loop-hint : goal.invariant-loop-hint
+invariant-loop-hint l = l.out.items ≡ l.initial.out.items ++ spaced (map signed_text (map (hint_of l.ids) (take l.hint-index l.hints)))

@@ -1,0 +1,57 @@
+-- The clauses that a solver holds, in the order in which they came, each with the hints that it was learned by.
+use Rattle.std.specs.Prelude.{◌≡◌, ℕ, Bool, true, List, [], ◌∷◌, length, take, map, All, Option, Some, None, slice_get, slice_index_or}
+use Rattle.std.specs.List.{list_all}
+use Rattle.proof_semantics.specs.Clauses.{negation, has_literal, clauses_value}
+use Rattle.proof_semantics.specs.Propagation.{hints_fault}
+use Rattle.proof_semantics.specs.Lines.{IsSize}
+use Rattle.proof_semantics.specs.declared.literals.Lit.{Lit}
+use Rattle.proof_semantics.specs.declared.faults.LratFault.{LratFault}
+use Rattle.cdcl_trail.specs.Propagation.{clause_numbered}
+
+-- the clauses, and beside each the hints of its proof line; none where it was added
+pub record Entries : Type 0 where
+  pub clauses : List (List Lit)
+  pub sources : List (Option (List ℕ))
+
+abbrev pub with_added : Option (List ℕ) → List Lit → List (List Lit) → List (List Lit)
+with_added None clause rest = clause ∷ rest
+with_added (Some hints) clause rest = rest
+
+abbrev pub with_learned : Option (List ℕ) → List Lit → List (List Lit) → List (List Lit)
+with_learned None clause rest = rest
+with_learned (Some hints) clause rest = clause ∷ rest
+
+-- the clauses that have no hints
+abbrev pub added_in : List (Option (List ℕ)) → List (List Lit) → List (List Lit)
+added_in [] clauses = []
+added_in (source ∷ sources) [] = []
+added_in (source ∷ sources) (clause ∷ clauses) = with_added source clause (added_in sources clauses)
+
+-- the clauses that have hints
+abbrev pub learned_in : List (Option (List ℕ)) → List (List Lit) → List (List Lit)
+learned_in [] clauses = []
+learned_in (source ∷ sources) [] = []
+learned_in (source ∷ sources) (clause ∷ clauses) = with_learned source clause (learned_in sources clauses)
+
+abbrev pub added_of : Entries → List (List Lit)
+added_of entries = added_in entries.sources entries.clauses
+
+abbrev pub learned_of : Entries → List (List Lit)
+learned_of entries = learned_in entries.sources entries.clauses
+
+-- each literal's variable is from 1 to 2 ^ 63 - 1
+abbrev pub AreSized : List Lit → Type 0
+AreSized lits = (a : Lit) → has_literal lits a ≡ true → IsSize a.var
+
+-- each clause with hints follows along them from those before it
+abbrev pub AreExplained : List (List Lit) → List (Option (List ℕ)) → Type 0
+AreExplained clauses sources =
+    (i : ℕ) (hints : List ℕ) → slice_get sources i ≡ Some (Some hints)
+    → hints_fault (clause_numbered (take i clauses)) (map negation (slice_index_or clauses i [])) hints ≡ None
+
+-- What a solver keeps of its clauses.
+pub record IsLog (entries : Entries) : Type 0 where
+  pub beside : length entries.sources ≡ length entries.clauses
+  pub explained : AreExplained entries.clauses entries.sources
+  pub implied : (v : ℕ → Bool) → clauses_value v (added_of entries) ≡ true → clauses_value v entries.clauses ≡ true
+  pub sized : (i : ℕ) → AreSized (slice_index_or entries.clauses i [])

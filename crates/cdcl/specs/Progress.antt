@@ -1,0 +1,23 @@
+-- How far a search has come from where it began.
+use Rattle.std.specs.Prelude.{◌≡◌, ℕ, ◌+◌, ◌-◌, ◌≤◌, true, List, length}
+use Rattle.edge.specs.Units.{Spendings}
+use Rattle.proof_semantics.specs.declared.literals.Lit.{Lit}
+use Rattle.cdcl.specs.Entries.{Entries, added_of, learned_of}
+use Rattle.cdcl.specs.Room.{room}
+use Rattle.cdcl.specs.Searching.{is_over, are_over}
+use Rattle.cdcl.specs.Solving.{Learns, with_conflicts}
+
+-- how many clauses were learned between the two
+abbrev pub growth : Entries → Entries → ℕ
+growth start now = length (learned_of now) - length (learned_of start)
+
+-- Over some variables the clauses that were learned and those that can still be learned are no more than at first.
+pub record HasRoom (vars : List ℕ) (start now : Entries) : Type 0 where
+  pub over : are_over vars now.clauses ≡ true
+  pub less : growth start now + room vars now.clauses ≤ room vars start.clauses
+
+pub record IsSearched (assumptions : List Lit) (start now : Entries) (earlier later : Spendings) : Type 0 where
+  pub added : added_of now ≡ added_of start
+  pub learned : Learns (added_of start) (learned_of start) (learned_of now)
+  pub counted : later ≡ with_conflicts earlier (growth start now)
+  pub less : (vars : List ℕ) → are_over vars start.clauses ≡ true → is_over vars assumptions ≡ true → HasRoom vars start now

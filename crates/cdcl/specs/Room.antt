@@ -1,0 +1,24 @@
+-- How many clauses a solver can still learn.
+use Rattle.std.specs.Prelude.{ℕ, ◌+◌, Bool, true, false, List, [], ◌∷◌, ◌++◌, map, if◌then◌else◌}
+use Rattle.edge.specs.Units.{is_subsumed}
+use Rattle.proof_semantics.specs.declared.literals.Lit.{Lit}
+
+abbrev pub lit : ℕ → Bool → Lit
+lit v positive = record { var = v; positive = positive }
+
+-- How many clauses have the literals of `part`, and of each variable the literal, its negation or none, and contain no
+-- held clause.
+abbrev pub room_from : List (List Lit) → List ℕ → List Lit → ℕ
+room_from held [] part = if is_subsumed held part then 0 else 1
+room_from held (v ∷ vars) part = room_from held vars part + (room_from held vars (lit v true ∷ part) + room_from held vars (lit v false ∷ part))
+
+abbrev pub room : List ℕ → List (List Lit) → ℕ
+room vars held = room_from held vars []
+
+-- the variables of literals, and of clauses
+abbrev pub variables_of : List Lit → List ℕ
+variables_of lits = map (λ a. a.var) lits
+
+abbrev pub variables_in : List (List Lit) → List ℕ
+variables_in [] = []
+variables_in (clause ∷ clauses) = variables_of clause ++ variables_in clauses

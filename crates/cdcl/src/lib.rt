@@ -1,0 +1,22 @@
+//! A solver of clauses in conjunctive normal form that learns from conflicts. It answers with a
+//! model, or with assumptions that are refused and a proof. The main type is `Solver`.
+#![tactic(auto)]
+
+mod attempt;
+mod choosing;
+mod conditions;
+mod log;
+mod marking;
+mod refusing;
+mod solver;
+mod solving;
+mod spelling;
+mod values;
+mod writing;
+
+pub use conditions::{are_sized, has_opposites};
+pub use solver::Solver;
+pub use solving::Answer;
+
+#[cfg(test)]
+mod tests;

@@ -1,0 +1,87 @@
+//! The clauses that a solver holds, with the hints of those that it learned. The main type is `Log`.
+ghost use Rattle.std.specs.Prelude.{◌≡◌, ◌+◌, ◌↔◌, [], ◌∷◌, ◌++◌, OnOk, OnErr, IfErr, IsErr, Some, None};
+ghost use Rattle.edge.specs.Units.{SpentConflict};
+ghost use Rattle.edge.specs.Faults.{one_more};
+ghost use Rattle.cdcl.specs.Solving.{IsEnd};
+
+use cdcl_learn::Learned;
+use cnf::{Clause, Db};
+use edge::{Meter, SolveEnd};
+use items::Items;
+use std::alloc::{AllocError, Global};
+use std::marker::Model;
+
+/// The clauses that were added and learned, in the order in which they came, and beside each the
+/// hints that it was learned by; `None` where it was added.
+#[derive(Debug, Drop)]
+pub(crate) struct Log {
+    db: Db,
+    sources: Vec<Option<Items<u64>>>,
+}
+
+impl Model for Log {
+    ghost use Rattle.cdcl.specs.Entries.{Entries};
+
+    ghost Value = { Entries };
+
+    ghost view = { λ l. record { clauses = l.db.clauses; sources = l.sources.items } };
+}
+
+impl Log {
+    /// No clause. Takes no memory.
+    pub(crate) fn new(alloc: Global) -> Log
+        ensures clauses { result.clauses ≡ [] }
+        ensures sources { result.sources ≡ [] }
+    {
+        Log {
+            db: Db::new(alloc),
+            sources: Vec::new(alloc),
+        }
+    }
+
+    /// The clauses. Takes no memory.
+    pub(crate) fn clauses(&self) -> &Db
+        ensures { result.now.clauses ≡ self.now.clauses }
+    {
+        &self.db
+    }
+
+    /// The hints of each clause; `None` where it was added. Takes no memory.
+    pub(crate) fn sources(&self) -> &[Option<Items<u64>>]
+        ensures { result.now ≡ self.now.sources }
+    {
+        self.sources.as_slice()
+    }
+
+    /// Adds a clause. The error is want of memory, and changes nothing.
+    pub(crate) fn add(&mut self, clause: Clause) -> Result<(), AllocError>
+        ensures clauses { OnOk result (self.new.clauses ≡ self.old.clauses ++ clause ∷ []) }
+        ensures sources { OnOk result (self.new.sources ≡ self.old.sources ++ None ∷ []) }
+        ensures err { OnErr result (self.new ≡ self.old) }
+    {
+        self.sources.reserve(1)?;
+        self.db.push(clause)?;
+        self.sources.push_reserved(None);
+        Ok(())
+    }
+
+    /// Takes room for a learned clause, counts it, and keeps it. An error changes nothing: `Spent`
+    /// comes where the count of conflicts is at its limit.
+    pub(crate) fn learn(&mut self, learned: Learned, meter: &mut Meter) -> Result<(), SolveEnd>
+        requires { SpentConflict self.old.clauses learned.clause }
+        ensures clauses { OnOk result (self.new.clauses ≡ self.old.clauses ++ learned.clause ∷ []) }
+        ensures sources { OnOk result (self.new.sources ≡ self.old.sources ++ Some learned.hints ∷ []) }
+        ensures counted { OnOk result (meter.new ≡ record meter.old { conflicts = one_more meter.old.conflicts }) }
+        ensures end { IfErr result (IsEnd meter.new) }
+        ensures err { OnErr result (self.new ≡ self.old) }
+        ensures uncounted { OnErr result (meter.new ≡ meter.old) }
+    {
+        self.db.reserve(1)?;
+        self.sources.reserve(1)?;
+        meter.conflict(&self.db, &learned.clause)?;
+        let Learned { clause, hints } = learned;
+        self.db.push_reserved(clause);
+        self.sources.push_reserved(Some(hints));
+        Ok(())
+    }
+}

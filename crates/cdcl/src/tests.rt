@@ -1,0 +1,135 @@
+//! Questions whose answers were worked out by hand.
+use super::*;
+use cnf::{Clause, Db, Lit, Proof};
+use edge::{Meter, SolveEnd};
+use lrat::Checker;
+use std::alloc::{AllocError, Global};
+use std::test::*;
+
+fn literal(number: i64) -> Lit {
+    Lit {
+        var: number.unsigned_abs(),
+        positive: number > 0,
+    }
+}
+
+fn literals(alloc: Global, numbers: &[i64]) -> Result<Vec<Lit>, AllocError> {
+    let mut made = Vec::new(alloc);
+    for number in numbers {
+        made.push(literal(*number))?;
+    }
+    Ok(made)
+}
+
+// The clauses, with a 0 behind each.
+fn clauses(alloc: Global, numbers: &[i64]) -> Result<Vec<Clause>, AllocError> {
+    let mut made = Vec::new(alloc);
+    let mut clause = Clause::new(alloc);
+    for number in numbers {
+        if *number != 0 {
+            clause.push(literal(*number))?;
+            continue;
+        }
+        made.push(clause)?;
+        clause = Clause::new(alloc);
+    }
+    Ok(made)
+}
+
+fn solver(alloc: Global, numbers: &[i64]) -> Result<Solver, AllocError> {
+    let mut made = Solver::new(alloc)?;
+    for clause in clauses(alloc, numbers)? {
+        if are_sized(clause.as_slice()) {
+            made.add(clause)?;
+        }
+    }
+    Ok(made)
+}
+
+// Whether each line is accepted.
+fn accepts(alloc: Global, numbers: &[i64], proof: &Proof) -> Result<bool, AllocError> {
+    let mut checker = Checker::new(alloc, Db::from_vec(clauses(alloc, numbers)?))?;
+    for line in proof.as_slice() {
+        if checker.step(line.as_slice()).is_err() {
+            return Ok(false);
+        }
+    }
+    Ok(true)
+}
+
+// What the solver says: a word, and the core.
+fn ask(
+    alloc: Global,
+    numbers: &[i64],
+    solver: &mut Solver,
+    assumed: &[i64],
+    meter: &mut Meter,
+) -> Result<(&'static str, Vec<Lit>), AllocError> {
+    let assumptions = literals(alloc, assumed)?;
+    if has_opposites(assumptions.as_slice()) || !are_sized(assumptions.as_slice()) {
+        return Ok(("not asked", Vec::new(alloc)));
+    }
+    match solver.solve(assumptions.as_slice(), meter) {
+        Ok(Answer::Sat(_)) => Ok(("sat", Vec::new(alloc))),
+        Ok(Answer::Unsat(core, proof)) => {
+            if accepts(alloc, numbers, &proof)? {
+                Ok(("unsat", core))
+            } else {
+                Ok(("not accepted", core))
+            }
+        }
+        Err(SolveEnd::Spent(_)) => Ok(("spent", Vec::new(alloc))),
+        Err(SolveEnd::Memory) => Err(AllocError),
+    }
+}
+
+#[test]
+fn answers(rt: HostRuntime) -> Result<(), Fail> {
+    let alloc = rt.alloc();
+    let square = [1i64, 2, 0, -1, 2, 0, 1, -2, 0, -1, -2, 0];
+    for (numbers, assumed, limit, wanted, wanted_core, conflicts) in [
+        (
+            square.as_slice(),
+            [].as_slice(),
+            1u64,
+            "unsat",
+            [].as_slice(),
+            1u64,
+        ),
+        (square.as_slice(), &[], 0, "spent", &[], 0),
+        (square.as_slice(), &[], 4_294_967_295, "unsat", &[], 1),
+        (
+            &[-1i64, -2, 0, 1, -2, 0, -1, 2, 0, 1, 2, 0],
+            &[],
+            1,
+            "unsat",
+            &[],
+            1,
+        ),
+        (&[1i64, 0], &[-1i64], 0, "unsat", &[-1i64], 0),
+        (&[1i64, 2, 0], &[-1i64], 0, "sat", &[], 0),
+        (&[0i64], &[], 0, "unsat", &[], 0),
+        (&[], &[5i64], 0, "sat", &[], 0),
+        (&[1i64, -1, 0, 2, 2, 0], &[-2i64], 0, "unsat", &[-2i64], 0),
+        (
+            &[-1i64, 2, 0, -2, 3, 0],
+            &[1i64, 1, -3],
+            0,
+            "unsat",
+            &[-3i64, 1],
+            0,
+        ),
+        (&[1i64, 100_000, 0, -100_000, 0], &[], 0, "sat", &[], 0),
+    ] {
+        let mut asked = solver(alloc, numbers)?;
+        let mut meter = Meter::new(limit, 0);
+        let (said, core) = ask(alloc, numbers, &mut asked, assumed, &mut meter)?;
+        assert_eq!(rt; said, wanted, "of {numbers:?} under {assumed:?}");
+        assert_eq!(rt; core.as_slice(), literals(alloc, wanted_core)?.as_slice());
+        assert_eq!(rt; meter.spending().conflicts(), conflicts);
+        // after a limit was reached it can be asked again
+        let (again, _core) = ask(alloc, numbers, &mut asked, assumed, &mut Meter::new(9, 0))?;
+        assert!(rt; again == wanted || wanted == "spent");
+    }
+    Ok(())
+}

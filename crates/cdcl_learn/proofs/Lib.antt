@@ -1,0 +1,4 @@
+pub mod ExplainLaws
+pub mod AddingLaws
+pub mod WalkLaws
+pub mod TraceLaws

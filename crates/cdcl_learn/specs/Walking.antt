@@ -1,0 +1,51 @@
+-- The way back over a trail, from its last literal to the one that opened the last level.
+use Rattle.std.specs.Prelude.{◌≡◌, ℕ, suc, ◌<◌, true, false, not, ◌&&◌, ◌||◌, List, length, take, drop, Option, Some, None, is_some, slice_get, map, ◌⊎◌}
+use Rattle.std.specs.List.{list_all}
+use Rattle.proof_semantics.specs.Clauses.{lit_eq, negation, has_literal}
+use Rattle.proof_semantics.specs.Propagation.{hints_fault}
+use Rattle.proof_semantics.specs.declared.literals.Lit.{Lit}
+use Rattle.cdcl_trail.specs.Trails.{Step, lower_steps}
+use Rattle.cdcl_learn.specs.Learning.{is_assumed}
+use Rattle.cdcl_trail.specs.Propagation.{is_true, is_false, is_falsified, is_unit, clause_numbered}
+
+-- the last literal that was assumed stands at this place
+pub record IsLastAssumed (reasons : List (Option ℕ)) (place : ℕ) : Type 0 where
+  pub at : slice_get reasons place ≡ Some None
+  pub behind : list_all (λ reason. is_some reason) (drop (suc place) reasons) ≡ true
+
+-- What the literals of `added` but one bring to those of `clause`.
+abbrev pub HasAlso : List Lit → List Lit → Lit → List Lit → Type 0
+HasAlso clause added except more =
+    (a : Lit) → has_literal more a ≡ (has_literal clause a || (has_literal added a && not (lit_eq a except)))
+
+-- The resolvent of two clauses on a literal, whose negation the first one has.
+abbrev pub IsResolvent : List Lit → Lit → List Lit → List Lit → Type 0
+IsResolvent clause literal reason result =
+    (a : Lit) → has_literal result a
+    ≡ ((has_literal clause a && not (lit_eq a (negation literal))) || (has_literal reason a && not (lit_eq a literal)))
+
+-- Where true literals of the trail are assumed that make the clause false, the hints end in a conflict.
+pub record Explains (clauses : List (List Lit)) (steps : List Step) (clause : List Lit) (hints : List ℕ) : Type 0 where
+  pub some : 0 < length hints
+  pub ends : (assumed : List Lit) → ((a : Lit) → has_literal assumed a ≡ true → is_true steps a ≡ true)
+      → ((a : Lit) → has_literal clause a ≡ true → has_literal assumed (negation a) ≡ true)
+      → hints_fault (clause_numbered clauses) assumed hints ≡ None
+
+-- What holds on the way, where the places from `place` on are behind: the clause is false by what comes before, it is
+-- not false on the lower levels alone, and the hints explain it.
+pub record IsOnTheWay (clauses : List (List Lit)) (steps : List Step) (start place : ℕ) (clause : List Lit) (hints : List ℕ) : Type 0 where
+  pub within : (a : Lit) → has_literal clause a ≡ true → is_false (take place steps) a ≡ true
+  pub above : (a : Lit) × (has_literal clause a ≡ true) × (is_false (take start steps) a ≡ false)
+  pub explained : Explains clauses steps clause hints
+
+-- what is learned
+pub record IsLearned (clauses : List (List Lit)) (steps : List Step) (clause : List Lit) (hints : List ℕ) : Type 0 where
+  pub falsified : is_falsified steps clause ≡ true
+  pub last_level : is_unit (lower_steps steps) clause ≡ true
+  pub hints_end : hints_fault (clause_numbered clauses) (map negation clause) hints ≡ None
+
+-- What holds on the way back to the assumed literals: each literal of the clause is the negation of one, or false by
+-- what comes before, and the hints explain the clause.
+pub record IsTraced (clauses : List (List Lit)) (steps : List Step) (place : ℕ) (clause : List Lit) (hints : List ℕ) : Type 0 where
+  pub sources : (a : Lit) → has_literal clause a ≡ true → (is_assumed steps (negation a) ≡ true) ⊎ (is_false (take place steps) a ≡ true)
+  pub explained : Explains clauses steps clause hints

@@ -1,0 +1,115 @@
+//! The walk back from a conflict to the first unique implication point. The main call is `learn`.
+ghost use Rattle.std.specs.Prelude.{◌≡◌, ◌<◌, IfOk, IsTrue, None, true, false, map, is_none, reverse};
+ghost use Rattle.std.specs.List.{list_any};
+ghost use Rattle.proof_semantics.specs.Clauses.{negation};
+ghost use Rattle.proof_semantics.specs.Propagation.{hints_fault};
+ghost use Rattle.cdcl_trail.specs.Trails.{level, lower_steps};
+ghost use Rattle.cdcl_trail.specs.Propagation.{clause_numbered, is_complete, is_falsified, is_unit, IsConflict, IsReasonedTrail};
+ghost use Rattle.cdcl_learn.specs.Learning.{contains_one};
+ghost use Rattle.cdcl_learn.specs.Walking.{IsLastAssumed, IsLearned};
+
+use crate::resolution::{clause_at, distinct, has_negation, resolve};
+use cdcl_trail::Trail;
+use cnf::{Clause, Db};
+use items::Items;
+use std::alloc::{AllocError, Global};
+
+/// A learned clause, and the numbers of the clauses that it follows from by unit propagation, in
+/// the order in which propagation takes them.
+#[derive(Debug, Drop)]
+pub struct Learned {
+    /// The clause.
+    pub clause: Clause,
+    /// The hints of its proof line.
+    pub hints: Items<u64>,
+}
+
+/// What a conflict teaches: the clause of the first unique implication point, which is false under
+/// the trail and leaves one literal under the lower levels. No clause of the list is a part of it.
+/// The conditions: the conflict is the number of a false clause, the level is above 0, each literal
+/// was assumed or is forced by a clause of the list, and under the lower levels no clause is unit
+/// or false. The error is want of memory. After GRASP (Marques-Silva, Sakallah, 1999).
+pub fn learn(alloc: Global, db: &Db, trail: &Trail, conflict: u64) -> Result<Learned, AllocError>
+    requires conflict { IsConflict db.now.clauses trail.now.steps conflict }
+    requires level { 0 < level trail.now.steps }
+    requires reasons { IsReasonedTrail db.now.clauses trail.now.steps }
+    requires complete { IsTrue (is_complete db.now.clauses (lower_steps trail.now.steps)) }
+    ensures falsified { IfOk result (λ learned. IsTrue (is_falsified trail.now.steps learned.clause)) }
+    ensures last_level { IfOk result (λ learned. IsTrue (is_unit (lower_steps trail.now.steps) learned.clause)) }
+    ensures hints { IfOk result (λ learned. hints_fault (clause_numbered db.now.clauses) (map negation learned.clause) learned.hints ≡ None) }
+    ensures new { IfOk result (λ learned. contains_one db.now.clauses learned.clause ≡ false) }
+{
+    walk(alloc, db.as_slice(), trail, conflict)
+}
+
+// The walk: resolves the conflict with the reasons of its literals, from the last one back, until
+// one literal of the last level is left.
+fn walk(
+    alloc: Global,
+    clauses: &[Clause],
+    trail: &Trail,
+    conflict: u64,
+) -> Result<Learned, AllocError>
+    requires conflict { IsConflict clauses.now trail.now.steps conflict }
+    requires level { 0 < level trail.now.steps }
+    requires reasons { IsReasonedTrail clauses.now trail.now.steps }
+    requires complete { IsTrue (is_complete clauses.now (lower_steps trail.now.steps)) }
+    ensures { IfOk result (λ learned. IsLearned clauses.now trail.now.steps learned.clause learned.hints) }
+{
+    let literals = trail.literals();
+    let reasons = trail.reasons();
+    let start = last_assumed(reasons);
+    let mut clause = distinct(alloc, clause_at(clauses, conflict))?;
+    let mut hints: Vec<u64> = Vec::new(alloc);
+    hints.push(conflict)?;
+    let mut place = literals.len();
+    'places: while place > start {
+        place -= 1;
+        let literal = literals[place];
+        if !clause.contains(literal.negation()) {
+            continue;
+        }
+        if !has_negation(&clause, &literals[start..place]) {
+            return Ok(in_order(clause, hints));
+        }
+        let Some(number) = reasons[place] else {
+            return Ok(in_order(clause, hints));
+        };
+        clause = resolve(
+            alloc,
+            clause.as_slice(),
+            literal,
+            clause_at(clauses, number),
+        )?;
+        hints.push(number)?;
+    }
+    Ok(in_order(clause, hints))
+}
+
+// The clause, with the hints from the last to the first.
+pub(crate) fn in_order(clause: Clause, hints: Vec<u64>) -> Learned
+    ensures clause { result.clause ≡ clause }
+    ensures hints { result.hints ≡ reverse hints.items }
+{
+    let mut hints = hints;
+    hints.reverse();
+    Learned {
+        clause,
+        hints: Items::from_vec(hints),
+    }
+}
+
+// The place of the last literal that was assumed.
+fn last_assumed(reasons: &[Option<u64>]) -> usize
+    requires { list_any (λ reason. is_none reason) reasons.now ≡ true }
+    ensures { IsLastAssumed reasons.now result }
+{
+    let mut place = reasons.len();
+    'places: while place > 0 {
+        place -= 1;
+        if reasons[place].is_none() {
+            return place;
+        }
+    }
+    place
+}

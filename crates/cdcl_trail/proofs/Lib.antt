@@ -1,0 +1,4 @@
+pub mod TrailLaws
+pub mod ScanLaws
+pub mod PassLaws
+pub mod PrefixLaws

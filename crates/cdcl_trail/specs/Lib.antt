@@ -1,0 +1,4 @@
+pub mod Trails
+pub mod Propagation
+pub mod TrailOf
+pub mod Scanning
