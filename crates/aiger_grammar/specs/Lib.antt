@@ -1,4 +1,12 @@
 pub mod Models
 pub mod Lines
 pub mod Texts
-pub mod FirstForm
+pub mod Names
+pub mod Reading
+pub mod Headers
+pub mod Sections
+pub mod AsciiTexts
+pub mod Spelling
+pub mod Deltas
+pub mod Ordered
+pub mod BinaryTexts

@@ -1,6 +1,6 @@
 -- The lines of a model's text. Each definition says what stands at the front of bytes, and what follows
 -- it.
-use Rattle.std.specs.Prelude.{◌≡◌, ◌≢◌, ℕ, ◌+◌, ◌*◌, ◌≤◌, ◌<◌, ◌⊎◌, List, [], ◌∷◌, ◌++◌, length, take, drop, Option, Some, None}
+use Rattle.std.specs.Prelude.{◌≡◌, ℕ, ◌+◌, ◌*◌, ◌≤◌, ◌⊎◌, List, [], ◌∷◌, ◌++◌, length, take, drop, Option, Some, None}
 use Rattle.std.specs.List.{All}
 use Rattle.aig_semantics.specs.declared.limits.TheConstants.{MAX_NUMBER}
 use Rattle.aig_semantics.specs.declared.parts.Latch.{Latch}
@@ -23,6 +23,11 @@ abbrev pub LinesOf : {X : Type 0} → (X → List ℕ → List ℕ → Type 0) �
 LinesOf Line [] bytes rest = bytes ≡ rest
 LinesOf Line (x ∷ xs) bytes rest = (mid : List ℕ) × Line x bytes mid × LinesOf Line xs mid rest
 
+-- the same, where what a line says depends on its number, which counts from k on
+abbrev pub NumberedLines : {X : Type 0} → (ℕ → X → List ℕ → List ℕ → Type 0) → ℕ → List X → List ℕ → List ℕ → Type 0
+NumberedLines Line k [] bytes rest = bytes ≡ rest
+NumberedLines Line k (x ∷ xs) bytes rest = (mid : List ℕ) × Line k x bytes mid × NumberedLines Line (k + 1) xs mid rest
+
 -- a variable, by its literal
 abbrev pub InputLine : ℕ → List ℕ → List ℕ → Type 0
 InputLine v bytes rest = EndsLine (2 * v) bytes rest
@@ -33,12 +38,15 @@ reset_number v Zero = 0
 reset_number v One = 1
 reset_number v Free = 2 * v
 
--- the latch's literal, its next literal, and its reset; a reset of 0 may be missing
+-- the latch's next literal and its reset; a reset of 0 may be missing
+abbrev pub LatchEnd : Latch → List ℕ → List ℕ → Type 0
+LatchEnd latch bytes rest =
+    ((latch.reset ≡ Zero) × EndsLine latch.next bytes rest)
+    ⊎ ((reset : List ℕ) × BeforeSpace latch.next bytes reset × EndsLine (reset_number latch.var latch.reset) reset rest)
+
+-- the latch's literal, and then these
 abbrev pub LatchLine : Latch → List ℕ → List ℕ → Type 0
-LatchLine latch bytes rest =
-    (mid : List ℕ) × BeforeSpace (2 * latch.var) bytes mid
-    × (((latch.reset ≡ Zero) × EndsLine latch.next mid rest)
-    ⊎ ((reset : List ℕ) × BeforeSpace latch.next mid reset × EndsLine (reset_number latch.var latch.reset) reset rest))
+LatchLine latch bytes rest = (mid : List ℕ) × BeforeSpace (2 * latch.var) bytes mid × LatchEnd latch mid rest
 
 -- the gate's literal, and its right sides
 abbrev pub GateLine : Gate → List ℕ → List ℕ → Type 0

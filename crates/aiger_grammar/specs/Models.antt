@@ -1,5 +1,5 @@
 -- A model: a circuit with its outputs, its bad state literals and its names (AIGER 1.9; Biere, Heljanko, Wieringa, 2011).
-use Rattle.std.specs.Prelude.{◌≡◌, ◌≢◌, ℕ, ◌+◌, ◌*◌, ◌≤◌, ◌<◌, ◌++◌, ◌==◌, List, [], length, Option, IfSome, if◌then◌else◌, false}
+use Rattle.std.specs.Prelude.{◌≡◌, ◌≢◌, ℕ, ◌+◌, ◌*◌, ◌≤◌, ◌<◌, ◌++◌, ◌==◌, List, [], length, IfSome, if◌then◌else◌, false}
 use Rattle.std.specs.List.{All}
 use Rattle.aig_semantics.specs.declared.limits.TheConstants.{MAX_NUMBER}
 use Rattle.aig_semantics.specs.Circuits.{Circuit, IsChecked, IsWithinLimits, AreDefined}
@@ -27,7 +27,7 @@ count_at m letter =
     else if letter == FAIRNESS then length m.circuit.fairness
     else 0
 
--- the symbol names an element that is there
+-- the symbol names an element that is there, by a name of at least one byte, on one line
 pub record NamesElement (m : Model) (symbol : Symbol) : Type 0 where
   pub index : symbol.index < count_at m symbol.letter
   pub named : symbol.name ≢ []

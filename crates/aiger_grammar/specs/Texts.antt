@@ -1,12 +1,11 @@
 -- Which bytes are a text of which model: its sections in their order (AIGER 1.9; Biere, Heljanko, Wieringa, 2011).
-use Rattle.std.specs.Prelude.{◌≡◌, ℕ, ◌+◌, ◌≤◌, List, [], ◌∷◌, length, map}
+use Rattle.std.specs.Prelude.{ℕ, ◌+◌, ◌≤◌, List, [], ◌∷◌, length, map}
 use Rattle.std.specs.List.{flat_map}
 use Rattle.std.specs.Prelude.{codes}
-use Rattle.aig_semantics.specs.declared.limits.TheConstants.{MAX_MODEL_BYTES}
 use Rattle.aiger_grammar.specs.Models.{Model, IsModel}
 use Rattle.aiger_grammar.specs.Lines.{LinesOf, EndsLine, InputLine, LatchLine, GateLine, SymbolLine, CommentAtEnd, HeaderLine}
 
--- the header's numbers: the greatest variable, and the counts M I L O A B C J F
+-- the header's numbers M I L O A B C J F: the greatest variable M, and how many elements each list has
 abbrev pub header_numbers : Model → List ℕ
 header_numbers m =
     m.circuit.max ∷ length m.circuit.inputs ∷ length m.circuit.latches ∷ length m.outputs ∷ length m.circuit.gates
@@ -30,7 +29,6 @@ pub record IsAsciiText (shown : ℕ) (m : Model) (bytes : List ℕ) : Type 0 whe
   pub at_symbols : List ℕ
   pub at_comment : List ℕ
   pub model : IsModel m
-  pub short : length bytes ≤ MAX_MODEL_BYTES
   pub room : HasRoom m
   pub header : HeaderLine (codes "aag") (header_numbers m) shown bytes at_inputs
   pub inputs : LinesOf InputLine m.circuit.inputs at_inputs at_latches

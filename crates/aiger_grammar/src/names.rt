@@ -34,3 +34,22 @@ pub struct Names {
     pub symbols: Items<Symbol>,
     pub comment: Option<Items<u8>>,
 }
+
+/// How many elements each of a model's lists has, by the letter of its symbols.
+#[derive(Clone, Copy, Debug)]
+pub struct Counts {
+    /// Inputs.
+    pub i: u64,
+    /// Latches.
+    pub l: u64,
+    /// Outputs.
+    pub o: u64,
+    /// Bad state literals.
+    pub b: u64,
+    /// Constraints.
+    pub c: u64,
+    /// Justice properties.
+    pub j: u64,
+    /// Fairness literals.
+    pub f: u64,
+}

@@ -3,23 +3,39 @@
 ghost use Rattle.std.specs.Prelude.{◌≤◌};
 
 use edge::{FreeGate, MemShelf, MemSink};
-use fair_top::{Done, Status, run};
+use fair_top::{Accepted, AnswerEnd, AnswerFault, Done, Status, check_answer, run};
 use std::alloc::Global;
 use std::sync::Wait;
 use std::test::Fail;
 use std::thread::Threads;
+use stimulus::ReplayFault;
 
+// The latch begins with 0 and changes at each step; the property is that it is 1.
 const TOGGLE: &str = "aag 1 0 1 0 0 0 0 1 0\n2 3\n1\n2\n";
 
+// The latch stays at 0.
 const STUCK: &str = "aag 1 0 1 0 0 0 0 1 0\n2 2\n1\n2\n";
 
+// The latch begins with either value and keeps it; then the same under the constraint that it is 0.
 const FREE: &str = "aag 1 0 1 0 0 0 0 1 0\n2 2 2\n1\n2\n";
+
+const FREE_AT_0: &str = "aag 1 0 1 0 0 0 1 1 0\n2 2 2\n3\n1\n2\n";
+
+// The latch takes the value of the input, and is to be 0 always.
+const FOLLOWS: &str = "aag 2 1 1 0 0 0 1 1 0\n2\n4 2\n5\n1\n1\n";
+
+// The latch is 1 from the second position on; fairness asks that it is 0.
+const ON_STEM: &str = "aag 1 0 1 0 0 0 0 1 1\n2 1\n1\n2\n3\n";
 
 const NO_LATCH: &str = "aag 1 1 0 0 0 0 0 1 0\n2\n1\n2\n";
 
 const NO_LITERAL: &str = "aag 1 0 1 0 0 0 0 1 0\n2 3\n0\n";
 
+// A counter of two bits; the property is that both are 1.
 const COUNTER: &str = "aag 6 0 2 0 4 0 0 1 0\n2 3\n4 11\n1\n12\n6 5 2\n8 4 3\n10 9 7\n12 4 2\n";
+
+// A gate that reads itself.
+const CYCLE: &str = "aag 2 1 0 0 1 0 0 1 0\n2\n1\n4\n4 4 2\n";
 
 const TWO_POSITIONS: &str = "1\nj0\n0\n\n\n.\n";
 
@@ -27,6 +43,133 @@ const CERTIFICATE: &str =
     "0\nj0\nversion 1\nreach 1 0\n\n3 0\nproof 1\n6 0 4 2 5 0\nrefute 1 1\n0\n7 0 4 5 0\nend\n";
 
 const USAGE: &str = "usage: fairlive check MODEL ANSWER\n";
+
+const TWO_FROM_0: &str = "accepted lasso j0 positions 2 loop 0\n";
+
+// Models and answers, with the text that must be written and the number that the program must end with.
+const ROWS: [(&str, &str, &str, u8); 51] = [
+    (TOGGLE, TWO_POSITIONS, TWO_FROM_0, 0),
+    (TOGGLE, "1\nj0\nc hello\nx\n\n\n\n.\n", TWO_FROM_0, 0),
+    (
+        TOGGLE,
+        "c a\nu\n1\nc\nj0\nu\n0\nc\n\nc\n\nc\n.\nc\nu",
+        TWO_FROM_0,
+        0,
+    ),
+    (TOGGLE, "1\nj0\n0\n\n\n.", TWO_FROM_0, 0),
+    (NO_LITERAL, TWO_POSITIONS, TWO_FROM_0, 0),
+    (
+        NO_LATCH,
+        "1\nj0\n\n1\n.\n",
+        "accepted lasso j0 positions 1 loop 0\n",
+        0,
+    ),
+    (
+        FREE,
+        "1\nj0\n1\n\n.\n",
+        "accepted lasso j0 positions 1 loop 0\n",
+        0,
+    ),
+    (
+        COUNTER,
+        "1\nj0\n00\n\n\n\n\n.\n",
+        "accepted lasso j0 positions 4 loop 0\n",
+        0,
+    ),
+    (TOGGLE, "", "refused shape line 1\n", 1),
+    (TOGGLE, "3\nj0\n", "refused shape line 1\n", 1),
+    (TOGGLE, "1 \nj0\n0\n\n\n.\n", "refused shape line 1\n", 1),
+    (TOGGLE, "c\nu\n", "refused shape line 3\n", 1),
+    (TOGGLE, "1", "refused shape line 2\n", 1),
+    (TOGGLE, "1\nb0\n0\n\n\n.\n", "refused shape line 2\n", 1),
+    (TOGGLE, "1\nj01\n0\n\n\n.\n", "refused shape line 2\n", 1),
+    (TOGGLE, "1\nj\n0\n\n\n.\n", "refused shape line 2\n", 1),
+    (TOGGLE, "1\nj0 \n0\n\n\n.\n", "refused shape line 2\n", 1),
+    (
+        TOGGLE,
+        "1\nj9223372036854775808\n",
+        "refused shape line 2\n",
+        1,
+    ),
+    (TOGGLE, "1\nc\n\nj0\n", "refused shape line 3\n", 1),
+    (TOGGLE, "1\nj0\n", "refused shape line 3\n", 1),
+    (TOGGLE, "1\nj0\n.\n", "refused shape line 3\n", 1),
+    (TOGGLE, "1\nj0\nc\n.\n", "refused shape line 4\n", 1),
+    (TOGGLE, "1\nj0\n2\n\n\n.\n", "refused shape line 3\n", 1),
+    (TOGGLE, "1\nj0\n0\n2\n3\n.\n", "refused shape line 4\n", 1),
+    (
+        TOGGLE,
+        "u\n1\nc\nj0\nc\n0\nc\n\nu\nq\n.\n.\n",
+        "refused shape line 10\n",
+        1,
+    ),
+    (TOGGLE, "1\nj0\n0\n\n\n..\n", "refused shape line 6\n", 1),
+    (TOGGLE, "1\nj0\n0\n\n\n", "refused shape line 6\n", 1),
+    (TOGGLE, "1\nj1\n0\n\n\n.\n", "refused property 1\n", 1),
+    (TOGGLE, "c\n1\nu\nj1\nzz\n", "refused property 1\n", 1),
+    (
+        TOGGLE,
+        "1\nj9223372036854775807\n",
+        "refused property 9223372036854775807\n",
+        1,
+    ),
+    (TOGGLE, "2\nj0\n0\n\n\n.\n", "refused unknown status\n", 1),
+    (TOGGLE, CERTIFICATE, "refused unknown status\n", 1),
+    (TOGGLE, "c\nu\n0", "refused unknown status\n", 1),
+    (
+        TOGGLE,
+        "1\nj0\n0\n\n\n.\nzz\n",
+        "refused trailing line 7\n",
+        1,
+    ),
+    (
+        TOGGLE,
+        "1\nj0\n0\n\n\n.\n\n",
+        "refused trailing line 7\n",
+        1,
+    ),
+    (TOGGLE, "1\nj1\n0\n\n\n.\nzz\n", "refused property 1\n", 1),
+    (
+        TOGGLE,
+        "1\nj0\n1\n\n\n.\nc\nu\n.",
+        "refused trailing line 9\n",
+        1,
+    ),
+    (TOGGLE, "1\nj0\n00\n\n\n.\n", "refused width item 0\n", 1),
+    (TOGGLE, "1\nj0\n1\n0\n\n.\n", "refused width item 1\n", 1),
+    (TOGGLE, "1\nj0\n0\n\n\n0\n.\n", "refused width item 3\n", 1),
+    (TOGGLE, "1\nj0\n1\n\n\n.\n", "refused initial latch 0\n", 1),
+    (
+        COUNTER,
+        "1\nj0\n01\n\n\n\n\n.\n",
+        "refused initial latch 1\n",
+        1,
+    ),
+    (
+        FREE_AT_0,
+        "1\nj0\n1\n\n.\n",
+        "refused constraint position 0\n",
+        1,
+    ),
+    (
+        FOLLOWS,
+        "1\nj0\n0\n1\n0\n.\n",
+        "refused constraint position 1\n",
+        1,
+    ),
+    (STUCK, "1\nj0\n0\n\n.\n", "refused no fair loop\n", 1),
+    (TOGGLE, "1\nj0\n0\n.\n", "refused no fair loop\n", 1),
+    (ON_STEM, TWO_POSITIONS, "refused no fair loop\n", 1),
+    ("", TWO_POSITIONS, "model refused truncated 0\n", 3),
+    (CYCLE, TWO_POSITIONS, "model refused cycle 2\n", 3),
+    ("aag 1048577 0 0 0 0\n", "", "model refused limit 0\n", 3),
+    (
+        "aig 1 0 1 0 0 0 0 1 0\n3\n1\n2\n",
+        TWO_POSITIONS,
+        TWO_FROM_0,
+        0,
+    ),
+];
 
 /// What a run answered, and what it wrote.
 #[derive(Drop)]
@@ -39,7 +182,7 @@ struct Outcome {
 fn check<R: Threads + Wait + Sync>(
     rt: &R,
     alloc: Global,
-    model: &str,
+    model: &[u8],
     answer: &str,
     most: u64,
     reads: &[u64],
@@ -56,7 +199,7 @@ fn run_words<R: Threads + Wait + Sync>(
     rt: &R,
     alloc: Global,
     words: &[&str],
-    model: &str,
+    model: &[u8],
     answer: &str,
     most: u64,
     reads: &[u64],
@@ -69,10 +212,10 @@ fn run_words<R: Threads + Wait + Sync>(
         list.push(String::from_str(alloc, word)?)?;
     }
     let mut texts = Vec::new(alloc);
-    for (name, text) in [("m", model), ("a", answer)] {
+    for (name, text) in [("m", model), ("a", answer.as_bytes())] {
         texts.push((
             String::from_str(alloc, name)?,
-            Vec::from_slice(alloc, text.as_bytes())?,
+            Vec::from_slice(alloc, text)?,
         ))?;
     }
     let mut shelf = MemShelf::new(texts, most, Vec::from_slice(alloc, reads)?);
@@ -84,93 +227,26 @@ fn run_words<R: Threads + Wait + Sync>(
     })
 }
 
-/// The models and answers, with the text that must be written and the number that the program must end with.
+/// The rows, at once and at one byte a call.
 #[test]
 fn answers_of_check(rt: HostRuntime) -> Result<(), Fail> {
-    let rows = [
-        (
-            TOGGLE,
-            TWO_POSITIONS,
-            "accepted lasso j0 positions 2 loop 0\n",
-            0,
-        ),
-        (
-            TOGGLE,
-            "1\nj0\n0\n\n\n\n\n.\n",
-            "accepted lasso j0 positions 2 loop 0\n",
-            0,
-        ),
-        (
-            NO_LATCH,
-            "1\nj0\n\n1\n.\n",
-            "accepted lasso j0 positions 1 loop 0\n",
-            0,
-        ),
-        (
-            FREE,
-            "1\nj0\n1\n\n.\n",
-            "accepted lasso j0 positions 1 loop 0\n",
-            0,
-        ),
-        (
-            NO_LITERAL,
-            TWO_POSITIONS,
-            "accepted lasso j0 positions 2 loop 0\n",
-            0,
-        ),
-        (STUCK, "1\nj0\n0\n\n.\n", "refused no fair loop\n", 1),
-        (TOGGLE, "1\nj0\n1\n\n\n.\n", "refused no fair loop\n", 1),
-        (TOGGLE, "1\nj0\n00\n\n\n.\n", "refused no fair loop\n", 1),
-        (TOGGLE, "1\nj0\n0\n0\n\n.\n", "refused no fair loop\n", 1),
-        (TOGGLE, "1\nj0\n0\n.\n", "refused no fair loop\n", 1),
-        (TOGGLE, CERTIFICATE, "refused unknown status\n", 1),
-        (TOGGLE, "", "refused unknown status\n", 1),
-        (TOGGLE, "1\nj0\n.\n", "refused unknown status\n", 1),
-        (TOGGLE, "1\nj1\n0\n\n\n.\n", "refused unknown status\n", 1),
-        (TOGGLE, "1\nj0\nx\n\n\n.\n", "refused unknown status\n", 1),
-        (TOGGLE, "1\nj0\n0\n\n\n.", "refused unknown status\n", 1),
-        (TOGGLE, "1\nj0\n0\n\n\n.\n\n", "refused unknown status\n", 1),
-        (
-            COUNTER,
-            "1\nj0\n00\n\n\n\n\n.\n",
-            "model refused header 0\n",
-            3,
-        ),
-        ("", TWO_POSITIONS, "model refused header 0\n", 3),
-        (
-            "aag 1 0 1 0 0 0 0 1 0\n2 3\n1\n2",
-            TWO_POSITIONS,
-            "model refused header 0\n",
-            3,
-        ),
-        (
-            "aag 1 0 1 0 0 0 0 1 0\n2 3 0\n1\n2\n",
-            TWO_POSITIONS,
-            "accepted lasso j0 positions 2 loop 0\n",
-            0,
-        ),
-        (
-            "aag 1 0 1 0 0 0 0 1 0\n2 3\n1\n2\nc\n",
-            TWO_POSITIONS,
-            "model refused header 0\n",
-            3,
-        ),
-        (
-            "aag 1 0 1 0 0 0 0 1\n2 3\n1\n2\n",
-            TWO_POSITIONS,
-            "model refused header 0\n",
-            3,
-        ),
-    ];
-    for (model, answer, text, number) in rows {
-        let whole = check(&rt, rt.alloc(), model, answer, 1000, &[], &[])?;
+    for (model, answer, text, number) in ROWS {
+        let whole = check(&rt, rt.alloc(), model.as_bytes(), answer, 1000, &[], &[])?;
         assert_eq!(rt; whole.text.as_slice(), text.as_bytes(), "{model}{answer}");
         assert_eq!(rt; whole.status.number(), number, "{model}{answer}");
-        let pieces = check(&rt, rt.alloc(), model, answer, 1, &[], &[])?;
+        let pieces = check(&rt, rt.alloc(), model.as_bytes(), answer, 1, &[], &[])?;
         assert_eq!(rt; pieces.text.as_slice(), text.as_bytes(), "{model}{answer}");
         assert_eq!(rt; pieces.status, whole.status, "{model}{answer}");
     }
-    let toggled = check(&rt, rt.alloc(), TOGGLE, TWO_POSITIONS, 7, &[], &[])?;
+    let toggled = check(
+        &rt,
+        rt.alloc(),
+        TOGGLE.as_bytes(),
+        TWO_POSITIONS,
+        7,
+        &[],
+        &[],
+    )?;
     let lasso = Done::Lasso {
         property: 0,
         positions: 2,
@@ -180,21 +256,108 @@ fn answers_of_check(rt: HostRuntime) -> Result<(), Fail> {
     Ok(())
 }
 
+/// Binary models, some of them with a fault in or behind their gates.
+#[test]
+fn binary_models(rt: HostRuntime) -> Result<(), Fail> {
+    let rows = [
+        (
+            b"aig 3 1 1 0 1 0 0 1 0\n6\n1\n4\n\x02\x02l0 t\nc\nany".as_slice(),
+            "refused no fair loop\n",
+        ),
+        (
+            b"aig 3 1 1 0 1 0 0 1 0\n6\n1\n4\n\x02\x02l0 t\ncany",
+            "refused no fair loop\n",
+        ),
+        (
+            b"aig 3 1 1 0 1 0 0 1 0\n6\n1\n4\n\x02\x02l1 t\nl0 t\nc\nany",
+            "model refused symbol 30\n",
+        ),
+        (
+            b"aig 3 1 1 0 1 0 0 1 0\n6\n1\n4\n\x02\x05l0 t\nc\nany",
+            "model refused range 29\n",
+        ),
+        (
+            b"aig 3 1 1 0 1 0 0 1 0\n6\n1\n4\n\x82",
+            "model refused truncated 29\n",
+        ),
+    ];
+    for (model, text) in rows {
+        let whole = check(&rt, rt.alloc(), model, "1\nj0\n0\n0\n.\n", 1000, &[], &[])?;
+        assert_eq!(rt; whole.text.as_slice(), text.as_bytes());
+        let pieces = check(&rt, rt.alloc(), model, "1\nj0\n0\n0\n.\n", 1, &[], &[])?;
+        assert_eq!(rt; pieces.text.as_slice(), text.as_bytes());
+    }
+    Ok(())
+}
+
+/// Checks an answer alone, against the circuit of a model, over a shelf that holds it as `a`.
+fn check_alone(
+    alloc: Global,
+    model: &[u8],
+    answer: &str,
+    name: &str,
+) -> Result<Result<Accepted, AnswerEnd>, Fail> {
+    let model = aiger_ascii::read(alloc, model)?;
+    let mut texts = Vec::new(alloc);
+    texts.push((
+        String::from_str(alloc, "a")?,
+        Vec::from_slice(alloc, answer.as_bytes())?,
+    ))?;
+    let mut shelf = MemShelf::new(texts, 1000, Vec::new(alloc));
+    Ok(check_answer(alloc, model.circuit(), &mut shelf, name))
+}
+
+/// A good answer, a bad one, and one that is not there.
+#[test]
+fn answers_alone(rt: HostRuntime) -> Result<(), Fail> {
+    let lasso = Accepted::Lasso {
+        property: 0,
+        positions: 2,
+        from: 0,
+    };
+    let wrong = AnswerFault::Replay(ReplayFault::NotInitial(0));
+    for (answer, name, wanted) in [
+        (TWO_POSITIONS, "a", Ok(lasso)),
+        ("1\nj0\n1\n\n.\n", "a", Err(AnswerEnd::Refused(wrong))),
+        (TWO_POSITIONS, "none", Err(AnswerEnd::ReadFault)),
+    ] {
+        let found = check_alone(rt.alloc(), TOGGLE.as_bytes(), answer, name)?;
+        assert_eq!(rt; found, wanted, "{answer}");
+    }
+    Ok(())
+}
+
 /// Each read failing in turn ends the run at once and without a text, and no read comes after the last one that is
 /// owed; each write failing in turn leaves a part of the text. Beside the bytes a call, how many calls a run makes.
 #[test]
 fn failing_calls(rt: HostRuntime) -> Result<(), Fail> {
-    let text = b"accepted lasso j0 positions 2 loop 0\n".as_slice();
+    let text = TWO_FROM_0.as_bytes();
     for (most, reads, writes) in [(1, 43, 37), (5, 11, 8), (1000, 4, 1)] {
         for k in 1..60 {
-            let read = check(&rt, rt.alloc(), TOGGLE, TWO_POSITIONS, most, &[k], &[])?;
+            let read = check(
+                &rt,
+                rt.alloc(),
+                TOGGLE.as_bytes(),
+                TWO_POSITIONS,
+                most,
+                &[k],
+                &[],
+            )?;
             assert_eq!(rt;
                 read.status.number(),
                 if k <= reads { 4 } else { 0 },
                 "read {k}"
             );
             assert_eq!(rt; read.text.is_empty(), k <= reads, "read {k}");
-            let written = check(&rt, rt.alloc(), TOGGLE, TWO_POSITIONS, most, &[], &[k])?;
+            let written = check(
+                &rt,
+                rt.alloc(),
+                TOGGLE.as_bytes(),
+                TWO_POSITIONS,
+                most,
+                &[],
+                &[k],
+            )?;
             assert_eq!(rt;
                 written.status.number(),
                 if k <= writes { 5 } else { 0 },
@@ -205,7 +368,7 @@ fn failing_calls(rt: HostRuntime) -> Result<(), Fail> {
         }
     }
     for k in 1..20 {
-        let bad = check(&rt, rt.alloc(), "aag\n", TWO_POSITIONS, 1000, &[k], &[])?;
+        let bad = check(&rt, rt.alloc(), b"aag\n", TWO_POSITIONS, 1000, &[k], &[])?;
         assert_eq!(rt; bad.status.number(), if k <= 2 { 4 } else { 3 }, "read {k}");
     }
     Ok(())
@@ -223,14 +386,19 @@ fn words_and_names(rt: HostRuntime) -> Result<(), Fail> {
         &["fairlive", "check", "m", "a", "a"],
         &["fairlive", "solve", "m", "a"],
         &["fairlive", "check", "-m", "a"],
-        &["fairlive", "check", "m", "-"],
+        &["fairlive", "check", "m", "--a"],
+        &["fairlive", "check", "m", "a", "--help"],
+        &["fairlive", "check", "-h"],
+        &["fairlive", "help"],
+        &["fairlive", "--help"],
+        &["fairlive", "--version"],
     ];
     for words in lists {
         let ran = run_words(
             &rt,
             rt.alloc(),
             words,
-            TOGGLE,
+            TOGGLE.as_bytes(),
             TWO_POSITIONS,
             1000,
             &[],
@@ -239,11 +407,39 @@ fn words_and_names(rt: HostRuntime) -> Result<(), Fail> {
         assert_eq!(rt; ran.text.as_slice(), USAGE.as_bytes());
         assert_eq!(rt; ran.status.number(), 64);
     }
+    for words in [
+        ["fairlive", "check", "--", "m", "a"].as_slice(),
+        &["fairlive", "check", "m", "--", "a"],
+    ] {
+        let ran = run_words(
+            &rt,
+            rt.alloc(),
+            words,
+            TOGGLE.as_bytes(),
+            TWO_POSITIONS,
+            1000,
+            &[],
+            &[],
+        )?;
+        assert_eq!(rt; ran.text.as_slice(), TWO_FROM_0.as_bytes());
+    }
+    let dash = ["fairlive", "check", "m", "-"];
+    let lone = run_words(
+        &rt,
+        rt.alloc(),
+        &dash,
+        TOGGLE.as_bytes(),
+        "",
+        1000,
+        &[],
+        &[],
+    )?;
+    assert_eq!(rt; lone.status.number(), 4);
     let missing = run_words(
         &rt,
         rt.alloc(),
         &["fairlive", "check", "x", "a"],
-        TOGGLE,
+        TOGGLE.as_bytes(),
         TWO_POSITIONS,
         1000,
         &[],
@@ -255,7 +451,7 @@ fn words_and_names(rt: HostRuntime) -> Result<(), Fail> {
         &rt,
         rt.alloc(),
         &["fairlive", "check", "m", "x"],
-        TOGGLE,
+        TOGGLE.as_bytes(),
         TWO_POSITIONS,
         1000,
         &[],
@@ -266,7 +462,7 @@ fn words_and_names(rt: HostRuntime) -> Result<(), Fail> {
         &rt,
         rt.alloc(),
         &["fairlive", "check", "m", "x"],
-        "aag\n",
+        b"aag\n",
         TWO_POSITIONS,
         1000,
         &[],

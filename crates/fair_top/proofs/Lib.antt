@@ -1,10 +1,8 @@
-pub mod ReaderLaws
-pub mod FieldLaws
-pub mod LineLaws
-pub mod HeadingLaws
-pub mod TextLaws
-mod WordsRead
-mod Parts
+pub mod KeptLines
+pub mod OneFault
 mod TextsRead
-mod StimuliJudged
+mod Ended
 mod TextsJudged
+mod Names
+mod BodyLines
+mod Taken

@@ -1,112 +1,113 @@
--- The verdict on both texts, from the circuit and the verdict on the answer; and that of the words.
-use Rattle.std.proofs.Common.{◌≡◌, ◌⊎◌, ℕ, ◌+◌, ◌-◌, ◌^◌, ◌≤◌, min, List, Some, refl, sym, ◌∙◌, ap, subst, inl, inr, arith}
-use Rattle.std.specs.Prelude.{Option}
+-- The verdict on both texts, from the model and the end of the check; and that of the words.
+use Rattle.std.proofs.Common.{◌≡◌, ◌⊎◌, ℕ, ◌+◌, ◌-◌, ◌^◌, ◌≤◌, min, List, Some, refl, sym, ◌∙◌, ap, subst, inl, inr, arith, Ok, Err}
+use Rattle.std.specs.Prelude.{Option, Result, codes}
+use Rattle.clap.specs.Walk.{Row, Text}
 use Rattle.aig_semantics.specs.Circuits.{Circuit}
-use Rattle.aig_semantics.specs.declared.traces.Stimulus.{Stimulus}
-use Rattle.aig_semantics.specs.Stimuli.{HasLasso, StandsFor}
+use Rattle.aiger_grammar.specs.Models.{Model}
+use Rattle.aiger_grammar.specs.AsciiTexts.{SameFault}
 use Rattle.circuit.specs.declared.faults.ModelFault.{ModelFault}
-use Rattle.circuit.specs.declared.faults.ModelFault.TheVariants.{Header}
-use Rattle.stimulus.specs.declared.ends.ReplayFault.{ReplayFault}
-use Rattle.stimulus.specs.declared.ends.ReplayFault.TheVariants.{NoFairLoop}
+use Rattle.edge.specs.Told.{IfTold}
+use Rattle.edge.specs.Faults.{Rose}
+use Rattle.fair_top.specs.declared.ends.Accepted.{Accepted}
+use Rattle.fair_top.specs.declared.ends.Accepted.TheVariants as accepted
+use Rattle.fair_top.specs.declared.ends.AnswerEnd.{AnswerEnd}
+use Rattle.fair_top.specs.declared.ends.AnswerEnd.TheVariants as ends
 use Rattle.fair_top.specs.declared.status.Status.{Status}
 use Rattle.fair_top.specs.declared.status.Status.TheVariants as statuses
-use Rattle.fair_top.specs.declared.status.Done.{Done}
 use Rattle.fair_top.specs.declared.status.Done.TheVariants.{Lasso}
-use Rattle.fair_top.specs.declared.status.AnswerFault.{AnswerFault}
-use Rattle.fair_top.specs.declared.status.AnswerFault.TheVariants.{UnknownStatus, Replay}
-use Rattle.fair_top.specs.Answers.{IsAnswer, IsNoAnswer, GivesLasso, GivesNoLasso}
-use Rattle.edge.specs.Told.{IfTold}
-use Rattle.edge.specs.Faults.{Rose, NoneFell}
-use Rattle.aiger_grammar.specs.FirstForm.{IsFirstForm}
-use Rattle.fair_top.specs.Commands.{IsCheck, IsUsage}
-use Rattle.fair_top.specs.Headline.{OfCircuit, TextsSay, TextsDecide, FailedFor, IsFound, IsVerdict, Answers, OfNames, ReadFailed}
-use Rattle.fair_top.specs.Judged.{IsCircuitOf, EndsWithoutCircuit, EndsWithoutText, AnswerSays, AnswerDecides, ReadSays}
+use Rattle.fair_top.specs.Answers.{IsAccepted, IsRefused, DecidesEnd}
+use Rattle.fair_top.specs.ModelTexts.{IsModelText}
+use Rattle.fair_top.specs.Commands.{name_in, IsCheck, IsUsage}
+use Rattle.fair_top.specs.Headline.{TextsSay, TextsDecide, IsFound, IsVerdict, Answers, OfNames}
+use Rattle.fair_top.specs.Judged.{status_of, CheckSays, Ends, IsModelOf, IsFaultOf, EndsWithoutModel}
 
--- Where the answer was read.
+-- Where the model was read.
 
-pub read_says : (c : Circuit) (told : Option (List ℕ)) (bytes : List ℕ) (status : Status) → IfTold told (λ text. bytes ≡ text) → AnswerSays c bytes status → ReadSays c told status
-read_says c told bytes (statuses.Done done) same h = (bytes, (λ text e. sym (same text e)), h)
-read_says c told bytes (statuses.Refused fault) same h = (bytes, (λ text e. sym (same text e)), h)
-read_says c told bytes statuses.Memory same h = tt
-read_says c told bytes statuses.ReadFault same h = tt
-read_says c told bytes (statuses.BadModel fault) same h = absurd h
-read_says c told bytes statuses.WriteFault same h = absurd h
-read_says c told bytes statuses.Usage same h = absurd h
+-- a text that is told is the model's
+pub told_form : (told : Option (List ℕ)) (m : Model) → IsModelOf told m → (text : List ℕ) → told ≡ Some text → IsModelText m text
+told_form told m h text e = subst (IsModelText m) (sym (h.text.1 text e)) h.text.2
 
-pub read_exact : (c : Circuit) (told : Option (List ℕ)) (bytes : List ℕ) (status : Status) → IfTold told (λ text. bytes ≡ text)
-    → ((verdict : Status) → AnswerDecides c bytes verdict → (status ≡ verdict) ⊎ (status ≡ statuses.Memory))
-    → (text : List ℕ) (verdict : Status) → told ≡ Some text → AnswerDecides c text verdict → Answers status verdict
-read_exact c told bytes status same exact text verdict e d =
-    elim (exact verdict (subst (λ (b : List ℕ). AnswerDecides c b verdict) (sym (same text e)) d)) [ inl p ↦ inl p | inr p ↦ inr (inl p) ]
+says : (m : Model) (model answer : Option (List ℕ)) (end : Result Accepted AnswerEnd) → IsModelOf model m → CheckSays m.circuit answer end
+    → TextsSay model answer (status_of end)
+says m model answer (Ok (accepted.Lasso j k from)) h r = (h.text.0, h.text.1, (r.0, r.1, (m, h.text.2, r.2)))
+says m model answer (Err (ends.Refused fault)) h r = (h.text.0, h.text.1, (r.0, r.1, (m, h.text.2, r.2)))
+says m model answer (Err ends.ReadFault) h r = tt
+says m model answer (Err ends.Memory) h r = tt
 
-pub unread_says : (c : Circuit) (told : Option (List ℕ)) (status : Status) → EndsWithoutText status → ReadSays c told status
-unread_says c told status h = elim h [ inl e ↦ subst (ReadSays c told) (sym e) tt | inr e ↦ subst (ReadSays c told) (sym e) tt ]
+pub texts_say : (c : Circuit) (m : Model) (model now answer : Option (List ℕ)) (end : Result Accepted AnswerEnd) → c ≡ m.circuit → now ≡ answer
+    → IsModelOf model m → CheckSays c now end → TextsSay model answer (status_of end)
+texts_say c m model now answer end same kept h r =
+    says m model answer end h (subst (λ (x : Circuit). CheckSays x answer end) same (subst (λ (told : Option (List ℕ)). CheckSays c told end) kept r))
 
-pub unread_exact : (status verdict : Status) → EndsWithoutText status → Answers status verdict
-unread_exact status verdict h = elim h [ inl e ↦ inr (inr (inl e)) | inr e ↦ inr (inl e) ]
+as_status : (end verdict : Result Accepted AnswerEnd) → Ends end verdict → Answers (status_of end) (status_of verdict)
+as_status end verdict h = elim h [
+  | inl e ↦ inl (inl (ap status_of e))
+  | inr other ↦ elim other [ inl e ↦ inr (inl (ap status_of e)) | inr e ↦ inr (inr (inl (ap status_of e))) ]
+]
 
--- Where the circuit was read.
+exact_by : (m : Model) (model answer : Option (List ℕ)) (end : Result Accepted AnswerEnd) → IsModelOf model m
+    → ((text : List ℕ) (verdict : Result Accepted AnswerEnd) → answer ≡ Some text → DecidesEnd m.circuit text verdict → Ends end verdict)
+    → (verdict : Status) → TextsDecide model answer verdict → Answers (status_of end) verdict
+exact_by m model answer end h exact (statuses.Done (Lasso j k from)) (text, e, (claimed, f, (n, form, said))) =
+    as_status end (Ok (accepted.Lasso j k from)) (exact claimed (Ok (accepted.Lasso j k from)) f
+    (subst (λ (x : Model). IsAccepted x.circuit claimed (accepted.Lasso j k from)) (sym (h.one text n e form)) said))
+exact_by m model answer end h exact (statuses.Refused fault) (text, e, (claimed, f, (n, form, said))) =
+    as_status end (Err (ends.Refused fault)) (exact claimed (Err (ends.Refused fault)) f
+    (subst (λ (x : Model). IsRefused x.circuit claimed fault) (sym (h.one text n e form)) said))
+exact_by m model answer end h exact (statuses.BadModel fault) (text, e, bad) = absurd (h.faultless text fault e bad)
+exact_by m model answer end h exact statuses.Memory d = absurd d
+exact_by m model answer end h exact statuses.ReadFault d = absurd d
+exact_by m model answer end h exact statuses.WriteFault d = absurd d
+exact_by m model answer end h exact statuses.Usage d = absurd d
 
--- a text that is told is the circuit's
-pub told_form : (model : Option (List ℕ)) (c : Circuit) → IsCircuitOf model c → (text : List ℕ) → model ≡ Some text → IsFirstForm c text
-told_form model c h text e = subst (IsFirstForm c) (sym (h.text.1 text e)) h.text.2
+pub texts_exact : (c : Circuit) (m : Model) (model now answer : Option (List ℕ)) (end : Result Accepted AnswerEnd) → c ≡ m.circuit → now ≡ answer → IsModelOf model m
+    → ((text : List ℕ) (verdict : Result Accepted AnswerEnd) → now ≡ Some text → DecidesEnd c text verdict → Ends end verdict)
+    → (verdict : Status) → TextsDecide model answer verdict → Answers (status_of end) verdict
+texts_exact c m model now answer end same kept h exact =
+    exact_by m model answer end h (λ text verdict e d. exact text verdict (kept ∙ e) (subst (λ (x : Circuit). DecidesEnd x text verdict) (sym same) d))
 
-pub texts_say : (c : Circuit) (model answer : Option (List ℕ)) (status : Status) → IsCircuitOf model c → ReadSays c answer status → TextsSay model answer status
-texts_say c model answer (statuses.Done done) h r = (h.text.0, r.0, h.text.1, r.1, (c, h.text.2, r.2))
-texts_say c model answer (statuses.Refused fault) h r = (h.text.0, r.0, h.text.1, r.1, (c, h.text.2, r.2))
-texts_say c model answer statuses.Memory h r = tt
-texts_say c model answer statuses.ReadFault h r = tt
-texts_say c model answer (statuses.BadModel fault) h r = absurd r
-texts_say c model answer statuses.WriteFault h r = absurd r
-texts_say c model answer statuses.Usage h r = absurd r
-
-pub texts_exact : (c : Circuit) (model answer : Option (List ℕ)) (status : Status) → IsCircuitOf model c
-    → ((text : List ℕ) (verdict : Status) → answer ≡ Some text → AnswerDecides c text verdict → Answers status verdict)
-    → (verdict : Status) → TextsDecide model answer verdict → Answers status verdict
-texts_exact c model answer status h exact (statuses.Done done) (text, claimed, e, f, (d, form, said)) =
-    exact claimed (statuses.Done done) f (subst (λ (x : Circuit). AnswerDecides x claimed (statuses.Done done)) (sym (h.one text d e form)) said)
-texts_exact c model answer status h exact (statuses.Refused fault) (text, claimed, e, f, (d, form, said)) =
-    exact claimed (statuses.Refused fault) f (subst (λ (x : Circuit). AnswerDecides x claimed (statuses.Refused fault)) (sym (h.one text d e form)) said)
-texts_exact c model answer status h exact (statuses.BadModel fault) (text, e, bad) = absurd (bad.1 c (told_form model c h text e))
-texts_exact c model answer status h exact statuses.Memory d = absurd d
-texts_exact c model answer status h exact statuses.ReadFault d = absurd d
-texts_exact c model answer status h exact statuses.WriteFault d = absurd d
-texts_exact c model answer status h exact statuses.Usage d = absurd d
-
--- what was said of the answer's text at a later moment, when it was the same
-pub answer_kept : (c : Circuit) (old new : Option (List ℕ)) (status : Status) → new ≡ old → ReadSays c new status → ReadSays c old status
-answer_kept c old new status e h = subst (λ (told : Option (List ℕ)). ReadSays c told status) e h
+pub read_failed : (end : Result Accepted AnswerEnd) → status_of end ≡ statuses.ReadFault → end ≡ Err ends.ReadFault
+read_failed (Ok (accepted.Lasso j k from)) e = cc
+read_failed (Err (ends.Refused fault)) e = cc
+read_failed (Err ends.ReadFault) e = refl
+read_failed (Err ends.Memory) e = cc
 
 -- Where it was not.
 
-pub without_circuit_says : (model answer : Option (List ℕ)) (status : Status) → EndsWithoutCircuit model status → TextsSay model answer status
-without_circuit_says model answer (statuses.BadModel fault) h = h
-without_circuit_says model answer statuses.ReadFault h = tt
-without_circuit_says model answer statuses.Memory h = tt
-without_circuit_says model answer (statuses.Done done) h = absurd h
-without_circuit_says model answer (statuses.Refused fault) h = absurd h
-without_circuit_says model answer statuses.WriteFault h = absurd h
-without_circuit_says model answer statuses.Usage h = absurd h
+pub without_model_says : (model answer : Option (List ℕ)) (status : Status) → EndsWithoutModel model status → TextsSay model answer status
+without_model_says model answer (statuses.BadModel fault) h = h.text
+without_model_says model answer statuses.ReadFault h = tt
+without_model_says model answer statuses.Memory h = tt
+without_model_says model answer (statuses.Done done) h = absurd h
+without_model_says model answer (statuses.Refused fault) h = absurd h
+without_model_says model answer statuses.WriteFault h = absurd h
+without_model_says model answer statuses.Usage h = absurd h
 
-bad_exact : (model answer : Option (List ℕ)) (fault : ModelFault) → EndsWithoutCircuit model (statuses.BadModel fault)
-    → (verdict : Status) → TextsDecide model answer verdict → statuses.BadModel fault ≡ verdict
-bad_exact model answer fault h (statuses.BadModel other) (text, e, bad) = ap statuses.BadModel (h.2.0 ∙ sym bad.0)
-bad_exact model answer fault h (statuses.Done done) (text, claimed, e, f, (d, form, said)) = absurd (h.2.1 d (subst (IsFirstForm d) (h.1 text e) form))
-bad_exact model answer fault h (statuses.Refused other) (text, claimed, e, f, (d, form, said)) = absurd (h.2.1 d (subst (IsFirstForm d) (h.1 text e) form))
+same_bad : (f g : ModelFault) → SameFault f g → Answers (statuses.BadModel f) (statuses.BadModel g)
+same_bad f g h = elim h [
+  | inl e ↦ inl (inl (ap statuses.BadModel e))
+  | inr two ↦ inl (inr (two.0, two.1, ap statuses.BadModel two.2, ap statuses.BadModel two.3))
+]
+
+bad_exact : (model answer : Option (List ℕ)) (fault : ModelFault) → IsFaultOf model fault
+    → (verdict : Status) → TextsDecide model answer verdict → Answers (statuses.BadModel fault) verdict
+bad_exact model answer fault h (statuses.BadModel other) (text, e, bad) = same_bad fault other (h.one text other e bad)
+bad_exact model answer fault h (statuses.Done (Lasso j k from)) (text, e, (claimed, f, (m, form, said))) = absurd (h.none text m e form)
+bad_exact model answer fault h (statuses.Refused other) (text, e, (claimed, f, (m, form, said))) = absurd (h.none text m e form)
 bad_exact model answer fault h statuses.Memory d = absurd d
 bad_exact model answer fault h statuses.ReadFault d = absurd d
 bad_exact model answer fault h statuses.WriteFault d = absurd d
 bad_exact model answer fault h statuses.Usage d = absurd d
 
-pub without_circuit_exact : (model answer : Option (List ℕ)) (status : Status) → EndsWithoutCircuit model status
+pub without_model_exact : (model answer : Option (List ℕ)) (status : Status) → EndsWithoutModel model status
     → (verdict : Status) → TextsDecide model answer verdict → Answers status verdict
-without_circuit_exact model answer (statuses.BadModel fault) h verdict d = inl (bad_exact model answer fault h verdict d)
-without_circuit_exact model answer statuses.ReadFault h verdict d = inr (inr (inl refl))
-without_circuit_exact model answer statuses.Memory h verdict d = inr (inl refl)
-without_circuit_exact model answer (statuses.Done done) h verdict d = absurd h
-without_circuit_exact model answer (statuses.Refused fault) h verdict d = absurd h
-without_circuit_exact model answer statuses.WriteFault h verdict d = absurd h
-without_circuit_exact model answer statuses.Usage h verdict d = absurd h
+without_model_exact model answer (statuses.BadModel fault) h verdict d = bad_exact model answer fault h verdict d
+without_model_exact model answer statuses.ReadFault h verdict d = inr (inr (inl refl))
+without_model_exact model answer statuses.Memory h verdict d = inr (inl refl)
+without_model_exact model answer (statuses.Done done) h verdict d = absurd h
+without_model_exact model answer (statuses.Refused fault) h verdict d = absurd h
+without_model_exact model answer statuses.WriteFault h verdict d = absurd h
+without_model_exact model answer statuses.Usage h verdict d = absurd h
 
 -- Faults.
 
@@ -116,11 +117,15 @@ rose_since a b n le h = omega arith
 
 -- The words.
 
+same_rows : (name : List ℕ) (a b : List Row) → ◌≡◌ {A = Option (Text × List Row)} (Some (name, a)) (Some (name, b)) → a ≡ b
+same_rows name a b e = let same : ◌≡◌ {A = Text × List Row} (name, a) (name, b) = cc in ap (λ x. x.1) same
+
 pub same_names : (words : List (List ℕ)) (m a m' a' : List ℕ) → IsCheck words m a → IsCheck words m' a' → (m ≡ m') × (a ≡ a')
 same_names words m a m' a' one two =
-    let third : Some m ≡ Some m' = sym one.third ∙ two.third in
-    let fourth : Some a ≡ Some a' = sym one.fourth ∙ two.fourth in
-    (cc, cc)
+    let rows : one.rows ≡ two.rows = same_rows (codes "check") one.rows two.rows (sym one.command ∙ two.command) in (
+      sym one.model_name ∙ ap (λ (r : List Row). name_in r (codes "MODEL")) rows ∙ two.model_name,
+      sym one.answer_name ∙ ap (λ (r : List Row). name_in r (codes "ANSWER")) rows ∙ two.answer_name,
+    )
 
 pub words_say : (held : List ℕ → Option (List ℕ)) (words : List (List ℕ)) (m a : List ℕ) (status : Status) → IsCheck words m a → TextsSay (held m) (held a) status → IsFound held words status
 words_say held words m a (statuses.Done done) check h = (m, a, check, h)
@@ -135,15 +140,29 @@ pub words_exact : (held : List ℕ → Option (List ℕ)) (words : List (List �
     → ((verdict : Status) → TextsDecide (held m) (held a) verdict → Answers status verdict)
     → (verdict : Status) → IsVerdict held words verdict → Answers status verdict
 words_exact held words m a status check exact verdict v = elim v [
-  | inl usage ↦ absurd (usage.0 m a check)
+  | inl usage ↦ absurd (usage.0 check.taken)
   | inr named ↦
       let same : (named.0 ≡ m) × (named.1 ≡ a) = same_names words named.0 named.1 m a named.2 check in
       exact verdict (subst (λ (x : List ℕ). TextsDecide (held m) (held x) verdict) same.1
       (subst (λ (x : List ℕ). TextsDecide (held x) (held named.1) verdict) same.0 named.3))
 ]
 
-pub usage_exact : (held : List ℕ → Option (List ℕ)) (words : List (List ℕ)) → IsUsage words → (verdict : Status) → IsVerdict held words verdict → Answers statuses.Usage verdict
-usage_exact held words usage verdict v = elim v [
-  | inl both ↦ inl (sym both.1)
-  | inr named ↦ absurd (usage named.0 named.1 named.2)
+-- where no names were read
+abbrev pub EndsWithoutNames : List (List ℕ) → Status → Type 0
+EndsWithoutNames words status = ((status ≡ statuses.Usage) × IsUsage words) ⊎ (status ≡ statuses.Memory)
+
+pub without_names_say : (held : List ℕ → Option (List ℕ)) (words : List (List ℕ)) (status : Status) → EndsWithoutNames words status → IsFound held words status
+without_names_say held words status h = elim h [
+  | inl usage ↦ subst (IsFound held words) (sym usage.0) usage.1
+  | inr e ↦ subst (IsFound held words) (sym e) tt
+]
+
+pub without_names_exact : (held : List ℕ → Option (List ℕ)) (words : List (List ℕ)) (status : Status) → EndsWithoutNames words status
+    → (verdict : Status) → IsVerdict held words verdict → Answers status verdict
+without_names_exact held words status h verdict v = elim h [
+  | inl usage ↦ elim v [
+    | inl both ↦ inl (inl (usage.0 ∙ sym both.1))
+    | inr named ↦ absurd (usage.1 named.2.taken)
+  ]
+  | inr e ↦ inr (inl e)
 ]

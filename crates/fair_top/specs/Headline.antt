@@ -1,70 +1,61 @@
 -- What a run of the program answers, from its words and the texts that the shelf holds under the names in them.
 use Rattle.std.specs.Prelude.{◌≡◌, ◌⊎◌, ℕ, List, Option, Some}
-use Rattle.circuit.specs.declared.faults.ModelFault.{ModelFault}
-use Rattle.circuit.specs.declared.faults.ModelFault.TheVariants.{Header}
-use Rattle.stimulus.specs.declared.ends.ReplayFault.TheVariants.{NoFairLoop}
+use Rattle.circuit.specs.declared.faults.ModelFault.TheVariants.{Cycle}
 use Rattle.edge.specs.Told.{IfTold, MayBe}
 use Rattle.edge.specs.Faults.{Rose}
 use Rattle.edge.specs.Writes.{Adds, AddsPart}
-use Rattle.aig_semantics.specs.Circuits.{Circuit}
-use Rattle.aiger_grammar.specs.FirstForm.{IsFirstForm}
+use Rattle.fair_top.specs.declared.ends.Accepted.TheVariants as accepted
 use Rattle.fair_top.specs.declared.status.Status.{Status}
 use Rattle.fair_top.specs.declared.status.Status.TheVariants as statuses
 use Rattle.fair_top.specs.declared.status.Done.{Done}
 use Rattle.fair_top.specs.declared.status.Done.TheVariants.{Lasso}
-use Rattle.fair_top.specs.declared.status.AnswerFault.{AnswerFault}
-use Rattle.fair_top.specs.declared.status.AnswerFault.TheVariants.{UnknownStatus, Replay}
-use Rattle.fair_top.specs.Answers.{GivesLasso, GivesNoLasso, IsNoAnswer}
+use Rattle.fair_top.specs.Answers.{IsAccepted, IsRefused}
+use Rattle.fair_top.specs.ModelTexts.{IsBadModel, OfModel}
 use Rattle.fair_top.specs.Commands.{IsCheck, IsUsage}
 use Rattle.fair_top.specs.Texts.{text_of}
 
--- The verdict on the texts of MODEL and ANSWER.
+-- The status that two texts decide, of MODEL and of ANSWER; of ANSWER's nothing is asked where MODEL is bad.
+abbrev pub TextsGive : List ℕ → List ℕ → Status → Type 0
+TextsGive model answer (statuses.BadModel fault) = IsBadModel model fault
+TextsGive model answer (statuses.Refused fault) = OfModel model (λ c. IsRefused c answer fault)
+TextsGive model answer (statuses.Done (Lasso property positions from)) =
+    OfModel model (λ c. IsAccepted c answer (accepted.Lasso property positions from))
+TextsGive model answer statuses.ReadFault = ⊥
+TextsGive model answer statuses.WriteFault = ⊥
+TextsGive model answer statuses.Memory = ⊥
+TextsGive model answer statuses.Usage = ⊥
 
--- MODEL is no text of a model that the program reads
-abbrev pub IsBadModel : List ℕ → ModelFault → Type 0
-IsBadModel model fault = (fault ≡ Header 0) × ((c : Circuit) → IsFirstForm c model → ⊥)
+-- the text is told, and the claim holds of it
+abbrev pub OfText : Option (List ℕ) → (List ℕ → Type 0) → Type 0
+OfText told Claim = (text : List ℕ) × (told ≡ Some text) × Claim text
 
--- ANSWER is refused for this fault, where c is the circuit
-abbrev pub IsRefused : Circuit → List ℕ → AnswerFault → Type 0
-IsRefused c answer UnknownStatus = IsNoAnswer answer
-IsRefused c answer (Replay fault) = (fault ≡ NoFairLoop) × GivesNoLasso c answer
+-- the claim holds of what the text may be, which is the text where it is told
+abbrev pub OfSomeText : Option (List ℕ) → (List ℕ → Type 0) → Type 0
+OfSomeText told Claim = (text : List ℕ) × MayBe told text × Claim text
 
--- ANSWER is accepted
-abbrev pub IsAccepted : Circuit → List ℕ → Done → Type 0
-IsAccepted c answer (Lasso property positions from) = (property ≡ 0) × GivesLasso c answer positions from
-
--- MODEL is the text of a circuit of which the claim holds
-abbrev pub OfCircuit : List ℕ → (Circuit → Type 0) → Type 0
-OfCircuit model Claim = (c : Circuit) × IsFirstForm c model × Claim c
-
--- reads failed of MODEL, or of ANSWER where MODEL is in the form
-abbrev pub FailedFor : Option (List ℕ) → ℕ → ℕ → ℕ → ℕ → Type 0
-FailedFor model model_before model_now answer_before answer_now =
-    Rose model_before model_now ⊎ (IfTold model (λ text. OfCircuit text (λ c. Unit {0})) × Rose answer_before answer_now)
-
--- What a status says of the texts of MODEL and ANSWER; where they are told, these are the texts.
+-- what holds of MODEL's and ANSWER's texts where a run answers a status
 abbrev pub TextsSay : Option (List ℕ) → Option (List ℕ) → Status → Type 0
-TextsSay model answer (statuses.BadModel fault) = (text : List ℕ) × MayBe model text × IsBadModel text fault
-TextsSay model answer (statuses.Refused fault) =
-    (text : List ℕ) × (claimed : List ℕ) × MayBe model text × MayBe answer claimed × OfCircuit text (λ c. IsRefused c claimed fault)
-TextsSay model answer (statuses.Done done) =
-    (text : List ℕ) × (claimed : List ℕ) × MayBe model text × MayBe answer claimed × OfCircuit text (λ c. IsAccepted c claimed done)
 TextsSay model answer statuses.ReadFault = Unit {0}
-TextsSay model answer statuses.WriteFault = ⊥
 TextsSay model answer statuses.Memory = Unit {0}
+TextsSay model answer statuses.WriteFault = ⊥
 TextsSay model answer statuses.Usage = ⊥
+TextsSay model answer (statuses.BadModel fault) = OfSomeText model (λ text. IsBadModel text fault)
+TextsSay model answer (statuses.Refused fault) =
+    OfSomeText model (λ text. OfSomeText answer (λ claimed. TextsGive text claimed (statuses.Refused fault)))
+TextsSay model answer (statuses.Done done) =
+    OfSomeText model (λ text. OfSomeText answer (λ claimed. TextsGive text claimed (statuses.Done done)))
 
--- The status that the texts of MODEL and ANSWER decide. Of ANSWER's nothing is asked where MODEL is bad.
+-- the status that they decide, where they are told
 abbrev pub TextsDecide : Option (List ℕ) → Option (List ℕ) → Status → Type 0
-TextsDecide model answer (statuses.BadModel fault) = (text : List ℕ) × (model ≡ Some text) × IsBadModel text fault
-TextsDecide model answer (statuses.Refused fault) =
-    (text : List ℕ) × (claimed : List ℕ) × (model ≡ Some text) × (answer ≡ Some claimed) × OfCircuit text (λ c. IsRefused c claimed fault)
-TextsDecide model answer (statuses.Done done) =
-    (text : List ℕ) × (claimed : List ℕ) × (model ≡ Some text) × (answer ≡ Some claimed) × OfCircuit text (λ c. IsAccepted c claimed done)
 TextsDecide model answer statuses.ReadFault = ⊥
-TextsDecide model answer statuses.WriteFault = ⊥
 TextsDecide model answer statuses.Memory = ⊥
+TextsDecide model answer statuses.WriteFault = ⊥
 TextsDecide model answer statuses.Usage = ⊥
+TextsDecide model answer (statuses.BadModel fault) = OfText model (λ text. IsBadModel text fault)
+TextsDecide model answer (statuses.Refused fault) =
+    OfText model (λ text. OfText answer (λ claimed. TextsGive text claimed (statuses.Refused fault)))
+TextsDecide model answer (statuses.Done done) =
+    OfText model (λ text. OfText answer (λ claimed. TextsGive text claimed (statuses.Done done)))
 
 -- The same of the words and of what a shelf holds under each name.
 
@@ -87,12 +78,21 @@ abbrev pub IsVerdict : (List ℕ → Option (List ℕ)) → List (List ℕ) → 
 IsVerdict held words verdict =
     (IsUsage words × (verdict ≡ statuses.Usage)) ⊎ OfNames words (λ model answer. TextsDecide (held model) (held answer) verdict)
 
+-- The same status. A cycle may be said at any variable on one: each is right that `IsFound` holds of.
+abbrev pub SameVerdict : Status → Status → Type 0
+SameVerdict status verdict =
+    (status ≡ verdict) ⊎ ((v : ℕ) × (w : ℕ) × (status ≡ statuses.BadModel (Cycle v)) × (verdict ≡ statuses.BadModel (Cycle w)))
+
 -- the verdict is answered, but for want of memory and failed reads and writes
 abbrev pub Answers : Status → Status → Type 0
 Answers status verdict =
-    (status ≡ verdict) ⊎ ((status ≡ statuses.Memory) ⊎ ((status ≡ statuses.ReadFault) ⊎ (status ≡ statuses.WriteFault)))
+    SameVerdict status verdict ⊎ ((status ≡ statuses.Memory) ⊎ ((status ≡ statuses.ReadFault) ⊎ (status ≡ statuses.WriteFault)))
 
--- a read failed: of MODEL, or of ANSWER where MODEL is in the form
+-- reads failed of MODEL, or of ANSWER where MODEL is a model's text
+abbrev pub FailedFor : Option (List ℕ) → ℕ → ℕ → ℕ → ℕ → Type 0
+FailedFor model model_before model_now answer_before answer_now =
+    Rose model_before model_now ⊎ (IfTold model (λ text. OfModel text (λ c. Unit {0})) × Rose answer_before answer_now)
+
 abbrev pub ReadFailed : (List ℕ → Option (List ℕ)) → List (List ℕ) → (List ℕ → ℕ) → (List ℕ → ℕ) → Type 0
 ReadFailed held words before now = OfNames words (λ model answer. FailedFor (held model) (before model) (now model) (before answer) (now answer))
 

@@ -1,85 +1,84 @@
--- What the parts of a check answer: the circuit, the bytes of the answer, and the verdict on them.
+-- What the parts of a check answer: the model, and the end of the check of an answer.
 use Rattle.std.specs.Prelude.{◌≡◌, ◌⊎◌, ℕ, List, Option, Some, Result, Ok, Err}
 use Rattle.edge.specs.Told.{MayBe}
 use Rattle.aig_semantics.specs.Circuits.{Circuit}
-use Rattle.aiger_grammar.specs.FirstForm.{IsFirstForm}
+use Rattle.circuit.specs.declared.faults.ModelFault.{ModelFault}
+use Rattle.aiger_grammar.specs.Models.{Model}
+use Rattle.aiger_grammar.specs.AsciiTexts.{SameFault}
+use Rattle.fair_top.specs.declared.ends.Accepted.{Accepted}
+use Rattle.fair_top.specs.declared.ends.Accepted.TheVariants as accepted
+use Rattle.aig_semantics.specs.declared.traces.Stimulus.{Stimulus}
+use Rattle.aig_semantics.specs.Stimuli.{StandsFor}
+use Rattle.stimulus.specs.Faults.{HasReplayFault}
+use Rattle.fair_top.specs.declared.ends.AnswerFault.TheVariants.{Replay}
+use Rattle.fair_top.specs.declared.ends.AnswerEnd.{AnswerEnd}
+use Rattle.fair_top.specs.declared.ends.AnswerEnd.TheVariants as ends
 use Rattle.fair_top.specs.declared.status.Status.{Status}
 use Rattle.fair_top.specs.declared.status.Status.TheVariants as statuses
-use Rattle.fair_top.specs.declared.status.Done.{Done}
 use Rattle.fair_top.specs.declared.status.Done.TheVariants.{Lasso}
-use Rattle.fair_top.specs.declared.status.AnswerFault.TheVariants.{UnknownStatus, Replay}
-use Rattle.stimulus.specs.declared.ends.ReplayFault.TheVariants.{NoFairLoop}
-use Rattle.aig_semantics.specs.declared.traces.Stimulus.{Stimulus}
-use Rattle.aig_semantics.specs.Stimuli.{HasLasso, StandsFor}
-use Rattle.fair_top.specs.Answers.{IsNoAnswer}
-use Rattle.fair_top.specs.Headline.{IsBadModel, IsRefused, IsAccepted}
+use Rattle.fair_top.specs.Answers.{IsAccepted, IsRefused, DecidesEnd}
+use Rattle.fair_top.specs.ModelTexts.{IsModelText, IsBadModel}
+use Rattle.fair_top.specs.Headline.{OfSomeText}
 
--- the status with which a run ends that found this
-abbrev pub status_of : Result Done Status → Status
-status_of (Ok done) = statuses.Done done
-status_of (Err status) = status
+-- the status with which a run ends that checked an answer
+abbrev pub status_of : Result Accepted AnswerEnd → Status
+status_of (Ok (accepted.Lasso property positions from)) = statuses.Done (Lasso property positions from)
+status_of (Err (ends.Refused fault)) = statuses.Refused fault
+status_of (Err ends.ReadFault) = statuses.ReadFault
+status_of (Err ends.Memory) = statuses.Memory
 
--- c is the one circuit whose text MODEL is
-pub record IsCircuitOf (model : Option (List ℕ)) (c : Circuit) : Type 0 where
-  pub text : (text : List ℕ) × MayBe model text × IsFirstForm c text
-  pub one : (text : List ℕ) (d : Circuit) → model ≡ Some text → IsFirstForm d text → c ≡ d
+-- what the end of a check says of a text in memory; want of memory says nothing
+abbrev pub EndSays : Circuit → List ℕ → Result Accepted AnswerEnd → Type 0
+EndSays c text (Ok found) = IsAccepted c text found
+EndSays c text (Err (ends.Refused fault)) = IsRefused c text fault
+EndSays c text (Err ends.ReadFault) = ⊥
+EndSays c text (Err ends.Memory) = Unit {0}
 
--- a run may end with this status where it has no circuit
-abbrev pub EndsWithoutCircuit : Option (List ℕ) → Status → Type 0
-EndsWithoutCircuit model (statuses.BadModel fault) = (text : List ℕ) × MayBe model text × IsBadModel text fault
-EndsWithoutCircuit model statuses.ReadFault = Unit {0}
-EndsWithoutCircuit model statuses.Memory = Unit {0}
-EndsWithoutCircuit model (statuses.Done done) = ⊥
-EndsWithoutCircuit model (statuses.Refused fault) = ⊥
-EndsWithoutCircuit model statuses.WriteFault = ⊥
-EndsWithoutCircuit model statuses.Usage = ⊥
+-- what the replay of a stimulus for property n says; want of memory says nothing
+abbrev pub ReplaySays : Circuit → ℕ → Stimulus → Result Accepted AnswerEnd → Type 0
+ReplaySays c n stimulus (Ok (accepted.Lasso property positions from)) = (property ≡ n) × StandsFor c n stimulus positions from
+ReplaySays c n stimulus (Err (ends.Refused (Replay fault))) = HasReplayFault c n stimulus fault
+ReplaySays c n stimulus (Err (ends.Refused _)) = ⊥
+ReplaySays c n stimulus (Err ends.ReadFault) = ⊥
+ReplaySays c n stimulus (Err ends.Memory) = Unit {0}
 
--- it may end with this status where a text was not read
-abbrev pub EndsWithoutText : Status → Type 0
-EndsWithoutText status = (status ≡ statuses.ReadFault) ⊎ (status ≡ statuses.Memory)
+-- the stimulus decides this end
+abbrev pub ReplayDecides : Circuit → ℕ → Stimulus → Result Accepted AnswerEnd → Type 0
+ReplayDecides c n stimulus (Ok (accepted.Lasso property positions from)) = (property ≡ n) × StandsFor c n stimulus positions from
+ReplayDecides c n stimulus (Err (ends.Refused (Replay fault))) = HasReplayFault c n stimulus fault
+ReplayDecides c n stimulus (Err (ends.Refused _)) = ⊥
+ReplayDecides c n stimulus (Err ends.ReadFault) = ⊥
+ReplayDecides c n stimulus (Err ends.Memory) = ⊥
 
--- what a status says of the answer's text; want of memory says nothing
-abbrev pub AnswerSays : Circuit → List ℕ → Status → Type 0
-AnswerSays c answer (statuses.Done done) = IsAccepted c answer done
-AnswerSays c answer (statuses.Refused fault) = IsRefused c answer fault
-AnswerSays c answer statuses.Memory = Unit {0}
-AnswerSays c answer (statuses.BadModel fault) = ⊥
-AnswerSays c answer statuses.ReadFault = ⊥
-AnswerSays c answer statuses.WriteFault = ⊥
-AnswerSays c answer statuses.Usage = ⊥
+-- what it says of a text on the shelf; want of memory and a failed read say nothing
+abbrev pub CheckSays : Circuit → Option (List ℕ) → Result Accepted AnswerEnd → Type 0
+CheckSays c told (Ok found) = OfSomeText told (λ text. IsAccepted c text found)
+CheckSays c told (Err (ends.Refused fault)) = OfSomeText told (λ text. IsRefused c text fault)
+CheckSays c told (Err ends.ReadFault) = Unit {0}
+CheckSays c told (Err ends.Memory) = Unit {0}
 
--- the status that the answer's text decides
-abbrev pub AnswerDecides : Circuit → List ℕ → Status → Type 0
-AnswerDecides c answer (statuses.Done done) = IsAccepted c answer done
-AnswerDecides c answer (statuses.Refused fault) = IsRefused c answer fault
-AnswerDecides c answer (statuses.BadModel fault) = ⊥
-AnswerDecides c answer statuses.Memory = ⊥
-AnswerDecides c answer statuses.ReadFault = ⊥
-AnswerDecides c answer statuses.WriteFault = ⊥
-AnswerDecides c answer statuses.Usage = ⊥
+-- this end comes, but for want of memory and a failed read
+abbrev pub Ends : Result Accepted AnswerEnd → Result Accepted AnswerEnd → Type 0
+Ends result verdict = (result ≡ verdict) ⊎ ((result ≡ Err ends.Memory) ⊎ (result ≡ Err ends.ReadFault))
 
--- a run may end with this status where the answer's text gives no stimulus
-abbrev pub EndsWithoutStimulus : List ℕ → Status → Type 0
-EndsWithoutStimulus answer status =
-    (status ≡ statuses.Memory) ⊎ ((status ≡ statuses.Refused UnknownStatus) × IsNoAnswer answer)
+-- m is the one model whose text MODEL is
+pub record IsModelOf (told : Option (List ℕ)) (m : Model) : Type 0 where
+  pub text : OfSomeText told (IsModelText m)
+  pub one : (text : List ℕ) (n : Model) → told ≡ Some text → IsModelText n text → m ≡ n
+  pub faultless : (text : List ℕ) (fault : ModelFault) → told ≡ Some text → IsBadModel text fault → ⊥
 
--- what a status says of a stimulus; want of memory says nothing
-abbrev pub StimulusSays : Circuit → Stimulus → Status → Type 0
-StimulusSays c stimulus (statuses.Done (Lasso property positions from)) = (property ≡ 0) × StandsFor c 0 stimulus positions from
-StimulusSays c stimulus (statuses.Refused UnknownStatus) = ⊥
-StimulusSays c stimulus (statuses.Refused (Replay fault)) = (fault ≡ NoFairLoop) × ((k from : ℕ) → HasLasso c 0 stimulus k from → ⊥)
-StimulusSays c stimulus statuses.Memory = Unit {0}
-StimulusSays c stimulus (statuses.BadModel fault) = ⊥
-StimulusSays c stimulus statuses.ReadFault = ⊥
-StimulusSays c stimulus statuses.WriteFault = ⊥
-StimulusSays c stimulus statuses.Usage = ⊥
+-- MODEL is the text of no model, for this fault
+pub record IsFaultOf (told : Option (List ℕ)) (fault : ModelFault) : Type 0 where
+  pub text : OfSomeText told (λ text. IsBadModel text fault)
+  pub one : (text : List ℕ) (other : ModelFault) → told ≡ Some text → IsBadModel text other → SameFault fault other
+  pub none : (text : List ℕ) (m : Model) → told ≡ Some text → IsModelText m text → ⊥
 
--- what a status says of the answer's text; want of memory and a failed read say nothing
-abbrev pub ReadSays : Circuit → Option (List ℕ) → Status → Type 0
-ReadSays c answer (statuses.Done done) = (text : List ℕ) × MayBe answer text × IsAccepted c text done
-ReadSays c answer (statuses.Refused fault) = (text : List ℕ) × MayBe answer text × IsRefused c text fault
-ReadSays c answer statuses.Memory = Unit {0}
-ReadSays c answer statuses.ReadFault = Unit {0}
-ReadSays c answer (statuses.BadModel fault) = ⊥
-ReadSays c answer statuses.WriteFault = ⊥
-ReadSays c answer statuses.Usage = ⊥
+-- a run may end with this status where it has no model
+abbrev pub EndsWithoutModel : Option (List ℕ) → Status → Type 0
+EndsWithoutModel told (statuses.BadModel fault) = IsFaultOf told fault
+EndsWithoutModel told statuses.ReadFault = Unit {0}
+EndsWithoutModel told statuses.Memory = Unit {0}
+EndsWithoutModel told (statuses.Done done) = ⊥
+EndsWithoutModel told (statuses.Refused fault) = ⊥
+EndsWithoutModel told statuses.WriteFault = ⊥
+EndsWithoutModel told statuses.Usage = ⊥

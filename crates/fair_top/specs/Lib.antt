@@ -1,7 +1,7 @@
-pub mod Reading
-pub mod ModelText
-pub mod Commands
 pub mod Answers
+pub mod Commands
+pub mod ModelTexts
+pub mod Walks
 pub mod Statuses
 pub mod Texts
 pub mod Headline

@@ -1,9 +1,15 @@
--- The statuses of runs that end without a text.
+-- What a failed read becomes, and the statuses of runs that end without a text.
 use Rattle.std.specs.Prelude.{Bool, true, false}
 use Rattle.edge.specs.declared.reading.ReadEnd.{ReadEnd}
 use Rattle.edge.specs.declared.reading.ReadEnd.TheVariants as reads
+use Rattle.fair_top.specs.declared.ends.AnswerEnd.{AnswerEnd}
+use Rattle.fair_top.specs.declared.ends.AnswerEnd.TheVariants as ends
 use Rattle.fair_top.specs.declared.status.Status.{Status}
 use Rattle.fair_top.specs.declared.status.Status.TheVariants as statuses
+
+abbrev pub answer_end_of_read : ReadEnd → AnswerEnd
+answer_end_of_read reads.Failed = ends.ReadFault
+answer_end_of_read reads.Memory = ends.Memory
 
 abbrev pub status_of_read : ReadEnd → Status
 status_of_read reads.Failed = statuses.ReadFault

@@ -8,8 +8,8 @@ use Rattle.fair_top.specs.declared.status.Status.{Status}
 use Rattle.fair_top.specs.declared.status.Status.TheVariants as statuses
 use Rattle.fair_top.specs.declared.status.Done.{Done}
 use Rattle.fair_top.specs.declared.status.Done.TheVariants.{Lasso}
-use Rattle.fair_top.specs.declared.status.AnswerFault.{AnswerFault}
-use Rattle.fair_top.specs.declared.status.AnswerFault.TheVariants.{UnknownStatus, Replay}
+use Rattle.fair_top.specs.declared.ends.AnswerFault.{AnswerFault}
+use Rattle.fair_top.specs.declared.ends.AnswerFault.TheVariants as answers
 
 abbrev pub exit_number : Status → ℕ
 exit_number (statuses.Done done) = 0
@@ -36,18 +36,26 @@ model_text (Limit place) = line_with (codes "model refused limit ") place
 model_text (Trailing place) = line_with (codes "model refused trailing ") place
 model_text (Symbol place) = line_with (codes "model refused symbol ") place
 
--- `check` never answers NoProperty: the line of the property is judged before
+-- an answer is never refused for Shape or NoProperty of its stimulus, since its own lines are judged before
 abbrev pub replay_text : ReplayFault → List ℕ
-replay_text (Shape line) = line_with (codes "refused shape line ") line
 replay_text (Width item) = line_with (codes "refused width item ") item
 replay_text (NotInitial latch) = line_with (codes "refused initial latch ") latch
 replay_text (Constraint position) = line_with (codes "refused constraint position ") position
 replay_text NoFairLoop = codes "refused no fair loop\n"
+replay_text (Shape line) = line_with (codes "refused shape line ") line
 replay_text NoProperty = codes "refused property\n"
 
 abbrev pub answer_text : AnswerFault → List ℕ
-answer_text UnknownStatus = codes "refused unknown status\n"
-answer_text (Replay fault) = replay_text fault
+answer_text (answers.Shape line) = line_with (codes "refused shape line ") line
+answer_text (answers.NoProperty n) = line_with (codes "refused property ") n
+answer_text (answers.Replay fault) = replay_text fault
+answer_text answers.TooLong = codes "refused too long\n"
+answer_text (answers.Trailing line) = line_with (codes "refused trailing line ") line
+answer_text answers.UnknownStatus = codes "refused unknown status\n"
+
+-- the usage text: a line for each command
+abbrev pub usage_text : List ℕ
+usage_text = codes "usage: fairlive check MODEL ANSWER\n"
 
 abbrev pub done_text : Done → List ℕ
 done_text (Lasso property positions from) =
@@ -61,4 +69,4 @@ text_of (statuses.BadModel fault) = model_text fault
 text_of statuses.ReadFault = []
 text_of statuses.WriteFault = []
 text_of statuses.Memory = []
-text_of statuses.Usage = codes "usage: fairlive check MODEL ANSWER\n"
+text_of statuses.Usage = usage_text

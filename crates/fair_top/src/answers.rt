@@ -1,76 +1,86 @@
-//! The judgement of an answer's text against a circuit.
+//! The check of an answer against a circuit. The main call is `check_answer`.
 
-ghost use Rattle.std.specs.Prelude.{◌≡◌, ◌≢◌, ◌⊎◌, ℕ, List, ◌++◌, IfOk, IfErr, IfSome, IfNone, MatchOption, codes};
-ghost use Rattle.aig_semantics.specs.declared.traces.Stimulus.{Stimulus};
-ghost use Rattle.fair_top.specs.Answers.{IsAnswer};
-ghost use Rattle.fair_top.specs.Judged.{status_of, AnswerSays, AnswerDecides, StimulusSays, EndsWithoutStimulus};
+ghost use Rattle.std.specs.Prelude.{◌≡◌, ◌⊎◌, ℕ, List, Some, Result, Err, IfOk, IfErr};
+ghost use Rattle.edge.specs.Faults.{Rose, NoneFell};
+ghost use Rattle.edge.specs.Reads.{KeepsTexts};
+ghost use Rattle.edge.specs.Told.{IfTold};
+ghost use Rattle.fair_top.specs.Answers.{DecidesEnd};
+ghost use Rattle.fair_top.specs.Judged.{EndSays, CheckSays, ReplaySays, ReplayDecides, Ends};
 
-use crate::status::{AnswerFault, Done, Status};
+use crate::ends::{Accepted, AnswerEnd, AnswerFault};
+use crate::reading::read_answer;
 use circuit::{Circuit, Stimulus};
+use edge::{Shelf, read_text};
 use std::alloc::Global;
-use stimulus::{ReplayEnd, read, replay};
+use stimulus::{ReplayEnd, replay};
 
-/// The lasso that the answer's stimulus stands for, or why the answer is refused.
-pub(crate) fn judge_answer(alloc: Global, circuit: &Circuit, text: &[u8]) -> Result<Done, Status>
-    ensures found { AnswerSays circuit.now text.now (status_of result) }
-    ensures exactly { (verdict : Status) → AnswerDecides circuit.now text.now verdict → (status_of result ≡ verdict) ⊎ (status_of result ≡ Status.Memory) }
+/// The greatest length of an answer, in bytes. No text in memory is longer.
+pub(crate) const MAX_ANSWER_BYTES: u64 = 9_223_372_036_854_775_807;
+
+/// Checks the answer that the shelf holds under the name, against a circuit: `Accepted` exactly where it is a good
+/// answer of status 1, and else `Refused` with its first failing item. Its lines come first, in the order of the text:
+/// the status (`Shape`, `UnknownStatus`), the property (`Shape`, `NoProperty`), the stimulus and the dot (`Shape`),
+/// what is behind the dot (`Trailing`); and then the replay of the stimulus (`Replay`). `ReadFault` comes only where
+/// the shelf's count of faults of that name rose. The text is read whole before it is judged.
+pub fn check_answer<H: Shelf>(
+    alloc: Global,
+    circuit: &Circuit,
+    shelf: &mut H,
+    name: &str,
+) -> Result<Accepted, AnswerEnd>
+    // What is answered is so, of the text that the shelf tells;
+    ensures found { CheckSays circuit.now (H.held shelf.old name.now) result }
+    // and what is so is answered, unless memory is refused or a read fails.
+    ensures exactly { (text : List ℕ) (verdict : Result Accepted AnswerEnd) → H.held shelf.old name.now ≡ Some text → DecidesEnd circuit.now text verdict → Ends result verdict }
+    ensures read { result ≡ Err AnswerEnd.ReadFault → Rose (H.faults shelf.old name.now) (H.faults shelf.new name.now) }
+    ensures counts { NoneFell (H.faults shelf.old) (H.faults shelf.new) }
+    ensures kept { KeepsTexts (H.held shelf.old) (H.held shelf.new) }
 {
-    match stimulus_of(alloc, text) {
-        Ok(stimulus) => judge_stimulus(alloc, circuit, &stimulus),
-        Err(status) => Err(status),
+    match answer_bytes(alloc, shelf, name) {
+        Ok(text) => judge_answer(alloc, circuit, &text),
+        Err(end) => Err(end),
     }
 }
 
-/// The one stimulus whose answer the text is.
-fn stimulus_of(alloc: Global, text: &[u8]) -> Result<Stimulus, Status>
-    ensures found { IfOk result (λ stimulus. IsAnswer stimulus text.now) }
-    ensures one { IfOk result (λ stimulus. (other : Stimulus) → IsAnswer other text.now → stimulus ≡ other) }
-    ensures ended { IfErr result (EndsWithoutStimulus text.now) }
+/// The text that the shelf holds under the name, whole.
+fn answer_bytes<H: Shelf>(alloc: Global, shelf: &mut H, name: &str) -> Result<Vec<u8>, AnswerEnd>
+    ensures found { IfOk result (λ bytes. IfTold (H.held shelf.old name.now) (λ text. bytes.items ≡ text)) }
+    ensures ended { IfErr result (λ end. (end ≡ AnswerEnd.ReadFault) ⊎ (end ≡ AnswerEnd.Memory)) }
+    ensures read { result ≡ Err AnswerEnd.ReadFault → Rose (H.faults shelf.old name.now) (H.faults shelf.new name.now) }
+    ensures counts { NoneFell (H.faults shelf.old) (H.faults shelf.new) }
+    ensures kept { KeepsTexts (H.held shelf.old) (H.held shelf.new) }
 {
-    let Some(lines) = stimulus_part(text) else {
-        return Err(Status::Refused(AnswerFault::UnknownStatus));
-    };
-    match read(alloc, lines) {
-        Ok(stimulus) => Ok(stimulus),
-        Err(ReplayEnd::Fault(_)) => Err(Status::Refused(AnswerFault::UnknownStatus)),
-        Err(ReplayEnd::Memory) => Err(Status::Memory),
+    Ok(read_text(alloc, shelf, name, MAX_ANSWER_BYTES)?)
+}
+
+/// Judges the text of an answer.
+fn judge_answer(alloc: Global, circuit: &Circuit, text: &[u8]) -> Result<Accepted, AnswerEnd>
+    ensures found { EndSays circuit.now text.now result }
+    ensures exactly { (verdict : Result Accepted AnswerEnd) → DecidesEnd circuit.now text.now verdict → (result ≡ verdict) ⊎ (result ≡ Err AnswerEnd.Memory) }
+{
+    match read_answer(alloc, circuit, text) {
+        Ok((property, stimulus)) => replay_answer(alloc, circuit, property, &stimulus),
+        Err(end) => Err(end),
     }
 }
 
-/// The lasso that the stimulus stands for, or that it has none.
-fn judge_stimulus(alloc: Global, circuit: &Circuit, stimulus: &Stimulus) -> Result<Done, Status>
-    ensures { StimulusSays circuit.now stimulus.now (status_of result) }
+/// Replays the stimulus of an answer for this property.
+fn replay_answer(
+    alloc: Global,
+    circuit: &Circuit,
+    property: u32,
+    stimulus: &Stimulus,
+) -> Result<Accepted, AnswerEnd>
+    ensures found { ReplaySays circuit.now property stimulus.now result }
+    ensures exactly { (verdict : Result Accepted AnswerEnd) → ReplayDecides circuit.now property stimulus.now verdict → (result ≡ verdict) ⊎ (result ≡ Err AnswerEnd.Memory) }
 {
-    match replay(alloc, circuit, 0, stimulus) {
-        Ok(lasso) => Ok(Done::Lasso {
-            property: 0,
+    match replay(alloc, circuit, property, stimulus) {
+        Ok(lasso) => Ok(Accepted::Lasso {
+            property,
             positions: lasso.inputs.len() as u64,
             from: lasso.from,
         }),
-        Err(ReplayEnd::Fault(fault)) => Err(Status::Refused(AnswerFault::Replay(fault))),
-        Err(ReplayEnd::Memory) => Err(Status::Memory),
+        Err(ReplayEnd::Fault(fault)) => Err(AnswerEnd::Refused(AnswerFault::Replay(fault))),
+        Err(ReplayEnd::Memory) => Err(AnswerEnd::Memory),
     }
-}
-
-/// What stands between the lines of the status and the property and the line with a dot.
-fn stimulus_part(text: &[u8]) -> Option<&[u8]>
-    ensures found { IfSome result (λ part. text.now ≡ codes "1\nj0\n" ++ part.now ++ codes ".\n") }
-    ensures none { IfNone result ((part : List ℕ) → text.now ≢ codes "1\nj0\n" ++ part ++ codes ".\n") }
-{
-    let rest = behind(text, b"1\nj0\n")?;
-    before(rest, b".\n")
-}
-
-/// What follows these first bytes of the text.
-fn behind<'a>(text: &'a [u8], first: &[u8]) -> Option<&'a [u8]>
-    ensures { MatchOption result ((rest : List ℕ) → text.now ≢ first.now ++ rest) (λ rest. text.now ≡ first.now ++ rest.now) }
-{
-    text.strip_prefix(first)
-}
-
-/// What stands in front of these last bytes of the text.
-fn before<'a>(text: &'a [u8], last: &[u8]) -> Option<&'a [u8]>
-    ensures { MatchOption result ((rest : List ℕ) → text.now ≢ rest ++ last.now) (λ rest. text.now ≡ rest.now ++ last.now) }
-{
-    text.strip_suffix(last)
 }

@@ -3,11 +3,16 @@
 
 mod answers;
 mod checking;
-mod model_text;
+mod ends;
+mod lines;
+mod models;
+mod reading;
 mod running;
 mod status;
 mod texts;
 mod words;
 
+pub use answers::check_answer;
+pub use ends::{Accepted, AnswerEnd, AnswerFault};
 pub use running::{run, run_alone};
-pub use status::{AnswerFault, Done, Status};
+pub use status::{Done, Status};

@@ -3,13 +3,12 @@
 ghost use Rattle.std.specs.Prelude.{◌≡◌, ◌≤◌};
 ghost use Rattle.edge.specs.Faults.{Rose, NoneFell};
 ghost use Rattle.edge.specs.Reads.{KeepsTexts};
-ghost use Rattle.fair_top.specs.Commands.{bytes_of};
+ghost use Rattle.fair_top.specs.Commands.{bytes_of, IsTakenOrUsage};
 ghost use Rattle.fair_top.specs.Headline.{IsFound, IsVerdict, Answers, ReadFailed, Writes};
-ghost use Rattle.fair_top.specs.Judged.{status_of};
 ghost use Rattle.fair_top.specs.Statuses.{ends_silently};
 
 use crate::checking::check;
-use crate::status::{Done, Status};
+use crate::status::Status;
 use crate::texts::status_text;
 use edge::{Gate, Shelf, Sink, write_all};
 use std::alloc::Global;
@@ -28,6 +27,7 @@ pub fn run<R: Threads + Wait + Sync, H: Shelf, O: Sink, G: Gate>(
 ) -> Status
     ensures found { IsFound (H.held shelf.old) (bytes_of words.now) result }
     ensures exactly { (verdict : Status) → IsVerdict (H.held shelf.old) (bytes_of words.now) verdict → Answers result verdict }
+    ensures words { IsTakenOrUsage (bytes_of words.now) }
     ensures text { Writes (H.held shelf.old) (bytes_of words.now) (O.taken out.old) (O.taken out.new) result }
     ensures read { result ≡ Status.ReadFault → ReadFailed (H.held shelf.old) (bytes_of words.now) (H.faults shelf.old) (H.faults shelf.new) }
     ensures write { result ≡ Status.WriteFault → Rose (O.faults out.old) (O.faults out.new) }
@@ -45,10 +45,14 @@ pub fn run_alone<H: Shelf, O: Sink>(
     shelf: &mut H,
     out: &mut O,
 ) -> Status
-    // What is answered is so, of the words and of the texts that the shelf tells;
+    // What is answered is so, of the words and of the texts that the shelf tells: the words are no command; MODEL's
+    // bytes are in no model text, for their first fault; the answer is no good one, for its first failing item; or its
+    // stimulus stands for a fair lasso;
     ensures found { IsFound (H.held shelf.old) (bytes_of words.now) result }
     // and what is so is answered, unless memory is refused or a read or write fails.
     ensures exactly { (verdict : Status) → IsVerdict (H.held shelf.old) (bytes_of words.now) verdict → Answers result verdict }
+    // Words are a command with its names, or are refused.
+    ensures words { IsTakenOrUsage (bytes_of words.now) }
 
     // The sink has taken the answer's text; after a failed write a part of it; after a failed read or want
     // of memory nothing.
@@ -63,7 +67,7 @@ pub fn run_alone<H: Shelf, O: Sink>(
     ensures counts { NoneFell (H.faults shelf.old) (H.faults shelf.new) }
     ensures writes { O.faults out.old ≤ O.faults out.new }
 {
-    let status = found_status(check(alloc, words, shelf));
+    let status = check(alloc, words, shelf);
     if is_silent(&status) {
         return status;
     }
@@ -81,14 +85,4 @@ fn is_silent(status: &Status) -> bool
     ensures { result ≡ ends_silently status.now }
 {
     matches!(status, Status::ReadFault | Status::Memory)
-}
-
-/// The status with which a run ends that found this.
-fn found_status(found: Result<Done, Status>) -> Status
-    ensures { result ≡ status_of found }
-{
-    match found {
-        Ok(done) => Status::Done(done),
-        Err(status) => status,
-    }
 }

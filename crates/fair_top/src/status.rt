@@ -3,18 +3,18 @@
 ghost use Rattle.std.specs.Prelude.{◌≡◌};
 ghost use Rattle.fair_top.specs.Texts.{exit_number};
 
+use crate::ends::AnswerFault;
 use circuit::ModelFault;
 use edge::ReadEnd;
-use stimulus::ReplayFault;
 
 /// How a run of the program ended.
 #[derive(Clone, Copy, Debug, PartialEq, Eq)]
 pub enum Status {
     /// The command did its work.
     Done(Done),
-    /// `check`: the answer is not a good one.
+    /// `check`: the answer is not a good one, and this is its first failing item.
     Refused(AnswerFault),
-    /// The bytes of MODEL are in no model text that the program reads.
+    /// The bytes of MODEL are in no model text, and this is their first fault.
     BadModel(ModelFault),
     /// A read of MODEL or ANSWER failed. Nothing was written.
     ReadFault,
@@ -22,29 +22,20 @@ pub enum Status {
     WriteFault,
     /// Memory was refused. Nothing was written.
     Memory,
-    /// The words are no command.
+    /// The words are no command. Nothing was read.
     Usage,
 }
 
 /// What a command did.
 #[derive(Clone, Copy, Debug, PartialEq, Eq)]
 pub enum Done {
-    /// The stimulus of the answer stands for a fair lasso of this property: its number of positions, and the place,
-    /// from 0, that its last position steps back to.
+    /// The stimulus of the answer stands for a fair lasso of this property, counted from 0: its number of positions,
+    /// and the place, counted from 0, that its last position steps back to.
     Lasso {
         property: u32,
         positions: u64,
         from: u64,
     },
-}
-
-/// Why an answer is refused.
-#[derive(Clone, Copy, Debug, PartialEq, Eq)]
-pub enum AnswerFault {
-    /// The text is in none of the forms of an answer.
-    UnknownStatus,
-    /// The stimulus has no lasso.
-    Replay(ReplayFault),
 }
 
 impl Status {

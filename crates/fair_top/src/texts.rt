@@ -3,11 +3,15 @@
 ghost use Rattle.std.specs.Prelude.{◌≡◌, ◌++◌, IfOk, OnOk, codes, decimal};
 ghost use Rattle.fair_top.specs.Texts.{text_of, line_with, model_text, replay_text, answer_text, done_text};
 
-use crate::status::{AnswerFault, Done, Status};
+use crate::ends::AnswerFault;
+use crate::status::{Done, Status};
 use circuit::ModelFault;
 use std::alloc::{AllocError, Global};
 use stimulus::ReplayFault;
 use text_grammar::push_number;
+
+/// What is written where the words are no command: a line for each command.
+const USAGE: &str = "usage: fairlive check MODEL ANSWER\n";
 
 /// The whole text of a status.
 pub(crate) fn status_text(alloc: Global, status: &Status) -> Result<Vec<u8>, AllocError>
@@ -17,7 +21,7 @@ pub(crate) fn status_text(alloc: Global, status: &Status) -> Result<Vec<u8>, All
         Status::Done(done) => text_of_done(alloc, done),
         Status::Refused(fault) => text_of_answer(alloc, fault),
         Status::BadModel(fault) => text_of_model(alloc, fault),
-        Status::Usage => words(alloc, "usage: fairlive check MODEL ANSWER\n"),
+        Status::Usage => words(alloc, USAGE),
         Status::ReadFault | Status::WriteFault | Status::Memory => Ok(Vec::new(alloc)),
     }
 }
@@ -59,8 +63,12 @@ fn text_of_answer(alloc: Global, fault: &AnswerFault) -> Result<Vec<u8>, AllocEr
     ensures { IfOk result (λ line. line.items ≡ answer_text fault.now) }
 {
     match fault {
-        AnswerFault::UnknownStatus => words(alloc, "refused unknown status\n"),
+        AnswerFault::Shape(line) => numbered(alloc, "refused shape line ", *line),
+        AnswerFault::NoProperty(property) => numbered(alloc, "refused property ", *property),
         AnswerFault::Replay(fault) => text_of_replay(alloc, fault),
+        AnswerFault::TooLong => words(alloc, "refused too long\n"),
+        AnswerFault::Trailing(line) => numbered(alloc, "refused trailing line ", *line),
+        AnswerFault::UnknownStatus => words(alloc, "refused unknown status\n"),
     }
 }
 
@@ -68,11 +76,11 @@ fn text_of_replay(alloc: Global, fault: &ReplayFault) -> Result<Vec<u8>, AllocEr
     ensures { IfOk result (λ line. line.items ≡ replay_text fault.now) }
 {
     match *fault {
-        ReplayFault::Shape(line) => numbered(alloc, "refused shape line ", line),
         ReplayFault::Width(item) => numbered(alloc, "refused width item ", item),
         ReplayFault::NotInitial(latch) => numbered(alloc, "refused initial latch ", latch),
         ReplayFault::Constraint(place) => numbered(alloc, "refused constraint position ", place),
         ReplayFault::NoFairLoop => words(alloc, "refused no fair loop\n"),
+        ReplayFault::Shape(line) => numbered(alloc, "refused shape line ", line),
         ReplayFault::NoProperty => words(alloc, "refused property\n"),
     }
 }

@@ -1,3 +1,6 @@
-mod TextLemmas
+pub mod TextLemmas
 mod RunLemmas
+mod PlaceLemmas
 mod TrackLemmas
+mod FaultLemmas
+mod WriteLemmas

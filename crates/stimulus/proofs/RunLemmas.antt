@@ -1,5 +1,5 @@
 -- Runs that a stimulus lays out, position by position.
-use Rattle.std.proofs.Common.{◌≡◌, ◌≢◌, ℕ, zero, suc, ◌+◌, ◌-◌, ◌<◌, ◌≤◌, Bool, true, false, List, [], ◌∷◌, ◌++◌, map, length, take, drop, get_or, if◌then◌else◌, ◌⊎◌, inl, inr, subst, length-drop, refl, sym, ap, ◌∙◌, Option, Some, None, slice_get, IsTrue, All, Any, arith, length-append, add-one}
+use Rattle.std.proofs.Common.{◌≡◌, ℕ, zero, suc, ◌+◌, ◌-◌, ◌<◌, ◌≤◌, Bool, true, false, List, [], ◌∷◌, ◌++◌, length, take, drop, if◌then◌else◌, ◌⊎◌, inl, inr, subst, length-drop, refl, sym, ap, ◌∙◌, Some, slice_get, IsTrue, All, Any, arith, length-append}
 use native.Mathlib.Numerals.{unary_clauses}
 use Rattle.std.proofs.lemmas.Bool.{false≢true}
 use Rattle.std.proofs.lemmas.List.{drop_all}

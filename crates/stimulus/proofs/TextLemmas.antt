@@ -1,116 +1,210 @@
--- What tells digits, lines and texts of stimuli apart.
-use Rattle.std.proofs.Common.{◌≡◌, ◌≢◌, ℕ, zero, suc, ◌+◌, ◌<◌, ◌≤◌, Bool, true, false, List, [], ◌∷◌, ◌++◌, map, length, get_or, refl, sym, ap, ◌∙◌, append_assoc, inr, Result, Err, IsErrAnd, arith, length-append}
-use Rattle.std.specs.List.{flat_map}
-use Rattle.std.proofs.lemmas.List.Elements.{All-head, All-tail}
-use Rattle.aig_semantics.specs.declared.traces.Stimulus.{Stimulus}
-use Rattle.std.proofs.lemmas.Result.{err_from_is_err_and}
-use Rattle.text_grammar.specs.Pieces.{Lacks}
-use Rattle.stimulus.specs.declared.ends.ReplayFault.{ReplayFault}
+-- What lines of stimuli spell, and which of them is the first that is none.
+use Rattle.std.proofs.Common.{◌≡◌, ℕ, suc, ◌+◌, ◌-◌, ◌<◌, ◌≤◌, inl, inr, Bool, true, false, not, List, [], ◌∷◌, ◌++◌, map, length, get_or, subst, refl, sym, ap, ◌∙◌, append_assoc, Some, None, IsSome, IsTrue, All, Result, Ok, Err, IfOk, arith, length-append}
+use Rattle.std.proofs.lemmas.Bool.{false≢true, cases_lt}
+use Rattle.std.proofs.lemmas.List.{map-append, append-nil, get_or_append_left}
+use Rattle.std.proofs.Math.Seq.{get_or-append_seam}
+use Rattle.std.proofs.lemmas.List.Elements.{All-head, All-tail, All-cons, All-nil, All-weaker, All-get_or, filter-append}
+use Rattle.stimulus.specs.declared.ends.ReplayFault.TheVariants.{Shape}
 use Rattle.stimulus.specs.declared.ends.ReplayEnd.{ReplayEnd}
 use Rattle.stimulus.specs.declared.ends.ReplayEnd.TheVariants.{Fault, Memory}
-use Rattle.stimulus.specs.Ends.{OfFault, IfFault, GivesUnlessMemory}
-use Rattle.stimulus.specs.Texts.{digit_of, line_of, stimulus_lines}
+use Rattle.stimulus.specs.Ends.{IfFault, GivesUnlessMemory, FailsUnlessMemory}
+use Rattle.aig_semantics.specs.declared.traces.Stimulus.{Stimulus}
+use Rattle.text_grammar.specs.Lines.{lines_of}
+use Rattle.stimulus.specs.Texts.{value_of, is_skipped, row_values, present, kept_lines, IsTextOf, IsStimulusLine, IsFirstBad, LacksLatches, IsShape}
 
--- a character that stands for no value is none of a line of values
-pub no_values : (line : List ℕ) (i : ℕ) → i < length line → ((value : Bool) → get_or line i 0 ≡ digit_of value → ⊥) → (values : List Bool) → line ≡ map digit_of values → ⊥
-no_values [] i inside bad values e = absurd (omega arith)
-no_values (digit ∷ line) i inside bad [] e = cc
-no_values (digit ∷ line) zero inside bad (value ∷ values) e = bad value (cc)
-no_values (digit ∷ line) (suc i) inside bad (value ∷ values) e = no_values line i (omega arith) bad values (cc)
+-- values are told by what they are as values that are there
+Somes-apart : (a b : List Bool) → map Some a ≡ map Some b → a ≡ b
+Somes-apart [] [] e = refl
+Somes-apart [] (v ∷ b) e = cc
+Somes-apart (u ∷ a) [] e = cc
+Somes-apart (u ∷ a) (v ∷ b) e =
+    let others = Somes-apart a b (cc) in cc
 
-digit_of-apart : (a b : Bool) → digit_of a ≡ digit_of b → a ≡ b
-digit_of-apart false false e = refl
-digit_of-apart false true e = absurd (omega arith)
-digit_of-apart true false e = absurd (omega arith)
-digit_of-apart true true e = refl
+present-apart : (a b : List (List Bool)) → present a ≡ present b → a ≡ b
+present-apart [] [] e = refl
+present-apart [] (v ∷ b) e = cc
+present-apart (u ∷ a) [] e = cc
+present-apart (u ∷ a) (v ∷ b) e =
+    let first = Somes-apart u v (cc) in
+    let others = present-apart a b (cc) in cc
 
-digit_of-line_feed : (a : Bool) → 10 ≡ digit_of a → ⊥
-digit_of-line_feed false e = omega arith
-digit_of-line_feed true e = omega arith
+-- a character whose value is not there is in no line of values
+pub no_value : (line : List ℕ) (i : ℕ) → i < length line → value_of (get_or line i 0) ≡ None → All (λ character. IsSome (value_of character)) line → ⊥
+no_value line i inside none h = false≢true (subst (λ o. IsSome o) none (All-get_or (λ character. IsSome (value_of character)) line i 0 inside h))
 
--- the line in front shows its values
-pub line_of-apart : (a b : List Bool) (x y : List ℕ) → line_of a ++ x ≡ line_of b ++ y → (a ≡ b) × (x ≡ y)
-line_of-apart [] [] x y e = (refl, cc)
-line_of-apart [] (v ∷ b) x y e = absurd (digit_of-line_feed v (cc))
-line_of-apart (u ∷ a) [] x y e = absurd (digit_of-line_feed u (cc))
-line_of-apart (u ∷ a) (v ∷ b) x y e =
-    let same : u ≡ v = digit_of-apart u v (cc) in
-    let rest = line_of-apart a b x y (cc) in
-    let values = rest.0 in
-    (cc, rest.1)
+-- a line that spells values
+spells_some : (line : List ℕ) (values : List Bool) → map value_of line ≡ map Some values → All (λ character. IsSome (value_of character)) line
+spells_some [] values e = All-nil _
+spells_some (character ∷ line) [] e = cc
+spells_some (character ∷ line) (value ∷ values) e =
+    let first : value_of character ≡ Some value = cc in
+    All-cons (λ character. IsSome (value_of character)) character line (subst (λ o. IsSome o) (sym first) refl) (spells_some line values (cc))
 
-line_of-some : (f : List Bool) (x : List ℕ) → line_of f ++ x ≡ [] → ⊥
-line_of-some f x e = omega (arith, simp length-append at (ap length e))
+-- the lines of a stimulus's text are lines of a stimulus
+module _ (line : List ℕ) (lines : List (List ℕ)) where
+  kept-skipped : is_skipped line ≡ true → kept_lines (line ∷ lines) ≡ kept_lines lines
+  kept-skipped e = rw e
 
--- behind the lines of the first positions stand those of the others
-pub flat_map-behind : (front all : List (List Bool)) (rest : List ℕ) → flat_map line_of front ++ rest ≡ flat_map line_of all → (more : List (List Bool)) × (rest ≡ flat_map line_of more) × (all ≡ front ++ more)
-flat_map-behind [] all rest e = (all, e, refl)
-flat_map-behind (f ∷ front) [] rest e = absurd (line_of-some f (flat_map line_of front ++ rest) (sym (append_assoc (line_of f) (flat_map line_of front) rest) ∙ e))
-flat_map-behind (f ∷ front) (o ∷ all) rest e =
-    let first = line_of-apart f o (flat_map line_of front ++ rest) (flat_map line_of all) (sym (append_assoc (line_of f) (flat_map line_of front) rest) ∙ e) in
-    let others = flat_map-behind front all rest first.1 in
-    let same = first.0 in
-    let more = others.2 in
-    (others.0, others.1, cc)
+  kept-other : is_skipped line ≡ false → kept_lines (line ∷ lines) ≡ line ∷ kept_lines lines
+  kept-other e = rw e
 
--- where a text is left and no line stands in front of it, no lines end there
-pub no_more_lines : (front : List (List Bool)) (rest : List ℕ) → (rest ≡ [] → ⊥) → ((values : List Bool) (later : List ℕ) → rest ≡ line_of values ++ later → ⊥) → (all : List (List Bool)) → flat_map line_of front ++ rest ≡ flat_map line_of all → ⊥
-no_more_lines front rest some bad all e =
-    let behind = flat_map-behind front all rest e in no_lines_of behind.0 behind.1
-  where
-    no_lines_of : (more : List (List Bool)) → rest ≡ flat_map line_of more → ⊥
-    no_lines_of [] spelled = some spelled
-    no_lines_of (values ∷ more) spelled = bad values (flat_map line_of more) spelled
+good_line : (line : List ℕ) (lines : List (List ℕ)) (rows : List (List Bool)) (b : Bool) → is_skipped line ≡ b → row_values (kept_lines (line ∷ lines)) ≡ present rows → ((rows : List (List Bool)) → row_values (kept_lines lines) ≡ present rows → All IsStimulusLine lines) → All IsStimulusLine (line ∷ lines)
+good_line line lines rows true is e later = All-cons IsStimulusLine line lines (inl is) (later rows (sym (ap row_values (kept-skipped line lines is)) ∙ e))
+good_line line lines [] false is e later =
+    let f : map value_of line ∷ row_values (kept_lines lines) ≡ [] = sym (ap row_values (kept-other line lines is)) ∙ e in cc
+good_line line lines (row ∷ rows) false is e later =
+    let f : map value_of line ∷ row_values (kept_lines lines) ≡ map Some row ∷ present rows = sym (ap row_values (kept-other line lines is)) ∙ e in
+    All-cons IsStimulusLine line lines (inr (spells_some line row (cc))) (later rows (cc))
 
--- lines are those of one list
-pub flat_map-line_of-apart : (a b : List (List Bool)) → flat_map line_of a ≡ flat_map line_of b → a ≡ b
-flat_map-line_of-apart [] [] e = refl
-flat_map-line_of-apart [] (v ∷ b) e = absurd (line_of-some v (flat_map line_of b) (sym e))
-flat_map-line_of-apart (u ∷ a) [] e = absurd (line_of-some u (flat_map line_of a) e)
-flat_map-line_of-apart (u ∷ a) (v ∷ b) e =
-    let first = line_of-apart u v (flat_map line_of a) (flat_map line_of b) e in
-    let same = first.0 in
-    let others = flat_map-line_of-apart a b first.1 in
-    cc
+pub good_lines : (lines : List (List ℕ)) (rows : List (List Bool)) → row_values (kept_lines lines) ≡ present rows → All IsStimulusLine lines
+good_lines [] rows e = All-nil IsStimulusLine
+good_lines (line ∷ lines) rows e = good_line line lines rows (is_skipped line) refl e (good_lines lines)
 
--- a line has a line feed
-pub lacks_line : (bytes : List ℕ) → Lacks bytes 10 → (values : List Bool) (rest : List ℕ) → bytes ≡ line_of values ++ rest → ⊥
-lacks_line [] lacks [] rest e = cc
-lacks_line [] lacks (value ∷ values) rest e = cc
-lacks_line (b ∷ bytes) lacks [] rest e = All-head (λ b. b ≢ 10) b bytes lacks (cc)
-lacks_line (b ∷ bytes) lacks (value ∷ values) rest e = lacks_line bytes (All-tail (λ b. b ≢ 10) b bytes lacks) values rest (cc)
+all_skipped_more : (line : List ℕ) (lines : List (List ℕ)) (b : Bool) → is_skipped line ≡ b → kept_lines (line ∷ lines) ≡ [] → (kept_lines lines ≡ [] → All (λ line. IsTrue (is_skipped line)) lines) → All (λ line. IsTrue (is_skipped line)) (line ∷ lines)
+all_skipped_more line lines true is e later = All-cons (λ line. IsTrue (is_skipped line)) line lines is (later (sym (kept-skipped line lines is) ∙ e))
+all_skipped_more line lines false is e later =
+    let f : line ∷ kept_lines lines ≡ [] = sym (kept-other line lines is) ∙ e in cc
 
--- the line in front of the first line feed is the one of the values
-pub cut-line_of : (line rest : List ℕ) → Lacks line 10 → (values : List Bool) (later : List ℕ) → line ++ 10 ∷ rest ≡ line_of values ++ later → line ≡ map digit_of values
-cut-line_of [] rest lacks [] later e = refl
-cut-line_of [] rest lacks (value ∷ values) later e = absurd (digit_of-line_feed value (cc))
-cut-line_of (b ∷ line) rest lacks [] later e = absurd (All-head (λ b. b ≢ 10) b line lacks (cc))
-cut-line_of (b ∷ line) rest lacks (value ∷ values) later e =
-    let others = cut-line_of line rest (All-tail (λ b. b ≢ 10) b line lacks) values later (cc) in cc
+all_skipped : (lines : List (List ℕ)) → kept_lines lines ≡ [] → All (λ line. IsTrue (is_skipped line)) lines
+all_skipped [] e = All-nil _
+all_skipped (line ∷ lines) e = all_skipped_more line lines (is_skipped line) refl e (all_skipped lines)
 
--- what is said of the fault of an end holds where that end is passed on
-pub IfFault-passed : (T : Type 0) (r : Result T ReplayEnd) (end : ReplayEnd) (P Q : ReplayFault → Type 0) → IsErrAnd r (λ e. e ≡ end) → ((fault : ReplayFault) → P fault → Q fault) → OfFault end P → IfFault r Q
-IfFault-passed T r end P Q given f h =
-    let passed = err_from_is_err_and {E = ReplayEnd} {Q = λ e. e ≡ end} r given in
-    rw (passed.1, passed.2) (weaker end h)
-  where
-    weaker : (e : ReplayEnd) → OfFault e P → OfFault e Q
-    weaker (Fault fault) k = f fault k
-    weaker Memory k = tt
+none_kept : (lines : List (List ℕ)) → All (λ line. IsTrue (is_skipped line)) lines → kept_lines lines ≡ []
+none_kept [] h = refl
+none_kept (line ∷ lines) h =
+    kept-skipped line lines (All-head (λ line. IsTrue (is_skipped line)) line lines h) ∙ none_kept lines (All-tail (λ line. IsTrue (is_skipped line)) line lines h)
 
--- where a fault cannot be, the end is want of memory
-pub GivesUnlessMemory-passed : (T : Type 0) (r : Result T ReplayEnd) (end : ReplayEnd) (x : T) (P : ReplayFault → Type 0) → IsErrAnd r (λ e. e ≡ end) → ((fault : ReplayFault) → P fault → ⊥) → OfFault end P → GivesUnlessMemory r x
-GivesUnlessMemory-passed T r end x P given f h =
-    let passed = err_from_is_err_and {E = ReplayEnd} {Q = λ e. e ≡ end} r given in
-    rw (passed.1, passed.2) (memory end h)
-  where
-    memory : (e : ReplayEnd) → OfFault e P → GivesUnlessMemory {T = T} (Err e) x
-    memory (Fault fault) k = absurd (f fault k)
-    memory Memory k = inr refl
+no_rows : (lines : List (List ℕ)) → row_values lines ≡ [] → lines ≡ []
+no_rows [] e = refl
+no_rows (line ∷ lines) e = cc
 
--- a stimulus has its text alone
-pub all_lines : (latches : List Bool) (inputs : List (List Bool)) (rest : List ℕ) (s : Stimulus) → rest ≡ flat_map line_of inputs → line_of latches ++ rest ≡ stimulus_lines s → record { latches = latches; inputs = inputs } ≡ s
-all_lines latches inputs rest s spelled e =
-    let first = line_of-apart latches s.latches rest (flat_map line_of s.inputs) e in
-    let others = flat_map-line_of-apart inputs s.inputs (sym spelled ∙ first.1) in
-    λ i. record { latches = first.0 i; inputs = others i }
+-- ---- reading line by line
+
+-- the lines in front of the rest were read
+pub record LinesRead (bytes rest : List ℕ) (rows : List (List Bool)) (number : ℕ) : Type 0 where
+  pub front : List (List ℕ)
+  pub split : lines_of bytes ≡ front ++ lines_of rest
+  pub spelled : row_values (kept_lines front) ≡ present rows
+  pub counted : number ≡ length front + 1
+  pub short : number + length rest ≤ length bytes + 1
+
+pub LinesRead-none : (bytes : List ℕ) → LinesRead bytes bytes [] 1
+LinesRead-none bytes = record { front = []; split = refl; spelled = refl; counted = refl; short = omega arith }
+
+pub LinesRead-more : (bytes rest line later : List ℕ) (rows new : List (List Bool)) (number : ℕ)
+    → LinesRead bytes rest rows number → lines_of rest ≡ line ∷ lines_of later → length later < length rest
+    → present new ≡ present rows ++ row_values (kept_lines (line ∷ [])) → LinesRead bytes later new (number + 1)
+LinesRead-more bytes rest line later rows new number h next shorter more = record {
+  front = h.front ++ line ∷ [];
+  split = h.split ∙ ap (λ lines. h.front ++ lines) next ∙ sym (append_assoc h.front (line ∷ []) (lines_of later));
+  spelled =
+      ap row_values (filter-append (λ line. not (is_skipped line)) h.front (line ∷ []))
+      ∙ map-append (map value_of) (kept_lines h.front) (kept_lines (line ∷ []))
+      ∙ ap (λ x. x ++ row_values (kept_lines (line ∷ []))) h.spelled
+      ∙ sym more;
+  counted = omega (arith, h.counted, length-append h.front (line ∷ []));
+  short = omega (arith, h.short);
+}
+
+pub first_bad : (bytes rest line later : List ℕ) (rows : List (List Bool)) (number : ℕ)
+    → LinesRead bytes rest rows number → lines_of rest ≡ line ∷ lines_of later → (IsStimulusLine line → ⊥)
+    → IsFirstBad (lines_of bytes) number
+first_bad bytes rest line later rows number h next bad = record {
+  front = h.front;
+  line = line;
+  others = lines_of later;
+  split = h.split ∙ ap (λ lines. h.front ++ lines) next;
+  good = good_lines h.front rows h.spelled;
+  bad = bad;
+  place = h.counted;
+}
+
+pub all_read : (bytes rest : List ℕ) (rows : List (List Bool)) (number : ℕ) → rest ≡ [] → LinesRead bytes rest rows number
+    → (row_values (kept_lines (lines_of bytes)) ≡ present rows) × (number ≡ length (lines_of bytes) + 1)
+all_read bytes rest rows number ends h =
+    let lines : lines_of bytes ≡ h.front = h.split ∙ ap (λ x. h.front ++ lines_of x) ends ∙ append-nil h.front in
+    (ap (λ x. row_values (kept_lines x)) lines ∙ h.spelled, h.counted ∙ ap (λ x. length x + 1) (sym lines))
+
+-- ---- the faults of a text
+
+-- what is true of each line is true of the one between
+between : (P : List ℕ → Type 0) (front : List (List ℕ)) (line : List ℕ) (others : List (List ℕ)) → All P (front ++ line ∷ others) → P line
+between P [] line others h = All-head P line others h
+between P (first ∷ front) line others h = between P front line others (All-tail P first (front ++ line ∷ others) h)
+
+same_first : (a b : List ℕ) (xs ys : List (List ℕ)) → a ∷ xs ≡ b ∷ ys → (a ≡ b) × (xs ≡ ys)
+same_first a b xs ys e = (cc, cc)
+
+-- a list is split once only, at the first line of which P is not true
+split_once : (P : List ℕ → Type 0) (f g : List (List ℕ)) (a b : List ℕ) (xs ys : List (List ℕ)) → f ++ a ∷ xs ≡ g ++ b ∷ ys
+    → All P f → All P g → (P a → ⊥) → (P b → ⊥) → length f ≡ length g
+split_once P [] [] a b xs ys e hf hg na nb = refl
+split_once P [] (y ∷ g) a b xs ys e hf hg na nb =
+    absurd (na (subst P (sym (same_first a y xs (g ++ b ∷ ys) e).0) (All-head P y g hg)))
+split_once P (x ∷ f) [] a b xs ys e hf hg na nb =
+    absurd (nb (subst P (same_first x b (f ++ a ∷ xs) ys e).0 (All-head P x f hf)))
+split_once P (x ∷ f) (y ∷ g) a b xs ys e hf hg na nb =
+    ap suc (split_once P f g a b xs ys (same_first x y (f ++ a ∷ xs) (g ++ b ∷ ys) e).1 (All-tail P x f hf) (All-tail P y g hg) na nb)
+
+first_bad-apart : (lines : List (List ℕ)) (m n : ℕ) → IsFirstBad lines m → IsFirstBad lines n → m ≡ n
+first_bad-apart lines m n a b =
+    let same : length a.front ≡ length b.front =
+    split_once IsStimulusLine a.front b.front a.line b.line a.others b.others (sym a.split ∙ b.split) a.good b.good a.bad b.bad in
+    omega (arith, a.place, b.place, same)
+
+first_bad-good : (lines : List (List ℕ)) (n : ℕ) → IsFirstBad lines n → All IsStimulusLine lines → ⊥
+first_bad-good lines n a good = a.bad (between IsStimulusLine a.front a.line a.others (subst (All IsStimulusLine) a.split good))
+
+lacks-good : (lines : List (List ℕ)) (n : ℕ) → LacksLatches lines n → All IsStimulusLine lines
+lacks-good lines n a = All-weaker (λ line. IsTrue (is_skipped line)) IsStimulusLine (λ line h. inl h) lines a.skipped
+
+-- a text that lacks its latches is that of no stimulus
+lacks-no_text : (s : Stimulus) (bytes : List ℕ) (n : ℕ) → LacksLatches (lines_of bytes) n → IsTextOf s bytes → ⊥
+lacks-no_text s bytes n a text =
+    let nothing : present (s.latches ∷ s.inputs) ≡ [] = sym text ∙ ap row_values (none_kept (lines_of bytes) a.skipped) in cc
+
+pub first_bad-no_text : (s : Stimulus) (bytes : List ℕ) (n : ℕ) → IsFirstBad (lines_of bytes) n → IsTextOf s bytes → ⊥
+first_bad-no_text s bytes n a text = first_bad-good (lines_of bytes) n a (good_lines (lines_of bytes) (s.latches ∷ s.inputs) text)
+
+pub shape-no_text : (s : Stimulus) (bytes : List ℕ) (n : ℕ) → IsShape bytes n → IsTextOf s bytes → ⊥
+shape-no_text s bytes n (inl a) text = first_bad-no_text s bytes n a text
+shape-no_text s bytes n (inr a) text = lacks-no_text s bytes n a text
+
+one_shape : (bytes : List ℕ) (m n : ℕ) → IsShape bytes m → IsShape bytes n → m ≡ n
+one_shape bytes m n (inl a) (inl b) = first_bad-apart (lines_of bytes) m n a b
+one_shape bytes m n (inl a) (inr b) = absurd (first_bad-good (lines_of bytes) m a (lacks-good (lines_of bytes) n b))
+one_shape bytes m n (inr a) (inl b) = absurd (first_bad-good (lines_of bytes) n b (lacks-good (lines_of bytes) m a))
+one_shape bytes m n (inr a) (inr b) = a.place ∙ sym b.place
+
+pub lacks_latches : (bytes : List ℕ) (rows : List (List Bool)) (number : ℕ) → rows ≡ [] → row_values (kept_lines (lines_of bytes)) ≡ present rows → number ≡ length (lines_of bytes) + 1 → LacksLatches (lines_of bytes) number
+lacks_latches bytes rows number none spelled is = record {
+  skipped = all_skipped (lines_of bytes) (no_rows (kept_lines (lines_of bytes)) (spelled ∙ ap present none));
+  place = is;
+}
+
+-- a stimulus is told by the values that are there
+pub one_spelled : (s t : Stimulus) → present (s.latches ∷ s.inputs) ≡ present (t.latches ∷ t.inputs) → s ≡ t
+one_spelled s t e =
+    let same : s.latches ∷ s.inputs ≡ t.latches ∷ t.inputs = present-apart (s.latches ∷ s.inputs) (t.latches ∷ t.inputs) e in
+    let first : s.latches ≡ t.latches = cc in
+    let others : s.inputs ≡ t.inputs = cc in
+    λ i. record { latches = first i; inputs = others i }
+
+-- a text is that of one stimulus alone
+pub one_stimulus : (s t : Stimulus) (bytes : List ℕ) → IsTextOf s bytes → IsTextOf t bytes → s ≡ t
+one_stimulus s t bytes a b = one_spelled s t (sym a ∙ b)
+
+-- the two laws of reading, by how it ended
+pub reads_every : (r : Result Stimulus ReplayEnd) (bytes : List ℕ) → IfOk r (λ s. IsTextOf s bytes)
+    → IfFault r (λ fault. (number : ℕ) × (fault ≡ Shape number) × IsShape bytes number)
+    → (s : Stimulus) → IsTextOf s bytes → GivesUnlessMemory r s
+reads_every (Ok t) bytes found fault s text = inl (ap Ok (one_stimulus t s bytes found text))
+reads_every (Err (Fault f)) bytes found fault s text = absurd (shape-no_text s bytes fault.0 fault.2 text)
+reads_every (Err Memory) bytes found fault s text = inr refl
+
+pub reads_shape : (r : Result Stimulus ReplayEnd) (bytes : List ℕ) → IfOk r (λ s. IsTextOf s bytes)
+    → IfFault r (λ fault. (number : ℕ) × (fault ≡ Shape number) × IsShape bytes number)
+    → (number : ℕ) → IsShape bytes number → FailsUnlessMemory r (Shape number)
+reads_shape (Ok t) bytes found fault number shape = absurd (shape-no_text t bytes number shape found)
+reads_shape (Err (Fault f)) bytes found fault number shape = inl (ap (λ x. Err (Fault x)) (fault.1 ∙ ap Shape (one_shape bytes fault.0 number fault.2 shape)))
+reads_shape (Err Memory) bytes found fault number shape = inr refl

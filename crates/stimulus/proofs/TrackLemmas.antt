@@ -1,25 +1,29 @@
 -- What a walk knows of the positions of a stimulus, and what it shows of lassos.
-use Rattle.std.proofs.Common.{◌≡◌, ◌≢◌, ℕ, zero, suc, ◌+◌, ◌-◌, ◌<◌, ◌≤◌, Bool, true, false, List, [], ◌∷◌, ◌++◌, map, length, take, drop, get_or, subst, refl, sym, ap, ◌∙◌, Option, Some, None, slice_get, IsTrue, All, Any, ◌⊎◌, inl, inr, if◌then◌else◌, arith, length-append}
+use Rattle.std.proofs.Common.{◌≡◌, ℕ, ◌+◌, ◌-◌, ◌<◌, ◌≤◌, Bool, List, [], ◌∷◌, ◌++◌, map, length, take, drop, get_or, subst, refl, sym, ap, ◌∙◌, Option, Some, None, unwrap_or, slice_get, IsTrue, All, Any, inl, inr, arith}
 use Rattle.std.specs.Option.{option_map}
 use Rattle.std.proofs.lemmas.Bool.{cases_lt}
-use Rattle.std.proofs.lemmas.List.{take_more, take-take, map-append, map-id, length-map, length-take-le}
+use Rattle.std.proofs.lemmas.List.{take_more, take_all, map-append, map-id, length-map, length-take-le}
 use Rattle.std.proofs.lemmas.Simd.{map-map}
 use Rattle.std.proofs.lemmas.Option.{slice_get-map, slice_get_within, same_Some}
-use Rattle.std.proofs.lemmas.List.Elements.{All-head, All-tail, All-cons, All-nil, All-push, All-take, All-get_or}
+use Rattle.std.proofs.lemmas.List.Elements.{All-head, All-tail, All-cons, All-nil, All-push, All-weaker, All-get_or}
 use Rattle.aig_semantics.specs.declared.traces.Position.{Position}
 use Rattle.aig_semantics.specs.declared.traces.Stimulus.{Stimulus}
 use Rattle.aig_semantics.specs.Circuits.{Circuit, fair_literals}
-use Rattle.aig_semantics.specs.Runs.{successor, literal_at, IsRun, IsInitial, IsInitialRun, IsPosition, MeetsConstraints, MeetsFairness, ClosesAt, IsFairLasso}
-use Rattle.aig_semantics.specs.Stimuli.{simulated, FitsCircuit, HasLasso, StandsFor}
+use Rattle.aig_semantics.specs.Runs.{successor, literal_at, IsRun, IsInitial, IsInitialRun, MeetsConstraints, IsFairLasso}
+use Rattle.aig_semantics.specs.Stimuli.{simulated, HasLasso, StandsFor}
 use Rattle.stimulus.specs.declared.walks.Walk.{Walk}
 use Rattle.stimulus.specs.declared.walks.Watched.{Watched}
-use Rattle.stimulus.specs.Walks.{position_at, state_after, IsEndOf, unmet, watched_after, CanBegin, GoesOn, LoopsFrom}
-use Rattle.stimulus.proofs.RunLemmas.{state_after-push, simulated-push, length-simulated, simulated-take, IsRun-from_meets, IsRun-meets, last_position, IsEndOf-none, IsEndOf-push}
+use Rattle.stimulus.specs.Walks.{position_at, state_after, IsEndOf, unmet, watched_after, GoesOn, ClosesFrom}
+use Rattle.stimulus.specs.Places.{packed, place_at}
+use Rattle.stimulus.specs.Faults.{CanBegin, IsFirstForbidden, HasNoLasso}
+use Rattle.stimulus.proofs.PlaceLemmas.{IsPlaceMap, IsPlaceMap-none, IsPlaceMap-push}
+use Rattle.stimulus.proofs.RunLemmas.{state_after-push, simulated-push, length-simulated, IsRun-from_meets, IsRun-meets, last_position, IsEndOf-none, IsEndOf-push}
 
 -- a walk has met the positions with these inputs
 pub record Tracks (c : Circuit) (j : ℕ) (latches : List Bool) (inputs : List (List Bool)) (walk : Walk) : Type 0 where
-  pub states : walk.states ≡ map (λ p. p.latches) (simulated c latches inputs)
+  pub places : IsPlaceMap (length c.latches) (map (λ p. p.latches) (simulated c latches inputs)) walk.places
   pub next : walk.next ≡ state_after c latches inputs
+  pub key : walk.key.items ≡ packed walk.next
   pub literals : map (λ x. x.literal) walk.watched.items ≡ fair_literals c j
   pub ends : All (λ x. IsEndOf (λ p. literal_at c p x.literal) (simulated c latches inputs) x.end) walk.watched.items
   pub allowed : All (MeetsConstraints c) (simulated c latches inputs)
@@ -29,11 +33,12 @@ All-unmet c [] = All-nil _
 All-unmet c (literal ∷ literals) =
     All-cons (λ x. IsEndOf (λ p. literal_at c p x.literal) [] x.end) (unmet literal) (map unmet literals) (IsEndOf-none (λ p. literal_at c p literal)) (All-unmet c literals)
 
-pub Tracks-none : (c : Circuit) (j : ℕ) (latches : List Bool) (walk : Walk) → walk.states ≡ [] → walk.next ≡ latches → walk.watched.items ≡ map unmet (fair_literals c j) → Tracks c j latches [] walk
+pub Tracks-none : (c : Circuit) (j : ℕ) (latches : List Bool) (walk : Walk) → ((key : List ℕ) → place_at walk.places key ≡ None) → walk.next ≡ latches → walk.key.items ≡ packed latches → walk.watched.items ≡ map unmet (fair_literals c j) → Tracks c j latches [] walk
 unfolding simulated state_after
-Tracks-none c j latches walk states next watched = record {
-  states = states;
+Tracks-none c j latches walk places next key watched = record {
+  places = IsPlaceMap-none (length c.latches) walk.places places;
   next = next;
+  key = key ∙ ap packed (sym next);
   literals = ap (map (λ x. x.literal)) watched ∙ map-map (λ x. x.literal) unmet (fair_literals c j) ∙ map-id (fair_literals c j);
   ends = subst (All (λ x. IsEndOf (λ p. literal_at c p x.literal) [] x.end)) (sym watched) (All-unmet c (fair_literals c j));
   allowed = All-nil (MeetsConstraints c);
@@ -67,11 +72,21 @@ Tracks-push c j latches inputs now number old new is fit_latches fit_inputs meet
     let position : position_at (state_after c latches inputs) now ≡ p = ap (λ state. position_at state now) (sym h.next) in
     let more : simulated c latches (inputs ++ now ∷ []) ≡ run ++ p ∷ [] = simulated-push c latches inputs now ∙ ap (λ q. run ++ q ∷ []) position in
     let allowed : MeetsConstraints c p = record { position = record { latches = ap length h.next ∙ length-state_after c latches inputs fit_latches; inputs = fit_inputs }; constraints = meets } in
+    let states : map (λ p. p.latches) run ++ old.next ∷ [] ≡ map (λ p. p.latches) (simulated c latches (inputs ++ now ∷ [])) =
+    sym (map-append (λ p. p.latches) run (p ∷ [])) ∙ ap (map (λ p. p.latches)) (sym more) in
+    let places : IsPlaceMap (length c.latches) (map (λ p. p.latches) run ++ old.next ∷ []) new.places =
+    IsPlaceMap-push (length c.latches) (map (λ p. p.latches) run) old.next (number - 1) old.places new.places
+    (ap length h.next ∙ length-state_after c latches inputs fit_latches)
+    (omega (arith, length-simulated c latches inputs, length-map run (λ p. p.latches)))
+    (subst (λ key. place_at new.places key ≡ Some (unwrap_or (place_at old.places key) (number - 1))) h.key goes.there)
+    (λ key apart. goes.others key (λ e. apart (e ∙ h.key)))
+    h.places in
     let ends : All (λ x. IsEndOf (λ q. literal_at c q x.literal) (simulated c latches (inputs ++ now ∷ [])) x.end) (map (watched_after (literal_at c p) number) old.watched.items) =
     subst (λ run. All (λ x. IsEndOf (λ q. literal_at c q x.literal) run x.end) (map (watched_after (literal_at c p) number) old.watched.items)) (sym more)
     (All-watched_after c run p number old.watched.items (omega (arith, length-simulated c latches inputs)) h.ends) in
     record {
-      states = goes.states ∙ ap (λ states. states ++ old.next ∷ []) h.states ∙ sym (map-append (λ p. p.latches) run (p ∷ [])) ∙ ap (map (λ p. p.latches)) (sym more);
+      places = subst (λ states. IsPlaceMap (length c.latches) states new.places) states places;
+      key = goes.key;
       next = goes.next ∙ ap (successor c) (sym position) ∙ sym (state_after-push c latches inputs now);
       literals = ap (map (λ x. x.literal)) goes.watched ∙ literals-watched_after (literal_at c p) number old.watched.items ∙ h.literals;
       ends = subst (All (λ x. IsEndOf (λ q. literal_at c q x.literal) (simulated c latches (inputs ++ now ∷ [])) x.end)) (sym goes.watched) ends;
@@ -119,13 +134,18 @@ fair_seen c run from (x ∷ watched) ends fair =
     ((All-head Ends x watched ends).behind from (All-head Fair x.literal literals fair))
     (fair_seen c run from watched (All-tail Ends x watched ends) (All-tail Fair x.literal literals fair))
 
+-- a loop from this place closes and has all that is watched
+pub record LoopsFrom (states : List (List Bool)) (next : List Bool) (watched : List Watched) (from : ℕ) : Type 0 where
+  pub closes : slice_get states from ≡ Some next
+  pub seen : All (λ w. from < w.end) watched
+
 -- where a loop closes the stimulus has a fair lasso, and the other way round
-pub lasso_from_loop : (c : Circuit) (j : ℕ) (latches : List Bool) (inputs : List (List Bool)) (walk : Walk) (from : ℕ)
+lasso_from_loop : (c : Circuit) (j : ℕ) (latches : List Bool) (inputs : List (List Bool)) (walk : Walk) (from : ℕ)
     → j < length c.justice → IsInitial c latches → 0 < length inputs → Tracks c j latches inputs walk
-    → LoopsFrom walk.states walk.next walk.watched.items from → IsFairLasso c j (simulated c latches inputs) from
+    → LoopsFrom (map (λ p. p.latches) (simulated c latches inputs)) walk.next walk.watched.items from → IsFairLasso c j (simulated c latches inputs) from
 lasso_from_loop c j latches inputs walk from property initial some h loops =
     let run = simulated c latches inputs in
-    let at = sym (slice_get-map (λ p. p.latches) run from) ∙ ap (λ states. slice_get states from) (sym h.states) ∙ loops.closes in
+    let at = sym (slice_get-map (λ p. p.latches) run from) ∙ loops.closes in
     let first = mapped_some (λ p. p.latches) (slice_get run from) walk.next at in
     let last = last_position c latches inputs some in
     record {
@@ -136,36 +156,50 @@ lasso_from_loop c j latches inputs walk from property initial some h loops =
       fair = subst (All (λ literal. Any (λ p. IsTrue (literal_at c p literal)) (drop from run))) h.literals (seen_fair c run from walk.watched.items h.ends loops.seen);
     }
 
-pub loop_from_lasso : (c : Circuit) (j : ℕ) (latches : List Bool) (inputs : List (List Bool)) (walk : Walk) (from : ℕ)
+loop_from_lasso : (c : Circuit) (j : ℕ) (latches : List Bool) (inputs : List (List Bool)) (walk : Walk) (from : ℕ)
     → 0 < length inputs → Tracks c j latches inputs walk
-    → IsFairLasso c j (simulated c latches inputs) from → LoopsFrom walk.states walk.next walk.watched.items from
+    → IsFairLasso c j (simulated c latches inputs) from → LoopsFrom (map (λ p. p.latches) (simulated c latches inputs)) walk.next walk.watched.items from
 loop_from_lasso c j latches inputs walk from some h lasso =
     let run = simulated c latches inputs in
     let last = last_position c latches inputs some in
     let same : lasso.closes.last ≡ last.0 = same_Some lasso.closes.last last.0 (sym lasso.closes.is_last ∙ last.1) in
     let next : lasso.closes.first.latches ≡ walk.next = sym lasso.closes.closes ∙ ap (successor c) same ∙ last.2 ∙ sym h.next in
     record {
-      closes = ap (λ states. slice_get states from) h.states ∙ slice_get-map (λ p. p.latches) run from ∙ ap (option_map (λ p. p.latches)) lasso.closes.is_first ∙ ap Some next;
+      closes = slice_get-map (λ p. p.latches) run from ∙ ap (option_map (λ p. p.latches)) lasso.closes.is_first ∙ ap Some next;
       seen = fair_seen c run from walk.watched.items h.ends (subst (All (λ literal. Any (λ p. IsTrue (literal_at c p literal)) (drop from run))) (sym h.literals) lasso.fair);
     }
+
+-- the place that is kept for the next state, against all places with that state
+module _ (c : Circuit) (j : ℕ) (latches : List Bool) (inputs : List (List Bool)) (walk : Walk) (fits : length latches ≡ length c.latches) (h : Tracks c j latches inputs walk) where
+  abbrev states : List (List Bool)
+  states = map (λ p. p.latches) (simulated c latches inputs)
+
+  fits_next : length walk.next ≡ length c.latches
+  fits_next = ap length h.next ∙ length-state_after c latches inputs fits
+
+  kept_next : (from : ℕ) → place_at walk.places walk.key.items ≡ Some from → place_at walk.places (packed walk.next) ≡ Some from
+  kept_next from e = ap (place_at walk.places) (sym h.key) ∙ e
+
+  loops_where_closed : (from : ℕ) → ClosesFrom walk from → LoopsFrom states walk.next walk.watched.items from
+  loops_where_closed from closes = record { closes = h.places.found walk.next from fits_next (kept_next from closes.kept); seen = closes.seen }
+
+  first_closed : (from place : ℕ) → ClosesFrom walk from → LoopsFrom states walk.next walk.watched.items place → from ≤ place
+  first_closed from place closes loops = h.places.least walk.next from place fits_next (kept_next from closes.kept) loops.closes
+
+  closed_at : (place : ℕ) → LoopsFrom states walk.next walk.watched.items place → (o : Option ℕ) → place_at walk.places walk.key.items ≡ o → (from : ℕ) × ClosesFrom walk from
+  closed_at place loops None e = absurd (h.places.met walk.next place fits_next loops.closes (ap (place_at walk.places) (sym h.key) ∙ e))
+  closed_at place loops (Some from) e =
+      let first : from ≤ place = h.places.least walk.next from place fits_next (kept_next from e) loops.closes in
+      (from, record { kept = e; seen = All-weaker (λ w. place < w.end) (λ w. from < w.end) (λ w later. omega arith) walk.watched.items loops.seen })
+
+  none_closed : ((from : ℕ) → ClosesFrom walk from → ⊥) → (place : ℕ) → LoopsFrom states walk.next walk.watched.items place → ⊥
+  none_closed closed place loops =
+      let some = closed_at place loops (place_at walk.places walk.key.items) refl in closed some.0 some.1
 
 -- the last element of those that all have it
 last_all : {X : Type 0} (P : X → Type 0) (xs : List X) (x : X) → All P (xs ++ x ∷ []) → P x
 last_all P [] x h = All-head P x [] h
 last_all P (y ∷ xs) x h = last_all P xs x (All-tail P y (xs ++ x ∷ []) h)
-
--- each position of a lasso meets the constraints
-pub met_in_lasso : (c : Circuit) (j : ℕ) (s : Stimulus) (k n from : ℕ) (now : List Bool) → k < n → HasLasso c j s n from
-    → MeetsConstraints c (position_at (state_after c s.latches (take k s.inputs)) (get_or s.inputs k now))
-met_in_lasso c j s k n from now inside has =
-    let lengths = length-take-le n s.inputs has.inside in
-    let meets = IsRun-meets c (simulated c s.latches (take n s.inputs)) (initial_of c s.latches (take n s.inputs) (omega arith) has.lasso.initial).1 in
-    let front : take (k + 1) (simulated c s.latches (take n s.inputs)) ≡ simulated c s.latches (take k s.inputs) ++ position_at (state_after c s.latches (take k s.inputs)) (get_or s.inputs k now) ∷ [] =
-    sym (simulated-take c (k + 1) s.latches (take n s.inputs))
-    ∙ ap (simulated c s.latches) (take-take (k + 1) n s.inputs (omega arith) ∙ take_more s.inputs k now (omega (arith, has.inside)))
-    ∙ simulated-push c s.latches (take k s.inputs) (get_or s.inputs k now) in
-    last_all (MeetsConstraints c) (simulated c s.latches (take k s.inputs)) (position_at (state_after c s.latches (take k s.inputs)) (get_or s.inputs k now))
-    (subst (All (MeetsConstraints c)) front (All-take (MeetsConstraints c) (k + 1) (simulated c s.latches (take n s.inputs)) meets))
 
 -- what is known after the first k positions, when none of the lassos looked for ends there
 pub record IsReplayed (c : Circuit) (j : ℕ) (s : Stimulus) (k : ℕ) (walk : Walk) : Type 0 where
@@ -177,6 +211,12 @@ some_in_lasso : (c : Circuit) (j : ℕ) (s : Stimulus) (n from : ℕ) → HasLas
 some_in_lasso c j s n from has =
     omega (arith, has.lasso.inside, length-simulated c s.latches (take n s.inputs), length-take-le n s.inputs has.inside)
 
+-- its positions meet the constraints
+pub run_of_lasso : (c : Circuit) (j : ℕ) (s : Stimulus) (n from : ℕ) → HasLasso c j s n from → All (MeetsConstraints c) (simulated c s.latches (take n s.inputs))
+run_of_lasso c j s n from has =
+    IsRun-meets c (simulated c s.latches (take n s.inputs))
+    (initial_of c s.latches (take n s.inputs) (omega (arith, some_in_lasso c j s n from has, length-take-le n s.inputs has.inside)) has.lasso.initial).1
+
 pub can_begin : (c : Circuit) (j : ℕ) (s : Stimulus) (n from : ℕ) → HasLasso c j s n from → CanBegin c j s
 can_begin c j s n from has = record {
   property = has.lasso.property;
@@ -184,61 +224,78 @@ can_begin c j s n from has = record {
   initial = (initial_of c s.latches (take n s.inputs) (omega (arith, some_in_lasso c j s n from has, length-take-le n s.inputs has.inside)) has.lasso.initial).0;
 }
 
-pub IsReplayed-none : (c : Circuit) (j : ℕ) (s : Stimulus) (walk : Walk) → walk.states ≡ [] → walk.next ≡ s.latches → walk.watched.items ≡ map unmet (fair_literals c j) → IsReplayed c j s 0 walk
-IsReplayed-none c j s walk states next watched = record {
-  tracks = Tracks-none c j s.latches walk states next watched;
+pub IsReplayed-none : (c : Circuit) (j : ℕ) (s : Stimulus) (walk : Walk) → ((key : List ℕ) → place_at walk.places key ≡ None) → walk.next ≡ s.latches → walk.key.items ≡ packed s.latches → walk.watched.items ≡ map unmet (fair_literals c j) → IsReplayed c j s 0 walk
+IsReplayed-none c j s walk places next key watched = record {
+  tracks = Tracks-none c j s.latches walk places next key watched;
   none = λ n from few has. absurd (omega (arith, some_in_lasso c j s n from has));
 }
 
 -- one position more
-pub Tracks-more : (c : Circuit) (j : ℕ) (s : Stimulus) (k : ℕ) (now : List Bool) (number : ℕ) (old new : Walk)
-    → CanBegin c j s → k < length s.inputs → now ≡ get_or s.inputs k now → number ≡ k + 1 → IsReplayed c j s k old
-    → All (λ literal. IsTrue (literal_at c (position_at old.next now) literal)) c.constraints → GoesOn c now number old new
-    → Tracks c j s.latches (take (k + 1) s.inputs) new
-Tracks-more c j s k now number old new can inside at is h meets goes =
-    subst (λ inputs. Tracks c j s.latches inputs new) (sym (take_more s.inputs k now inside ∙ ap (λ x. take k s.inputs ++ x ∷ []) (sym at)))
-    (Tracks-push c j s.latches (take k s.inputs) now number old new (omega (arith, length-take-le k s.inputs)) can.fits.latches
-    (ap length at ∙ All-get_or (λ values. length values ≡ length c.inputs) s.inputs k now inside can.fits.inputs)
-    meets goes h.tracks)
+module _ (c : Circuit) (j : ℕ) (s : Stimulus) (k : ℕ) (now : List Bool) (old new : Walk)
+    (can : CanBegin c j s) (inside : k < length s.inputs) (at : now ≡ get_or s.inputs k now) (h : IsReplayed c j s k old) where
+  one_more : take (k + 1) s.inputs ≡ take k s.inputs ++ now ∷ []
+  one_more = take_more s.inputs k now inside ∙ ap (λ x. take k s.inputs ++ x ∷ []) (sym at)
 
--- a position that does not meet the constraints ends the search
-pub none_past : (c : Circuit) (j : ℕ) (s : Stimulus) (k : ℕ) (now : List Bool) (walk : Walk)
-    → k < length s.inputs → now ≡ get_or s.inputs k now → IsReplayed c j s k walk
-    → (All (λ literal. IsTrue (literal_at c (position_at walk.next now) literal)) c.constraints → ⊥)
-    → (n from : ℕ) → HasLasso c j s n from → ⊥
-none_past c j s k now walk inside at h not_met n from has =
-    elim (cases_lt k n) [ inl past ↦ past_none past | inr few ↦ h.none n from few has ]
-  where
-    past_none : k < n → ⊥
-    past_none past =
-        let state : state_after c s.latches (take k s.inputs) ≡ walk.next = sym h.tracks.next in
-        not_met (subst (λ p. All (λ literal. IsTrue (literal_at c p literal)) c.constraints) (λ i. position_at (state i) (sym at i)) (met_in_lasso c j s k n from now past has).constraints)
+  more_run : simulated c s.latches (take (k + 1) s.inputs) ≡ simulated c s.latches (take k s.inputs) ++ position_at old.next now ∷ []
+  more_run =
+      ap (simulated c s.latches) one_more ∙ simulated-push c s.latches (take k s.inputs) now
+      ∙ ap (λ state. simulated c s.latches (take k s.inputs) ++ position_at state now ∷ []) (sym h.tracks.next)
 
--- no lasso ends at a position where no loop closes
-pub IsReplayed-more : (c : Circuit) (j : ℕ) (s : Stimulus) (k : ℕ) (old new : Walk)
-    → k < length s.inputs → IsReplayed c j s k old → Tracks c j s.latches (take (k + 1) s.inputs) new
-    → ((from : ℕ) → LoopsFrom new.states new.next new.watched.items from → ⊥) → IsReplayed c j s (k + 1) new
-IsReplayed-more c j s k old new inside h tracks closed = record {
-  tracks = tracks;
-  none = λ n from few has. elim (cases_lt k n) [
-    | inl past ↦ last from (subst (λ m. HasLasso c j s m from) (omega arith) has)
-    | inr fewer ↦ h.none n from fewer has
-  ];
-}
-  where
-    last : (from : ℕ) → HasLasso c j s (k + 1) from → ⊥
-    last from has = closed from (loop_from_lasso c j s.latches (take (k + 1) s.inputs) new from (omega (arith, length-take-le (k + 1) s.inputs)) tracks has.lasso)
+  -- a position where a constraint is false is the first such, with no lasso before it
+  pub first_forbidden : (All (λ literal. IsTrue (literal_at c (position_at old.next now) literal)) c.constraints → ⊥) → IsFirstForbidden c j s k
+  first_forbidden not_met = record {
+    inside = inside;
+    before = h.tracks.allowed;
+    forbidden = λ met. not_met (last_all (MeetsConstraints c) (simulated c s.latches (take k s.inputs)) (position_at old.next now) (subst (All (MeetsConstraints c)) more_run met)).constraints;
+    none = h.none;
+  }
 
--- the first loop that closes is the lasso that the stimulus stands for
-pub StandsFor-first : (c : Circuit) (j : ℕ) (s : Stimulus) (k from : ℕ) (old new : Walk)
-    → CanBegin c j s → k < length s.inputs → IsReplayed c j s k old → Tracks c j s.latches (take (k + 1) s.inputs) new
-    → LoopsFrom new.states new.next new.watched.items from
-    → ((place : ℕ) → LoopsFrom new.states new.next new.watched.items place → from ≤ place)
-    → StandsFor c j s (k + 1) from
-StandsFor-first c j s k from old new can inside h tracks loops least =
-    let some : 0 < length (take (k + 1) s.inputs) = omega (arith, length-take-le (k + 1) s.inputs) in
-    record {
-      has = record { fits = can.fits; inside = omega arith; lasso = lasso_from_loop c j s.latches (take (k + 1) s.inputs) new from can.property can.initial some tracks loops };
-      shortest = λ n place has. elim (cases_lt k n) [ inl past ↦ omega arith | inr few ↦ absurd (h.none n place few has) ];
-      earliest = λ place has. least place (loop_from_lasso c j s.latches (take (k + 1) s.inputs) new place some tracks has.lasso);
+  module _ (meets : All (λ literal. IsTrue (literal_at c (position_at old.next now) literal)) c.constraints) (goes : GoesOn c now (k + 1) old new) where
+    tracks_more : Tracks c j s.latches (take (k + 1) s.inputs) new
+    tracks_more =
+        subst (λ inputs. Tracks c j s.latches inputs new) (sym one_more)
+        (Tracks-push c j s.latches (take k s.inputs) now (k + 1) old new (omega (arith, length-take-le k s.inputs)) can.fits.latches
+        (ap length at ∙ All-get_or (λ values. length values ≡ length c.inputs) s.inputs k now inside can.fits.inputs)
+        meets goes h.tracks)
+
+    some_more : 0 < length (take (k + 1) s.inputs)
+    some_more = omega (arith, length-take-le (k + 1) s.inputs)
+
+    -- no lasso ends at a position where no loop closes
+    pub IsReplayed-more : ((from : ℕ) → ClosesFrom new from → ⊥) → IsReplayed c j s (k + 1) new
+    IsReplayed-more closed = record {
+      tracks = tracks_more;
+      none = λ n from few has.
+          elim (cases_lt k n) [
+            | inl past ↦ last from (subst (λ m. HasLasso c j s m from) (omega arith) has)
+            | inr fewer ↦ h.none n from fewer has
+          ];
     }
+      where
+        last : (from : ℕ) → HasLasso c j s (k + 1) from → ⊥
+        last from has =
+            none_closed c j s.latches (take (k + 1) s.inputs) new can.fits.latches tracks_more closed from
+            (loop_from_lasso c j s.latches (take (k + 1) s.inputs) new from some_more tracks_more has.lasso)
+
+    -- the first loop that closes is the lasso that the stimulus stands for
+    pub StandsFor-first : (from : ℕ) → ClosesFrom new from → StandsFor c j s (k + 1) from
+    StandsFor-first from closes = record {
+      has = record {
+        fits = can.fits;
+        inside = omega arith;
+        lasso =
+            lasso_from_loop c j s.latches (take (k + 1) s.inputs) new from can.property can.initial some_more tracks_more
+            (loops_where_closed c j s.latches (take (k + 1) s.inputs) new can.fits.latches tracks_more from closes);
+      };
+      shortest = λ n place has. elim (cases_lt k n) [ inl past ↦ omega arith | inr few ↦ absurd (h.none n place few has) ];
+      earliest = λ place has.
+          first_closed c j s.latches (take (k + 1) s.inputs) new can.fits.latches tracks_more from place closes
+          (loop_from_lasso c j s.latches (take (k + 1) s.inputs) new place some_more tracks_more has.lasso);
+    }
+
+-- where the positions end there is no lasso
+pub no_lasso : (c : Circuit) (j : ℕ) (s : Stimulus) (k : ℕ) (walk : Walk) → length s.inputs ≤ k → IsReplayed c j s k walk → HasNoLasso c j s
+no_lasso c j s k walk ends h = record {
+  allowed = subst (λ inputs. All (MeetsConstraints c) (simulated c s.latches inputs)) (take_all k s.inputs ends) h.tracks.allowed;
+  none = λ n from has. h.none n from (omega (arith, has.inside)) has;
+}

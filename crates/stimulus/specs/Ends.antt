@@ -16,3 +16,7 @@ IfFault r P = IfErr r (λ end. OfFault end P)
 -- this value is given, unless memory is wanting
 abbrev pub GivesUnlessMemory : {T : Type 0} → Result T ReplayEnd → T → Type 0
 GivesUnlessMemory r x = (r ≡ Ok x) ⊎ (r ≡ Err Memory)
+
+-- this fault is given, unless memory is wanting
+abbrev pub FailsUnlessMemory : {T : Type 0} → Result T ReplayEnd → ReplayFault → Type 0
+FailsUnlessMemory r fault = (r ≡ Err (Fault fault)) ⊎ (r ≡ Err Memory)

@@ -1,18 +1,11 @@
--- A run under way: the state that comes next, and where literals were last true.
-use Rattle.std.specs.Prelude.{◌≡◌, ℕ, ◌<◌, ◌≤◌, Bool, List, [], ◌∷◌, ◌++◌, drop, length, map, slice_get, Some, IsTrue, All, Any, if◌then◌else◌}
+-- A run under way: the state that comes next, and where states and literals were met.
+use Rattle.std.specs.Prelude.{◌≡◌, ◌≢◌, ℕ, ◌-◌, ◌<◌, Bool, List, [], ◌∷◌, drop, map, slice_get, Some, unwrap_or, IsTrue, All, Any, if◌then◌else◌}
 use Rattle.aig_semantics.specs.declared.traces.Position.{Position}
-use Rattle.aig_semantics.specs.declared.traces.Stimulus.{Stimulus}
 use Rattle.aig_semantics.specs.Circuits.{Circuit}
-use Rattle.aig_semantics.specs.Runs.{successor, literal_at, IsInitial}
-use Rattle.aig_semantics.specs.Stimuli.{FitsCircuit}
+use Rattle.aig_semantics.specs.Runs.{successor, literal_at}
 use Rattle.stimulus.specs.declared.walks.Walk.{Walk}
 use Rattle.stimulus.specs.declared.walks.Watched.{Watched}
-
--- the property is there, and the stimulus fits the circuit and begins with an initial state
-pub record CanBegin (c : Circuit) (j : ℕ) (stimulus : Stimulus) : Type 0 where
-  pub property : j < length c.justice
-  pub fits : FitsCircuit c stimulus
-  pub initial : IsInitial c stimulus.latches
+use Rattle.stimulus.specs.Places.{packed, place_at}
 
 -- the state that follows the last of these positions
 unfoldable pub state_after : Circuit → List Bool → List (List Bool) → List Bool
@@ -38,11 +31,18 @@ watched_after value number w = record { literal = w.literal; end = if value w.li
 
 -- the walk has gone one position on, with these inputs and this number
 pub record GoesOn (c : Circuit) (inputs : List Bool) (number : ℕ) (old new : Walk) : Type 0 where
-  pub states : new.states ≡ old.states ++ old.next ∷ []
+  pub there : place_at new.places old.key.items ≡ Some (unwrap_or (place_at old.places old.key.items) (number - 1))
+  pub others : (key : List ℕ) → key ≢ old.key.items → place_at new.places key ≡ place_at old.places key
   pub next : new.next ≡ successor c (position_at old.next inputs)
+  pub key : new.key.items ≡ packed new.next
   pub watched : new.watched.items ≡ map (watched_after (literal_at c (position_at old.next inputs)) number) old.watched.items
 
 -- a loop from this place closes and has all that is watched
 pub record LoopsFrom (states : List (List Bool)) (next : List Bool) (watched : List Watched) (from : ℕ) : Type 0 where
   pub closes : slice_get states from ≡ Some next
   pub seen : All (λ w. from < w.end) watched
+
+-- the first place that is kept for the state that comes next, where a loop from there has all that is watched
+pub record ClosesFrom (walk : Walk) (from : ℕ) : Type 0 where
+  pub kept : place_at walk.places walk.key.items ≡ Some from
+  pub seen : All (λ w. from < w.end) walk.watched.items

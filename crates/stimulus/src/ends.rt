@@ -4,7 +4,8 @@ use std::alloc::{AllocError, AllocFailed};
 /// What is wrong with a stimulus.
 #[derive(Clone, Copy, Debug, PartialEq, Eq)]
 pub enum ReplayFault {
-    /// The line with this number, counted from 1, is no line of a stimulus.
+    /// The line with this number, counted from 1, is no line of a stimulus; or the text ends without the line of the
+    /// latches, which would have this number.
     Shape(u64),
     /// This item has not one value for each latch, as item 0, or each input, as item k + 1 of position k.
     Width(u64),

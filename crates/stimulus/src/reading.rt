@@ -1,89 +1,115 @@
 //! The text of a stimulus, read. The main call is `read`.
-ghost use Rattle.std.specs.Prelude.{◌≡◌, ℕ, ◌<◌, Bool, List, ◌++◌, map, length, IfOk, IfSome, IfNone};
-ghost use Rattle.std.specs.List.{flat_map};
+ghost use Rattle.std.specs.Prelude.{◌≡◌, ℕ, ◌+◌, ◌≤◌, ◌<◌, Bool, List, [], ◌∷◌, ◌++◌, Some, None, map, length, All, IsSome, IfOk, IfSome, IfNone};
+ghost use Rattle.std.specs.Bool.{OnTrue, OnFalse};
 ghost use Rattle.aig_semantics.specs.declared.traces.Stimulus.{Stimulus};
+ghost use Rattle.text_grammar.specs.Lines.{lines_of};
 ghost use Rattle.stimulus.specs.declared.ends.ReplayFault.TheVariants.{Shape};
-ghost use Rattle.stimulus.specs.Texts.{digit_of, line_of, stimulus_lines};
-ghost use Rattle.stimulus.specs.Ends.{IfFault, GivesUnlessMemory};
+ghost use Rattle.stimulus.specs.Texts.{value_of, row_values, present, is_skipped, kept_lines, IsTextOf, IsStimulusLine, IsFirstBad, IsShape};
+ghost use Rattle.stimulus.specs.Ends.{IfFault, GivesUnlessMemory, FailsUnlessMemory};
 
 use crate::ends::{ReplayEnd, ReplayFault};
 use aig_semantics::Stimulus;
 use items::Items;
-use std::alloc::Global;
-use text_grammar::cut_line;
+use std::alloc::{AllocError, Global};
+use text_grammar::next_line;
 
-// The fault of a text that is not that of a stimulus.
-const NO_STIMULUS: ReplayEnd = ReplayEnd::Fault(ReplayFault::Shape(1));
-
-/// Reads the text of a stimulus: a line for the latches, and one for the inputs of each position, of the
-/// characters 0 and 1 alone, each with its line feed. The one fault is `Shape(1)`, which comes where the
-/// text is that of no stimulus.
+/// Reads the text of a stimulus: a line for the latches, and one for the inputs of each position. Their
+/// characters are 0, 1 and x, which is read as 0; lines that begin with c or u are skipped, and a line feed
+/// that is missing at the very end is read as there. The one fault is `Shape` of the first line that is none
+/// of these, numbered from 1, or of the one that is wanted where the text ends without the latches' line.
 pub fn read(alloc: Global, bytes: &[u8]) -> Result<Stimulus, ReplayEnd>
-    ensures found { IfOk result (λ s. bytes.now ≡ stimulus_lines s) }
-    ensures every { (s : Stimulus) → bytes.now ≡ stimulus_lines s → GivesUnlessMemory result s }
-    ensures fault { IfFault result (λ fault. fault ≡ Shape 1) }
-    ensures none { IfFault result (λ _. (s : Stimulus) → bytes.now ≡ stimulus_lines s → ⊥) }
+    ensures found { IfOk result (λ s. IsTextOf s bytes.now) }
+    ensures every { (s : Stimulus) → IsTextOf s bytes.now → GivesUnlessMemory result s }
+    ensures fault { IfFault result (λ fault. (number : ℕ) × (fault ≡ Shape number) × IsShape bytes.now number) }
+    ensures shape { (number : ℕ) → IsShape bytes.now number → FailsUnlessMemory result (Shape number) }
 {
-    let (latches, rest) = read_line(alloc, bytes)?;
-    let inputs = read_lines(alloc, rest)?;
+    read_text(alloc, bytes)
+}
+
+// The stimulus whose text this is.
+fn read_text(alloc: Global, bytes: &[u8]) -> Result<Stimulus, ReplayEnd>
+    ensures found { IfOk result (λ s. IsTextOf s bytes.now) }
+    ensures fault { IfFault result (λ fault. (number : ℕ) × (fault ≡ Shape number) × IsShape bytes.now number) }
+{
+    let (lines, number) = read_kept(alloc, bytes)?;
+    let mut lines = lines.into_vec();
+    if lines.is_empty() {
+        return Err(ReplayEnd::Fault(ReplayFault::Shape(number)));
+    }
+    let latches = lines.remove(0);
+    let inputs = Items::from_vec(lines);
     Ok(Stimulus { latches, inputs })
 }
 
-// The values of all lines.
-fn read_lines(alloc: Global, bytes: &[u8]) -> Result<Items<Items<bool>>, ReplayEnd>
-    ensures found { IfOk result (λ lines. bytes.now ≡ flat_map line_of lines) }
-    ensures fault { IfFault result (λ fault. fault ≡ Shape 1) }
-    ensures none { IfFault result (λ _. (lines : List (List Bool)) → bytes.now ≡ flat_map line_of lines → ⊥) }
+// The values of the lines that are not skipped, and the number of the line that would come next.
+fn read_kept(alloc: Global, bytes: &[u8]) -> Result<(Items<Items<bool>>, u64), ReplayEnd>
+    ensures found { IfOk result (λ x. row_values (kept_lines (lines_of bytes.now)) ≡ present x.0) }
+    ensures next { IfOk result (λ x. x.1 ≡ length (lines_of bytes.now) + 1) }
+    ensures fault { IfFault result (λ fault. (number : ℕ) × (fault ≡ Shape number) × IsFirstBad (lines_of bytes.now) number) }
 {
     let mut lines = Items::new(alloc);
+    let mut number = 1;
     let mut rest = bytes;
-    while !rest.is_empty() {
-        let (values, later) = read_line(alloc, rest)?;
-        lines.push(values)?;
+    while let Some((line, later)) = next_line(rest) {
+        let stands = take_line(alloc, line, &mut lines)?;
+        if !stands {
+            return Err(ReplayEnd::Fault(ReplayFault::Shape(number)));
+        }
+        number += 1;
         rest = later;
     }
-    Ok(lines)
+    Ok((lines, number))
 }
 
-// The values of the line in front, and the text behind its line feed.
-fn read_line(alloc: Global, bytes: &[u8]) -> Result<(Items<bool>, &[u8]), ReplayEnd>
-    ensures found { IfOk result (λ x. bytes.now ≡ line_of x.0 ++ x.1.now) }
-    ensures shorter { IfOk result (λ x. length x.1.now < length bytes.now) }
-    ensures fault { IfFault result (λ fault. fault ≡ Shape 1) }
-    ensures none { IfFault result (λ _. (values : List Bool) (rest : List ℕ) → bytes.now ≡ line_of values ++ rest → ⊥) }
+// Puts the values of a line behind the others, unless the line is skipped; tells whether it is one of a
+// stimulus.
+fn take_line(alloc: Global, line: &[u8], lines: &mut Items<Items<bool>>) -> Result<bool, AllocError>
+    ensures taken { IfOk result (λ stands. OnTrue stands (present lines.new ≡ present lines.old ++ row_values (kept_lines (line.now ∷ [])))) }
+    ensures bad { IfOk result (λ stands. OnFalse stands (IsStimulusLine line.now → ⊥)) }
 {
-    match cut_line(bytes) {
-        Some((line, rest)) => {
-            let values = read_values(alloc, line)?;
-            Ok((values, rest))
+    if is_skipped(line) {
+        return Ok(true);
+    }
+    match read_values(alloc, line)? {
+        Some(values) => {
+            lines.push(values)?;
+            Ok(true)
         }
-        None => Err(NO_STIMULUS),
+        None => Ok(false),
     }
 }
 
-// The values that the characters of a line stand for.
-fn read_values(alloc: Global, line: &[u8]) -> Result<Items<bool>, ReplayEnd>
-    ensures found { IfOk result (λ values. line.now ≡ map digit_of values) }
-    ensures fault { IfFault result (λ fault. fault ≡ Shape 1) }
-    ensures none { IfFault result (λ _. (values : List Bool) → line.now ≡ map digit_of values → ⊥) }
+/// Whether the line begins with c or u, as lines do that are skipped.
+pub fn is_skipped(line: &[u8]) -> bool
+    ensures { result ≡ is_skipped line.now }
+{
+    match line.first() {
+        Some(first) => *first == b'c' || *first == b'u',
+        None => false,
+    }
+}
+
+// The values that the characters of a line stand for, if each of them does.
+fn read_values(alloc: Global, line: &[u8]) -> Result<Option<Items<bool>>, AllocError>
+    ensures found { IfOk result (λ read. IfSome read (λ values. map value_of line.now ≡ map Some values)) }
+    ensures none { IfOk result (λ read. IfNone read (All (λ character. IsSome (value_of character)) line.now → ⊥)) }
 {
     let mut values = Items::new(alloc);
-    for digit in line {
-        match value_of(*digit) {
+    for character in line {
+        match value_of(*character) {
             Some(value) => values.push(value)?,
-            None => return Err(NO_STIMULUS),
+            None => return Ok(None),
         }
     }
-    Ok(values)
+    Ok(Some(values))
 }
 
 // The value that a character stands for.
-fn value_of(digit: u8) -> Option<bool>
-    ensures found { IfSome result (λ value. digit ≡ digit_of value) }
-    ensures none { IfNone result ((value : Bool) → digit ≡ digit_of value → ⊥) }
+fn value_of(character: u8) -> Option<bool>
+    ensures { result ≡ value_of character }
 {
-    match digit {
-        b'0' => Some(false),
+    match character {
+        b'0' | b'x' => Some(false),
         b'1' => Some(true),
         _ => None,
     }

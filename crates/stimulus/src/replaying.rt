@@ -1,34 +1,53 @@
 //! The replay of a stimulus on a circuit. The main call is `replay`.
-ghost use Rattle.std.specs.Prelude.{◌≡◌, ℕ, ◌+◌, ◌<◌, ◌≤◌, ◌↔◌, ◌++◌, [], length, map, take, All, IsTrue, IfOk, OnOk};
+ghost use Rattle.std.specs.Prelude.{◌≡◌, ℕ, ◌+◌, ◌<◌, ◌≤◌, List, ◌++◌, None, length, map, take, IfOk, OnOk};
 ghost use Rattle.aig_semantics.specs.Circuits.{fair_literals};
-ghost use Rattle.aig_semantics.specs.Stimuli.{FitsCircuit, HasLasso, StandsFor};
-ghost use Rattle.stimulus.specs.declared.ends.ReplayFault.TheVariants.{NoFairLoop};
-ghost use Rattle.stimulus.specs.Ends.{IfFault};
-ghost use Rattle.stimulus.specs.Walks.{CanBegin, unmet};
+ghost use Rattle.aig_semantics.specs.Stimuli.{HasLasso, StandsFor};
+ghost use Rattle.stimulus.specs.declared.ends.ReplayFault.{ReplayFault};
+ghost use Rattle.stimulus.specs.Ends.{IfFault, FailsUnlessMemory};
+ghost use Rattle.stimulus.specs.Faults.{HasReplayFault};
+ghost use Rattle.stimulus.specs.Places.{packed, place_at};
+ghost use Rattle.stimulus.specs.Walks.{unmet};
 
+use crate::beginning::fault_before;
 use crate::ends::{ReplayEnd, ReplayFault};
+use crate::places::{Places, packed};
 use crate::walks::{Walk, Watched, loop_from, visit};
 use aig_semantics::{Lasso, Stimulus};
-use circuit::{Circuit, is_initial};
+use circuit::Circuit;
 use items::Items;
 use std::alloc::{AllocError, Global};
 
-// The fault of a stimulus that has no lasso.
-const NO_FAIR_LOOP: ReplayEnd = ReplayEnd::Fault(ReplayFault::NoFairLoop);
-
 /// The lasso that a stimulus stands for: of the fair lassos of property `j`, counted from 0, that are its first
-/// positions the one with the fewest positions, and of these the one that goes back to the least place. The one
-/// fault is `NoFairLoop`, which comes where there is none, also where there is no such property, or where the widths
-/// of the stimulus are not those of the circuit.
+/// positions the one with the fewest positions, and of these the one that goes back to the least place.
+///
+/// The first fault, in this order: `NoProperty` where there is no property `j`; `Width` of the first item with
+/// another number of values than the circuit has latches (item 0) or inputs (item k + 1, of position k);
+/// `NotInitial` of the first latch that may not begin with its value; `Constraint` of the first position where a
+/// constraint is false, with no lasso before it; `NoFairLoop` where the positions end.
+///
+/// Time is near-linear in positions times the size of the circuit: each state is looked up in an ordered map. For each
+/// state that is met the first place is kept, in one byte for eight latches and some 32 bytes more; all else is in
+/// proportion to the circuit and the positions.
 pub fn replay(alloc: Global, c: &Circuit, j: u32, s: &Stimulus) -> Result<Lasso, ReplayEnd>
     ensures found { IfOk result (λ lasso. StandsFor c.now j s.now (length lasso.inputs) lasso.from) }
     ensures start { IfOk result (λ lasso. lasso.start ≡ s.now.latches) }
     ensures inputs { IfOk result (λ lasso. lasso.inputs ≡ take (length lasso.inputs) s.now.inputs) }
-    ensures fault { IfFault result (λ fault. fault ≡ NoFairLoop) }
+    ensures fault { IfFault result (HasReplayFault c.now j s.now) }
+    ensures every { (fault : ReplayFault) → HasReplayFault c.now j s.now fault → FailsUnlessMemory result fault }
     ensures none { IfFault result (λ _. (k from : ℕ) → HasLasso c.now j s.now k from → ⊥) }
 {
-    if !can_begin(c, j, s) {
-        return Err(NO_FAIR_LOOP);
+    find_lasso(alloc, c, j, s)
+}
+
+// The same, without what follows of it.
+fn find_lasso(alloc: Global, c: &Circuit, j: u32, s: &Stimulus) -> Result<Lasso, ReplayEnd>
+    ensures found { IfOk result (λ lasso. StandsFor c.now j s.now (length lasso.inputs) lasso.from) }
+    ensures start { IfOk result (λ lasso. lasso.start ≡ s.now.latches) }
+    ensures inputs { IfOk result (λ lasso. lasso.inputs ≡ take (length lasso.inputs) s.now.inputs) }
+    ensures fault { IfFault result (HasReplayFault c.now j s.now) }
+{
+    if let Some(fault) = fault_before(c, j, s) {
+        return Err(ReplayEnd::Fault(fault));
     }
     let mut walk = begin(alloc, c, j as usize, s.latches.as_slice())?;
     let mut values = vec![in alloc; false; c.max() as usize + 1]?;
@@ -36,40 +55,13 @@ pub fn replay(alloc: Global, c: &Circuit, j: u32, s: &Stimulus) -> Result<Lasso,
         let number = k as u64 + 1;
         let allowed = visit(alloc, c, inputs.as_slice(), number, &mut values, &mut walk)?;
         if !allowed {
-            return Err(NO_FAIR_LOOP);
+            return Err(ReplayEnd::Fault(ReplayFault::Constraint(k as u64)));
         }
         if let Some(from) = loop_from(&walk) {
             return Ok(lasso_of(alloc, s, k + 1, from)?);
         }
     }
-    Err(NO_FAIR_LOOP)
-}
-
-// Whether the property is there, and the stimulus fits the circuit and begins with an initial state.
-fn can_begin(c: &Circuit, j: u32, s: &Stimulus) -> bool
-    ensures { IsTrue result ↔ CanBegin c.now j s.now }
-{
-    if j as usize >= c.properties() {
-        return false;
-    }
-    if !fits(c, s) {
-        return false;
-    }
-    is_initial(c, s.latches.as_slice())
-}
-
-// Whether there is a value for each latch, and for each input at each position.
-fn fits(c: &Circuit, s: &Stimulus) -> bool
-    ensures { IsTrue result ↔ FitsCircuit c.now s.now }
-{
-    if s.latches.len() != c.latches().len() {
-        return false;
-    }
-    let width = c.inputs().len();
-    s.inputs
-        .as_slice()
-        .iter()
-        .all(|values| values.len() == width)
+    Err(ReplayEnd::Fault(ReplayFault::NoFairLoop))
 }
 
 // Puts the literals behind those that are watched.
@@ -88,7 +80,8 @@ fn watch(literals: &[u64], watched: &mut Vec<Watched>) -> Result<(), AllocError>
 // A walk before its first position, whose state is the one given.
 fn begin(alloc: Global, c: &Circuit, j: usize, state: &[bool]) -> Result<Walk, AllocError>
     requires { j < length c.now.justice }
-    ensures states { IfOk result (λ walk. walk.states ≡ []) }
+    ensures places { IfOk result (λ walk. (key : List ℕ) → place_at walk.places key ≡ None) }
+    ensures key { IfOk result (λ walk. walk.key.items ≡ packed state.now) }
     ensures next { IfOk result (λ walk. walk.next ≡ state.now) }
     ensures watched { IfOk result (λ walk. walk.watched.items ≡ map unmet (fair_literals c.now j)) }
 {
@@ -96,8 +89,9 @@ fn begin(alloc: Global, c: &Circuit, j: usize, state: &[bool]) -> Result<Walk, A
     watch(c.property(j), &mut watched)?;
     watch(c.fairness(), &mut watched)?;
     Ok(Walk {
-        states: Items::new(alloc),
+        places: Places::new(alloc),
         next: Items::from_slice(alloc, state)?,
+        key: packed(alloc, state)?,
         watched,
     })
 }

@@ -7,39 +7,45 @@ use std::alloc::{AllocError, Global};
 use std::process::Abort;
 use std::test::*;
 
-// The text, and how many latches and positions it has.
-const TEXTS: [(&str, Option<(usize, usize)>); 12] = [
-    ("", None),
-    ("\n", Some((0, 0))),
-    ("\n\n\n", Some((0, 2))),
-    ("0", None),
-    ("01\n", Some((2, 0))),
-    ("01\n1\n0\n\n", Some((2, 3))),
-    ("01\n1", None),
-    ("0x\n1\n", None),
-    ("02\n1\n", None),
-    ("0 1\n1\n", None),
-    ("0\r\n", None),
-    ("0\nc\n1\n", None),
+// The text, and how many latches and positions it has, or the number of the line that is none of a stimulus.
+const TEXTS: [(&str, Result<(usize, usize), u64>); 18] = [
+    ("", Err(1)),
+    ("c\n", Err(2)),
+    ("c a\nu b", Err(3)),
+    ("\n", Ok((0, 0))),
+    ("\n\n\n", Ok((0, 2))),
+    ("0", Ok((1, 0))),
+    ("0x1\n", Ok((3, 0))),
+    ("01\n1\n0\n\n", Ok((2, 3))),
+    ("01\n1", Ok((2, 1))),
+    ("c\n01\nu1\n1\nc", Ok((2, 1))),
+    ("02\n1\n", Err(1)),
+    ("c\n0\n2\n3\n", Err(3)),
+    ("0\n1\n2", Err(3)),
+    ("0 1\n1\n", Err(1)),
+    ("0\r\n", Err(1)),
+    ("X\n", Err(1)),
+    (".\n", Err(1)),
+    ("0\n0c\n", Err(2)),
 ];
 
 #[test]
 fn texts(rt: HostRuntime) -> Result<(), Fail> {
     for (text, wanted) in TEXTS {
         let found = match read(rt.alloc(), text.as_bytes()) {
-            Ok(s) => Some((s.latches.len(), s.inputs.len())),
-            Err(end) => {
-                assert_eq!(rt; end, ReplayEnd::Fault(ReplayFault::Shape(1)), "of {text}");
-                None
-            }
+            Ok(s) => Ok((s.latches.len(), s.inputs.len())),
+            Err(ReplayEnd::Fault(ReplayFault::Shape(number))) => Err(number),
+            Err(_) => Err(0),
         };
         assert_eq!(rt; found, wanted, "of {text}");
     }
-    let s = read(rt.alloc(), b"01\n110\n")?;
+    let s = read(rt.alloc(), b"x1\nc\n110\n11x")?;
     assert_eq!(rt; s.latches.as_slice(), [false, true].as_slice());
     for values in s.inputs.as_slice() {
         assert_eq!(rt; values.as_slice(), [true, true, false].as_slice());
     }
+    let text = write(rt.alloc(), 20, &s)?;
+    assert_eq!(rt; text.as_slice(), b"1\nj20\n01\n110\n110\n.\n".as_slice());
     Ok(())
 }
 
@@ -163,32 +169,39 @@ fn circuit_of(rt: &impl Abort, alloc: Global, model: &Model) -> Result<Circuit, 
     Ok(check_circuit(alloc, &parts)?)
 }
 
-// A circuit, a property, a stimulus, and the number of positions of the lasso and the place that it goes back to.
-const REPLAYS: [(&Model, u32, &str, Option<(usize, u64)>); 24] = [
-    (&TOGGLE, 0, "0\n", None),
-    (&TOGGLE, 0, "0\n\n", None),
-    (&TOGGLE, 0, "0\n\n\n", Some((2, 0))),
-    (&TOGGLE, 0, "0\n\n\n\n", Some((2, 0))),
-    (&TOGGLE, 0, "1\n\n\n", None),
-    (&TOGGLE, 1, "0\n\n\n", None),
-    (&TOGGLE, u32::MAX, "0\n\n\n", None),
-    (&TOGGLE, 0, "\n\n\n", None),
-    (&TOGGLE, 0, "00\n\n\n", None),
-    (&TOGGLE, 0, "0\n\n\n1\n", None),
-    (&STUCK, 0, "0\n\n\n\n", None),
-    (&FREE, 0, "1\n\n", Some((1, 0))),
-    (&FREE, 0, "0\n\n\n", None),
-    (&FREE, 0, "1\n", None),
-    (&INPUT, 0, "\n0\n1\n0\n", Some((2, 0))),
-    (&INPUT, 0, "\n0\n0\n", None),
-    (&INPUT, 0, "\n0\n11\n", None),
-    (&STEM, 0, "1\n\n\n\n", None),
-    (&FALLS, 0, "1\n\n\n\n", Some((2, 1))),
-    (&CALM, 0, "0\n0\n0\n", Some((1, 0))),
-    (&CALM, 0, "1\n0\n0\n", Some((2, 1))),
-    (&CALM, 0, "1\n0\n1\n", None),
-    (&BOTH, 0, "1\n1\n0\n0\n1\n", Some((4, 0))),
-    (&BOTH, 0, "0\n0\n1\n1\n", None),
+// A circuit, a property, a stimulus, and the number of positions of the lasso and the place that it goes back to, or
+// what is wrong.
+const REPLAYS: [(&Model, u32, &str, Result<(usize, u64), ReplayFault>); 30] = [
+    (&TOGGLE, 0, "0\n", Err(ReplayFault::NoFairLoop)),
+    (&TOGGLE, 0, "0\n\n", Err(ReplayFault::NoFairLoop)),
+    (&TOGGLE, 0, "0\n\n\n", Ok((2, 0))),
+    (&TOGGLE, 0, "0\n\n\n\n", Ok((2, 0))),
+    (&TOGGLE, 0, "1\n\n\n", Err(ReplayFault::NotInitial(0))),
+    (&TOGGLE, 1, "00\n\n\n", Err(ReplayFault::NoProperty)),
+    (&TOGGLE, u32::MAX, "0\n\n\n", Err(ReplayFault::NoProperty)),
+    (&TOGGLE, 0, "\n\n\n", Err(ReplayFault::Width(0))),
+    (&TOGGLE, 0, "10\n\n1\n", Err(ReplayFault::Width(0))),
+    (&TOGGLE, 0, "0\n1\n\n", Err(ReplayFault::Width(1))),
+    (&TOGGLE, 0, "1\n\n\n1\n", Err(ReplayFault::Width(3))),
+    (&STUCK, 0, "0\n\n\n\n", Err(ReplayFault::NoFairLoop)),
+    (&FREE, 0, "1\n\n", Ok((1, 0))),
+    (&FREE, 0, "x\n\n\n", Err(ReplayFault::NoFairLoop)),
+    (&FREE, 0, "1\n", Err(ReplayFault::NoFairLoop)),
+    (&INPUT, 0, "\n0\n1\n0\n", Ok((2, 0))),
+    (&INPUT, 0, "\n0\nx\n", Err(ReplayFault::NoFairLoop)),
+    (&INPUT, 0, "\n0\n11\n", Err(ReplayFault::Width(2))),
+    (&STEM, 0, "1\n\n\n\n", Err(ReplayFault::NoFairLoop)),
+    (&STEM, 0, "0\n\n\n\n", Err(ReplayFault::NotInitial(0))),
+    (&FALLS, 0, "1\n\n\n\n", Ok((2, 1))),
+    (&CALM, 0, "0\n0\n0\n", Ok((1, 0))),
+    (&CALM, 0, "0\n0\n1\n", Ok((1, 0))),
+    (&CALM, 0, "1\n0\n0\n", Ok((2, 1))),
+    (&CALM, 0, "1\n0\n1\n", Err(ReplayFault::Constraint(1))),
+    (&CALM, 0, "0\n1\n0\n", Err(ReplayFault::Constraint(0))),
+    (&CALM, 0, "1\n0\n", Err(ReplayFault::NoFairLoop)),
+    (&BOTH, 0, "1\n1\n0\n0\n1\n", Ok((4, 0))),
+    (&BOTH, 0, "0\n0\n1\n0\n1\n", Ok((3, 0))),
+    (&BOTH, 0, "0\n0\n1\n1\n", Err(ReplayFault::NoFairLoop)),
 ];
 
 #[test]
@@ -199,12 +212,10 @@ fn replays(rt: HostRuntime) -> Result<(), Fail> {
         let found = match replay(rt.alloc(), &c, j, &s) {
             Ok(lasso) => {
                 assert!(rt; lasso.start.as_slice() == s.latches.as_slice(), "of {text}");
-                Some((lasso.inputs.len(), lasso.from))
+                Ok((lasso.inputs.len(), lasso.from))
             }
-            Err(end) => {
-                assert_eq!(rt; end, ReplayEnd::Fault(ReplayFault::NoFairLoop), "of {text}");
-                None
-            }
+            Err(ReplayEnd::Fault(fault)) => Err(fault),
+            Err(ReplayEnd::Memory) => Err(ReplayFault::Shape(0)),
         };
         assert_eq!(rt; found, wanted, "of {text}");
     }

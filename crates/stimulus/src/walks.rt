@@ -1,14 +1,15 @@
-//! A run under way: the states that it met and where the literals of fairness were last true. The main calls are
+//! A run under way: where its states were first met and its literals last true. The main calls are
 //! `visit`, which goes one position on, and `loop_from`.
-ghost use Rattle.std.specs.Prelude.{◌≡◌, ℕ, ◌+◌, ◌<◌, ◌≤◌, [], ◌∷◌, ◌++◌, length, map, slice_get, Some, All, IsTrue, ◌↔◌, IfOk, IfSome, IfNone};
+ghost use Rattle.std.specs.Prelude.{◌≡◌, ℕ, ◌+◌, ◌<◌, ◌≤◌, [], ◌∷◌, ◌++◌, length, map, All, IsTrue, ◌↔◌, IfOk, IfSome, IfNone};
 ghost use Rattle.std.specs.Bool.{OnTrue};
 ghost use Rattle.aig_semantics.specs.declared.traces.Position.{Position};
 ghost use Rattle.aig_semantics.specs.Literals.{literal_in};
 ghost use Rattle.aig_semantics.specs.Valuations.{valuation};
 ghost use Rattle.aig_semantics.specs.Runs.{literal_at, successor};
 ghost use Rattle.aig_semantics.specs.Circuits.{fair_literals};
-ghost use Rattle.stimulus.specs.Walks.{position_at, watched_after, GoesOn, LoopsFrom};
+ghost use Rattle.stimulus.specs.Walks.{position_at, watched_after, GoesOn, ClosesFrom};
 
+use crate::places::{Places, keep_place, packed};
 use circuit::{Circuit, eval_into, literal_value, next_into};
 use items::Items;
 use std::alloc::{AllocError, Global};
@@ -24,10 +25,12 @@ pub(crate) struct Watched {
 /// What is kept of the positions so far.
 #[derive(Drop)]
 pub(crate) struct Walk {
-    /// The states of the positions, in order.
-    pub(crate) states: Items<Items<bool>>,
+    /// The first place of each state.
+    pub(crate) places: Places,
     /// The state that comes next.
     pub(crate) next: Items<bool>,
+    /// The same, packed.
+    pub(crate) key: Vec<u8>,
     /// The literals that a fair loop makes true.
     pub(crate) watched: Vec<Watched>,
 }
@@ -86,6 +89,7 @@ pub(crate) fn visit(
     requires latches { length walk.old.next ≡ length c.now.latches }
     requires inputs { length inputs.now ≡ length c.now.inputs }
     requires values { length values.old ≡ c.now.max + 1 }
+    requires number { 1 ≤ number }
     ensures allowed { IfOk result (λ allowed. IsTrue allowed ↔ All (λ literal. IsTrue (literal_at c.now (position_at walk.old.next inputs.now) literal)) c.now.constraints) }
     ensures goes { IfOk result (λ allowed. OnTrue allowed (GoesOn c.now inputs.now number walk.old walk.new)) }
 {
@@ -94,49 +98,20 @@ pub(crate) fn visit(
         return Ok(false);
     }
     note(values, number, &mut walk.watched);
-    let later = state_behind(alloc, c, values)?;
-    let now = mem::replace(&mut walk.next, later);
-    walk.states.push(now)?;
+    walk.next = state_behind(alloc, c, values)?;
+    let later = packed(alloc, walk.next.as_slice())?;
+    let now = mem::replace(&mut walk.key, later);
+    keep_place(&mut walk.places, now, number - 1)?;
     Ok(true)
 }
 
-// Whether the two lists are the same.
-fn are_same(a: &[bool], b: &[bool]) -> bool
-    ensures { IsTrue result ↔ (a.now ≡ b.now) }
-{
-    if a.len() != b.len() {
-        return false;
-    }
-    for (i, value) in a.iter().enumerate() {
-        if *value != b[i] {
-            return false;
-        }
-    }
-    true
-}
-
-// The first place of a state.
-fn first_place(states: &[Items<bool>], state: &[bool]) -> Option<usize>
-    ensures found { IfSome result (λ p. slice_get states.now p ≡ Some state.now) }
-    ensures least { IfSome result (λ p. (q : ℕ) → slice_get states.now q ≡ Some state.now → p ≤ q) }
-    ensures none { IfNone result ((q : ℕ) → slice_get states.now q ≡ Some state.now → ⊥) }
-{
-    for (i, met) in states.iter().enumerate() {
-        if are_same(met.as_slice(), state) {
-            return Some(i);
-        }
-    }
-    None
-}
-
-/// The least place from which a loop closes that has all that is watched. Of the places with the state that comes
-/// next it is the first, since from there on the most is seen.
+/// The place from which a loop closes that has all that is watched. Of the places with the state that comes next it
+/// is the first, since from there on the most is seen.
 pub(crate) fn loop_from(walk: &Walk) -> Option<u64>
-    ensures found { IfSome result (LoopsFrom walk.now.states walk.now.next walk.now.watched.items) }
-    ensures least { IfSome result (λ p. (q : ℕ) → LoopsFrom walk.now.states walk.now.next walk.now.watched.items q → p ≤ q) }
-    ensures none { IfNone result ((q : ℕ) → LoopsFrom walk.now.states walk.now.next walk.now.watched.items q → ⊥) }
+    ensures found { IfSome result (ClosesFrom walk.now) }
+    ensures none { IfNone result ((from : ℕ) → ClosesFrom walk.now from → ⊥) }
 {
-    let from = first_place(walk.states.as_slice(), walk.next.as_slice())? as u64;
+    let from = *walk.places.get(walk.key.as_slice())?;
     if walk.watched.iter().all(|w| from < w.end) {
         Some(from)
     } else {

@@ -1,0 +1,7 @@
+use Rattle.std.proofs.Common.{◌≡◌, ◌++◌, take}
+use Rattle.std.specs.List.{flat_map}
+use Rattle.aiger_grammar.specs.Spelling.{latch_line}
+use Rattle.aiger_ascii.proofs.writing.push_latches.Given as goal
+
+abbrev pub invariant-loop-latch : goal.invariant-loop-latch
+invariant-loop-latch l = l.out.items ≡ l.fn.out.items ++ flat_map latch_line (take l.latch-index l.latches)

@@ -1,0 +1,131 @@
+//! Texts and places worked out by hand from the format, and texts of small models.
+use super::*;
+use circuit::{ModelEnd, ModelFault};
+use std::alloc::{AllocError, Global};
+use std::test::*;
+
+// Lines begin at 0, 22, 24, 30, 32, 34, 36, 38, 40, 42, 44, 50 and 55.
+const TEXT: &[u8] = b"aag 4 1 1 1 1 1 1 1 1\n2\n4 2 1\n6\n7\n1\n2\n2\n4\n0\n6 4 3\ni0 x\nc\nany";
+
+const ALL: usize = 100;
+
+// From where, how many bytes are replaced, by what, and the fault.
+const FAULTS: [(usize, usize, &str, ModelFault); 53] = [
+    (0, ALL, "", ModelFault::Truncated(0)),
+    (2, ALL, "", ModelFault::Truncated(2)),
+    (9, ALL, "", ModelFault::Truncated(9)),
+    (21, ALL, "", ModelFault::Truncated(21)),
+    (4, ALL, "0 9", ModelFault::Truncated(7)),
+    (1, 1, "i", ModelFault::Header(0)),
+    (4, 1, "04", ModelFault::Header(0)),
+    (4, ALL, "4294967296", ModelFault::Header(0)),
+    (4, 1, "2", ModelFault::Header(0)),
+    (21, 0, " 1", ModelFault::Header(0)),
+    (4, 1, "1048577", ModelFault::Limit(0)),
+    (22, 1, "02", ModelFault::Number(22)),
+    (22, ALL, "02", ModelFault::Number(22)),
+    (22, 1, "x", ModelFault::Number(22)),
+    (22, 1, "", ModelFault::Number(22)),
+    (22, 1, "4294967296", ModelFault::Number(22)),
+    (23, 1, " ", ModelFault::Number(23)),
+    (27, 2, "x", ModelFault::Number(27)),
+    (29, 1, " ", ModelFault::Number(29)),
+    (48, 1, "", ModelFault::Number(48)),
+    (49, 1, " ", ModelFault::Number(49)),
+    (48, ALL, "4294967296", ModelFault::Number(48)),
+    (22, 1, "3", ModelFault::Range(22)),
+    (22, 1, "0", ModelFault::Range(22)),
+    (22, ALL, "10", ModelFault::Range(22)),
+    (26, 1, "10", ModelFault::Range(26)),
+    (28, 1, "2", ModelFault::Range(28)),
+    (30, 1, "10", ModelFault::Range(30)),
+    (42, 1, "10", ModelFault::Range(42)),
+    (44, 1, "7", ModelFault::Range(44)),
+    (48, 1, "10x", ModelFault::Range(48)),
+    (22, ALL, "", ModelFault::Truncated(22)),
+    (23, ALL, "", ModelFault::Truncated(23)),
+    (27, ALL, "", ModelFault::Truncated(27)),
+    (37, ALL, "", ModelFault::Truncated(37)),
+    (49, ALL, "", ModelFault::Truncated(49)),
+    (36, 1, "256", ModelFault::Limit(36)),
+    (36, ALL, "256", ModelFault::Limit(36)),
+    (36, ALL, "255", ModelFault::Truncated(39)),
+    (50, 1, "x", ModelFault::Trailing(50)),
+    (50, 0, "\n", ModelFault::Trailing(50)),
+    (55, 1, "d", ModelFault::Trailing(55)),
+    (51, 1, "1", ModelFault::Symbol(50)),
+    (53, 1, "", ModelFault::Symbol(50)),
+    (52, 1, "", ModelFault::Symbol(50)),
+    (54, ALL, "", ModelFault::Symbol(50)),
+    (55, ALL, "c7 x\n", ModelFault::Symbol(55)),
+    (24, 1, "2", ModelFault::Twice(1)),
+    (44, 1, "4", ModelFault::Twice(2)),
+    (44, 1, "8", ModelFault::Undefined(3)),
+    (26, 1, "8", ModelFault::Undefined(4)),
+    (46, 1, "6", ModelFault::Cycle(3)),
+    (46, 3, "7 8", ModelFault::Undefined(4)),
+];
+
+fn edited(alloc: Global, at: usize, cut: usize, put: &str) -> Result<Vec<u8>, AllocError> {
+    let mut text = Vec::new(alloc);
+    for (i, byte) in TEXT.iter().enumerate() {
+        if i == at {
+            text.extend_from_slice(put.as_bytes())?;
+        }
+        if i < at || i - at >= cut {
+            text.push(*byte)?;
+        }
+    }
+    Ok(text)
+}
+
+#[test]
+fn faults(rt: HostRuntime) -> Result<(), Fail> {
+    ascii_laws();
+    for (at, cut, put, wanted) in FAULTS {
+        let text = edited(rt.alloc(), at, cut, put)?;
+        match read(rt.alloc(), text.as_slice()) {
+            Err(ModelEnd::Fault(found)) => assert_eq!(rt; found, wanted, "{put} at {at}"),
+            _ => assert!(rt; false, "{put} at {at}"),
+        }
+    }
+    Ok(())
+}
+
+// A text, and the text that is written of its model.
+const MODELS: [(&[u8], &[u8]); 8] = [
+    (TEXT, TEXT),
+    (b"aag 0 0 0 0 0\n", b"aag 0 0 0 0 0\n"),
+    (b"aag 0 0 0 0 0 0 0 0 0\nc", b"aag 0 0 0 0 0\nc"),
+    (b"aag 1 0 1 0 0\n2 2 0\n", b"aag 1 0 1 0 0\n2 2\n"),
+    (
+        b"aag 1 1 0 0 0\n2\ni0 \xff \r\ni0 x\nc\x00",
+        b"aag 1 1 0 0 0\n2\ni0 \xff \r\ni0 x\nc\x00",
+    ),
+    (
+        b"aag 1 0 1 0 0 0 1 1 0\n2 2 2\n3\n1\n2\n",
+        b"aag 1 0 1 0 0 0 1 1\n2 2 2\n3\n1\n2\n",
+    ),
+    (
+        b"aag 6 0 2 0 4 0 0 1 0\n2 3\n4 11\n1\n12\n6 5 2\n8 4 3\n10 9 7\n12 4 2\n",
+        b"aag 6 0 2 0 4 0 0 1\n2 3\n4 11\n1\n12\n6 5 2\n8 4 3\n10 9 7\n12 4 2\n",
+    ),
+    (
+        b"aag 1 0 1 0 0 0 0 1 0\n2 3\n1\n0\n",
+        b"aag 1 0 1 0 0 0 0 1\n2 3\n1\n0\n",
+    ),
+];
+
+#[test]
+fn models(rt: HostRuntime) -> Result<(), Fail> {
+    for (text, wanted) in MODELS {
+        match read(rt.alloc(), text) {
+            Ok(model) => {
+                let written = write(rt.alloc(), &model)?;
+                assert!(rt; written.as_slice() == wanted);
+            }
+            Err(_) => assert!(rt; false),
+        }
+    }
+    Ok(())
+}

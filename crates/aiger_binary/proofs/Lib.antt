@@ -1,0 +1,6 @@
+mod Groups
+mod Order
+mod Written
+pub mod GroupLoop
+pub mod DifferenceLaws
+pub mod TextLaws

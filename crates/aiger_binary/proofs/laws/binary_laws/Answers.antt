@@ -1,0 +1,16 @@
+use Rattle.aiger_grammar.specs.BinaryTexts.{IsBinaryTextOf, binary_at}
+use Rattle.aiger_sections.proofs.FormLaws.{has_one_model, has_no_fault, is_text_or_faulty, has_one_fault}
+use Rattle.aiger_binary.proofs.TextLaws.{binary_reads}
+use Rattle.aiger_binary.proofs.laws.binary_laws.Goals as goal
+
+pub returns-clause-one_model : goal.returns-clause-one_model
+returns-clause-one_model c = has_one_model IsBinaryTextOf binary_at binary_reads
+
+pub returns-clause-no_fault : goal.returns-clause-no_fault
+returns-clause-no_fault c = has_no_fault IsBinaryTextOf binary_at binary_reads
+
+pub returns-clause-text_or_fault : goal.returns-clause-text_or_fault
+returns-clause-text_or_fault c = is_text_or_faulty IsBinaryTextOf binary_at binary_reads
+
+pub returns-clause-one_fault : goal.returns-clause-one_fault
+returns-clause-one_fault c = has_one_fault IsBinaryTextOf binary_at binary_reads

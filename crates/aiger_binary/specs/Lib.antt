@@ -1,0 +1,3 @@
+pub mod Numbered
+pub mod Forms
+pub mod Groups

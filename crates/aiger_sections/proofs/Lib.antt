@@ -1,0 +1,12 @@
+pub mod ReaderLaws
+pub mod LoopLaws
+pub mod JusticeLoop
+pub mod FieldLaws
+pub mod LineLaws
+pub mod SectionLaws
+pub mod HeadingLaws
+pub mod RangeLaws
+pub mod PartsLaws
+pub mod Deciding
+pub mod WholeLaws
+pub mod FormLaws
