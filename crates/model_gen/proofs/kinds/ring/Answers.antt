@@ -1,0 +1,28 @@
+use Rattle.std.proofs.Common.{subst, sym, ap, ◌∙◌}
+use Rattle.std.proofs.lemmas.List.Elements.{All-nil}
+use Rattle.aig_semantics.specs.Circuits.{IsChecked, AreDefined}
+use Rattle.circuit.specs.Sections.{circuit_of, used_by, AreInRange}
+use Rattle.aiger_grammar.specs.Ordered.{IsOrdered}
+use Rattle.model_gen.specs.Generated.{plain, plain_parts, ring_circuit}
+use Rattle.model_gen.proofs.Checked.{checked_from, defined_from}
+use Rattle.model_gen.proofs.Fitting.{ring_has_order, ring_ordered, ring_in_range}
+use Rattle.model_gen.proofs.kinds.ring.Goals as goal
+
+pub plain_model-requires-clause-in_range : goal.plain_model-requires-clause-in_range
+plain_model-requires-clause-in_range c =
+    subst AreInRange (sym c.in_ok-parts.ensures) (ring_in_range c.args.seed c.args.n c.requires.few)
+
+pub plain_model-requires-clause-checked : goal.plain_model-requires-clause-checked
+plain_model-requires-clause-checked c =
+    let parts = plain_parts (ring_circuit c.args.seed c.args.n) in
+    subst (λ p. IsChecked (circuit_of p)) (sym c.in_ok-parts.ensures)
+    (checked_from parts (ring_in_range c.args.seed c.args.n c.requires.few) (ring_ordered c.args.seed c.args.n) (All-nil _))
+
+pub plain_model-requires-clause-defined : goal.plain_model-requires-clause-defined
+plain_model-requires-clause-defined c =
+    let parts = plain_parts (ring_circuit c.args.seed c.args.n) in
+    subst (λ p. AreDefined (circuit_of p) (used_by p)) (sym c.in_ok-parts.ensures)
+    (defined_from parts (ring_in_range c.args.seed c.args.n c.requires.few) (ring_ordered c.args.seed c.args.n))
+
+pub returns-clause-ordered : goal.returns-clause-ordered
+returns-clause-ordered c = subst IsOrdered (sym (c.in_ok-model.ensures ∙ ap (λ p. plain (circuit_of p)) c.in_ok-parts.ensures)) (ring_has_order c.args.seed c.args.n)
