@@ -1,9 +1,8 @@
 -- Work that is counted, one unit at a time, up to limits: conflicts of a clause-learning solver, steps of a search
 -- by frames (IC3: Bradley, 2011).
 use Rattle.std.specs.Prelude.{◌≡◌, ◌≢◌, ℕ, ◌-◌, ◌^◌, ◌<◌, ◌≤◌, Bool, true, false, All, List, [], Option, Some, None, nat_lt, if◌then◌else◌}
-use Rattle.std.specs.List.{list_any}
 use Rattle.std.specs.Option.{ForSome}
-use Rattle.proof_semantics.specs.Clauses.{negation, has_literal, is_part, IsImplied, clause_value, clauses_value, values_of}
+use Rattle.proof_semantics.specs.Clauses.{IsImplied, clause_value, clauses_value, values_of, is_tautology, is_subsumed}
 use Rattle.proof_semantics.specs.declared.literals.Lit.{Lit}
 
 -- what was spent of each kind, and its limit, where it has one
@@ -21,14 +20,6 @@ limit_of n = if nat_lt n (2 ^ 32 - 1) then Some n else None
 abbrev pub IsWithin : ℕ → Option ℕ → Type 0
 IsWithin count limit = ForSome limit (λ most. count ≤ most)
 
--- some literal stands beside its negation
-abbrev pub is_tautology : List Lit → Bool
-is_tautology clause = list_any (λ a. has_literal clause (negation a)) clause
-
--- some clause of the list is a part of the clause
-abbrev pub is_subsumed : List (List Lit) → List Lit → Bool
-is_subsumed clauses clause = list_any (λ part. is_part part clause) clauses
-
 -- A spent conflict: a clause was learned that the held clauses imply, and that is new beside each of them.
 pub record SpentConflict (held : List (List Lit)) (learned : List Lit) : Type 0 where
   pub implied : IsImplied held learned
@@ -42,5 +33,5 @@ pub record SpentLemma (frame : List (List Lit)) (lemma : List Lit) (state : List
 
 -- A spent step: a frame is opened above others, each of which has lemmas that the next has not; so many they are.
 pub record SpentFrame (deltas : List ℕ) : Type 0 where
-  pub some : deltas ≢ []
+  pub not_empty : deltas ≢ []
   pub lemmas : All (λ delta. 0 < delta) deltas

@@ -9,6 +9,7 @@ ghost use Rattle.edge.specs.declared.metering.Counted.TheVariants.{Conflicts, St
 
 use cnf::{Clause, Db, eval};
 use std::marker::Model;
+use thiserror::Error;
 
 /// What is counted.
 #[derive(Debug, Clone, Copy, PartialEq, Eq)]
@@ -20,7 +21,8 @@ pub enum Counted {
 }
 
 /// A limit is reached, and nothing was counted.
-#[derive(Debug, Clone, Copy, PartialEq, Eq)]
+#[derive(Debug, Clone, Copy, PartialEq, Eq, Error)]
+#[error("the limit {limit} is reached")]
 pub struct Spent {
     /// Which count it is that is at its limit.
     pub kind: Counted,

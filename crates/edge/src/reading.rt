@@ -7,6 +7,7 @@ ghost use Rattle.edge.specs.Reads.{GivesBytes, KeepsTexts};
 
 use crate::failures::Failed;
 use std::alloc::{AllocError, Global};
+use thiserror::Error;
 
 /// What texts are read from, by their names.
 pub trait Shelf {
@@ -28,11 +29,13 @@ pub trait Shelf {
 }
 
 /// Why a text was not read.
-#[derive(Debug, Clone, Copy, PartialEq, Eq)]
+#[derive(Debug, Clone, Copy, PartialEq, Eq, Error)]
 pub enum ReadEnd {
     /// A read failed.
+    #[error("a read failed")]
     Failed,
     /// Memory ran out.
+    #[error("memory was refused")]
     Memory,
 }
 

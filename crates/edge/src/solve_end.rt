@@ -2,13 +2,16 @@
 
 use crate::metering::Spent;
 use std::alloc::{AllocError, AllocFailed};
+use thiserror::Error;
 
 /// Why a search ended without an answer.
-#[derive(Debug, Clone, Copy, PartialEq, Eq)]
+#[derive(Debug, Clone, Copy, PartialEq, Eq, Error)]
 pub enum SolveEnd {
     /// A limit of the meter is reached.
+    #[error(transparent)]
     Spent(Spent),
     /// Memory ran out.
+    #[error("memory was refused")]
     Memory,
 }
 

@@ -4,13 +4,16 @@ ghost use Rattle.lrat.specs.declared.faults.LratEnd.TheVariants.{Memory};
 
 use proof_semantics::LratFault;
 use std::alloc::{AllocError, AllocFailed};
+use thiserror::Error;
 
 /// Why a line was not accepted.
-#[derive(Clone, Copy, Debug, PartialEq, Eq)]
+#[derive(Clone, Copy, Debug, PartialEq, Eq, Error)]
 pub enum LratEnd {
     /// The line failed this test, the first that it fails.
+    #[error(transparent)]
     Fault(LratFault),
     /// Memory ran out.
+    #[error("memory was refused")]
     Memory,
 }
 

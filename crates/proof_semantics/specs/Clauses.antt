@@ -53,3 +53,11 @@ has_literal lits a = list_any (lit_eq a) lits
 -- each literal of the one is a literal of the other
 abbrev pub is_part : List Lit → List Lit → Bool
 is_part part whole = list_all (has_literal whole) part
+
+-- some literal stands beside its negation
+abbrev pub is_tautology : List Lit → Bool
+is_tautology clause = list_any (λ a. has_literal clause (negation a)) clause
+
+-- some clause of the list is a part of the clause
+abbrev pub is_subsumed : List (List Lit) → List Lit → Bool
+is_subsumed clauses clause = list_any (λ part. is_part part clause) clauses
