@@ -1,38 +1,33 @@
 -- The law of the whole text: what is read is what stands there.
-use Rattle.std.proofs.Common.{◌≡◌, ◌≢◌, ℕ, zero, suc, ◌+◌, ◌*◌, ◌≤◌, ◌<◌, Bool, true, false, cond, leb, ltb, List, [], ◌∷◌, ◌++◌, length, map, take, drop, Result, Ok, Err, refl, sym, ap, subst, ◌∙◌, arith}
-use Rattle.std.specs.Prelude.{codes, Option, Some, None, IfSome}
-use Rattle.std.specs.List.{All, AllByRecursion, flat_map}
+use Rattle.std.proofs.Common.{◌≡◌, ℕ, ◌≤◌, true, cond, leb, ltb, List, ◌++◌, length, map, Result, Ok, Err, refl, sym, ap, subst, ◌∙◌}
+use Rattle.std.specs.Prelude.{codes}
+use Rattle.std.specs.List.{AllByRecursion}
 use Rattle.std.proofs.lemmas.Bool.{leb-true, le-leb, ltb-false, le-ltb}
 use Rattle.std.proofs.lemmas.List.{length-map}
-use Rattle.std.proofs.lemmas.List.Elements.{All-from_recursion, recursion_from_All}
-use Rattle.aig_semantics.specs.declared.limits.TheConstants.{MAX_NUMBER, MAX_VARIABLE, MAX_MODEL_BYTES}
+use Rattle.std.proofs.lemmas.List.Elements.{recursion_from_All}
+use Rattle.aig_semantics.specs.declared.limits.TheConstants.{MAX_VARIABLE, MAX_MODEL_BYTES}
 use Rattle.aig_semantics.specs.declared.parts.Latch.{Latch}
 use Rattle.aig_semantics.specs.declared.parts.Gate.{Gate}
 use Rattle.aig_semantics.specs.Circuits.{IsChecked, AreDefined}
 use Rattle.circuit.specs.declared.parts.Parts.{Parts}
 use Rattle.circuit.specs.declared.faults.ModelFault.{ModelFault}
-use Rattle.circuit.specs.declared.faults.ModelFault.TheVariants.{Header, Limit}
+use Rattle.circuit.specs.declared.faults.ModelFault.TheVariants.{Limit}
 use Rattle.circuit.specs.Sections.{circuit_of, AreInRange}
-use Rattle.text_grammar.specs.Pieces.{Lacks}
-use Rattle.aiger_grammar.specs.declared.names.Symbol.{Symbol}
 use Rattle.aiger_grammar.specs.declared.names.Names.{Names}
-use Rattle.aiger_grammar.specs.declared.names.Counts.{Counts}
 use Rattle.aiger_grammar.specs.declared.sections.Heading.{Heading}
-use Rattle.aiger_grammar.specs.declared.sections.Properties.{Properties}
-use Rattle.aiger_grammar.specs.Models.{Model, IsModel, NamesElement}
-use Rattle.aiger_grammar.specs.Lines.{LinesOf, InputLine, LatchLine, GateLine, SymbolLine, HeaderLine, Numbers}
-use Rattle.aiger_grammar.specs.Texts.{IsAsciiText}
-use Rattle.aiger_grammar.specs.Names.{names_at, Fits, FittingLine, AreNames}
+use Rattle.aiger_grammar.specs.Models.{Model, NamesElement}
+use Rattle.aiger_grammar.specs.Lines.{LinesOf, InputLine, LatchLine, GateLine}
+use Rattle.aiger_grammar.specs.Names.{counts_of, names_at, AreNames}
 use Rattle.aiger_grammar.specs.Reading.{◌>>=◌, lines_at}
 use Rattle.aiger_grammar.specs.Headers.{heading_at, defined_count, ascii_heading_at}
-use Rattle.aiger_grammar.specs.Sections.{input_at, latch_at, gate_at, properties_at, parts_of, ascii_sections_at}
-use Rattle.aiger_grammar.specs.AsciiTexts.{IsAsciiTextOf, counts_of, model_of, with_names, ascii_at}
+use Rattle.aiger_grammar.specs.Sections.{input_at, latch_at, gate_at, parts_of, ascii_sections_at}
+use Rattle.aiger_grammar.specs.AsciiTexts.{IsAsciiTextOf, model_of, with_names, ascii_at}
 use Rattle.aiger_grammar.proofs.NamesLaws.{reads_names}
-use Rattle.aiger_sections.proofs.ReaderLaws.{Reads, Then, bind_ok, then_reads, map_reads, same_ok}
+use Rattle.aiger_sections.proofs.ReaderLaws.{Reads, Then, bind_ok, then_reads, map_reads}
 use Rattle.aiger_sections.proofs.FieldLaws.{IsVariable}
 use Rattle.aiger_sections.proofs.LineLaws.{LatchFits, GateFits, input_reads, latch_reads, gate_reads}
 use Rattle.aiger_sections.proofs.SectionLaws.{Section, section_reads, PropertyLines, properties_reads}
-use Rattle.aiger_sections.proofs.HeadingLaws.{numbers_of, HeadingLine, heading_reads}
+use Rattle.aiger_sections.proofs.HeadingLaws.{HeadingLine, heading_reads}
 use Rattle.aiger_sections.proofs.RangeLaws.{fitting_from, range_from}
 use Rattle.aiger_sections.proofs.WholeLaws.{properties_of, heading_of, same_heading, limited, limited_ok, past, named, counted_from, fitting_of, names_split, names_join, fits, is_model, parts_in, model_range}
 use Rattle.aiger_sections.proofs.FormLaws.{ReadsForm}

@@ -5,7 +5,8 @@ ghost use Rattle.aiger_grammar.specs.Models.{Model as ModelOf};
 ghost use Rattle.aiger_grammar.specs.Reading.{Gives};
 ghost use Rattle.aiger_grammar.specs.Headers.{ascii_heading_at, defined_count};
 ghost use Rattle.aiger_grammar.specs.Sections.{ascii_sections_at};
-ghost use Rattle.aiger_grammar.specs.AsciiTexts.{IsAsciiTextOf, HasAsciiFault, SameFault, counts_of, ascii_at};
+ghost use Rattle.aiger_grammar.specs.AsciiTexts.{IsAsciiTextOf, HasAsciiFault, SameFault, ascii_at};
+ghost use Rattle.aiger_grammar.specs.Names.{counts_of};
 ghost use Rattle.aiger_sections.specs.Answers.{IsAnswer};
 
 use aig_semantics::{MAX_MODEL_BYTES, MAX_VARIABLE};

@@ -6,7 +6,7 @@ use Rattle.aig_semantics.specs.declared.limits.TheConstants.{MAX_NUMBER}
 use Rattle.circuit.specs.declared.faults.ModelFault.{ModelFault}
 use Rattle.circuit.specs.declared.faults.ModelFault.TheVariants.{Number, Range}
 use Rattle.text_grammar.proofs.NumeralLaws.{both}
-use Rattle.aiger_grammar.specs.Reading.{Reader, ◌>>=◌, place}
+use Rattle.aiger_grammar.specs.Reading.{◌>>=◌, place}
 use Rattle.aiger_grammar.specs.Deltas.{IsDelta, groups_at, delta_at, difference_at}
 use Rattle.aiger_grammar.proofs.DeltaLaws.{reads_deltas}
 use Rattle.aiger_sections.proofs.ReaderLaws.{Reads, bind_ok, same_ok}

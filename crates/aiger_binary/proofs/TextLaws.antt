@@ -1,5 +1,5 @@
 -- The law of the whole text: what is read is what stands there.
-use Rattle.std.proofs.Common.{◌≡◌, ℕ, zero, suc, ◌+◌, ◌-◌, ◌*◌, ◌≤◌, ◌<◌, Bool, true, cond, eqb, leb, ltb, List, [], ◌∷◌, ◌++◌, length, map, Result, Ok, Err, refl, sym, ap, subst, ◌∙◌, arith}
+use Rattle.std.proofs.Common.{◌≡◌, ℕ, zero, suc, ◌+◌, ◌-◌, ◌*◌, ◌≤◌, ◌<◌, true, cond, eqb, leb, ltb, List, [], ◌∷◌, ◌++◌, length, map, Result, Ok, Err, refl, sym, ap, subst, ◌∙◌, arith}
 use Rattle.std.specs.Prelude.{codes}
 use Rattle.std.specs.List.{AllByRecursion}
 use Rattle.std.proofs.lemmas.Bool.{eqb-true, eq-eqb, leb-true, le-leb, ltb-false, le-ltb}
@@ -15,14 +15,14 @@ use Rattle.circuit.specs.declared.faults.ModelFault.TheVariants.{Limit}
 use Rattle.circuit.specs.Sections.{circuit_of, AreInRange}
 use Rattle.aiger_grammar.specs.declared.names.Names.{Names}
 use Rattle.aiger_grammar.specs.declared.sections.Heading.{Heading}
-use Rattle.aiger_grammar.specs.Models.{Model, IsModel, NamesElement}
+use Rattle.aiger_grammar.specs.Models.{Model, NamesElement}
 use Rattle.aiger_grammar.specs.Lines.{NumberedLines}
-use Rattle.aiger_grammar.specs.Names.{names_at, AreNames}
+use Rattle.aiger_grammar.specs.Names.{counts_of, names_at, AreNames}
 use Rattle.aiger_grammar.specs.Reading.{◌>>=◌, many}
 use Rattle.aiger_grammar.specs.Headers.{heading_at, defined_count}
-use Rattle.aiger_grammar.specs.Sections.{next_at, properties_at, parts_of}
+use Rattle.aiger_grammar.specs.Sections.{next_at, parts_of}
 use Rattle.aiger_grammar.specs.Deltas.{IsDelta, difference_at}
-use Rattle.aiger_grammar.specs.AsciiTexts.{counts_of, model_of, with_names}
+use Rattle.aiger_grammar.specs.AsciiTexts.{model_of, with_names}
 use Rattle.aiger_grammar.specs.BinaryTexts.{variables_from, NumberedLatch, NumberedGate, IsBinaryTextOf, binary_heading_at, numbered_gate_at, latch_literal, gate_variable, binary_sections_at, binary_at}
 use Rattle.aiger_grammar.proofs.NamesLaws.{reads_names}
 use Rattle.aiger_sections.proofs.ReaderLaws.{Reads, Then, bind_ok, then_reads, map_reads, said}

@@ -7,17 +7,17 @@ use Rattle.aig_semantics.specs.declared.limits.TheConstants.{MAX_NUMBER}
 use Rattle.aig_semantics.specs.declared.parts.Latch.{Latch}
 use Rattle.aig_semantics.specs.declared.parts.Gate.{Gate}
 use Rattle.circuit.proofs.Counting.{All-joined}
-use Rattle.aiger_grammar.specs.Models.{Model, IsModel}
-use Rattle.aiger_grammar.specs.Lines.{LinesOf, NumberedLines, EndsLine, CommentAtEnd, HeaderLine}
+use Rattle.aiger_grammar.specs.Models.{heading_of}
+use Rattle.aiger_grammar.specs.Lines.{NumberedLines, CommentAtEnd, HeaderLine}
 use Rattle.aiger_grammar.specs.Texts.{header_numbers}
 use Rattle.aiger_grammar.specs.Deltas.{IsDelta, delta_text}
-use Rattle.aiger_grammar.specs.BinaryTexts.{variables_from, NumberedLatch, NumberedGate, IsNumbered, IsBinaryText}
-use Rattle.aiger_grammar.specs.Ordered.{IsDescending, IsOrdered}
-use Rattle.aiger_grammar.specs.Spelling.{header_text, heading_of, number_lines, next_line, gate_deltas, symbol_line, comment_text, binary_text}
+use Rattle.aiger_grammar.specs.BinaryTexts.{variables_from, NumberedLatch, NumberedGate}
+use Rattle.aiger_grammar.specs.Ordered.{IsDescending}
+use Rattle.aiger_grammar.specs.Spelling.{header_text, number_lines, next_line, gate_deltas, symbol_line, comment_text, binary_text}
 use Rattle.aiger_grammar.proofs.DeltaLaws.{delta_stands}
 use Rattle.aiger_grammar.proofs.LineSpelling.{numbers_stand, LatchIsLow, next_stands}
 use Rattle.aiger_grammar.proofs.SpellingLaws.{shown_of, header_stands, fitting, symbols_stand}
-use Rattle.aiger_binary.specs.Numbered.{AreNumbered, IsInOrder}
+use Rattle.aiger_binary.specs.Numbered.{AreNumbered}
 use Rattle.aiger_binary.specs.Forms.{WritesBinary}
 use Rattle.aiger_binary.proofs.Order.{numbered_range, from_ordered}
 

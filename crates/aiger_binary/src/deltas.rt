@@ -1,6 +1,6 @@
 //! Deltas, written.
 
-ghost use Rattle.std.specs.Prelude.{◌≡◌, ◌++◌, ◌≤◌, OnOk};
+ghost use Rattle.std.specs.Prelude.{◌≡◌, ◌++◌, ◌≤◌, OnOk, nat_lt};
 ghost use Rattle.aiger_grammar.specs.Deltas.{delta_text};
 
 use aig_semantics::MAX_NUMBER;
@@ -13,7 +13,7 @@ pub fn push_delta(out: &mut Vec<u8>, n: u64) -> Result<(), AllocError>
 {
     let mut left = n;
     for _ in 0..4_u64 {
-        if left < 128 {
+        if is_last(left) {
             out.push(left as u8)?;
             return Ok(());
         }
@@ -22,4 +22,11 @@ pub fn push_delta(out: &mut Vec<u8>, n: u64) -> Result<(), AllocError>
     }
     out.push(left as u8)?;
     Ok(())
+}
+
+// Whether what is left of a number is its last group.
+fn is_last(left: u64) -> bool
+    ensures { result ≡ nat_lt left 128 }
+{
+    left < 128
 }

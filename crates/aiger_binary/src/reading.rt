@@ -4,7 +4,8 @@ ghost use Rattle.circuit.specs.declared.faults.ModelFault.{ModelFault as FaultOf
 ghost use Rattle.aiger_grammar.specs.Models.{Model as ModelOf};
 ghost use Rattle.aiger_grammar.specs.Reading.{Gives};
 ghost use Rattle.aiger_grammar.specs.Headers.{defined_count};
-ghost use Rattle.aiger_grammar.specs.AsciiTexts.{SameFault, counts_of};
+ghost use Rattle.aiger_grammar.specs.AsciiTexts.{SameFault};
+ghost use Rattle.aiger_grammar.specs.Names.{counts_of};
 ghost use Rattle.aiger_grammar.specs.BinaryTexts.{IsBinaryTextOf, HasBinaryFault, binary_heading_at, binary_sections_at, binary_at, variables_from};
 ghost use Rattle.aiger_sections.specs.Answers.{IsAnswer};
 

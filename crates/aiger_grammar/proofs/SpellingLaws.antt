@@ -11,11 +11,11 @@ use Rattle.circuit.specs.Sections.{IsFitting}
 use Rattle.circuit.proofs.Counting.{All-joined}
 use Rattle.circuit.proofs.Ranges.{IsFitting-from}
 use Rattle.aiger_grammar.specs.declared.names.TheConstants.{INPUT, LATCH, OUTPUT, BAD, CONSTRAINT, JUSTICE, FAIRNESS}
-use Rattle.aiger_grammar.specs.Models.{Model, IsModel, NamesElement, count_at}
+use Rattle.aiger_grammar.specs.Models.{Model, IsModel, NamesElement, heading_of}
 use Rattle.aiger_grammar.specs.Lines.{LinesOf, InputLine, LatchLine, GateLine, SymbolLine, CommentAtEnd, Numbers, HeaderLine}
 use Rattle.aiger_grammar.specs.Texts.{header_numbers}
-use Rattle.aiger_grammar.specs.Names.{FittingLine}
-use Rattle.aiger_grammar.specs.Spelling.{without_zeros, before, spaced, shown_numbers, header_text, heading_of, number_lines, input_line, latch_line, gate_line, symbol_line, comment_text, ascii_text, WritesNames, WritesAscii}
+use Rattle.aiger_grammar.specs.Names.{FittingLine, count_of, counts_of}
+use Rattle.aiger_grammar.specs.Spelling.{without_zeros, before, spaced, shown_numbers, header_text, number_lines, input_line, latch_line, gate_line, symbol_line, comment_text, ascii_text, WritesNames, WritesAscii}
 use Rattle.aiger_grammar.proofs.LineSpelling.{all_stand, numbers_stand, input_stands, LatchIsLow, latch_stands, GateIsLow, gate_stands, SymbolIsWritable, symbol_stands, symbol_line_stands, spaced_stand, IsZero, zeros_split}
 use Rattle.aiger_grammar.proofs.Room.{has_room}
 
@@ -155,7 +155,7 @@ cond_low : (t : Bool) (a b : ℕ) → a ≤ MAX_NUMBER → b ≤ MAX_NUMBER → 
 cond_low true a b h k = h
 cond_low false a b h k = k
 
-count_low : (m : Model) (letter : ℕ) → IsModel m → count_at m letter ≤ MAX_NUMBER
+count_low : (m : Model) (letter : ℕ) → IsModel m → count_of (counts_of (heading_of m)) letter ≤ MAX_NUMBER
 count_low m letter is =
     let l = counts_low m is in
     cond_low (eqb letter INPUT) _ _ l.inputs
@@ -169,7 +169,7 @@ count_low m letter is =
 pub symbols_stand : (m : Model) (rest : List ℕ) → IsModel m → LinesOf SymbolLine m.names.symbols (flat_map symbol_line m.names.symbols ++ rest) rest
 symbols_stand m rest is =
     all_stand SymbolLine symbol_line (NamesElement m) m.names.symbols rest
-    (λ symbol more names. symbol_line_stands symbol more (let i = names.index in let c = count_low m symbol.letter is in omega (arith, i, c)) names.one_line)
+    (λ symbol more names. symbol_line_stands symbol more (let i = names.fits.index in let c = count_low m symbol.letter is in omega (arith, i, c)) names.one_line)
     is.symbols
 
 regroup : (h i l o b c s j f g y t : List ℕ)

@@ -7,25 +7,19 @@ use Rattle.circuit.specs.declared.faults.ModelFault.{ModelFault}
 use Rattle.circuit.specs.declared.faults.ModelFault.TheVariants.{Cycle, Limit}
 use Rattle.circuit.specs.Sections.{circuit_of}
 use Rattle.circuit.specs.Faults.{HasFault, IsOnlyOnCycle}
-use Rattle.aiger_grammar.specs.declared.names.Counts.{Counts}
 use Rattle.aiger_grammar.specs.declared.names.Names.{Names}
-use Rattle.aiger_grammar.specs.declared.sections.Heading.{Heading}
 use Rattle.aiger_grammar.specs.Models.{Model}
 use Rattle.aiger_grammar.specs.Texts.{IsAsciiText}
 use Rattle.aiger_grammar.specs.Reading.{◌>>=◌}
 use Rattle.aiger_grammar.specs.Headers.{ascii_heading_at}
 use Rattle.aiger_grammar.specs.Sections.{ascii_sections_at}
-use Rattle.aiger_grammar.specs.Names.{names_at}
+use Rattle.aiger_grammar.specs.Names.{counts_of, names_at}
 
 -- The bytes are an ASCII text of the model, whatever zeros its header shows, and are not too long for this program.
 pub record IsAsciiTextOf (m : Model) (bytes : List ℕ) : Type 0 where
   pub short : length bytes ≤ MAX_MODEL_BYTES
   pub shown : ℕ
   pub text : IsAsciiText shown m bytes
-
--- how many elements a symbol may name
-abbrev pub counts_of : Heading → Counts
-counts_of h = record { i = h.inputs; l = h.latches; o = h.outputs; b = h.bad; c = h.constraints; j = h.justice; f = h.fairness }
 
 -- the model of what was read
 abbrev pub model_of : Parts → Names → Model

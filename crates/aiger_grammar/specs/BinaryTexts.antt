@@ -13,12 +13,12 @@ use Rattle.aiger_grammar.specs.declared.sections.Heading.{Heading}
 use Rattle.aiger_grammar.specs.Models.{Model, IsModel}
 use Rattle.aiger_grammar.specs.Lines.{LinesOf, NumberedLines, EndsLine, LatchEnd, SymbolLine, CommentAtEnd, HeaderLine}
 use Rattle.aiger_grammar.specs.Texts.{header_numbers}
-use Rattle.aiger_grammar.specs.Names.{names_at}
+use Rattle.aiger_grammar.specs.Names.{counts_of, names_at}
 use Rattle.aiger_grammar.specs.Reading.{Reader, ◌>>=◌, many}
 use Rattle.aiger_grammar.specs.Headers.{heading_at, defined_count}
 use Rattle.aiger_grammar.specs.Sections.{next_at, properties_at, parts_of}
 use Rattle.aiger_grammar.specs.Deltas.{IsDelta, difference_at}
-use Rattle.aiger_grammar.specs.AsciiTexts.{counts_of, with_names, IsFirstFault, SameFault}
+use Rattle.aiger_grammar.specs.AsciiTexts.{with_names, IsFirstFault, SameFault}
 
 -- as many variables from the first on, in their order
 abbrev pub variables_from : ℕ → ℕ → List ℕ
@@ -77,7 +77,7 @@ pub record IsBinaryTextOf (m : Model) (bytes : List ℕ) : Type 0 where
 
 -- ---- the same, read from the left
 
--- A binary header: the greatest variable is that of the last gate, and is within its limit.
+-- A binary header: the greatest variable is the number of inputs, latches and gates together, and is within its limit.
 unfoldable pub binary_heading_at : ℕ → Reader Heading
 binary_heading_at total bytes =
     heading_at (codes "aig") total bytes >>= λ h body.

@@ -17,7 +17,8 @@ IsDelta n (b ∷ bytes) rest =
     ⊎ ((128 ≤ b) × (high : ℕ) × (1 ≤ high) × (n ≡ b % 128 + 128 * high) × IsDelta high bytes rest)
 
 -- The groups of a number of at most limit, read from the left. Where later is true other groups stand in front, so the
--- last group may not be 0. The fault is that of the whole delta, as soon as a group shows it.
+-- last group may not be 0. The fault is that of the whole delta, as soon as the groups up to one make a number that is
+-- too great, or the last group is 0; so a delta that is cut off before either is cut off, whatever could have followed.
 unfoldable pub groups_at : ℕ → Bool → ModelFault → ℕ → Reader ℕ
 groups_at limit later fault total [] = Err (Truncated total)
 groups_at limit later fault total (b ∷ bytes) =

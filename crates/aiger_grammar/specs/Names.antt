@@ -9,7 +9,12 @@ use Rattle.aiger_grammar.specs.declared.names.TheConstants.{INPUT, LATCH, OUTPUT
 use Rattle.aiger_grammar.specs.declared.names.Symbol.{Symbol}
 use Rattle.aiger_grammar.specs.declared.names.Names.{Names}
 use Rattle.aiger_grammar.specs.declared.names.Counts.{Counts}
+use Rattle.aiger_grammar.specs.declared.sections.Heading.{Heading}
 use Rattle.aiger_grammar.specs.Lines.{LinesOf, SymbolLine, CommentAtEnd}
+
+-- how many elements each list has that symbols name
+abbrev pub counts_of : Heading → Counts
+counts_of h = record { i = h.inputs; l = h.latches; o = h.outputs; b = h.bad; c = h.constraints; j = h.justice; f = h.fairness }
 
 -- how many elements the list has that a symbol's letter names, none where it names no list
 abbrev pub count_of : Counts → ℕ → ℕ

@@ -1,6 +1,6 @@
 -- The one text in which a model is written: zeros at the end of the header's last four numbers are left out, a reset of
 -- 0 is left out, and everything stands in the model's order (AIGER 1.9; Biere, Heljanko, Wieringa, 2011).
-use Rattle.std.specs.Prelude.{◌≡◌, ℕ, zero, suc, ◌+◌, ◌-◌, ◌*◌, ◌≤◌, ◌==◌, List, [], ◌∷◌, ◌++◌, length, map, Option, Some, None, IfSome, decimal, codes, false, if◌then◌else◌}
+use Rattle.std.specs.Prelude.{◌≡◌, ℕ, ◌-◌, ◌*◌, ◌≤◌, ◌==◌, List, [], ◌∷◌, ◌++◌, length, map, Option, Some, None, IfSome, decimal, codes, false, if◌then◌else◌}
 use Rattle.std.specs.List.{All, flat_map}
 use Rattle.aig_semantics.specs.declared.limits.TheConstants.{MAX_NUMBER}
 use Rattle.aig_semantics.specs.declared.parts.Latch.{Latch}
@@ -13,7 +13,7 @@ use Rattle.aiger_grammar.specs.declared.names.Symbol.{Symbol}
 use Rattle.aiger_grammar.specs.declared.names.Names.{Names}
 use Rattle.aiger_grammar.specs.declared.names.Counts.{Counts}
 use Rattle.aiger_grammar.specs.declared.sections.Heading.{Heading}
-use Rattle.aiger_grammar.specs.Models.{Model, IsModel}
+use Rattle.aiger_grammar.specs.Models.{Model, IsModel, heading_of}
 use Rattle.aiger_grammar.specs.Names.{Fits, AreNames}
 use Rattle.aiger_grammar.specs.Texts.{IsAsciiText}
 use Rattle.aiger_grammar.specs.Deltas.{delta_text}
@@ -41,20 +41,6 @@ shown_numbers h =
 
 abbrev pub header_text : List ℕ → Heading → List ℕ
 header_text word h = word ++ spaced (shown_numbers h) ++ 10 ∷ []
-
--- the greatest variable of a model, and how many elements each of its lists has
-abbrev pub heading_of : Model → Heading
-heading_of m = record {
-  max = m.circuit.max;
-  inputs = length m.circuit.inputs;
-  latches = length m.circuit.latches;
-  outputs = length m.outputs;
-  gates = length m.circuit.gates;
-  bad = length m.bad;
-  constraints = length m.circuit.constraints;
-  justice = length m.circuit.justice;
-  fairness = length m.circuit.fairness;
-}
 
 -- ---- lines
 

@@ -3,8 +3,7 @@
 ghost use Rattle.std.specs.Prelude.{◌≡◌};
 ghost use Rattle.aig_semantics.specs.Circuits.{Circuit as CheckedCircuit};
 ghost use Rattle.aiger_grammar.specs.declared.names.Names.{Names as NamesOf};
-ghost use Rattle.aiger_grammar.specs.Models.{IsModel};
-ghost use Rattle.aiger_grammar.specs.Spelling.{heading_of};
+ghost use Rattle.aiger_grammar.specs.Models.{IsModel, heading_of};
 ghost use Rattle.aiger_names.specs.Kept.{joined};
 
 use aiger_grammar::{Heading, Names};

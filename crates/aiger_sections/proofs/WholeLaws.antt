@@ -1,5 +1,5 @@
 -- What both forms of text share: the lengths and ranges of a whole model, and its names.
-use Rattle.std.proofs.Common.{◌≡◌, ℕ, zero, suc, ◌+◌, ◌*◌, ◌≤◌, Bool, true, false, cond, leb, List, [], ◌∷◌, ◌++◌, length, take, drop, Result, Ok, Err, refl, sym, ap, subst, ◌∙◌, arith}
+use Rattle.std.proofs.Common.{◌≡◌, ℕ, zero, suc, ◌≤◌, Bool, true, false, cond, List, [], ◌∷◌, ◌++◌, length, take, drop, Result, Ok, Err, refl, sym, ap, subst, ◌∙◌, arith}
 use Rattle.std.specs.List.{AllByRecursion}
 use Rattle.std.proofs.lemmas.List.Elements.{All-from_recursion, recursion_from_All}
 use Rattle.aig_semantics.specs.declared.limits.TheConstants.{MAX_NUMBER, MAX_VARIABLE}
@@ -16,9 +16,9 @@ use Rattle.aiger_grammar.specs.declared.sections.Heading.{Heading}
 use Rattle.aiger_grammar.specs.declared.sections.Properties.{Properties}
 use Rattle.aiger_grammar.specs.Models.{Model, IsModel, NamesElement}
 use Rattle.aiger_grammar.specs.Lines.{LinesOf, SymbolLine, Numbers}
-use Rattle.aiger_grammar.specs.Names.{Fits, FittingLine, AreNames}
+use Rattle.aiger_grammar.specs.Names.{Fits, FittingLine, AreNames, counts_of}
 use Rattle.aiger_grammar.specs.Headers.{defined_count}
-use Rattle.aiger_grammar.specs.AsciiTexts.{counts_of, model_of, with_names}
+use Rattle.aiger_grammar.specs.AsciiTexts.{model_of, with_names}
 use Rattle.aiger_sections.proofs.ReaderLaws.{same_ok}
 use Rattle.aiger_sections.proofs.FieldLaws.{IsVariable}
 use Rattle.aiger_sections.proofs.LineLaws.{LatchFits, GateFits}
@@ -135,11 +135,11 @@ names_join counts (x ∷ symbols) bytes rest s all = (s.0, (all.0, s.1), names_j
 
 elements : (parts : Parts) (names : Names) (symbols : List Symbol) → AllByRecursion (λ s. Fits (counts_of (heading_of parts)) s × Lacks s.name 10) symbols → AllByRecursion (NamesElement (model_of parts names)) symbols
 elements parts names [] all = tt
-elements parts names (x ∷ symbols) all = (record { index = all.0.0.index; named = all.0.0.named; one_line = all.0.1 }, elements parts names symbols all.1)
+elements parts names (x ∷ symbols) all = (record { fits = all.0.0; one_line = all.0.1 }, elements parts names symbols all.1)
 
 pub fits : (parts : Parts) (names : Names) (symbols : List Symbol) → AllByRecursion (NamesElement (model_of parts names)) symbols → AllByRecursion (Fits (counts_of (heading_of parts))) symbols
 fits parts names [] all = tt
-fits parts names (x ∷ symbols) all = (record { index = all.0.index; named = all.0.named }, fits parts names symbols all.1)
+fits parts names (x ∷ symbols) all = (all.0.fits, fits parts names symbols all.1)
 
 -- ---- models
 

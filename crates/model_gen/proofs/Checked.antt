@@ -1,10 +1,10 @@
 -- A circuit whose variables are defined in order, and whose gates read lower variables, is checked.
-use Rattle.std.proofs.Common.{◌≡◌, ◌≢◌, ℕ, zero, suc, ◌+◌, ◌*◌, ◌-◌, ◌/◌, ◌<◌, ◌≤◌, ◌⊎◌, List, [], ◌∷◌, ◌++◌, map, length, refl, sym, ap, ◌∙◌, subst, inl, inr, arith, lt_irrefl, eq-zero-or-pos}
-use Rattle.std.specs.List.{All, Any, AllPairs, Contains, range_with_len}
+use Rattle.std.proofs.Common.{◌≡◌, ◌≢◌, ℕ, ◌+◌, ◌*◌, ◌-◌, ◌<◌, ◌≤◌, ◌⊎◌, List, [], ◌∷◌, length, sym, ◌∙◌, subst, inl, inr, arith, lt_irrefl, eq-zero-or-pos}
+use Rattle.std.specs.List.{All, AllPairs, Contains, range_with_len}
 use Rattle.std.proofs.lemmas.List.FromFn.{length-range_with_len, get_or-range_with_len}
 use Rattle.aig_semantics.specs.declared.parts.Gate.{Gate}
 use Rattle.aig_semantics.specs.Literals.{variable_of}
-use Rattle.aig_semantics.specs.Circuits.{Circuit, IsChecked, AreDefined, Reads, ReadsThrough, IsOnCycle, defined}
+use Rattle.aig_semantics.specs.Circuits.{Circuit, IsChecked, AreDefined, Reads, ReadsThrough, defined}
 use Rattle.circuit.specs.declared.parts.Parts.{Parts}
 use Rattle.circuit.specs.Sections.{circuit_of, used_by, AreInRange}
 use Rattle.circuit.proofs.Ranges.{used-in_range}

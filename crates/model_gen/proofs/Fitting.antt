@@ -1,15 +1,14 @@
 -- The sections of both kinds of model are in range, and define their variables in order.
-use Rattle.std.proofs.Common.{◌≡◌, ℕ, zero, suc, ◌+◌, ◌*◌, ◌/◌, ◌%◌, ◌<◌, ◌≤◌, Bool, true, false, cond, eqb, ltb, List, [], ◌∷◌, ◌++◌, map, length, refl, sym, ap, ◌∙◌, subst, arith}
+use Rattle.std.proofs.Common.{◌≡◌, ℕ, zero, suc, ◌+◌, ◌*◌, ◌%◌, ◌<◌, ◌≤◌, Bool, true, false, cond, eqb, ltb, List, [], ◌∷◌, ◌++◌, map, length, refl, ap, ◌∙◌, arith}
 use Rattle.std.specs.List.{All, range_with_len}
 use Rattle.std.proofs.lemmas.List.{append-nil}
 use Rattle.std.proofs.lemmas.List.Elements.{All-nil, All-cons}
 use Rattle.std.proofs.lemmas.Nat.{mod_below}
 use Rattle.aig_semantics.specs.declared.parts.Latch.{Latch}
 use Rattle.aig_semantics.specs.declared.parts.Gate.{Gate}
-use Rattle.aig_semantics.specs.Literals.{variable_of}
 use Rattle.aig_semantics.specs.Circuits.{defined}
 use Rattle.circuit.specs.declared.parts.Parts.{Parts}
-use Rattle.circuit.specs.Sections.{circuit_of, used_by, AreInRange, IsFitting}
+use Rattle.circuit.specs.Sections.{circuit_of, AreInRange}
 use Rattle.circuit.proofs.Ranges.{AreInRange-from}
 use Rattle.aiger_grammar.specs.Ordered.{IsDescending, IsOrdered}
 use Rattle.std.proofs.lemmas.Bool.{ltb-true, ltb-false}

@@ -1,5 +1,5 @@
 use Rattle.aiger_grammar.specs.AsciiTexts.{IsAsciiTextOf, ascii_at}
-use Rattle.aiger_sections.proofs.FormLaws.{every_model, said_fault, first_fault}
+use Rattle.aiger_sections.proofs.FormLaws.{every_model, first_fault}
 use Rattle.aiger_ascii.proofs.TextLaws.{ascii_reads}
 use Rattle.aiger_ascii.proofs.reading.read.Goals as goal
 

@@ -1,8 +1,9 @@
-use Rattle.std.proofs.Common.{◌≡◌, ◌++◌, List, ℕ, sym, ap, ◌∙◌, subst, ◌≤◌}
+use Rattle.std.proofs.Common.{◌++◌, sym, ap, ◌∙◌, subst, ◌≤◌}
 use Rattle.std.specs.Prelude.{codes}
 use Rattle.std.specs.List.{All, flat_map}
 use Rattle.aig_semantics.specs.declared.limits.TheConstants.{MAX_VARIABLE}
-use Rattle.aiger_grammar.specs.Spelling.{HasAsciiForm, ascii_text, heading_of, header_text, input_line, latch_line, gate_line, properties_text, names_text}
+use Rattle.aiger_grammar.specs.Models.{heading_of}
+use Rattle.aiger_grammar.specs.Spelling.{HasAsciiForm, header_text, input_line, latch_line, gate_line, properties_text, names_text}
 use Rattle.aiger_grammar.proofs.SpellingLaws.{variables_low, writes_ascii}
 use Rattle.aiger_ascii.proofs.writing.write.Goals as goal
 

@@ -1,4 +1,5 @@
-use Rattle.std.proofs.Common.{◌%◌, ◌+◌, refl}
+use Rattle.std.proofs.Common.{◌%◌, ◌+◌, refl, sym, ◌∙◌}
+use Rattle.std.proofs.lemmas.Bool.{ltb-true, ltb-false}
 use Rattle.aiger_grammar.proofs.DeltaLaws.{number_small}
 use Rattle.aiger_binary.proofs.Groups.{turn, small_turn, last, small_end}
 use Rattle.aiger_binary.proofs.deltas.push_delta.Goals as goal
@@ -6,13 +7,13 @@ use Rattle.aiger_binary.proofs.deltas.push_delta.Goals as goal
 pub loop-init : goal.loop-init
 loop-init c = record { text = refl; small = number_small c.args.n c.requires }
 
-pub returns-then-left-lt128 : goal.returns-then-left-lt128
-returns-then-left-lt128 c =
-    last c.loop.counter c.loop.left c.loop.out.items c.push.new.self.items _ c.loop.left c.if-left-lt128.true c.in_ok-push.ensures.items refl c.loop.invariant.text
+pub returns-then-is_last : goal.returns-then-is_last
+returns-then-is_last c =
+    last c.loop.counter c.loop.left c.loop.out.items c.push.new.self.items _ c.loop.left (ltb-true c.loop.left 128 (sym c.is_last.ensures ∙ c.if-is_last.true)) c.in_ok-push.ensures.items refl c.loop.invariant.text
 
 pub loop-preserved : goal.loop-preserved
 loop-preserved c = record {
-  text = turn c.loop.counter c.loop.left c.loop.out.items c.push-in-loop.new.self.items _ (c.loop.left % 128 + 128) c.loop-test.true c.if-left-lt128.false c.in_ok-push-2.ensures.items refl c.loop.invariant.text;
+  text = turn c.loop.counter c.loop.left c.loop.out.items c.push-in-loop.new.self.items _ (c.loop.left % 128 + 128) c.loop-test.true (ltb-false c.loop.left 128 (sym c.is_last.ensures ∙ c.if-is_last.false)) c.in_ok-push-2.ensures.items refl c.loop.invariant.text;
   small = small_turn c.loop.counter c.loop.left c.loop-test.true c.loop.invariant.small;
 }
 

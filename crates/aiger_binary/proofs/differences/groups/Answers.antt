@@ -1,5 +1,4 @@
 use Rattle.std.proofs.Common.{sym, ◌∙◌}
-use Rattle.aiger_binary.specs.Groups.{next_unit}
 use Rattle.aiger_binary.proofs.GroupLoop.{too_great, ends_empty, ends, goes_on, cut_off}
 use Rattle.aiger_binary.proofs.differences.groups.Goals as goal
 

@@ -1,5 +1,5 @@
 use Rattle.aiger_grammar.specs.BinaryTexts.{IsBinaryTextOf, binary_at}
-use Rattle.aiger_sections.proofs.FormLaws.{every_model, said_fault, first_fault}
+use Rattle.aiger_sections.proofs.FormLaws.{every_model, first_fault}
 use Rattle.aiger_binary.proofs.TextLaws.{binary_reads}
 use Rattle.aiger_binary.proofs.reading.read.Goals as goal
 

@@ -1,5 +1,4 @@
-use Rattle.std.proofs.Common.{◌≡◌, ◌+◌, suc, ap, ◌∙◌, ◌++◌, ◌∷◌, [], arith}
-use Rattle.aiger_grammar.specs.BinaryTexts.{variables_from}
+use Rattle.std.proofs.Common.{◌∙◌}
 use Rattle.aiger_binary.proofs.TextLaws.{one_variable_more}
 use Rattle.aiger_binary.proofs.reading.variables.Goals as goal
 

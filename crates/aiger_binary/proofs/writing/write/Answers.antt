@@ -2,7 +2,8 @@ use Rattle.std.proofs.Common.{sym, ap, ◌∙◌, ◌++◌, subst, ◌≤◌}
 use Rattle.std.specs.Prelude.{codes}
 use Rattle.std.specs.List.{All, flat_map}
 use Rattle.aig_semantics.specs.declared.limits.TheConstants.{MAX_VARIABLE}
-use Rattle.aiger_grammar.specs.Spelling.{heading_of, header_text, next_line, gate_deltas, properties_text, names_text}
+use Rattle.aiger_grammar.specs.Models.{heading_of}
+use Rattle.aiger_grammar.specs.Spelling.{header_text, next_line, gate_deltas, properties_text, names_text}
 use Rattle.aiger_grammar.proofs.SpellingLaws.{variables_low}
 use Rattle.aiger_binary.specs.Forms.{HasBinaryForm}
 use Rattle.aiger_binary.proofs.Written.{writes_binary}

@@ -1,4 +1,4 @@
-use Rattle.std.proofs.Common.{length, subst, ◌≡◌, List, ℕ, drop}
+use Rattle.std.proofs.Common.{length, subst, drop}
 use Rattle.aiger_grammar.specs.Names.{names_at}
 use Rattle.aiger_grammar.specs.Reading.{Gives}
 use Rattle.aiger_names.proofs.Answers.{found, every, fault}

@@ -1,4 +1,4 @@
-use Rattle.std.proofs.Common.{◌+◌, ◌∙◌}
+use Rattle.std.proofs.Common.{◌∙◌}
 use Rattle.model_gen.specs.Generated.{scrambled_gate}
 use Rattle.model_gen.proofs.Making.{made_push, gate_step, two_later, none_later}
 use Rattle.model_gen.proofs.kinds.scramble_gates.Goals as goal
