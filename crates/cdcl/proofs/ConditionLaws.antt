@@ -1,12 +1,11 @@
 -- Laws of the tests of literals.
-use Rattle.std.proofs.Common.{◌≡◌, ℕ, suc, ◌<◌, ◌^◌, Bool, true, false, ◌&&◌, List, [], ◌∷◌, refl, ap, subst, sym, ◌∙◌, inl, inr, arith}
+use Rattle.std.proofs.Common.{◌≡◌, ℕ, suc, ◌<◌, ◌^◌, Bool, true, ◌&&◌, List, [], ◌∷◌, subst, sym, ◌∙◌, inl, inr}
 use Rattle.std.specs.Prelude.{nat_lt, ◌↔◌}
 use Rattle.std.specs.List.{list_all}
-use Rattle.std.proofs.lemmas.Bool.{false≢true, and_parts, and_from, or_cases, or_left, or_right, leb-true, le-leb}
-use Rattle.proof_semantics.specs.Clauses.{has_literal}
+use Rattle.std.proofs.lemmas.Bool.{false≢true, and_parts, and_from, or_cases, leb-true, le-leb}
 use Rattle.proof_semantics.specs.Lines.{IsSize}
 use Rattle.proof_semantics.specs.declared.literals.Lit.{Lit}
-use Rattle.proof_semantics.proofs.LiteralLaws.{lit_eq-true, lit_eq-same}
+use Rattle.proof_semantics.proofs.LiteralLaws.{lit_eq-true}
 use Rattle.cdcl_trail.proofs.PrefixLaws.{all_from}
 use Rattle.cdcl.specs.Entries.{AreSized}
 

@@ -1,17 +1,15 @@
 -- Laws of the clauses that a solver holds.
-use Rattle.std.proofs.Common.{◌≡◌, ℕ, zero, suc, ◌+◌, ◌-◌, ◌<◌, ◌≤◌, Bool, true, false, not, ◌&&◌, ◌||◌, List, [], ◌∷◌, ◌++◌, length, get_or, take, map, eqb, Option, Some, None, refl, ap, sym, subst, ◌∙◌, ◌⊎◌, inl, inr, arith}
-use Rattle.std.specs.Prelude.{slice_get, if◌then◌else◌, ◌==◌}
-use Rattle.std.specs.List.{list_any, list_all}
+use Rattle.std.proofs.Common.{◌≡◌, ℕ, zero, suc, ◌+◌, ◌-◌, ◌<◌, ◌≤◌, Bool, true, List, [], ◌∷◌, ◌++◌, length, get_or, take, map, eqb, Option, Some, None, refl, ap, sym, subst, ◌∙◌, ◌⊎◌, inl, inr, arith}
+use Rattle.std.specs.Prelude.{slice_get}
 use Rattle.std.proofs.lemmas.Bool.{false≢true, and_parts, and_from, cond-true, cond-false}
-use Rattle.std.proofs.lemmas.Option.{none-some, same_Some, slice_get_within, slice_get-get_or, slice_get_past, get_or_from_slice_get}
-use Rattle.std.proofs.lemmas.List.{take-append-le, take_all, length-append}
+use Rattle.std.proofs.lemmas.Option.{none-some, same_Some}
+use Rattle.std.proofs.lemmas.List.{take-append-le, length-append}
 use Rattle.std.proofs.Math.ListN.{get_or-append}
 use Rattle.std.proofs.Math.Seq.{get_or-append_seam, take-append_seam}
-use Rattle.proof_semantics.specs.Clauses.{negation, has_literal, clause_value, cube_value, clauses_value, IsImplied}
+use Rattle.proof_semantics.specs.Clauses.{negation, clause_value, clauses_value, IsImplied}
 use Rattle.proof_semantics.specs.Propagation.{hints_fault}
 use Rattle.proof_semantics.specs.declared.literals.Lit.{Lit}
-use Rattle.proof_semantics.specs.declared.faults.LratFault.{LratFault}
-use Rattle.proof_semantics.proofs.Soundness.{hints_refute, conflict_implies}
+use Rattle.proof_semantics.proofs.Soundness.{conflict_implies}
 use Rattle.cdcl_trail.specs.Propagation.{clause_numbered}
 use Rattle.cdcl_trail.proofs.TrailLaws.{either}
 use Rattle.cdcl.specs.Entries.{Entries, with_added, with_learned, added_in, learned_in, added_of, learned_of, AreSized, AreExplained, IsLog}

@@ -5,4 +5,6 @@ pub mod SpellingLaws
 pub mod WritingLaws
 pub mod MarkingLaws
 pub mod SearchLaws
+pub mod BackLaws
+pub mod WayLaws
 pub mod ConditionLaws

@@ -1,14 +1,13 @@
 -- Laws of which clauses a proof needs.
-use Rattle.std.proofs.Common.{◌≡◌, ℕ, zero, suc, ◌+◌, ◌-◌, ◌<◌, ◌≤◌, Bool, true, false, not, ◌&&◌, ◌||◌, eqb, List, [], ◌∷◌, ◌++◌, length, get_or, take, Option, Some, None, refl, ap, sym, subst, ◌∙◌, ◌⊎◌, inl, inr, arith, rules, eqb-true}
+use Rattle.std.proofs.Common.{◌≡◌, ℕ, zero, suc, ◌+◌, ◌-◌, ◌<◌, ◌≤◌, Bool, true, false, ◌||◌, List, [], ◌∷◌, ◌++◌, length, get_or, take, Option, Some, None, refl, ap, sym, ◌∙◌, ◌⊎◌, inl, inr, arith, rules, eqb-true}
 use Rattle.std.specs.Prelude.{slice_get, slice_set, nat_eq, nat_le, nat_lt}
 use Rattle.std.specs.List.{list_any, list_all}
-use Rattle.std.specs.Option.{unwrap_or}
 use Rattle.std.proofs.lemmas.Bool.{false≢true, and_parts, and_from, or_cases, or_left, or_right, leb-true, le-leb, leb-false}
-use Rattle.std.proofs.lemmas.List.{take_more, take_all}
+use Rattle.std.proofs.lemmas.List.{take_more}
 use Rattle.std.proofs.lemmas.List.Folds.{list_any-append}
-use Rattle.std.proofs.lemmas.Option.{none-some, same_Some, slice_get_within}
+use Rattle.std.proofs.lemmas.Option.{none-some, same_Some}
 use Rattle.cdcl_trail.proofs.TrailLaws.{either}
-use Rattle.cdcl.specs.Writing.{is_needed, AreBefore, HasMarked, IsClosed}
+use Rattle.cdcl.specs.Writing.{is_needed, AreBefore, HasMarked}
 
 apart_number : (n m : ℕ) → (n ≡ m → ⊥) → nat_eq n m ≡ false
 apart_number n m differs = elim (either (nat_eq n m)) [ inl same ↦ absurd (differs (eqb-true n m same)) | inr is ↦ is ]

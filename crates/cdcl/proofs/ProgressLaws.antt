@@ -1,26 +1,26 @@
 -- Laws of a search's progress.
-use Rattle.std.proofs.Common.{◌≡◌, ℕ, zero, suc, ◌+◌, ◌-◌, ◌^◌, ◌<◌, ◌≤◌, Bool, true, false, not, ◌&&◌, ◌||◌, List, [], ◌∷◌, ◌++◌, length, get_or, map, min, Option, Some, None, Result, Ok, Err, refl, ap, sym, subst, ◌∙◌, ◌⊎◌, inl, inr, arith, append_assoc, eqb-true}
+use Rattle.std.proofs.Common.{◌≡◌, ℕ, zero, suc, ◌+◌, ◌-◌, ◌<◌, ◌≤◌, Bool, true, false, List, [], ◌∷◌, ◌++◌, length, get_or, Option, Some, None, Result, Ok, Err, refl, ap, sym, subst, ◌∙◌, inl, inr, arith, append_assoc, eqb-true}
 use Rattle.std.specs.Prelude.{nat_eq, OnOk, OnErr}
 use Rattle.std.specs.List.{list_any, list_all}
 use Rattle.std.proofs.lemmas.Bool.{false≢true, and_parts, and_from, or_cases, or_left, or_right}
 use Rattle.std.proofs.lemmas.List.{append-nil, length-append}
 use Rattle.std.proofs.lemmas.List.Folds.{list_any-append}
-use Rattle.proof_semantics.specs.Clauses.{negation, has_literal, literal_value, clause_value, cube_value, clauses_value, IsImplied, values_of}
+use Rattle.proof_semantics.specs.Clauses.{has_literal, literal_value, clause_value, clauses_value, IsImplied, values_of, is_subsumed}
 use Rattle.proof_semantics.specs.Lines.{IsSize}
 use Rattle.proof_semantics.specs.declared.literals.Lit.{Lit}
 use Rattle.proof_semantics.proofs.LiteralLaws.{lit_eq-true, lit_eq-same}
 use Rattle.edge.specs.Faults.{one_more}
-use Rattle.edge.specs.Units.{is_tautology, is_subsumed, Spendings, SpentConflict}
+use Rattle.edge.specs.Units.{Spendings, SpentConflict}
 use Rattle.cdcl_learn.specs.declared.learning.Learned.{Learned}
-use Rattle.cdcl_trail.proofs.TrailLaws.{either, or_both, or_neither}
+use Rattle.cdcl_trail.proofs.TrailLaws.{or_both, or_neither}
 use Rattle.cdcl_trail.proofs.PrefixLaws.{all_from}
 use Rattle.cdcl.specs.Entries.{Entries, with_added, with_learned, added_in, learned_in, added_of, learned_of, AreSized, IsLog}
 use Rattle.cdcl.specs.Room.{room, variables_of, variables_in}
-use Rattle.cdcl.specs.Searching.{is_over, are_over, IsHinted, IsNewClause, AreTrue}
-use Rattle.cdcl.specs.Solving.{Solving, IsModel, IsLearned, AreLearned, Learns, IsBounded, more_conflicts, with_conflicts}
-use Rattle.cdcl.specs.Progress.{growth, HasRoom, IsSearched}
-use Rattle.cdcl.proofs.EntryLaws.{hinted_implied, learned-IsLog, added-IsLog}
-use Rattle.cdcl.proofs.RoomLaws.{room_falls, room_small, over_append, over_from, all_over, own_over, clauses_over}
+use Rattle.cdcl.specs.Searching.{is_over, are_over, IsNewClause, AreTrue}
+use Rattle.cdcl.specs.Solving.{Solving, IsModel, IsLearned, AreLearned, Learns, IsBounded, more_conflicts}
+use Rattle.cdcl.specs.Progress.{growth, IsSearched, AreApart, IsKept}
+use Rattle.cdcl.proofs.EntryLaws.{hinted_implied, learned-IsLog}
+use Rattle.cdcl.proofs.RoomLaws.{room_falls, room_small, over_append, all_over, own_over}
 
 -- Results.
 
@@ -68,6 +68,16 @@ added_all f [] clauses e = refl
 added_all f (s ∷ sources) [] e = refl
 added_all f (s ∷ sources) (c ∷ clauses) e =
     let parts = and_parts _ _ e in with_added_all f s c (added_in sources clauses) parts.0 (added_all f sources clauses parts.1)
+
+with_learned_all : (f : List Lit → Bool) (s : Option (List ℕ)) (c : List Lit) (rest : List (List Lit)) → f c ≡ true → list_all f rest ≡ true → list_all f (with_learned s c rest) ≡ true
+with_learned_all f None c rest e g = g
+with_learned_all f (Some hints) c rest e g = and_from _ _ e g
+
+learned_all : (f : List Lit → Bool) (sources : List (Option (List ℕ))) (clauses : List (List Lit)) → list_all f clauses ≡ true → list_all f (learned_in sources clauses) ≡ true
+learned_all f [] clauses e = refl
+learned_all f (s ∷ sources) [] e = refl
+learned_all f (s ∷ sources) (c ∷ clauses) e =
+    let parts = and_parts _ _ e in with_learned_all f s c (learned_in sources clauses) parts.0 (learned_all f sources clauses parts.1)
 
 all_from_both : (f : List Lit → Bool) (s : Option (List ℕ)) (c : List Lit) (added learned : List (List Lit)) → list_all f (with_added s c added) ≡ true
     → list_all f (with_learned s c learned) ≡ true → (f c ≡ true) × (list_all f added ≡ true) × (list_all f learned ≡ true)
@@ -160,7 +170,7 @@ searched_none assumptions start meter = record {
   less = λ vars over _. record { over = over; less = omega arith };
 }
 
--- A clause that an attempt learned is worth a conflict.
+-- A clause that a search learned is worth a conflict.
 pub new_spent : (now : Entries) (assumptions : List Lit) (learned : Learned) → IsLog now → IsNewClause now.clauses assumptions learned → SpentConflict now.clauses learned.clause
 new_spent now assumptions learned log new = record {
   implied = λ v holds. hinted_implied now learned.clause learned.hints log new.hinted v (added_all (clause_value v) now.sources now.clauses holds);
@@ -187,7 +197,7 @@ searched_more assumptions start now next earlier later latest learned log sized 
         learned = learns_more (added_of start) (learned_of start) (learned_of now) (learned_of next) c searched.learned all.2 (record {
           implied = subst (λ cs. IsImplied cs c) searched.added (hinted_implied now c learned.hints log new.hinted);
           no_tautology = new.no_tautology;
-          some = new.some;
+          not_empty = new.not_empty;
           new = none_learned;
         });
         counted = counts ∙ ap (λ (s : Spendings). record s { conflicts = one_more s.conflicts }) searched.counted
@@ -215,12 +225,47 @@ first_room_falls assumptions start now next earlier later learned new same_claus
     subst (λ cs. room vars cs < room vars now.clauses) (sym same_clauses)
     (room_falls vars now.clauses learned.clause new.not_subsumed new.no_tautology (new.over vars before.over over_too))
 
+-- How many clauses stand apart over some variables.
+
+apart_append : (before xs ys : List (List Lit)) → AreApart before xs → AreApart (before ++ xs) ys → AreApart before (xs ++ ys)
+apart_append before [] ys first later = subst (λ b. AreApart b ys) (append-nil before) later
+apart_append before (x ∷ xs) ys first later =
+    (first.0, first.1, apart_append (before ++ x ∷ []) xs ys first.2 (subst (λ b. AreApart b ys) (sym (append_assoc before (x ∷ []) xs)) later))
+
+apart_learned : (added before more : List (List Lit)) → AreLearned added before more → AreApart before more
+apart_learned added before [] all = tt
+apart_learned added before (c ∷ more) all =
+    let new = or_neither _ _ (sym (list_any-append _ added before) ∙ all.0.new) in
+    (all.0.no_tautology, new.1, apart_learned added (before ++ c ∷ []) more all.1)
+
+apart_small : (vars : List ℕ) (before more : List (List Lit)) → AreApart before more → are_over vars more ≡ true → length more + room vars (before ++ more) ≤ room vars before
+apart_small vars before [] apart over = subst (λ b. 0 + room vars b ≤ room vars before) (sym (append-nil before)) (omega arith)
+apart_small vars before (c ∷ more) apart over =
+    let parts = and_parts _ _ over in
+    let falls = room_falls vars before c apart.1 apart.0 parts.0 in
+    let rest : length more + room vars ((before ++ c ∷ []) ++ more) ≤ room vars (before ++ c ∷ []) = apart_small vars (before ++ c ∷ []) more apart.2 parts.1 in
+    omega (arith, falls, rest, ap (room vars) (append_assoc before (c ∷ []) more))
+
+-- what a solver keeps stays through a search, and where a clause is added
+pub kept_searched : (assumptions : List Lit) (start now : Entries) (earlier later : Spendings) → IsKept start → IsLog now → IsSearched assumptions start now earlier later → IsKept now
+kept_searched assumptions start now earlier later kept log searched =
+    let learns = searched.learned in
+    record {
+      log = log;
+      apart = subst (λ xs. AreApart [] xs) (sym learns.behind)
+          (apart_append [] (learned_of start) learns.more kept.apart (apart_learned (added_of start) (learned_of start) learns.more learns.learned));
+    }
+
+pub kept_added : (start now : Entries) → IsKept start → IsLog now → learned_of now ≡ learned_of start → IsKept now
+kept_added start now kept log same = record { log = log; apart = subst (λ xs. AreApart [] xs) (sym same) kept.apart }
+
 pub searched_bounded : (assumptions : List Lit) (solver : Solving) (start now : Entries) (earlier later : Spendings) → solver.added ≡ added_of start → solver.learned ≡ learned_of start
-    → IsLog start → IsSearched assumptions start now earlier later → IsBounded solver assumptions (growth start now)
-searched_bounded assumptions solver start now earlier later same_added same_learned log searched vars over_added over_learned over_too =
-    let over = all_of_both (is_over vars) start.sources start.clauses log.beside (ap (are_over vars) (sym same_added) ∙ over_added) (ap (are_over vars) (sym same_learned) ∙ over_learned) in
-    let room_now = searched.less vars over over_too in
-    omega (arith, room_now.less, room_small start.clauses vars [])
+    → IsKept start → IsKept now → IsSearched assumptions start now earlier later → IsBounded solver assumptions (learned_of now)
+searched_bounded assumptions solver start now earlier later same_added same_learned kept kept_now searched vars over_added over_learned over_too =
+    let over = all_of_both (is_over vars) start.sources start.clauses kept.log.beside (ap (are_over vars) (sym same_added) ∙ over_added) (ap (are_over vars) (sym same_learned) ∙ over_learned) in
+    let over_now = learned_all (is_over vars) now.sources now.clauses (searched.less vars over over_too).over in
+    let small = apart_small vars [] (learned_of now) kept_now.apart over_now in
+    (over_now, omega (arith, small, room_small [] vars []))
 
 -- A model of what is held is one of what was added.
 pub model_of : (assumptions : List Lit) (start now : Entries) (values : List Bool) → added_of now ≡ added_of start → clauses_value (values_of values) now.clauses ≡ true

@@ -1,14 +1,13 @@
 -- Laws of how many clauses can still be learned.
-use Rattle.std.proofs.Common.{◌≡◌, ℕ, zero, suc, ◌+◌, ◌-◌, ◌*◌, ◌^◌, ◌<◌, ◌≤◌, Bool, true, false, not, ◌&&◌, ◌||◌, cond, eqb, List, [], ◌∷◌, ◌++◌, length, map, refl, ap, sym, subst, ◌∙◌, ◌⊎◌, inl, inr, arith, rules, eqb-true}
+use Rattle.std.proofs.Common.{◌≡◌, ℕ, suc, ◌*◌, ◌^◌, ◌<◌, ◌≤◌, Bool, true, false, not, ◌||◌, cond, List, [], ◌∷◌, ◌++◌, length, refl, ap, sym, subst, ◌∙◌, ◌⊎◌, inl, inr, arith, rules, eqb-true}
 use native.Mathlib.Numerals.{unary_clauses}
 use Rattle.std.specs.Prelude.{nat_eq}
-use Rattle.std.specs.List.{list_any, list_all}
+use Rattle.std.specs.List.{list_any}
 use Rattle.std.proofs.lemmas.List.Folds.{list_any-append}
 use Rattle.std.proofs.lemmas.Bool.{false≢true, and_parts, and_from, or_cases, or_left, or_right}
-use Rattle.proof_semantics.specs.Clauses.{bool_eq, lit_eq, negation, has_literal, is_part}
+use Rattle.proof_semantics.specs.Clauses.{lit_eq, negation, has_literal, is_part, is_subsumed, is_tautology}
 use Rattle.proof_semantics.specs.declared.literals.Lit.{Lit}
-use Rattle.proof_semantics.proofs.LiteralLaws.{lit_eq-true, lit_eq-same, bool_eq-true, bool_eq-same, same_lit}
-use Rattle.edge.specs.Units.{is_tautology, is_subsumed}
+use Rattle.proof_semantics.proofs.LiteralLaws.{lit_eq-true, lit_eq-same, same_lit}
 use Rattle.cdcl_trail.proofs.TrailLaws.{either}
 use Rattle.cdcl_trail.proofs.PrefixLaws.{all_from}
 use Rattle.cdcl.specs.Room.{lit, room_from, room, variables_of, variables_in}

@@ -1,29 +1,21 @@
--- Laws of an attempt.
-use Rattle.cdcl.specs.declared.attempt.Attempt.TheVariants.{Model, Core, Clause}
-use Rattle.cdcl.specs.declared.attempt.Attempt.{Attempt}
-use Rattle.cdcl_learn.specs.declared.learning.Learned.{Learned}
-use Rattle.std.proofs.Common.{◌≡◌, ℕ, zero, suc, ◌+◌, ◌-◌, ◌<◌, ◌≤◌, Bool, true, false, not, ◌&&◌, ◌||◌, cond, eqb, List, [], ◌∷◌, ◌++◌, length, get_or, take, drop, map, Option, Some, None, refl, ap, sym, subst, ◌∙◌, ◌⊎◌, inl, inr, arith, append_assoc, eqb-true, eq-eqb}
-use Rattle.std.specs.Prelude.{is_none, is_some, slice_get, IfNone, IfSome, nat_eq, IfOk, Result, Ok, Err}
+-- Laws of what a search decides and assumes.
+use Rattle.std.proofs.Common.{◌≡◌, ℕ, zero, suc, ◌+◌, ◌-◌, ◌<◌, ◌≤◌, Bool, true, false, not, cond, eqb, List, [], ◌∷◌, ◌++◌, length, get_or, take, Option, Some, None, refl, ap, sym, subst, ◌∙◌, ◌⊎◌, inl, inr, arith, eqb-true, eq-eqb}
+use Rattle.std.specs.Prelude.{is_some, slice_get, IfNone, IfSome, nat_eq}
 use Rattle.std.specs.List.{list_any, list_all}
-use Rattle.std.specs.Option.{option_map, IsSome}
-use Rattle.std.proofs.Math.Dec.{leb}
-use Rattle.std.proofs.lemmas.Bool.Decides.{leb_tells}
-use Rattle.std.proofs.lemmas.List.{append-nil, take-append-drop, take_all, take_more}
-use Rattle.std.proofs.lemmas.Bool.{false≢true, and_parts, and_from, or_cases, or_left, or_right, cond-true, cond-false, le-leb, leb-true}
+use Rattle.std.specs.Option.{option_map}
+use Rattle.std.proofs.lemmas.List.{take_all, take_more}
+use Rattle.std.proofs.lemmas.Bool.{false≢true, and_parts, and_from, or_cases, or_left, or_right, cond-true, cond-false}
 use Rattle.std.proofs.lemmas.Option.{none-some, same_Some, slice_get_read}
-use Rattle.proof_semantics.specs.Clauses.{bool_eq, lit_eq, negation, has_literal, literal_value, clause_value, clauses_value, cube_value, values_of}
+use Rattle.proof_semantics.specs.Clauses.{bool_eq, lit_eq, negation, has_literal, literal_value, clauses_value, cube_value, values_of, is_tautology}
 use Rattle.proof_semantics.specs.declared.literals.Lit.{Lit}
-use Rattle.proof_semantics.proofs.LiteralLaws.{lit_eq-true, lit_eq-same, bool_eq-true, bool_eq-same, same_lit, has_literal-push, clause_value-has, negation_twice}
-use Rattle.edge.specs.Units.{is_tautology}
-use Rattle.cdcl_trail.specs.Trails.{Step, step, assumed, opened_by, literals_of, step_of, value_of, level, up_to_level, lower_steps, once}
-use Rattle.cdcl_trail.specs.Propagation.{is_value, is_true, is_false, is_falsified, is_unit_for, is_unit, is_complete, clause_numbered, IsForced, AreForced, Propagates, IsReasoned, HaveReasons, IsReasonedTrail}
-use Rattle.cdcl_trail.specs.Scanning.{unsatisfied}
-use Rattle.cdcl_trail.proofs.TrailLaws.{either, not-true, not-false, or_neither, or_both, level_push}
+use Rattle.proof_semantics.proofs.LiteralLaws.{lit_eq-true, lit_eq-same, bool_eq-true, bool_eq-same, same_lit, has_literal-push, clause_value-has}
+use Rattle.cdcl_trail.specs.Trails.{Step, assumed, literals_of, step_of, value_of, once}
+use Rattle.cdcl_trail.specs.Propagation.{is_value, is_true, is_false, is_falsified, is_complete, AreForced, Propagates}
+use Rattle.cdcl_trail.proofs.TrailLaws.{either, not-true, or_neither, or_both}
 use Rattle.cdcl_trail.proofs.ScanLaws.{all_has, any_gives, any_has, untrue, one_value}
-use Rattle.cdcl_trail.proofs.PassLaws.{step_comes, no_step, complete_at, held_at, unsatisfied_falls, unsatisfied_less, unit_unvalued, forced_level, level-append}
-use Rattle.cdcl_trail.proofs.PrefixLaws.{all_from, true_more, false_more, reasons_append, not_all_gives, reasoned_assumed, reasoned_propagated, lower_assumed}
-use Rattle.cdcl_learn.specs.Learning.{is_assumed, contains_one}
-use Rattle.cdcl.specs.Searching.{IsOpen, IsOpenIn, is_satisfied, is_over, are_over, AreTrue, AssumesAll, AssumesSoFar, IsSearching, IsHinted, IsNewClause, AttemptSays, SearchSays, NegatesOnly}
+use Rattle.cdcl_trail.proofs.PassLaws.{step_comes, no_step, complete_at, held_at}
+use Rattle.cdcl_trail.proofs.PrefixLaws.{all_from, true_more, none_before, reasoned_assumed}
+use Rattle.cdcl.specs.Searching.{IsOpen, IsOpenIn, has_variable, open_by, count_open, is_satisfied, is_over, are_over, AreTrue, AssumesSoFar}
 
 abbrev Has : List Lit → Lit → Type 0
 Has lits a = has_literal lits a ≡ true
@@ -44,7 +36,7 @@ step_found (y ∷ steps) v x e =
           (later.0, or_right _ _ later.1)
     ]
 
-valued_step : (o : Option Step) (b : Bool) → is_value (option_map (λ (s : Step). s.literal.positive) o) b ≡ true → (x : Step) × (o ≡ Some x) × (x.literal.positive ≡ b)
+pub valued_step : (o : Option Step) (b : Bool) → is_value (option_map (λ (s : Step). s.literal.positive) o) b ≡ true → (x : Step) × (o ≡ Some x) × (x.literal.positive ≡ b)
 valued_step None b e = absurd (false≢true e)
 valued_step (Some x) b e = (x, refl, bool_eq-true x.literal.positive b e)
 
@@ -98,11 +90,20 @@ false_push : (f : Lit → Bool) (xs : List Lit) (a : Lit) → list_all f xs ≡ 
 false_push f [] a all here = and_from _ _ here refl
 false_push f (x ∷ xs) a all here = let parts = and_parts _ _ all in and_from _ _ parts.0 (false_push f xs a parts.1 here)
 
--- one more literal of the clause without a value, or a false one
-pub open_more : (steps : List Step) (clause : List Lit) (i : ℕ) (d : Lit) (open_now : Option Lit) → i < length clause → d ≡ get_or clause i d → value_of steps d.var ≡ None
-    → OpenSoFar steps (take (i + 1) clause) (Some d)
-open_more steps clause i d open_now below is none =
-    (none, ap (λ xs. has_literal xs d) (take_in clause i d below is) ∙ has_literal-push (take i clause) d d ∙ or_right _ _ (lit_eq-same d))
+-- one more literal of the clause without a value, of which one is kept
+pub open_more : (steps : List Step) (clause : List Lit) (i : ℕ) (d : Lit) (open_now : Option Lit) (kept : Lit) → i < length clause → d ≡ get_or clause i d
+    → value_of steps d.var ≡ None → (kept ≡ d) ⊎ (open_now ≡ Some kept) → OpenSoFar steps (take i clause) open_now → OpenSoFar steps (take (i + 1) clause) (Some kept)
+open_more steps clause i d open_now kept below is none which so_far =
+    let pushed : take (i + 1) clause ≡ take i clause ++ d ∷ [] = take_in clause i d below is in
+    elim which [
+      | inl last ↦ (
+        ap (λ (a : Lit). value_of steps a.var) last ∙ none,
+        ap (λ xs. has_literal xs kept) pushed ∙ has_literal-push (take i clause) d kept ∙ or_right _ _ (ap (lit_eq kept) (sym last) ∙ lit_eq-same kept),
+      )
+      | inr before ↦
+          let old = subst (λ o. OpenSoFar steps (take i clause) o) before so_far in
+          (old.0, ap (λ xs. has_literal xs kept) pushed ∙ has_literal-push (take i clause) d kept ∙ or_left _ _ old.1)
+    ]
 
 -- no literal so far is true
 abbrev pub NoneTrue : List Step → List Lit → Type 0
@@ -180,64 +181,108 @@ satisfied_push : (clauses : List (List Lit)) (steps : List Step) (c : List Lit) 
 satisfied_push [] steps c all here = and_from _ _ here refl
 satisfied_push (x ∷ clauses) steps c all here = let parts = and_parts _ _ all in and_from _ _ parts.0 (satisfied_push clauses steps c parts.1 here)
 
-pub satisfied_more : (clauses : List (List Lit)) (steps : List Step) (i : ℕ) (clause : List Lit) (o : Option Lit) → i < length clauses → clause ≡ get_or clauses i clause
-    → o ≡ None → IfNone o (list_any (is_true steps) clause ≡ true) → is_satisfied (take i clauses) steps ≡ true → is_satisfied (take (i + 1) clauses) steps ≡ true
-satisfied_more clauses steps i clause None below is none here so_far =
+-- the choice among the clauses that were seen
+abbrev pub BestSoFar : List (List Lit) → List (List Lit) → List Step → Option Lit → Type 0
+BestSoFar clauses seen steps None = is_satisfied seen steps ≡ true
+BestSoFar clauses seen steps (Some a) = IsOpen clauses steps a
+
+pub best_stays : (clauses : List (List Lit)) (steps : List Step) (i : ℕ) (clause : List Lit) (o best : Option Lit) → i < length clauses → clause ≡ get_or clauses i clause
+    → o ≡ None → IfNone o (list_any (is_true steps) clause ≡ true) → BestSoFar clauses (take i clauses) steps best → BestSoFar clauses (take (i + 1) clauses) steps best
+best_stays clauses steps i clause None None below is none here so_far =
     ap (λ cs. is_satisfied cs steps) (take_more clauses i clause below ∙ ap (λ c. take i clauses ++ c ∷ []) (sym is)) ∙ satisfied_push (take i clauses) steps clause so_far here
-satisfied_more clauses steps i clause (Some a) below is none here so_far = absurd (none-some a (sym none))
+best_stays clauses steps i clause None (Some b) below is none here so_far = so_far
+best_stays clauses steps i clause (Some a) best below is none here so_far = absurd (none-some a (sym none))
 
-pub satisfied_all : (clauses : List (List Lit)) (steps : List Step) (i : ℕ) → length clauses ≤ i → is_satisfied (take i clauses) steps ≡ true → is_satisfied clauses steps ≡ true
-satisfied_all clauses steps i past so_far = ap (λ cs. is_satisfied cs steps) (sym (take_all i clauses past)) ∙ so_far
+has_variable-of : (clause : List Lit) (a : Lit) → Has clause a → has_variable clause a.var ≡ true
+has_variable-of [] a has = absurd (false≢true has)
+has_variable-of (b ∷ clause) a has =
+    elim (or_cases (lit_eq a b) (has_literal clause a) has) [
+      | inl same ↦ or_left _ _ (eq-eqb a.var b.var (ap (λ (c : Lit). c.var) (lit_eq-true a b same)))
+      | inr later ↦ or_right _ _ (has_variable-of clause a later)
+    ]
 
-pub open_at : (clauses : List (List Lit)) (steps : List Step) (i : ℕ) (clause : List Lit) (a : Lit) → i < length clauses → clause ≡ get_or clauses i clause → IsOpenIn steps clause a
+open_at : (clauses : List (List Lit)) (steps : List Step) (i : ℕ) (clause : List Lit) (a : Lit) → i < length clauses → clause ≡ get_or clauses i clause → IsOpenIn steps clause a
     → IsOpen clauses steps a
 open_at clauses steps i clause a below is o = record {
   unvalued = o.unvalued;
   place = i;
   clause = clause;
   at = slice_get_read clauses _ i clause refl below is;
-  inside = o.inside;
+  inside = has_variable-of clause a o.inside;
   unsatisfied = o.unsatisfied;
 }
 
+pub best_more : (clauses : List (List Lit)) (steps : List Step) (i : ℕ) (clause : List Lit) (a kept : Lit) (o best : Option Lit) → i < length clauses
+    → clause ≡ get_or clauses i clause → o ≡ Some a → IfSome o (λ b. IsOpenIn steps clause b) → (kept ≡ a) ⊎ (best ≡ Some kept)
+    → BestSoFar clauses (take i clauses) steps best → BestSoFar clauses (take (i + 1) clauses) steps (Some kept)
+best_more clauses steps i clause a kept o best below is some opens which so_far =
+    elim which [
+      | inl new ↦ subst (λ b. IsOpen clauses steps b) (sym new) (open_at clauses steps i clause a below is (subst (λ p. IfSome p (λ b. IsOpenIn steps clause b)) some opens))
+      | inr old ↦ subst (λ p. BestSoFar clauses (take i clauses) steps p) old so_far
+    ]
+
+pub best_none : (clauses : List (List Lit)) (steps : List Step) (i : ℕ) (best : Option Lit) → length clauses ≤ i → best ≡ None
+    → BestSoFar clauses (take i clauses) steps best → is_satisfied clauses steps ≡ true
+best_none clauses steps i None past is so_far = ap (λ cs. is_satisfied cs steps) (sym (take_all i clauses past)) ∙ so_far
+best_none clauses steps i (Some a) past is so_far = absurd (none-some a (sym is))
+
+-- the sign of an open literal is free
+pub open_signed : (clauses : List (List Lit)) (steps : List Step) (i : ℕ) (best : Option Lit) (a b : Lit) → best ≡ Some a → b.var ≡ a.var
+    → BestSoFar clauses (take i clauses) steps best → IsOpen clauses steps b
+open_signed clauses steps i best a b is same so_far =
+    let o = subst (λ p. BestSoFar clauses (take i clauses) steps p) is so_far in
+    record {
+      unvalued = ap (value_of steps) same ∙ o.unvalued;
+      place = o.place;
+      clause = o.clause;
+      at = o.at;
+      inside = ap (has_variable o.clause) same ∙ o.inside;
+      unsatisfied = o.unsatisfied;
+    }
+
 -- Decisions.
 
-unsatisfied_more : (clauses : List (List Lit)) (xs ys : List Step) → unsatisfied clauses (xs ++ ys) ≤ unsatisfied clauses xs
-unsatisfied_more clauses xs [] = subst (λ zs. unsatisfied clauses zs ≤ unsatisfied clauses xs) (sym (append-nil xs)) (omega arith)
-unsatisfied_more clauses xs (y ∷ ys) =
-    let one = unsatisfied_falls clauses xs y in
-    let rest : unsatisfied clauses ((xs ++ y ∷ []) ++ ys) ≤ unsatisfied clauses (xs ++ y ∷ []) = unsatisfied_more clauses (xs ++ y ∷ []) ys in
-    let same : unsatisfied clauses ((xs ++ y ∷ []) ++ ys) ≡ unsatisfied clauses (xs ++ y ∷ ys) = ap (unsatisfied clauses) (append_assoc xs (y ∷ []) ys) in
-    omega (arith, one, rest, same)
+open_less : (xs ys : List Step) (v : ℕ) (o : Option Bool) → value_of (xs ++ ys) v ≡ o → open_by (value_of (xs ++ ys) v) ≤ open_by (value_of xs v)
+open_less xs ys v None is =
+    omega (arith, ap open_by is, ap open_by (none_before xs ys v is))
+open_less xs ys v (Some b) is = omega (arith, ap open_by is)
 
-true_last : (steps : List Step) (a : Lit) → value_of steps a.var ≡ None → is_true (steps ++ assumed a ∷ []) a ≡ true
+pub count_open_more : (vars : List ℕ) (xs ys : List Step) → count_open vars (xs ++ ys) ≤ count_open vars xs
+count_open_more [] xs ys = omega arith
+count_open_more (v ∷ vars) xs ys = omega (arith, open_less xs ys v (value_of (xs ++ ys) v) refl, count_open_more vars xs ys)
+
+pub count_open_falls : (vars : List ℕ) (xs ys : List Step) (v : ℕ) (b : Bool) → list_any (nat_eq v) vars ≡ true → value_of xs v ≡ None → value_of (xs ++ ys) v ≡ Some b
+    → count_open vars (xs ++ ys) < count_open vars xs
+count_open_falls [] xs ys v b among none some = absurd (false≢true among)
+count_open_falls (w ∷ vars) xs ys v b among none some =
+    elim (or_cases (nat_eq v w) (list_any (nat_eq v) vars) among) [
+      | inl here ↦
+          let same : v ≡ w = eqb-true v w here in
+          omega (arith, ap (λ n. open_by (value_of xs n)) (sym same) ∙ ap open_by none, ap (λ n. open_by (value_of (xs ++ ys) n)) (sym same) ∙ ap open_by some, count_open_more vars xs ys)
+      | inr later ↦ omega (arith, open_less xs ys w (value_of (xs ++ ys) w) refl, count_open_falls vars xs ys v b later none some)
+    ]
+
+pub true_last : (steps : List Step) (a : Lit) → value_of steps a.var ≡ None → is_true (steps ++ assumed a ∷ []) a ≡ true
 true_last steps a none =
     ap (λ o. is_value (option_map (λ (s : Step). s.literal.positive) o) a.positive) (step_comes steps (assumed a) (no_step _ none)) ∙ bool_eq-same a.positive
 
-pub decision_counts : (clauses : List (List Lit)) (steps opened later : List Step) (a : Lit) → IsOpen clauses steps a → opened ≡ steps ++ assumed a ∷ []
-    → Propagates clauses opened later → unsatisfied clauses later < unsatisfied clauses steps
-decision_counts clauses steps opened later a o is p =
-    let less = unsatisfied_less clauses o.place steps (assumed a) o.clause o.at o.unsatisfied
-    (any_has (is_true (steps ++ assumed a ∷ [])) o.clause a o.inside (true_last steps a o.unvalued)) in
-    let rest : unsatisfied clauses (opened ++ p.added) ≤ unsatisfied clauses opened = unsatisfied_more clauses opened p.added in
-    omega (arith, less, rest, ap (unsatisfied clauses) is, ap (unsatisfied clauses) p.behind)
-
-has_later : (xs ys : List Step) (a : Lit) → Has (literals_of xs) a → Has (literals_of (xs ++ ys)) a
-has_later [] ys a has = absurd (false≢true has)
-has_later (x ∷ xs) ys a has =
-    elim (or_cases (lit_eq a x.literal) (has_literal (literals_of xs) a) has) [
-      | inl here ↦ or_left _ _ here
-      | inr later ↦ or_right _ _ (has_later xs ys a later)
-    ]
-
-over_append : (vars : List ℕ) (xs ys : List Step) → is_over vars (literals_of xs) ≡ true → is_over vars (literals_of ys) ≡ true → is_over vars (literals_of (xs ++ ys)) ≡ true
+pub over_append : (vars : List ℕ) (xs ys : List Step) → is_over vars (literals_of xs) ≡ true → is_over vars (literals_of ys) ≡ true → is_over vars (literals_of (xs ++ ys)) ≡ true
 over_append vars [] ys first later = later
 over_append vars (x ∷ xs) ys first later = let parts = and_parts _ _ first in and_from _ _ parts.0 (over_append vars xs ys parts.1 later)
 
-over_at : (vars : List ℕ) (clauses : List (List Lit)) (i : ℕ) (clause : List Lit) → slice_get clauses i ≡ Some clause → are_over vars clauses ≡ true → is_over vars clause ≡ true
+pub over_at : (vars : List ℕ) (clauses : List (List Lit)) (i : ℕ) (clause : List Lit) → slice_get clauses i ≡ Some clause → are_over vars clauses ≡ true → is_over vars clause ≡ true
 over_at vars [] i clause at all = absurd (none-some clause at)
 over_at vars (c ∷ clauses) zero clause at all = ap (is_over vars) (sym (same_Some c clause at)) ∙ (and_parts _ _ all).0
 over_at vars (c ∷ clauses) (suc i) clause at all = over_at vars clauses i clause at (and_parts _ _ all).1
+
+pub over_variable : (vars : List ℕ) (clause : List Lit) (v : ℕ) → is_over vars clause ≡ true → has_variable clause v ≡ true → list_any (nat_eq v) vars ≡ true
+over_variable vars [] v all has = absurd (false≢true has)
+over_variable vars (b ∷ clause) v all has =
+    let parts = and_parts _ _ all in
+    elim (or_cases (nat_eq v b.var) (has_variable clause v) has) [
+      | inl here ↦ ap (λ n. list_any (nat_eq n) vars) (eqb-true v b.var here) ∙ parts.0
+      | inr later ↦ over_variable vars clause v parts.1 later
+    ]
 
 over_forced : (vars : List ℕ) (clauses : List (List Lit)) (before xs : List Step) → are_over vars clauses ≡ true → AreForced clauses before xs → is_over vars (literals_of xs) ≡ true
 over_forced vars clauses before [] all forced = refl
@@ -253,49 +298,15 @@ pub over_propagated : (vars : List ℕ) (clauses : List (List Lit)) (steps later
 over_propagated vars clauses steps later p all first =
     ap (λ xs. is_over vars (literals_of xs)) p.behind ∙ over_append vars steps p.added first (over_forced vars clauses steps p.added all p.reasons)
 
--- a search goes on behind a decision
-pub search_decides : (clauses : List (List Lit)) (first steps opened later : List Step) (a : Lit) → IsOpen clauses steps a → opened ≡ steps ++ assumed a ∷ []
-    → Propagates clauses opened later → is_complete clauses later ≡ true → IsSearching clauses first steps → IsSearching clauses first later
-search_decides clauses first steps opened later a o is p complete searching = record {
-  reasoned = reasoned_propagated clauses opened later p (reasoned_assumed clauses steps opened a o.unvalued is searching.reasoned);
-  complete = complete;
-  more = λ b has. ap (λ xs. has_literal (literals_of xs) b) p.behind ∙ has_later opened p.added b
-      (ap (λ xs. has_literal (literals_of xs) b) is ∙ has_later steps (assumed a ∷ []) b (searching.more b has));
-  over = λ vars all over_first. over_propagated vars clauses opened later p all
-      (ap (λ xs. is_over vars (literals_of xs)) is
-      ∙ over_append vars steps (assumed a ∷ []) (searching.over vars all over_first)
-      (and_from _ _ (all_has (λ b. list_any (nat_eq b.var) vars) o.clause a (over_at vars clauses o.place o.clause o.at all) o.inside) refl));
-}
-
-pub search_starts : (clauses : List (List Lit)) (steps : List Step) → IsReasonedTrail clauses steps → is_complete clauses steps ≡ true → IsSearching clauses steps steps
-search_starts clauses steps reasoned complete = record { reasoned = reasoned; complete = complete; more = λ a has. has; over = λ vars all over_first. over_first }
-
-falsified_no_tautology : (steps : List Step) (clause : List Lit) → is_falsified steps clause ≡ true → is_tautology clause ≡ false
+pub falsified_no_tautology : (steps : List Step) (clause : List Lit) → is_falsified steps clause ≡ true → is_tautology clause ≡ false
 falsified_no_tautology steps clause all = untrue _ (λ e.
     let found = any_gives (λ a. has_literal clause (negation a)) clause e in
     one_value (value_of steps found.0.var) (not found.0.positive) (all_has (is_false steps) clause found.0 all found.1) (all_has (is_false steps) clause (negation found.0) all found.2))
 
-falsified_over : (vars : List ℕ) (steps : List Step) (clause : List Lit) → is_falsified steps clause ≡ true → is_over vars (literals_of steps) ≡ true → is_over vars clause ≡ true
+pub falsified_over : (vars : List ℕ) (steps : List Step) (clause : List Lit) → is_falsified steps clause ≡ true → is_over vars (literals_of steps) ≡ true → is_over vars clause ≡ true
 falsified_over vars steps clause all over =
     all_from (λ a. list_any (nat_eq a.var) vars) clause (λ a has.
     all_has (λ b. list_any (nat_eq b.var) vars) (literals_of steps) (negation a) over (false_stands steps a (all_has (is_false steps) clause a all has)))
-
--- What the conflict of a search teaches.
-pub search_learns : (clauses : List (List Lit)) (first steps opened later : List Step) (a : Lit) (learned : Learned) → IsOpen clauses steps a → opened ≡ steps ++ assumed a ∷ []
-    → Propagates clauses opened later → IsSearching clauses first steps
-    → is_falsified later learned.clause ≡ true → IsHinted clauses learned → contains_one clauses learned.clause ≡ false
-    → is_unit (lower_steps later) learned.clause ≡ true → IsNewClause clauses (literals_of first) learned
-search_learns clauses first steps opened later a learned o is p searching falsified hinted new unit = record {
-  hinted = hinted;
-  some = λ e. false≢true (sym (ap (is_unit (lower_steps later)) e) ∙ unit);
-  not_subsumed = new;
-  no_tautology = falsified_no_tautology later learned.clause falsified;
-  over = λ vars all over_first. falsified_over vars later learned.clause falsified
-      (over_propagated vars clauses opened later p all
-      (ap (λ xs. is_over vars (literals_of xs)) is
-      ∙ over_append vars steps (assumed a ∷ []) (searching.over vars all over_first)
-      (and_from _ _ (all_has (λ b. list_any (nat_eq b.var) vars) o.clause a (over_at vars clauses o.place o.clause o.at all) o.inside) refl)));
-}
 
 -- Assumptions.
 
@@ -370,7 +381,7 @@ assumed_now assumptions steps later i value some below told is_some_told lacks i
     let d = get_or assumptions i no_literal in
     let fresh : value_of steps d.var ≡ None = sym told ∙ none_told value some is_some_told lacks in
     record {
-      reasoned = λ clauses. reasoned_assumed clauses steps later d fresh is (so_far.reasoned clauses);
+      reasoned = λ clauses. reasoned_assumed clauses steps later d is (so_far.reasoned clauses);
       true_all = λ a has. ap (λ xs. is_true xs a) is ∙ elim (seen_more assumptions i a below has) [
         | inl before ↦ true_more steps (assumed d ∷ []) a (so_far.true_all a before)
         | inr here ↦ ap (is_true (steps ++ assumed d ∷ [])) (lit_eq-true a d here) ∙ true_last steps d fresh
@@ -420,47 +431,3 @@ values_more literals i old new apart below told so_far a has =
           ap (bool_eq a.positive) (cond-true (eqb a.var d.var) d.positive (values_of old a.var) (eq-eqb a.var d.var (ap (λ (b : Lit). b.var) same)))
           ∙ ap (λ (b : Lit). bool_eq a.positive b.positive) (sym same) ∙ bool_eq-same a.positive
     ]
-
--- An attempt.
-
-not_forced : (x : Step) (b : Lit) (n : ℕ) → x.reason ≡ Some n → (lit_eq x.literal b && is_none x.reason) ≡ true → ⊥
-not_forced x b n forced here =
-    let none = (and_parts (lit_eq x.literal b) (is_none x.reason) here).1 in false≢true (sym (ap (λ r. is_none r) forced) ∙ none)
-
-forced_not_assumed : (clauses : List (List Lit)) (before xs : List Step) (b : Lit) → AreForced clauses before xs → is_assumed xs b ≡ true → ⊥
-forced_not_assumed clauses before [] b all e = false≢true e
-forced_not_assumed clauses before (x ∷ xs) b all e =
-    elim (or_cases (lit_eq x.literal b && is_none x.reason) (is_assumed xs b) e) [
-      | inl here ↦ not_forced x b all.0.number all.0.reason here
-      | inr later ↦ forced_not_assumed clauses (before ++ x ∷ []) xs b all.1 later
-    ]
-
-assumed_among : (clauses : List (List Lit)) (whole xs ys : List Step) (b : Lit) → AreForced clauses whole ys → is_assumed (xs ++ ys) b ≡ true → Has (literals_of xs) b
-assumed_among clauses whole [] ys b forced e = absurd (forced_not_assumed clauses whole ys b forced e)
-assumed_among clauses whole (x ∷ xs) ys b forced e =
-    elim (or_cases (lit_eq x.literal b && is_none x.reason) (is_assumed (xs ++ ys) b) e) [
-      | inl here ↦
-          let same : x.literal ≡ b = lit_eq-true x.literal b (and_parts (lit_eq x.literal b) (is_none x.reason) here).0 in
-          or_left _ _ (ap (lit_eq b) same ∙ lit_eq-same b)
-      | inr later ↦ or_right _ _ (assumed_among clauses whole xs ys b forced later)
-    ]
-
-pub core_among : (clauses : List (List Lit)) (assumptions clause : List Lit) (opened later : List Step) → AssumesAll assumptions opened → Propagates clauses opened later
-    → ((a : Lit) → Has clause a → is_assumed later (negation a) ≡ true) → NegatesOnly assumptions clause
-core_among clauses assumptions clause opened later assumes p traced a has =
-    assumes.only (negation a) (assumed_among clauses opened opened p.added (negation a) p.reasons (ap (λ xs. is_assumed xs (negation a)) (sym p.behind) ∙ traced a has))
-
-pub search_says : {E : Type 0} (result : Result Attempt E) (clauses : List (List Lit)) (assumptions : List Lit) (opened later : List Step) → AssumesAll assumptions opened
-    → Propagates clauses opened later → IfOk result (λ found. SearchSays clauses (literals_of later) found) → IfOk result (λ found. AttemptSays clauses assumptions found)
-search_says (Err e) clauses assumptions opened later assumes p says = says
-search_says (Ok (Model values)) clauses assumptions opened later assumes p says =
-    (says.0, λ a has. says.1 a (true_stands later a (ap (λ xs. is_true xs a) p.behind ∙ true_more opened p.added a (assumes.true_all a has))))
-search_says (Ok (Core learned)) clauses assumptions opened later assumes p says = absurd says
-search_says (Ok (Clause learned)) clauses assumptions opened later assumes p says = record {
-  hinted = says.hinted;
-  not_subsumed = says.not_subsumed;
-  no_tautology = says.no_tautology;
-  some = says.some;
-  over = λ vars all over. says.over vars all (over_propagated vars clauses opened later p all
-      (all_from (λ a. list_any (nat_eq a.var) vars) (literals_of opened) (λ a has. all_has (λ b. list_any (nat_eq b.var) vars) assumptions a over (assumes.only a has))));
-}

@@ -1,28 +1,27 @@
 -- Laws of how a proof is written.
-use Rattle.std.proofs.Common.{◌≡◌, ℕ, zero, suc, ◌+◌, ◌-◌, ◌^◌, ◌<◌, ◌≤◌, Bool, true, false, not, ◌&&◌, ◌||◌, cond, eqb, List, [], ◌∷◌, ◌++◌, length, get_or, take, map, Option, Some, None, Result, Ok, Err, refl, ap, sym, subst, ◌∙◌, ◌⊎◌, inl, inr, arith, rules, eqb-true}
-use Rattle.std.specs.Prelude.{slice_get, is_some, nat_le, IsOkAnd, All}
+use Rattle.std.proofs.Common.{◌≡◌, ℕ, zero, suc, ◌+◌, ◌-◌, ◌^◌, ◌<◌, ◌≤◌, Bool, true, false, not, ◌&&◌, cond, eqb, List, [], ◌∷◌, ◌++◌, length, get_or, take, map, Option, Some, None, Result, Ok, Err, refl, ap, sym, subst, ◌∙◌, ◌⊎◌, inl, inr, arith, rules, eqb-true}
+use Rattle.std.specs.Prelude.{slice_get, is_some, nat_le, IsOkAnd}
 use Rattle.std.specs.List.{list_any, list_all, AllByRecursion}
 use Rattle.std.specs.Option.{unwrap_or}
 use Rattle.std.proofs.Math.Dec.{leb}
-use Rattle.std.proofs.lemmas.Bool.{false≢true, and_parts, and_from, or_cases, or_left, or_right, cond-true, cond-false, lt-leb, leb-true, le-leb}
+use Rattle.std.proofs.lemmas.Bool.{false≢true, and_parts, and_from, or_left, or_right, cond-true, cond-false, lt-leb, leb-true, le-leb}
 use Rattle.std.proofs.lemmas.List.{take_more, take_all, length-append}
 use Rattle.std.proofs.lemmas.List.Elements.{All-from_recursion}
 use Rattle.std.proofs.lemmas.Option.{none-some, same_Some, slice_get_within, slice_get-get_or, get_or_from_slice_get}
-use Rattle.proof_semantics.specs.Clauses.{lit_eq, negation, has_literal, is_part, cube_value, clauses_value}
+use Rattle.proof_semantics.specs.Clauses.{negation, has_literal, is_part, cube_value}
 use Rattle.proof_semantics.specs.Propagation.{open_literals, only_literal, with_clause, with_unit, conflict_fault, hints_fault}
-use Rattle.proof_semantics.specs.Lines.{Line, addition, IsSize, HasSizes, line_of, text_of}
-use Rattle.proof_semantics.specs.Proofs.{ProofState, is_empty, numbered, start, clause_at, with_addition, ids_of, ok_without_fault, judge_addition, judge_line, judge, judge_next, judge_all, Refutes}
+use Rattle.proof_semantics.specs.Lines.{IsSize, HasSizes, text_of}
+use Rattle.proof_semantics.specs.Proofs.{ProofState, is_empty, numbered, start, clause_at, with_addition, ids_of, ok_without_fault, judge_line, judge, judge_next, judge_all}
 use Rattle.proof_semantics.specs.declared.literals.Lit.{Lit}
 use Rattle.proof_semantics.specs.declared.faults.LratFault.{LratFault}
 use Rattle.proof_semantics.specs.declared.faults.LratFault.TheVariants.{IdOrder, RatRefused}
 use Rattle.proof_semantics.proofs.LineLaws.{reads_spelled}
-use Rattle.proof_semantics.proofs.LiteralLaws.{lit_eq-true, lit_eq-same, negation_twice, cube_value-has}
+use Rattle.proof_semantics.proofs.LiteralLaws.{lit_eq-same, negation_twice, cube_value-has}
 use Rattle.proof_semantics.proofs.Soundness.{hints_refute}
 use Rattle.cdcl_trail.specs.Propagation.{clause_numbered}
 use Rattle.cdcl_trail.proofs.TrailLaws.{either}
-use Rattle.cdcl_trail.proofs.PrefixLaws.{all_from}
 use Rattle.cdcl.specs.Entries.{Entries, with_added, added_in, added_of, AreSized, IsLog}
-use Rattle.cdcl.specs.Solving.{IsModel, IsRefusal}
+use Rattle.cdcl.specs.Solving.{IsRefusal}
 use Rattle.cdcl.specs.Writing.{Written, id_of, hint_of, line_with, next_written, count_added, AreBefore, is_needed, IsClosed, IsWritten, Proves}
 use Rattle.cdcl.proofs.EntryLaws.{added_push, get_push, number_at-place, numbered_true}
 

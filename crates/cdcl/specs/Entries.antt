@@ -1,11 +1,9 @@
 -- The clauses that a solver holds, in the order in which they came, each with the hints that it was learned by.
-use Rattle.std.specs.Prelude.{◌≡◌, ℕ, Bool, true, List, [], ◌∷◌, length, take, map, All, Option, Some, None, slice_get, slice_index_or}
-use Rattle.std.specs.List.{list_all}
+use Rattle.std.specs.Prelude.{◌≡◌, ℕ, Bool, true, List, [], ◌∷◌, length, take, map, Option, Some, None, slice_get, slice_index_or}
 use Rattle.proof_semantics.specs.Clauses.{negation, has_literal, clauses_value}
 use Rattle.proof_semantics.specs.Propagation.{hints_fault}
 use Rattle.proof_semantics.specs.Lines.{IsSize}
 use Rattle.proof_semantics.specs.declared.literals.Lit.{Lit}
-use Rattle.proof_semantics.specs.declared.faults.LratFault.{LratFault}
 use Rattle.cdcl_trail.specs.Propagation.{clause_numbered}
 
 -- the clauses, and beside each the hints of its proof line; none where it was added

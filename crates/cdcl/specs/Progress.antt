@@ -1,8 +1,9 @@
 -- How far a search has come from where it began.
-use Rattle.std.specs.Prelude.{◌≡◌, ℕ, ◌+◌, ◌-◌, ◌≤◌, true, List, length}
+use Rattle.std.specs.Prelude.{◌≡◌, ℕ, ◌+◌, ◌-◌, ◌≤◌, true, false, List, [], ◌∷◌, ◌++◌, length}
 use Rattle.edge.specs.Units.{Spendings}
+use Rattle.proof_semantics.specs.Clauses.{is_subsumed, is_tautology}
 use Rattle.proof_semantics.specs.declared.literals.Lit.{Lit}
-use Rattle.cdcl.specs.Entries.{Entries, added_of, learned_of}
+use Rattle.cdcl.specs.Entries.{Entries, IsLog, added_of, learned_of}
 use Rattle.cdcl.specs.Room.{room}
 use Rattle.cdcl.specs.Searching.{is_over, are_over}
 use Rattle.cdcl.specs.Solving.{Learns, with_conflicts}
@@ -11,7 +12,8 @@ use Rattle.cdcl.specs.Solving.{Learns, with_conflicts}
 abbrev pub growth : Entries → Entries → ℕ
 growth start now = length (learned_of now) - length (learned_of start)
 
--- Over some variables the clauses that were learned and those that can still be learned are no more than at first.
+-- The clauses are over these variables, and those that were learned and those that can still be learned over them are no
+-- more than at first.
 pub record HasRoom (vars : List ℕ) (start now : Entries) : Type 0 where
   pub over : are_over vars now.clauses ≡ true
   pub less : growth start now + room vars now.clauses ≤ room vars start.clauses
@@ -21,3 +23,14 @@ pub record IsSearched (assumptions : List Lit) (start now : Entries) (earlier la
   pub learned : Learns (added_of start) (learned_of start) (learned_of now)
   pub counted : later ≡ with_conflicts earlier (growth start now)
   pub less : (vars : List ℕ) → are_over vars start.clauses ≡ true → is_over vars assumptions ≡ true → HasRoom vars start now
+
+-- None of the clauses has opposite literals, and none contains one that was before it.
+abbrev pub AreApart : List (List Lit) → List (List Lit) → Type 0
+AreApart before [] = Unit {0}
+AreApart before (clause ∷ more) =
+    (is_tautology clause ≡ false) × (is_subsumed before clause ≡ false) × AreApart (before ++ clause ∷ []) more
+
+-- What a solver keeps.
+pub record IsKept (entries : Entries) : Type 0 where
+  pub log : IsLog entries
+  pub apart : AreApart [] (learned_of entries)

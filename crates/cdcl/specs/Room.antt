@@ -1,6 +1,6 @@
 -- How many clauses a solver can still learn.
 use Rattle.std.specs.Prelude.{ℕ, ◌+◌, Bool, true, false, List, [], ◌∷◌, ◌++◌, map, if◌then◌else◌}
-use Rattle.edge.specs.Units.{is_subsumed}
+use Rattle.proof_semantics.specs.Clauses.{is_subsumed}
 use Rattle.proof_semantics.specs.declared.literals.Lit.{Lit}
 
 abbrev pub lit : ℕ → Bool → Lit

@@ -1,14 +1,13 @@
 -- What a solver of clauses answers, and what it learns. After GRASP (Marques-Silva, Sakallah, 1999) and MiniSat (Eén,
 -- Sörensson, 2003), with answers under assumptions.
-use Rattle.std.specs.Prelude.{◌≡◌, ◌≢◌, ℕ, zero, suc, ◌^◌, ◌≤◌, Bool, true, false, List, [], ◌∷◌, ◌++◌, map, length, Option, Some, None, IsOkAnd}
+use Rattle.std.specs.Prelude.{◌≡◌, ◌≢◌, ℕ, zero, suc, ◌^◌, ◌≤◌, Bool, true, false, List, [], ◌∷◌, ◌++◌, map, length, Some, IsOkAnd}
 use Rattle.std.specs.List.{list_any}
 use Rattle.edge.specs.Faults.{one_more}
-use Rattle.edge.specs.Units.{is_tautology, is_subsumed, Spendings}
-use Rattle.edge.specs.declared.metering.Spent.{Spent}
+use Rattle.edge.specs.Units.{Spendings}
 use Rattle.edge.specs.declared.metering.Counted.TheVariants.{Conflicts}
 use Rattle.edge.specs.declared.solve_end.SolveEnd.{SolveEnd}
 use Rattle.edge.specs.declared.solve_end.SolveEnd.TheVariants.{Spent as SpentEnd, Memory}
-use Rattle.proof_semantics.specs.Clauses.{negation, has_literal, is_part, clauses_value, cube_value, values_of, IsImplied}
+use Rattle.proof_semantics.specs.Clauses.{negation, has_literal, is_part, clauses_value, cube_value, values_of, IsImplied, is_subsumed, is_tautology}
 use Rattle.proof_semantics.specs.Proofs.{start, clause_at, judge_all, Refutes}
 use Rattle.proof_semantics.specs.declared.literals.Lit.{Lit}
 use Rattle.cdcl.specs.Searching.{is_over, are_over}
@@ -33,7 +32,7 @@ pub record IsModel (added : List (List Lit)) (assumptions : List Lit) (v : ℕ �
 abbrev pub HasNoModel : List (List Lit) → List Lit → Type 0
 HasNoModel added assumptions = (v : ℕ → Bool) → IsModel added assumptions v → ⊥
 
--- The lines are accepted in their order, and the last clause that they give is this one.
+-- The lines are accepted in their order, and the clause with the greatest id, given or added, is held and is this one.
 abbrev pub Derives : List (List Lit) → List (List ℕ) → List Lit → Type 0
 Derives given lines clause = IsOkAnd (judge_all (start given) lines) (λ s. clause_at s.held s.last ≡ Some clause)
 
@@ -51,11 +50,11 @@ IsAnswer added assumptions (Sat values) = IsModel added assumptions (values_of v
 IsAnswer added assumptions (Unsat core lines) = IsRefusal added assumptions core.items lines
 
 -- A learned clause follows from the added ones, has a literal and none beside its negation, and no clause that was added
--- or learned before is a part of it. So what propagation alone refutes is no learned clause.
+-- or learned before is a part of it. So the empty clause, which propagation alone gives, is never learned.
 pub record IsLearned (added before : List (List Lit)) (clause : List Lit) : Type 0 where
   pub implied : IsImplied added clause
   pub no_tautology : is_tautology clause ≡ false
-  pub some : clause ≢ []
+  pub not_empty : clause ≢ []
   pub new : is_subsumed (added ++ before) clause ≡ false
 
 -- each clause after those before it
@@ -69,12 +68,12 @@ pub record Learns (added earlier later : List (List Lit)) : Type 0 where
   pub behind : later ≡ earlier ++ more
   pub learned : AreLearned added earlier more
 
--- So many clauses can be learned over variables that are those of the clauses and of the assumptions: each has, of a
--- variable, the literal, its negation or none.
-abbrev pub IsBounded : Solving → List Lit → ℕ → Type 0
-IsBounded solver assumptions n =
+-- Over variables that are those of the added clauses, of the ones learned before and of the assumptions every learned
+-- clause stays, and of all calls there are at most so many: a clause has, of a variable, the literal, its negation or none.
+abbrev pub IsBounded : Solving → List Lit → List (List Lit) → Type 0
+IsBounded solver assumptions learned =
     (vars : List ℕ) → are_over vars solver.added ≡ true → are_over vars solver.learned ≡ true → is_over vars assumptions ≡ true
-    → n ≤ 3 ^ length vars
+    → (are_over vars learned ≡ true) × (length learned ≤ 3 ^ length vars)
 
 -- a count after so many conflicts more
 abbrev pub more_conflicts : ℕ → ℕ → ℕ

@@ -4,26 +4,30 @@ ghost use Rattle.std.specs.List.{list_any};
 ghost use Rattle.cdcl_trail.specs.Propagation.{is_complete, is_true, is_falsified};
 ghost use Rattle.cdcl.specs.Searching.{IsOpen, IsOpenIn, is_satisfied};
 
+use crate::order::Order;
 use cdcl_trail::Trail;
 use cnf::{Clause, Lit};
 
-/// A literal without a value of a clause that has no true literal. `None` where every clause has
-/// one.
-pub(crate) fn choose(trail: &Trail, clauses: &[Clause]) -> Option<Lit>
+/// The most active variable without a value of a clause that has no true literal, with the value
+/// that it had last. `None` where every clause has a true literal.
+pub(crate) fn choose(order: &Order, trail: &Trail, clauses: &[Clause]) -> Option<Lit>
     requires { is_complete clauses.now trail.now.steps ≡ true }
     ensures none { IfNone result (is_satisfied clauses.now trail.now.steps ≡ true) }
     ensures open { IfSome result (λ a. IsOpen clauses.now trail.now.steps a) }
 {
+    let mut best: Option<Lit> = None;
     for clause in clauses {
-        if let Some(literal) = open_literal(trail, clause.as_slice()) {
-            return Some(literal);
-        }
+        let Some(literal) = open_literal(order, trail, clause.as_slice()) else {
+            continue;
+        };
+        best = Some(order.more_active(best, literal));
     }
-    None
+    Some(order.last_true(best?))
 }
 
-// A literal without a value, where no literal of the clause is true. `None` where one is.
-fn open_literal(trail: &Trail, clause: &[Lit]) -> Option<Lit>
+// The most active literal without a value, where no literal of the clause is true. `None` where one
+// is.
+fn open_literal(order: &Order, trail: &Trail, clause: &[Lit]) -> Option<Lit>
     requires { is_falsified trail.now.steps clause.now ≡ false }
     ensures none { IfNone result (list_any (is_true trail.now.steps) clause.now ≡ true) }
     ensures open { IfSome result (λ a. IsOpenIn trail.now.steps clause.now a) }
@@ -31,7 +35,7 @@ fn open_literal(trail: &Trail, clause: &[Lit]) -> Option<Lit>
     let mut open: Option<Lit> = None;
     for literal in clause {
         let Some(value) = trail.value(literal.var) else {
-            open = Some(*literal);
+            open = Some(order.more_active(open, *literal));
             continue;
         };
         if value == literal.positive {

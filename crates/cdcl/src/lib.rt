@@ -2,12 +2,15 @@
 //! model, or with assumptions that are refused and a proof. The main type is `Solver`.
 #![tactic(auto)]
 
-mod attempt;
 mod choosing;
 mod conditions;
 mod log;
 mod marking;
+mod order;
 mod refusing;
+mod restarts;
+mod returning;
+mod searching;
 mod solver;
 mod solving;
 mod spelling;

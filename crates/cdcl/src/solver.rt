@@ -1,13 +1,11 @@
 //! The solver. The main type is `Solver`.
-ghost use Rattle.std.specs.Prelude.{◌≡◌, ◌-◌, ◌≤◌, ◌^◌, ◌↔◌, ℕ, [], ◌∷◌, ◌++◌, List, IsTrue, IfOk, IfErr, OnOk, OnErr, length, true, false};
-ghost use Rattle.cdcl.specs.Entries.{AreSized, IsLog, added_of, learned_of};
-ghost use Rattle.cdcl.specs.Searching.{is_over, are_over};
-ghost use Rattle.cdcl.specs.Progress.{IsSearched};
+ghost use Rattle.std.specs.Prelude.{◌≡◌, ◌-◌, [], ◌∷◌, ◌++◌, IfOk, IfErr, OnOk, OnErr, length, false};
+ghost use Rattle.cdcl.specs.Entries.{AreSized};
 ghost use Rattle.cdcl.specs.Solving.{IsAnswer, IsBounded, IsEnd, Learns, has_opposites, with_conflicts};
 
-use crate::attempt::{Attempt, try_once};
 use crate::log::Log;
-use crate::refusing::refusal;
+use crate::order::Order;
+use crate::searching::search;
 use crate::solving::Answer;
 use cnf::{Clause, Lit};
 use edge::{Meter, SolveEnd};
@@ -19,18 +17,20 @@ use std::marker::Model;
 #[derive(Debug, Drop)]
 pub struct Solver {
     log: Log,
+    order: Order,
     alloc: Global,
 }
 
 impl Model for Solver {
     ghost use Rattle.cdcl.specs.Solving.{Solving};
-    ghost use Rattle.cdcl.specs.Entries.{IsLog, added_of, learned_of};
+    ghost use Rattle.cdcl.specs.Entries.{added_of, learned_of};
+    ghost use Rattle.cdcl.specs.Progress.{IsKept};
 
     ghost Value = { Solving };
 
     ghost view = { λ s. record { added = added_of s.log; learned = learned_of s.log } };
 
-    ghost invariant = { λ s. IsLog s.log };
+    ghost invariant = { λ s. IsKept s.log };
 }
 
 impl Solver {
@@ -41,6 +41,7 @@ impl Solver {
     {
         Ok(Solver {
             log: Log::new(alloc),
+            order: Order::new(alloc),
             alloc,
         })
     }
@@ -67,33 +68,15 @@ impl Solver {
         ensures end { IfErr result (IsEnd meter.new) }
         ensures added { self.new.added ≡ self.old.added }
         ensures learned { Learns self.old.added self.old.learned self.new.learned }
-        ensures bounded { IsBounded self.old assumptions.now (length self.new.learned - length self.old.learned) }
+        ensures bounded { IsBounded self.old assumptions.now self.new.learned }
         ensures counted { meter.new ≡ with_conflicts meter.old (length self.new.learned - length self.old.learned) }
     {
-        search(self.alloc, &mut self.log, assumptions, meter)
-    }
-}
-
-// Attempts until one gives an answer.
-fn search(
-    alloc: Global,
-    log: &mut Log,
-    assumptions: &[Lit],
-    meter: &mut Meter,
-) -> Result<Answer, SolveEnd>
-    requires log { IsLog log.old }
-    requires apart { has_opposites assumptions.now ≡ false }
-    requires sizes { AreSized assumptions.now }
-    ensures log { IsLog log.new }
-    ensures answer { IfOk result (IsAnswer (added_of log.old) assumptions.now) }
-    ensures end { IfErr result (IsEnd meter.new) }
-    ensures searched { IsSearched assumptions.now log.old log.new meter.old meter.new }
-{
-    'attempts: loop {
-        match try_once(alloc, log.clauses(), assumptions)? {
-            Attempt::Model(values) => return Ok(Answer::Sat(values.into_vec())),
-            Attempt::Core(traced) => return Ok(refusal(alloc, log, assumptions, traced)?),
-            Attempt::Clause(learned) => log.learn(learned, meter)?,
-        }
+        search(
+            self.alloc,
+            &mut self.log,
+            &mut self.order,
+            assumptions,
+            meter,
+        )
     }
 }

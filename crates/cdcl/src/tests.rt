@@ -133,3 +133,47 @@ fn answers(rt: HostRuntime) -> Result<(), Fail> {
     }
     Ok(())
 }
+
+// Four pigeons find no place in three holes, also where the first two may not sit in the first one;
+// and three do.
+#[test]
+fn pigeons(rt: HostRuntime) -> Result<(), Fail> {
+    let alloc = rt.alloc();
+    let apart = [
+        -1i64, -4, 0, -1, -7, 0, -1, -10, 0, -4, -7, 0, -4, -10, 0, -7, -10, 0, -2, -5, 0, -2, -8,
+        0, -2, -11, 0, -5, -8, 0, -5, -11, 0, -8, -11, 0, -3, -6, 0, -3, -9, 0, -3, -12, 0, -6, -9,
+        0, -6, -12, 0, -9, -12, 0,
+    ];
+    for (placed, assumed, wanted) in [
+        (
+            [1i64, 2, 3, 0, 4, 5, 6, 0, 7, 8, 9, 0, 10, 11, 12, 0].as_slice(),
+            [].as_slice(),
+            "unsat",
+        ),
+        (
+            &[1i64, 2, 3, 0, 4, 5, 6, 0, 7, 8, 9, 0, 10, 11, 12, 0],
+            &[-1i64, -4],
+            "unsat",
+        ),
+        (
+            &[1i64, 2, 3, 0, 4, 5, 6, 0, 7, 8, 9, 0],
+            &[-1i64, -4],
+            "sat",
+        ),
+        (
+            &[1i64, 2, 3, 0, 4, 5, 6, 0, 7, 8, 9, 0],
+            &[-1i64, -4, -7],
+            "unsat",
+        ),
+    ] {
+        let mut numbers: Vec<i64> = Vec::from_slice(alloc, placed)?;
+        numbers.extend_from_slice(apart.as_slice())?;
+        let mut asked = solver(alloc, numbers.as_slice())?;
+        let mut meter = Meter::new(4_294_967_295, 0);
+        for _again in 0..2 {
+            let (said, _core) = ask(alloc, numbers.as_slice(), &mut asked, assumed, &mut meter)?;
+            assert_eq!(rt; said, wanted, "of {placed:?} under {assumed:?}");
+        }
+    }
+    Ok(())
+}

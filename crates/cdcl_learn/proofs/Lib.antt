@@ -1,3 +1,4 @@
+pub mod FreshLaws
 pub mod ExplainLaws
 pub mod AddingLaws
 pub mod WalkLaws

@@ -10,11 +10,12 @@ use Rattle.proof_semantics.specs.Propagation.{hints_fault}
 use Rattle.proof_semantics.specs.declared.literals.Lit.{Lit}
 use Rattle.proof_semantics.proofs.LiteralLaws.{lit_eq-true, lit_eq-same, negation_twice, bool_eq-same}
 use Rattle.cdcl_trail.specs.Trails.{Step, literals_of, reasons_in}
-use Rattle.cdcl_trail.specs.Propagation.{is_value, is_true, is_false, is_unit_for, clause_numbered, IsConflict, IsReasonedTrail}
+use Rattle.cdcl_trail.specs.Propagation.{is_value, is_true, is_false, is_unit_for, clause_numbered, IsConflict}
+use Rattle.cdcl_learn.proofs.FreshLaws.{IsFreshTrail, fresh_at}
 use Rattle.cdcl_trail.proofs.TrailLaws.{either}
 use Rattle.cdcl_trail.proofs.ScanLaws.{all_has, untrue}
 use Rattle.cdcl_trail.proofs.PassLaws.{step_comes, no_step}
-use Rattle.cdcl_trail.proofs.PrefixLaws.{true_more, false_before, reasoned_at}
+use Rattle.cdcl_trail.proofs.PrefixLaws.{true_more, false_before}
 use Rattle.cdcl_learn.specs.Learning.{is_assumed}
 use Rattle.cdcl_learn.specs.Walking.{IsResolvent, Explains, IsTraced}
 use Rattle.cdcl_learn.proofs.ExplainLaws.{explains_conflict, explains_resolvent, explained_ends}
@@ -82,7 +83,7 @@ pub trace_resolves : (clauses : List (List Lit)) (steps : List Step) (p : ℕ) (
     (reasons : List (Option ℕ)) (number : ℕ)
     → literals ≡ literals_of steps → reasons ≡ reasons_in steps → 0 < p → p ≤ length literals
     → get_or reasons (p - 1) None ≡ Some number → clause_numbered clauses number ≡ Some reason
-    → IsReasonedTrail clauses steps → seen ≡ clause → IsResolvent seen (get_or literals (p - 1) no_literal) reason more
+    → IsFreshTrail clauses steps → seen ≡ clause → IsResolvent seen (get_or literals (p - 1) no_literal) reason more
     → longer ≡ hints ++ number ∷ []
     → IsTraced clauses steps p clause (reverse hints) → IsTraced clauses steps (p - 1) more (reverse longer)
 trace_resolves clauses steps p clause seen more reason hints longer literals reasons number same same_reasons after within read held reasoned sees resolvent pushed traced =
@@ -96,7 +97,7 @@ trace_resolves clauses steps p clause seen more reason hints longer literals rea
     subst (λ v. IsResolvent clause v reason more) r.literal (subst (λ c. IsResolvent c (get_or literals (p - 1) no_literal) reason more) sees resolvent) in
     let parts = and_parts _ _ left in
     let rest = and_parts _ _ parts.1 in
-    let fresh = (reasoned_at clauses [] steps (p - 1) no_step_there r.below reasoned).fresh in
+    let fresh = (fresh_at clauses [] steps (p - 1) no_step_there r.below reasoned).fresh in
     let holds : is_true steps u ≡ true =
     ap (λ xs. is_true xs u) (sym (take-append-drop (p - 1 + 1) steps))
     ∙ true_more (take (p - 1 + 1) steps) (drop (p - 1 + 1) steps) u
@@ -142,18 +143,18 @@ assumed_true (x ∷ steps) a assumed =
     ]
 
 -- what stands on a trail is true under it
-pub standing_true : (clauses : List (List Lit)) (steps : List Step) (i : ℕ) → i < length steps → IsReasonedTrail clauses steps
+pub standing_true : (clauses : List (List Lit)) (steps : List Step) (i : ℕ) → i < length steps → IsFreshTrail clauses steps
     → is_true steps (get_or steps i no_step_there).literal ≡ true
 standing_true clauses steps i below reasoned =
     let s = get_or steps i no_step_there in
-    let fresh = (reasoned_at clauses [] steps i no_step_there below reasoned).fresh in
+    let fresh = (fresh_at clauses [] steps i no_step_there below reasoned).fresh in
     ap (λ xs. is_true xs s.literal) (sym (take-append-drop (i + 1) steps))
     ∙ true_more (take (i + 1) steps) (drop (i + 1) steps) s.literal
     (ap (λ xs. is_true xs s.literal) (step_in steps i no_step_there below)
     ∙ ap (λ o. is_value (option_map (λ (x : Step). x.literal.positive) o) s.literal.positive) (step_comes (take i steps) s (no_step _ fresh)) ∙ bool_eq-same s.literal.positive)
 
 pub traced_ends : (clauses : List (List Lit)) (steps : List Step) (p : ℕ) (clause told : List Lit) (hints told_hints : List ℕ) → p ≤ 0 → told ≡ clause → told_hints ≡ hints
-    → IsReasonedTrail clauses steps → IsTraced clauses steps p clause hints
+    → IsFreshTrail clauses steps → IsTraced clauses steps p clause hints
     → hints_fault (clause_numbered clauses) (map negation told) told_hints ≡ None
 traced_ends clauses steps p clause told hints told_hints at_front same same_hints reasoned traced =
     ap (λ c. hints_fault (clause_numbered clauses) (map negation c) told_hints) same

@@ -8,16 +8,16 @@ use Rattle.std.proofs.lemmas.Bool.{false≢true, and_parts, and_from, or_cases, 
 use Rattle.std.proofs.Math.Dec.{leb}
 use Rattle.std.proofs.lemmas.Bool.Decides.{leb_tells}
 use Rattle.std.proofs.lemmas.Option.{none-some, same_Some, slice_get-get_or, slice_get_within}
-use Rattle.proof_semantics.specs.Clauses.{lit_eq, negation, has_literal, is_part}
+use Rattle.proof_semantics.specs.Clauses.{lit_eq, negation, has_literal, is_part, is_subsumed}
 use Rattle.proof_semantics.specs.declared.literals.Lit.{Lit}
 use Rattle.proof_semantics.proofs.LiteralLaws.{lit_eq-true, lit_eq-same, bool_eq-same}
 use Rattle.cdcl_trail.specs.Trails.{Step, step, opened_by, literals_of, reasons_in, step_of, value_of, level, up_to_level, lower_steps}
-use Rattle.cdcl_trail.specs.Propagation.{is_value, is_true, is_false, is_falsified, is_unit_for, is_unit, is_complete, clause_numbered, IsConflict, IsReasoned, HaveReasons, IsReasonedTrail}
+use Rattle.cdcl_trail.specs.Propagation.{is_value, is_true, is_false, is_falsified, is_unit_for, is_unit, is_complete, clause_numbered, IsConflict}
+use Rattle.cdcl_learn.proofs.FreshLaws.{IsFresh, AreFresh, IsFreshTrail, fresh_at}
 use Rattle.cdcl_trail.proofs.TrailLaws.{either, not-true, or_neither, or_both}
 use Rattle.cdcl_trail.proofs.ScanLaws.{all_has, any_gives, any_has, untrue, unvalued_test}
 use Rattle.cdcl_trail.proofs.PassLaws.{step_comes, no_step, complete_at, held_at}
-use Rattle.cdcl_trail.proofs.PrefixLaws.{all_from, not_all_gives, step_more, false_more, true_more, none_before, false_before, reasoned_at}
-use Rattle.cdcl_learn.specs.Learning.{contains_one}
+use Rattle.cdcl_trail.proofs.PrefixLaws.{all_from, not_all_gives, step_more, false_more, true_more, none_before, false_before}
 use Rattle.cdcl_learn.specs.Walking.{IsLastAssumed, IsResolvent, Explains, IsOnTheWay, IsLearned}
 use Rattle.cdcl_learn.proofs.ExplainLaws.{explains_conflict, explains_resolvent, explained_ends}
 
@@ -153,24 +153,24 @@ found_in f (y ∷ ys) any =
     ]
 
 -- what came is fresh after what came before
-fresh_in : (clauses : List (List Lit)) (before front : List Step) (y : Step) (back : List Step) → HaveReasons clauses before (front ++ y ∷ back)
+fresh_in : (clauses : List (List Lit)) (before front : List Step) (y : Step) (back : List Step) → AreFresh clauses before (front ++ y ∷ back)
     → value_of (before ++ front) y.literal.var ≡ None
 fresh_in clauses before [] y back all = subst (λ b. value_of b y.literal.var ≡ None) (sym (append-nil before)) all.0.fresh
 fresh_in clauses before (x ∷ front) y back all =
     subst (λ b. value_of b y.literal.var ≡ None) (append_assoc before (x ∷ []) front) (fresh_in clauses (before ++ x ∷ []) front y back all.1)
 
-reasons_split : (clauses : List (List Lit)) (before xs ys : List Step) → HaveReasons clauses before (xs ++ ys) → HaveReasons clauses before xs × HaveReasons clauses (before ++ xs) ys
-reasons_split clauses before [] ys all = (tt, subst (λ b. HaveReasons clauses b ys) (sym (append-nil before)) all)
+reasons_split : (clauses : List (List Lit)) (before xs ys : List Step) → AreFresh clauses before (xs ++ ys) → AreFresh clauses before xs × AreFresh clauses (before ++ xs) ys
+reasons_split clauses before [] ys all = (tt, subst (λ b. AreFresh clauses b ys) (sym (append-nil before)) all)
 reasons_split clauses before (x ∷ xs) ys all =
     let later = reasons_split clauses (before ++ x ∷ []) xs ys all.1 in
-    ((all.0, later.0), subst (λ b. HaveReasons clauses b ys) (append_assoc before (x ∷ []) xs) later.1)
+    ((all.0, later.0), subst (λ b. AreFresh clauses b ys) (append_assoc before (x ∷ []) xs) later.1)
 
 -- a literal between the start and a place has no value at the start, and has one at the place
 pub record IsBetween (steps : List Step) (start i : ℕ) (a : Lit) : Type 0 where
   pub fresh : value_of (take start steps) a.var ≡ None
   pub valued : (x : Step) × (step_of (take i steps) a.var ≡ Some x)
 
-found_between : (clauses : List (List Lit)) (steps : List Step) (start i : ℕ) (f : Lit → Bool) → IsReasonedTrail clauses steps → start ≤ i
+found_between : (clauses : List (List Lit)) (steps : List Step) (start i : ℕ) (f : Lit → Bool) → IsFreshTrail clauses steps → start ≤ i
     → list_any f (take (i - start) (drop start (literals_of steps))) ≡ true → (a : Lit) × (f a ≡ true) × IsBetween steps start i a
 found_between clauses steps start i f reasoned below any =
     let found = found_in f (take (i - start) (drop start steps)) (ap (list_any f) (sym (between_literals steps start i)) ∙ any) in
@@ -178,8 +178,8 @@ found_between clauses steps start i f reasoned below any =
     let y = found.1 in
     let back = found.2 in
     let cut : take i steps ≡ take start steps ++ (front ++ y ∷ back) = between steps start i below ∙ ap (λ zs. take start steps ++ zs) found.3 in
-    let whole : HaveReasons clauses [] (take i steps ++ drop i steps) = subst (λ xs. HaveReasons clauses [] xs) (sym (take-append-drop i steps)) reasoned in
-    let lower : HaveReasons clauses [] (take start steps ++ (front ++ y ∷ back)) = subst (λ xs. HaveReasons clauses [] xs) cut (reasons_split clauses [] (take i steps) (drop i steps) whole).0 in
+    let whole : AreFresh clauses [] (take i steps ++ drop i steps) = subst (λ xs. AreFresh clauses [] xs) (sym (take-append-drop i steps)) reasoned in
+    let lower : AreFresh clauses [] (take start steps ++ (front ++ y ∷ back)) = subst (λ xs. AreFresh clauses [] xs) cut (reasons_split clauses [] (take i steps) (drop i steps) whole).0 in
     let fresh : value_of (take start steps ++ front) y.literal.var ≡ None =
     fresh_in clauses (take start steps) front y back (reasons_split clauses [] (take start steps) (front ++ y ∷ back) lower).1 in (
       y.literal,
@@ -196,7 +196,7 @@ found_between clauses steps start i f reasoned below any =
 
 -- The end: one literal of the last level is left.
 
-pub way_ends : (clauses : List (List Lit)) (steps : List Step) (start i : ℕ) (d : Step) (clause : List Lit) (hints : List ℕ) → IsReasonedTrail clauses steps
+pub way_ends : (clauses : List (List Lit)) (steps : List Step) (start i : ℕ) (d : Step) (clause : List Lit) (hints : List ℕ) → IsFreshTrail clauses steps
     → start ≤ i → i < length steps → lower_steps steps ≡ take start steps → Has clause (negation (get_or steps i d).literal)
     → list_any (λ l. has_literal clause (negation l)) (take (i - start) (drop start (literals_of steps))) ≡ false
     → IsOnTheWay clauses steps start (i + 1) clause hints → IsLearned clauses steps clause hints
@@ -206,7 +206,7 @@ way_ends clauses steps start i d clause hints reasoned above below lower has non
     ap (λ xs. is_false xs a) (sym (take-append-drop (i + 1) steps)) ∙ false_more (take (i + 1) steps) (drop (i + 1) steps) a (way.within a has_a) in
     let fresh : value_of (take start steps) u.var ≡ None =
     none_before (take start steps) (take (i - start) (drop start steps)) u.var
-    (ap (λ xs. value_of xs u.var) (sym (between steps start i above)) ∙ (reasoned_at clauses [] steps i d below reasoned).fresh) in
+    (ap (λ xs. value_of xs u.var) (sym (between steps start i above)) ∙ (fresh_at clauses [] steps i d below reasoned).fresh) in
     let others : (a : Lit) → Has clause a → (lit_eq (negation u) a || is_false (take start steps) a) ≡ true = λ a has_a.
     elim (either (lit_eq a (negation u))) [
       | inl same ↦ or_left _ _ (ap (lit_eq (negation u)) (lit_eq-true a (negation u) same) ∙ lit_eq-same (negation u))
@@ -252,7 +252,7 @@ pub flip : (a b : Lit) → lit_eq a b ≡ false → lit_eq b a ≡ false
 flip a b e = apart_lits b a (λ same. false≢true (sym e ∙ ap (lit_eq a) same ∙ lit_eq-same a))
 
 pub way_resolves : (clauses : List (List Lit)) (steps : List Step) (start i : ℕ) (d : Step) (clause more reason : List Lit) (hints : List ℕ) (number : ℕ)
-    → IsReasonedTrail clauses steps → start ≤ i → i < length steps
+    → IsFreshTrail clauses steps → start ≤ i → i < length steps
     → (get_or steps i d).reason ≡ Some number → clause_numbered clauses number ≡ Some reason → is_unit_for (take i steps) reason (get_or steps i d).literal ≡ true
     → list_any (λ l. has_literal clause (negation l)) (take (i - start) (drop start (literals_of steps))) ≡ true
     → IsResolvent clause (get_or steps i d).literal reason more
@@ -262,7 +262,7 @@ way_resolves clauses steps start i d clause more reason hints number reasoned ab
     let u = s.literal in
     let parts = and_parts _ _ unit in
     let rest = and_parts _ _ parts.1 in
-    let fresh : value_of (take i steps) u.var ≡ None = (reasoned_at clauses [] steps i d below reasoned).fresh in
+    let fresh : value_of (take i steps) u.var ≡ None = (fresh_at clauses [] steps i d below reasoned).fresh in
     let found = found_between clauses steps start i (λ l. has_literal clause (negation l)) reasoned above any in
     let l = found.0 in
     let kept : lit_eq (negation l) (negation u) ≡ false =
@@ -318,7 +318,7 @@ part_unit lower part clause u unit is =
     ]
 
 pub contains_none : (lower : List Step) (clauses : List (List Lit)) (clause : List Lit) → is_unit lower clause ≡ true → is_complete clauses lower ≡ true
-    → contains_one clauses clause ≡ false
+    → is_subsumed clauses clause ≡ false
 contains_none lower [] clause unit complete = refl
 contains_none lower (held ∷ clauses) clause unit complete =
     let parts = and_parts _ _ complete in
@@ -327,7 +327,7 @@ contains_none lower (held ∷ clauses) clause unit complete =
     (contains_none lower clauses clause unit parts.1)
 
 -- The reason that was read is the one of the step.
-pub forced_by : (clauses : List (List Lit)) (before : List Step) (s : Step) (number : ℕ) → IsReasoned clauses before s → s.reason ≡ Some number
+pub forced_by : (clauses : List (List Lit)) (before : List Step) (s : Step) (number : ℕ) → IsFresh clauses before s → s.reason ≡ Some number
     → (reason : List Lit) × (clause_numbered clauses number ≡ Some reason) × (is_unit_for before reason s.literal ≡ true)
 forced_by clauses before s number reasoned is =
     elim reasoned.source [
@@ -397,7 +397,7 @@ pub code_ends : (clauses : List (List Lit)) (steps : List Step) (start p : ℕ) 
     → literals ≡ literals_of steps → start < p → p ≤ length literals → negated ≡ negation (get_or literals (p - 1) no_literal)
     → contained ≡ has_literal clause negated → contained ≡ true
     → others ≡ list_any (λ l. has_literal clause (negation l)) (take (p - 1 - start) (drop start literals)) → others ≡ false
-    → IsReasonedTrail clauses steps → lower_steps steps ≡ take start steps
+    → IsFreshTrail clauses steps → lower_steps steps ≡ take start steps
     → IsOnTheWay clauses steps start p clause hints → IsLearned clauses steps clause hints
 code_ends clauses steps start p clause hints literals negated contained others same after within negates told has told_others none reasoned lower way =
     let r = reads steps literals start p same after within in
@@ -415,13 +415,13 @@ pub record ReadsReason (clauses : List (List Lit)) (steps : List Step) (p number
 
 pub reads_reason : (clauses : List (List Lit)) (steps : List Step) (literals : List Lit) (reasons : List (Option ℕ)) (start p number : ℕ)
     → literals ≡ literals_of steps → reasons ≡ reasons_in steps → start < p → p ≤ length literals → get_or reasons (p - 1) None ≡ Some number
-    → IsReasonedTrail clauses steps → ReadsReason clauses steps p number
+    → IsFreshTrail clauses steps → ReadsReason clauses steps p number
 reads_reason clauses steps literals reasons start p number same same_reasons after within read reasoned =
     let r = reads steps literals start p same after within in
     let is : (get_or steps (p - 1) no_step_there).reason ≡ Some number =
     sym (ap (λ rs. get_or rs (p - 1) None) same_reasons ∙ reason_here steps (p - 1) no_step_there None r.below) ∙ read in
     let forced = forced_by clauses (take (p - 1) steps) (get_or steps (p - 1) no_step_there) number
-    (reasoned_at clauses [] steps (p - 1) no_step_there r.below reasoned) is in
+    (fresh_at clauses [] steps (p - 1) no_step_there r.below reasoned) is in
     record { reason = is; clause = forced.0; held = forced.1; left = forced.2 }
 
 some_of : {A : Type 0} (o : Option A) (x : A) → o ≡ Some x → IsSome o
@@ -429,7 +429,7 @@ some_of o x e = subst IsSome (sym e) refl
 
 pub code_held : (clauses : List (List Lit)) (steps : List Step) (literals : List Lit) (reasons : List (Option ℕ)) (start p number : ℕ)
     → literals ≡ literals_of steps → reasons ≡ reasons_in steps → start < p → p ≤ length literals → get_or reasons (p - 1) None ≡ Some number
-    → IsReasonedTrail clauses steps → IsSome (clause_numbered clauses number)
+    → IsFreshTrail clauses steps → IsSome (clause_numbered clauses number)
 code_held clauses steps literals reasons start p number same same_reasons after within read reasoned =
     let r = reads_reason clauses steps literals reasons start p number same same_reasons after within read reasoned in
     some_of _ r.clause r.held
@@ -439,7 +439,7 @@ pub code_resolves : (clauses : List (List Lit)) (steps : List Step) (start p : �
     → literals ≡ literals_of steps → reasons ≡ reasons_in steps → start < p → p ≤ length literals
     → get_or reasons (p - 1) None ≡ Some number → clause_numbered clauses number ≡ Some reason
     → others ≡ list_any (λ l. has_literal clause (negation l)) (take (p - 1 - start) (drop start literals)) → others ≡ true
-    → IsReasonedTrail clauses steps → seen ≡ clause → IsResolvent seen (get_or literals (p - 1) no_literal) reason more
+    → IsFreshTrail clauses steps → seen ≡ clause → IsResolvent seen (get_or literals (p - 1) no_literal) reason more
     → longer ≡ hints ++ number ∷ []
     → IsOnTheWay clauses steps start p clause (reverse hints) → IsOnTheWay clauses steps start (p - 1) more (reverse longer)
 code_resolves clauses steps start p clause seen more reason hints longer literals reasons number others same same_reasons after within read held told_others any reasoned sees resolvent pushed way =

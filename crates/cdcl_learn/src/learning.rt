@@ -1,11 +1,10 @@
 //! The walk back from a conflict to the first unique implication point. The main call is `learn`.
 ghost use Rattle.std.specs.Prelude.{◌≡◌, ◌<◌, IfOk, IsTrue, None, true, false, map, is_none, reverse};
 ghost use Rattle.std.specs.List.{list_any};
-ghost use Rattle.proof_semantics.specs.Clauses.{negation};
+ghost use Rattle.proof_semantics.specs.Clauses.{negation, is_subsumed};
 ghost use Rattle.proof_semantics.specs.Propagation.{hints_fault};
 ghost use Rattle.cdcl_trail.specs.Trails.{level, lower_steps};
 ghost use Rattle.cdcl_trail.specs.Propagation.{clause_numbered, is_complete, is_falsified, is_unit, IsConflict, IsReasonedTrail};
-ghost use Rattle.cdcl_learn.specs.Learning.{contains_one};
 ghost use Rattle.cdcl_learn.specs.Walking.{IsLastAssumed, IsLearned};
 
 use crate::resolution::{clause_at, distinct, has_negation, resolve};
@@ -37,7 +36,7 @@ pub fn learn(alloc: Global, db: &Db, trail: &Trail, conflict: u64) -> Result<Lea
     ensures falsified { IfOk result (λ learned. IsTrue (is_falsified trail.now.steps learned.clause)) }
     ensures last_level { IfOk result (λ learned. IsTrue (is_unit (lower_steps trail.now.steps) learned.clause)) }
     ensures hints { IfOk result (λ learned. hints_fault (clause_numbered db.now.clauses) (map negation learned.clause) learned.hints ≡ None) }
-    ensures new { IfOk result (λ learned. contains_one db.now.clauses learned.clause ≡ false) }
+    ensures new { IfOk result (λ learned. is_subsumed db.now.clauses learned.clause ≡ false) }
 {
     walk(alloc, db.as_slice(), trail, conflict)
 }

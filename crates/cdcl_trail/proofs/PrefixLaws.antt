@@ -12,7 +12,7 @@ use Rattle.proof_semantics.proofs.LiteralLaws.{lit_eq-true, lit_eq-same, bool_eq
 use Rattle.cdcl_trail.specs.Trails.{Step, opened_by, step_of, value_of, level, up_to_level, assumed, lower_steps}
 use Rattle.cdcl_trail.specs.Propagation.{is_value, is_true, is_false, AreForced, Propagates, IsReasoned, HaveReasons, IsReasonedTrail}
 use Rattle.cdcl_trail.proofs.TrailLaws.{either, level_push}
-use Rattle.cdcl_trail.proofs.PassLaws.{step_stays, step_comes, unit_unvalued, propagates_level}
+use Rattle.cdcl_trail.proofs.PassLaws.{step_stays, step_comes, propagates_level}
 
 -- Tests over lists.
 
@@ -127,16 +127,16 @@ reasoned_at clauses before (x ∷ xs) (suc i) d below all =
 
 -- What assuming and propagating keep.
 
-pub reasoned_assumed : (clauses : List (List Lit)) (steps later : List Step) (a : Lit) → value_of steps a.var ≡ None → later ≡ steps ++ assumed a ∷ []
+pub reasoned_assumed : (clauses : List (List Lit)) (steps later : List Step) (a : Lit) → later ≡ steps ++ assumed a ∷ []
     → IsReasonedTrail clauses steps → IsReasonedTrail clauses later
-reasoned_assumed clauses steps later a fresh is reasoned =
+reasoned_assumed clauses steps later a is reasoned =
     subst (λ xs. IsReasonedTrail clauses xs) (sym is)
-    (reasons_append clauses [] steps (assumed a ∷ []) reasoned (record { fresh = fresh; source = inl refl }, tt))
+    (reasons_append clauses [] steps (assumed a ∷ []) reasoned (inl refl, tt))
 
 reasoned_forced : (clauses : List (List Lit)) (before xs : List Step) → AreForced clauses before xs → HaveReasons clauses before xs
 reasoned_forced clauses before [] all = tt
 reasoned_forced clauses before (x ∷ xs) all =
-    (record { fresh = unit_unvalued before all.0.clause x.literal all.0.left; source = inr all.0 }, reasoned_forced clauses (before ++ x ∷ []) xs all.1)
+    (inr all.0, reasoned_forced clauses (before ++ x ∷ []) xs all.1)
 
 pub reasoned_propagated : (clauses : List (List Lit)) (steps later : List Step) → Propagates clauses steps later → IsReasonedTrail clauses steps → IsReasonedTrail clauses later
 reasoned_propagated clauses steps later p reasoned =

@@ -60,16 +60,15 @@ pub record Propagates (clauses : List (List Lit)) (earlier later : List Step) : 
   pub behind : later ≡ earlier ++ added
   pub reasons : AreForced clauses earlier added
 
--- The step's variable had no value before, and its literal was assumed or is forced by a clause.
-pub record IsReasoned (clauses : List (List Lit)) (before : List Step) (step : Step) : Type 0 where
-  pub fresh : value_of before step.literal.var ≡ None
-  pub source : (step.reason ≡ None) ⊎ IsForced clauses before step
+-- The step's literal was assumed, or is forced by a clause.
+abbrev pub IsReasoned : List (List Lit) → List Step → Step → Type 0
+IsReasoned clauses before step = (step.reason ≡ None) ⊎ IsForced clauses before step
 
 -- each step after those before it
 abbrev pub HaveReasons : List (List Lit) → List Step → List Step → Type 0
 HaveReasons clauses before [] = Unit {0}
 HaveReasons clauses before (step ∷ more) = IsReasoned clauses before step × HaveReasons clauses (before ++ step ∷ []) more
 
--- Each literal of a trail came when its variable had no value, and was assumed or forced by a clause.
+-- Each literal of a trail was assumed, or is forced by a clause after those before it.
 abbrev pub IsReasonedTrail : List (List Lit) → List Step → Type 0
 IsReasonedTrail clauses steps = HaveReasons clauses [] steps

@@ -70,7 +70,7 @@ abbrev pub up_to_level : ℕ → List Step → List Step
 up_to_level n [] = []
 up_to_level n (step ∷ steps) = if nat_le (opened_by step.reason) n then step ∷ up_to_level (n - opened_by step.reason) steps else []
 
--- The steps of the levels below the last.
+-- The steps of the levels below the last, where there is a level above 0.
 abbrev pub lower_steps : List Step → List Step
 lower_steps steps = up_to_level (level steps - 1) steps
 

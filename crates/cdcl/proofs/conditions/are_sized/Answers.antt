@@ -1,4 +1,3 @@
-use Rattle.std.proofs.Common.{◌≡◌}
 use Rattle.cdcl.proofs.ConditionLaws.{sized_told}
 use Rattle.cdcl.proofs.conditions.are_sized.Goals as goal
 

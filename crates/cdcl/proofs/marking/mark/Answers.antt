@@ -1,4 +1,4 @@
-use Rattle.std.proofs.Common.{◌≡◌, ap, ◌∙◌}
+use Rattle.std.proofs.Common.{ap, ◌∙◌}
 use Rattle.std.proofs.Common.{get_or, true, length}
 use Rattle.cdcl.proofs.MarkingLaws.{mark_more, length_set}
 use Rattle.cdcl.proofs.marking.mark.Goals as goal

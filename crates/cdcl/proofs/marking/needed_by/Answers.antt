@@ -1,4 +1,4 @@
-use Rattle.std.proofs.Common.{◌≡◌, ◌-◌, ◌≤◌, Some, arith, rules, ◌∙◌}
+use Rattle.std.proofs.Common.{Some, arith, rules, ◌∙◌}
 use Rattle.std.proofs.lemmas.Option.{slice_get_within}
 use Rattle.cdcl.proofs.MarkingLaws.{marked_all, hints_within, closed_more, all_kept}
 use Rattle.cdcl.proofs.marking.needed_by.Goals as goal

@@ -1,4 +1,4 @@
-use Rattle.std.proofs.Common.{◌≡◌, ℕ, ◌+◌, ◌≤◌, true, length}
+use Rattle.std.proofs.Common.{◌≡◌, ◌+◌, ◌≤◌, true, length}
 use Rattle.std.specs.List.{list_all}
 use Rattle.cdcl.specs.Writing.{is_needed}
 use Rattle.cdcl.proofs.MarkingLaws.{IsClosedFrom}

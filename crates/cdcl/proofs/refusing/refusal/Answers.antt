@@ -1,4 +1,4 @@
-use Rattle.std.proofs.Common.{◌≡◌, map, ap, subst, ◌∙◌}
+use Rattle.std.proofs.Common.{map, ap, subst, ◌∙◌}
 use Rattle.proof_semantics.specs.Clauses.{negation}
 use Rattle.cdcl.specs.Entries.{added_of}
 use Rattle.cdcl.specs.Writing.{Proves}

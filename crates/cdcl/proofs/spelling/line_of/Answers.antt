@@ -1,4 +1,4 @@
-use Rattle.std.proofs.Common.{◌≡◌, ◌++◌, ap, ◌∙◌}
+use Rattle.std.proofs.Common.{◌++◌, ap, ◌∙◌}
 use Rattle.std.specs.Prelude.{decimal}
 use Rattle.cdcl.proofs.SpellingLaws.{text_written}
 use Rattle.cdcl.proofs.spelling.line_of.Goals as goal

@@ -1,4 +1,3 @@
-use Rattle.std.proofs.Common.{◌≡◌}
 use Rattle.cdcl.proofs.SpellingLaws.{hint_more}
 use Rattle.cdcl.proofs.spelling.push_hints.Goals as goal
 

@@ -1,4 +1,4 @@
-use Rattle.std.proofs.Common.{◌≡◌, ◌+◌, ◌<◌, ◌≤◌, length, arith}
+use Rattle.std.proofs.Common.{arith}
 use Rattle.cdcl.proofs.WritingLaws.{count_more, count_below}
 use Rattle.cdcl.proofs.writing.count_added.Goals as goal
 

@@ -1,4 +1,4 @@
-use Rattle.std.proofs.Common.{◌≡◌, ◌+◌, ◌<◌, ◌≤◌, ◌^◌, true, length, map, refl, ap, sym, subst, arith, ◌∙◌}
+use Rattle.std.proofs.Common.{◌≡◌, true, length, map, refl, ap, sym, subst, arith, ◌∙◌}
 use Rattle.std.specs.List.{list_all}
 use Rattle.proof_semantics.specs.Clauses.{negation}
 use Rattle.cdcl.specs.Writing.{count_added, is_needed, AreBefore, IsClosed}

@@ -1,4 +1,3 @@
-use Rattle.std.proofs.Common.{◌≡◌}
 use Rattle.cdcl.specs.Writing.{IsWritten}
 use Rattle.cdcl.proofs.writing.proof_of.Given as goal
 

@@ -3,6 +3,7 @@ use Rattle.std.specs.Prelude.{is_none}
 use Rattle.std.specs.List.{list_any}
 use Rattle.cdcl_trail.specs.Trails.{reasons_in}
 use Rattle.cdcl_learn.specs.Walking.{IsLastAssumed}
+use Rattle.cdcl_learn.proofs.FreshLaws.{fresh_trail}
 use Rattle.cdcl_learn.proofs.WalkLaws.{level_assumes, lower_before, start_way, conflict_at, length_literals, length_reasons, last_below, code_on, code_ends, code_assumed, code_held, code_resolves, learned_is}
 use Rattle.cdcl_learn.proofs.learning.walk.Goals as goal
 
@@ -44,7 +45,7 @@ returns-then-not-has_negation c =
     c.in_order.ensures.clause c.in_order.ensures.hints
     (code_ends c.args.clauses.now steps start c.places.place c.places.clause (reverse c.places.hints.items)
     c.literals-literals.result.now c.negation.result c.contains.result c.has_negation.result c.literals-literals.ensures.value c.places-test.true c.places.invariant.below
-    c.negation.ensures c.contains.ensures c.if-not-contains.false c.has_negation.ensures c.if-not-has_negation.true c.requires.reasons (lower_before steps start last)
+    c.negation.ensures c.contains.ensures c.if-not-contains.false c.has_negation.ensures c.if-not-has_negation.true (fresh_trail c.args.clauses.now c.args.trail.now.steps c.literals-literals.result.now c.literals-literals.ensures.value c.literals-literals.ensures.once c.requires.reasons) (lower_before steps start last)
     c.places.invariant.way)
 
 pub returns-in_default : goal.returns-in_default
@@ -59,7 +60,7 @@ returns-in_default c =
 pub clause_at-requires-in-places : goal.clause_at-requires-in-places
 clause_at-requires-in-places c =
     code_held c.args.clauses.now c.args.trail.now.steps c.literals-literals.result.now c.reasons-reasons.result.now c.last_assumed-start.result c.places.place c.in-Some.number
-    c.literals-literals.ensures.value c.reasons-reasons.ensures c.places-test.true c.places.invariant.below c.in-Some.is c.requires.reasons
+    c.literals-literals.ensures.value c.reasons-reasons.ensures c.places-test.true c.places.invariant.below c.in-Some.is (fresh_trail c.args.clauses.now c.args.trail.now.steps c.literals-literals.result.now c.literals-literals.ensures.value c.literals-literals.ensures.once c.requires.reasons)
 
 pub places-preserved : goal.places-preserved
 places-preserved c =
@@ -67,7 +68,7 @@ places-preserved c =
       way = code_resolves c.args.clauses.now c.args.trail.now.steps c.last_assumed-start.result c.places.place c.places.clause c.as_slice.result.now c.in_ok-clause-2.clause
           c.clause_at-in-places.result.now c.places.hints.items c.push-in-places.new.self.items c.literals-literals.result.now c.reasons-reasons.result.now c.in-Some.number
           c.has_negation.result c.literals-literals.ensures.value c.reasons-reasons.ensures c.places-test.true c.places.invariant.below c.in-Some.is
-          c.clause_at-in-places.ensures c.has_negation.ensures c.if-not-has_negation.false c.requires.reasons c.as_slice.ensures c.in_ok-clause-2.ensures
+          c.clause_at-in-places.ensures c.has_negation.ensures c.if-not-has_negation.false (fresh_trail c.args.clauses.now c.args.trail.now.steps c.literals-literals.result.now c.literals-literals.ensures.value c.literals-literals.ensures.once c.requires.reasons) c.as_slice.ensures c.in_ok-clause-2.ensures
           c.in_ok-push-2.ensures.items c.places.invariant.way;
       above = omega (arith, c.places-test.true);
       below = omega (arith, c.places.invariant.below);

@@ -20,7 +20,7 @@ pub learn-requires-clause-reasons : goal.learn-requires-clause-reasons
 learn-requires-clause-reasons c =
     reasoned_propagated c.args.db.now.clauses c.assume.new.self.steps c.propagate-in-loop-number.new.self.steps c.propagate-in-loop-number.ensures.reasons
     (reasoned_assumed c.args.db.now.clauses c.loop-number.trail.steps c.assume.new.self.steps c.literal-assumed.result
-    (sym c.value.ensures ∙ none_from c.value.result c.is_some-in-loop-number.result c.is_some-in-loop-number.ensures c.if-is_some-2.false) c.in_ok-assume.ensures.ok c.loop-number.invariant.reasoned)
+    c.in_ok-assume.ensures.ok c.loop-number.invariant.reasoned)
 
 pub learn-requires-clause-complete : goal.learn-requires-clause-complete
 learn-requires-clause-complete c =
@@ -33,6 +33,6 @@ pub loop-number-preserved : goal.loop-number-preserved
 loop-number-preserved c = record {
   reasoned = reasoned_propagated c.args.db.now.clauses c.assume.new.self.steps c.propagate-in-loop-number.new.self.steps c.propagate-in-loop-number.ensures.reasons
       (reasoned_assumed c.args.db.now.clauses c.loop-number.trail.steps c.assume.new.self.steps c.literal-assumed.result
-      (sym c.value.ensures ∙ none_from c.value.result c.is_some-in-loop-number.result c.is_some-in-loop-number.ensures c.if-is_some-2.false) c.in_ok-assume.ensures.ok c.loop-number.invariant.reasoned);
+      c.in_ok-assume.ensures.ok c.loop-number.invariant.reasoned);
   complete = c.in_ok-conflict.ensures.complete.0 c.in_default.is;
 }

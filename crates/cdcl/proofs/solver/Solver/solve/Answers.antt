@@ -1,13 +1,15 @@
-use Rattle.std.proofs.Common.{◌≡◌, ◌-◌, ◌^◌, ◌≤◌, List, length, ap, sym, subst}
-use Rattle.proof_semantics.specs.declared.literals.Lit.{Lit}
-use Rattle.cdcl.specs.Entries.{learned_of}
+use Rattle.std.proofs.Common.{ap, sym}
 use Rattle.cdcl.specs.Solving.{Solving}
 use Rattle.cdcl.proofs.solver.Solver.solve.Goals as goal
-use Rattle.cdcl.proofs.ProgressLaws.{searched_bounded}
+use Rattle.cdcl.proofs.ProgressLaws.{kept_searched, searched_bounded}
+
+pub invariant_of-self : goal.invariant_of-self
+invariant_of-self c =
+    kept_searched c.args.assumptions.now c.self.inside.log c.search.new.log c.args.meter.now c.search.new.meter c.self.invariant c.search.ensures.log c.search.ensures.searched
 
 pub returns-clause-bounded : goal.returns-clause-bounded
-returns-clause-bounded c vars over_added over_learned over_too =
-    subst (λ (xs : List (List Lit)). length (learned_of c.search.new.log) - length xs ≤ 3 ^ length vars) (ap (λ (s : Solving). s.learned) c.self.view_is)
-    (searched_bounded c.args.assumptions.now c.args.self.now c.self.inside.log c.search.new.log c.args.meter.now c.search.new.meter
-    (sym (ap (λ (s : Solving). s.added) c.self.view_is)) (sym (ap (λ (s : Solving). s.learned) c.self.view_is)) c.self.invariant c.search.ensures.searched
-    vars over_added over_learned over_too)
+returns-clause-bounded c =
+    searched_bounded c.args.assumptions.now c.args.self.now c.self.inside.log c.search.new.log c.args.meter.now c.search.new.meter
+    (sym (ap (λ (s : Solving). s.added) c.self.view_is)) (sym (ap (λ (s : Solving). s.learned) c.self.view_is)) c.self.invariant
+    (kept_searched c.args.assumptions.now c.self.inside.log c.search.new.log c.args.meter.now c.search.new.meter c.self.invariant c.search.ensures.log c.search.ensures.searched)
+    c.search.ensures.searched

@@ -1,5 +1,5 @@
 use Rattle.cdcl.proofs.SearchLaws.{assumed_already, assumed_now}
-use Rattle.cdcl.proofs.attempt.assume_all.Goals as goal
+use Rattle.cdcl.proofs.searching.assume_all.Goals as goal
 
 pub loop-literal-preserved-then-is_some : goal.loop-literal-preserved-then-is_some
 loop-literal-preserved-then-is_some c =

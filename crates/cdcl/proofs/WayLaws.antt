@@ -1,0 +1,209 @@
+-- Laws of what stands on the trail of a search.
+use Rattle.std.proofs.Common.{◌≡◌, ℕ, zero, suc, ◌+◌, ◌-◌, ◌<◌, ◌≤◌, Bool, true, false, List, [], ◌∷◌, ◌++◌, length, Option, Some, None, refl, ap, sym, subst, ◌∙◌, ◌⊎◌, inl, inr, arith, append_assoc}
+use Rattle.std.specs.Prelude.{nat_eq}
+use Rattle.std.proofs.Math.Dec.{leb}
+use Rattle.std.specs.List.{list_any}
+use Rattle.std.specs.Option.{option_map}
+use Rattle.std.proofs.lemmas.List.{append-nil}
+use Rattle.std.proofs.lemmas.Bool.{false≢true, and_parts, and_from, leb-true, leb-false}
+use Rattle.std.proofs.lemmas.Option.{none-some}
+use Rattle.proof_semantics.specs.Clauses.{negation, has_literal, is_subsumed}
+use Rattle.proof_semantics.specs.declared.literals.Lit.{Lit}
+use Rattle.cdcl_trail.specs.Trails.{Step, assumed, literals_of, step_of, value_of, level, level_of, up_to_level, lower_steps}
+use Rattle.cdcl_trail.specs.Propagation.{is_true, is_false, is_falsified, is_unit_for, is_unit, is_complete, Propagates, IsReasonedTrail}
+use Rattle.cdcl_trail.proofs.TrailLaws.{either, level_push}
+use Rattle.cdcl_trail.proofs.ScanLaws.{all_has, any_gives}
+use Rattle.cdcl_trail.proofs.PassLaws.{step_comes, no_step, unit_unvalued, propagates_none, propagates_level, level-append}
+use Rattle.cdcl_trail.proofs.PrefixLaws.{all_from, true_more, none_before, reasoned_assumed, reasoned_propagated, lower_assumed}
+use Rattle.cdcl_learn.specs.declared.learning.Learned.{Learned}
+use Rattle.cdcl_learn.specs.Learning.{is_assumed}
+use Rattle.cdcl.specs.Searching.{IsOpen, open_by, count_open, is_over, are_over, AreTrue, AssumesAll, IsOnWay, IsBackLevel, IsHinted, IsNewClause, NegatesOnly}
+use Rattle.cdcl.proofs.SearchLaws.{count_open_more, count_open_falls, over_append, over_at, over_variable, over_propagated, falsified_no_tautology, falsified_over, valued_step, true_stands}
+use Rattle.cdcl.proofs.BackLaws.{cut_is_first, cut_behind, cut_early, cut_twice, late_step, early_step, reasoned_back, open_two, complete_more, assumed_first}
+
+abbrev Has : List Lit → Lit → Type 0
+Has lits a = has_literal lits a ≡ true
+
+-- right after the assumptions
+pub way_starts : (clauses : List (List Lit)) (assumptions : List Lit) (base : ℕ) (opened : List Step) → AssumesAll assumptions opened → base ≡ level opened
+    → IsOnWay clauses assumptions base opened
+way_starts clauses assumptions base opened assumes is = record {
+  opened = opened;
+  assumes = assumes;
+  deep = sym is;
+  rest = [];
+  begun = sym (append-nil opened);
+  reasoned = assumes.reasoned clauses;
+  below = λ k from above. absurd (omega (arith, is, from, above));
+  over = λ vars all over. all_from (λ a. list_any (nat_eq a.var) vars) (literals_of opened)
+      (λ a has. all_has (λ b. list_any (nat_eq b.var) vars) assumptions a over (assumes.only a has));
+}
+
+-- behind propagation
+pub way_propagates : (clauses : List (List Lit)) (assumptions : List Lit) (base : ℕ) (now later : List Step) → IsOnWay clauses assumptions base now → Propagates clauses now later
+    → IsOnWay clauses assumptions base later
+way_propagates clauses assumptions base now later w p = record {
+  opened = w.opened;
+  assumes = w.assumes;
+  deep = w.deep;
+  rest = w.rest ++ p.added;
+  begun = p.behind ∙ ap (λ xs. xs ++ p.added) w.begun ∙ append_assoc w.opened w.rest p.added;
+  reasoned = reasoned_propagated clauses now later p w.reasoned;
+  below = λ k from above.
+      let deep : k < level now = omega (arith, above, propagates_level clauses now later p) in
+      ap (λ xs. is_complete clauses (up_to_level k xs)) p.behind ∙ ap (is_complete clauses) (cut_early k now p.added deep) ∙ w.below k from deep;
+  over = λ vars all over. over_propagated vars clauses now later p all (w.over vars all over);
+}
+
+last_or_below : (k n : ℕ) → k < n + 1 → (k < n) ⊎ (k ≡ n)
+last_or_below k n e = elim (either (leb n k)) [ inl same ↦ inr (omega (arith, e, leb-true n k same)) | inr less ↦ inl (omega (arith, leb-false n k less)) ]
+
+-- behind a decision
+pub way_decides : (clauses : List (List Lit)) (assumptions : List Lit) (base : ℕ) (now later : List Step) (a : Lit) → IsOnWay clauses assumptions base now
+    → is_complete clauses now ≡ true → IsOpen clauses now a → later ≡ now ++ assumed a ∷ [] → IsOnWay clauses assumptions base later
+way_decides clauses assumptions base now later a w complete o is = record {
+  opened = w.opened;
+  assumes = w.assumes;
+  deep = w.deep;
+  rest = w.rest ++ assumed a ∷ [];
+  begun = is ∙ ap (λ xs. xs ++ assumed a ∷ []) w.begun ∙ append_assoc w.opened w.rest (assumed a ∷ []);
+  reasoned = reasoned_assumed clauses now later a is w.reasoned;
+  below = λ k from above.
+      let deep : level later ≡ level now + 1 = ap level is ∙ level_push now (assumed a) in
+      elim (last_or_below k (level now) (omega (arith, above, deep))) [
+        | inl less ↦
+            ap (λ xs. is_complete clauses (up_to_level k xs)) is ∙ ap (is_complete clauses) (cut_early k now (assumed a ∷ []) less) ∙ w.below k from less
+        | inr last ↦
+            let place : k ≡ level later - 1 = omega (arith, last, deep) in
+            ap (λ n. is_complete clauses (up_to_level n later)) place
+            ∙ ap (is_complete clauses) (lower_assumed clauses now later later a is (propagates_none clauses later)) ∙ complete
+      ];
+  over = λ vars all over. ap (λ xs. is_over vars (literals_of xs)) is
+      ∙ over_append vars now (assumed a ∷ []) (w.over vars all over) (and_from _ _ (over_variable vars o.clause a.var (over_at vars clauses o.place o.clause o.at all) o.inside) refl);
+}
+
+-- The levels below the last are complete where one is to be learned from.
+pub way_lower : (clauses : List (List Lit)) (assumptions : List Lit) (base : ℕ) (now : List Step) → IsOnWay clauses assumptions base now → base < level now
+    → is_complete clauses (lower_steps now) ≡ true
+way_lower clauses assumptions base now w above = w.below (level now - 1) (omega (arith, above)) (omega (arith, above))
+
+-- a learned clause is new, and over variables that are there
+pub way_learns : (clauses : List (List Lit)) (assumptions : List Lit) (base : ℕ) (now : List Step) (learned : Learned) → IsOnWay clauses assumptions base now
+    → is_falsified now learned.clause ≡ true → IsHinted clauses learned → is_subsumed clauses learned.clause ≡ false → is_unit (lower_steps now) learned.clause ≡ true
+    → IsNewClause clauses assumptions learned
+way_learns clauses assumptions base now learned w falsified hinted new unit = record {
+  hinted = hinted;
+  not_empty = λ e. false≢true (sym (ap (is_unit (lower_steps now)) e) ∙ unit);
+  not_subsumed = new;
+  no_tautology = falsified_no_tautology now learned.clause falsified;
+  over = λ vars all over. falsified_over vars now learned.clause falsified (w.over vars all over);
+}
+
+-- what has no value on a level has none on a lower one
+none_lower : (k j : ℕ) (xs : List Step) (v : ℕ) → k ≤ j → value_of (up_to_level j xs) v ≡ None → value_of (up_to_level k xs) v ≡ None
+none_lower k j xs v less none =
+    let cut = cut_is_first k (up_to_level j xs) in
+    ap (λ zs. value_of zs v) (sym (cut_twice k j xs less)) ∙ none_before (up_to_level k (up_to_level j xs)) cut.0 v (ap (λ zs. value_of zs v) (sym cut.1) ∙ none)
+
+-- The learned clause leaves two literals open below the level that is gone back to.
+back_open : (now : List Step) (clause : List Lit) (k target : ℕ) (a : Lit) → is_falsified now clause ≡ true → is_unit (lower_steps now) clause ≡ true → k < target → target < level now
+    → Has clause a → level_of now a.var ≡ target → (is_falsified (up_to_level k now) clause ≡ false) × (is_unit (up_to_level k now) clause ≡ false)
+back_open now clause k target a falsified unit below above has deep =
+    let lower = up_to_level (level now - 1) now in
+    let found = any_gives (is_unit_for lower clause) clause unit in
+    let none_last : value_of lower found.0.var ≡ None = unit_unvalued lower clause found.0 found.2 in
+    let s = valued_step (step_of now a.var) _ (all_has (is_false now) clause a falsified has) in
+    let early : step_of lower a.var ≡ Some s.0 = early_step (level now - 1) now a.var s.0 s.1 (omega (arith, deep, above)) in
+    open_two (up_to_level k now) clause found.0 a found.1 has (none_lower k (level now - 1) now found.0.var (omega (arith, below, above)) none_last)
+    (ap (option_map (λ (t : Step). t.literal.positive)) (late_step k now a.var (omega (arith, below, deep))))
+    (λ same. none-some s.0.literal.positive (sym none_last ∙ ap (λ (b : Lit). value_of lower b.var) same ∙ ap (option_map (λ (t : Step). t.literal.positive)) early))
+
+over_first : (vars : List ℕ) (xs ys : List Step) → is_over vars (literals_of (xs ++ ys)) ≡ true → is_over vars (literals_of xs) ≡ true
+over_first vars [] ys all = refl
+over_first vars (x ∷ xs) ys all = let parts = and_parts _ _ all in and_from _ _ parts.0 (over_first vars xs ys parts.1)
+
+are_over_first : (vars : List ℕ) (xs ys : List (List Lit)) → are_over vars (xs ++ ys) ≡ true → are_over vars xs ≡ true
+are_over_first vars [] ys all = refl
+are_over_first vars (x ∷ xs) ys all = let parts = and_parts _ _ all in and_from _ _ parts.0 (are_over_first vars xs ys parts.1)
+
+back_complete : (clauses : List (List Lit)) (assumptions clause : List Lit) (base target k : ℕ) (now : List Step) → IsOnWay clauses assumptions base now
+    → IsBackLevel now clause base target → is_falsified now clause ≡ true → is_unit (lower_steps now) clause ≡ true → base ≤ k → k < target
+    → is_complete (clauses ++ clause ∷ []) (up_to_level k now) ≡ true
+back_complete clauses assumptions clause base target k now w back falsified unit from below =
+    elim back.reached [
+      | inl at_base ↦ absurd (omega (arith, at_base, from, below))
+      | inr there ↦
+          let opens = back_open now clause k target there.0 falsified unit below back.below there.1 there.2 in
+          complete_more clauses clause (up_to_level k now) (w.below k from (omega (arith, below, back.below))) opens.0 opens.1
+    ]
+
+-- behind a learned clause and the way back
+pub way_back : (clauses more : List (List Lit)) (assumptions clause : List Lit) (base target : ℕ) (now next : List Step) → IsOnWay clauses assumptions base now
+    → IsBackLevel now clause base target → is_falsified now clause ≡ true → is_unit (lower_steps now) clause ≡ true → more ≡ clauses ++ clause ∷ []
+    → next ≡ up_to_level target now → level next ≡ target → IsOnWay more assumptions base next
+way_back clauses more assumptions clause base target now next w back falsified unit comes is deep = record {
+  opened = w.opened;
+  assumes = w.assumes;
+  deep = w.deep;
+  rest = up_to_level (target - level w.opened) w.rest;
+  begun = is ∙ ap (up_to_level target) w.begun ∙ cut_behind target w.opened w.rest (omega (arith, w.deep, back.from_base));
+  reasoned = subst (λ cs. IsReasonedTrail cs next) (sym comes)
+      (subst (λ xs. IsReasonedTrail (clauses ++ clause ∷ []) xs) (sym is) (reasoned_back clauses (clause ∷ []) target now w.reasoned));
+  below = λ k from above.
+      let less : k < target = omega (arith, above, deep) in
+      ap (λ cs. is_complete cs (up_to_level k next)) comes
+      ∙ ap (λ xs. is_complete (clauses ++ clause ∷ []) (up_to_level k xs)) is
+      ∙ ap (is_complete (clauses ++ clause ∷ [])) (cut_twice k target now (omega (arith, less)))
+      ∙ back_complete clauses assumptions clause base target k now w back falsified unit from less;
+  over = λ vars all over.
+      let cut = cut_is_first target now in
+      let first : are_over vars clauses ≡ true = are_over_first vars clauses (clause ∷ []) (ap (are_over vars) (sym comes) ∙ all) in
+      ap (λ xs. is_over vars (literals_of xs)) is
+      ∙ over_first vars (up_to_level target now) cut.0 (ap (λ xs. is_over vars (literals_of xs)) (sym cut.1) ∙ w.over vars first over);
+}
+
+-- What is traced from a conflict on the base is a core.
+pub way_core : (clauses : List (List Lit)) (assumptions clause : List Lit) (base : ℕ) (now : List Step) → IsOnWay clauses assumptions base now → level now ≤ base
+    → ((a : Lit) → Has clause a → is_assumed now (negation a) ≡ true) → NegatesOnly assumptions clause
+way_core clauses assumptions clause base now w within traced a has =
+    let flat : level w.rest ≡ 0 = omega (arith, within, w.deep, ap level w.begun, level-append w.opened w.rest) in
+    w.assumes.only (negation a) (assumed_first w.opened w.rest (negation a) flat (ap (λ xs. is_assumed xs (negation a)) (sym w.begun) ∙ traced a has))
+
+-- what makes the literals of the trail true makes the assumptions true
+pub way_true : (clauses : List (List Lit)) (assumptions : List Lit) (base : ℕ) (now : List Step) (values : List Bool) → IsOnWay clauses assumptions base now
+    → AreTrue values (literals_of now) → AreTrue values assumptions
+way_true clauses assumptions base now values w each a has =
+    each a (true_stands now a (ap (λ xs. is_true xs a) w.begun ∙ true_more w.opened w.rest a (w.assumes.true_all a has)))
+
+-- How much is left to do: clauses to learn, and variables to give a value.
+
+abbrev pub work : ℕ → ℕ → ℕ → ℕ
+work zero n open_now = open_now
+work (suc room) n open_now = suc n + work room n open_now
+
+pub work_learned : (less room n after before : ℕ) → less < room → after ≤ n → work less n after < work room n before
+work_learned zero zero n after before e small = absurd (omega (arith, e))
+work_learned zero (suc room) n after before e small = omega (arith, small)
+work_learned (suc less) zero n after before e small = absurd (omega (arith, e))
+work_learned (suc less) (suc room) n after before e small = omega (arith, work_learned less room n after before (omega (arith, e)) small)
+
+pub work_decided : (room n after before : ℕ) → after < before → work room n after < work room n before
+work_decided zero n after before e = e
+work_decided (suc room) n after before e = omega (arith, work_decided room n after before e)
+
+open_small : (o : Option Bool) → open_by o ≤ 1
+open_small None = omega arith
+open_small (Some b) = omega arith
+
+pub count_open_small : (vars : List ℕ) (steps : List Step) → count_open vars steps ≤ length vars
+count_open_small [] steps = omega arith
+count_open_small (v ∷ vars) steps = omega (arith, open_small (value_of steps v), count_open_small vars steps)
+
+-- a decision leaves fewer variables without a value
+pub decision_counts : (vars : List ℕ) (clauses : List (List Lit)) (start now later : List Step) (a : Lit) → are_over vars clauses ≡ true → IsOpen clauses now a
+    → Propagates clauses start now → later ≡ now ++ assumed a ∷ [] → count_open vars later < count_open vars start
+decision_counts vars clauses start now later a all o p is =
+    let less = count_open_falls vars now (assumed a ∷ []) a.var a.positive (over_variable vars o.clause a.var (over_at vars clauses o.place o.clause o.at all) o.inside) o.unvalued
+    (ap (option_map (λ (s : Step). s.literal.positive)) (step_comes now (assumed a) (no_step _ o.unvalued))) in
+    let before : count_open vars (start ++ p.added) ≤ count_open vars start = count_open_more vars start p.added in
+    omega (arith, less, before, ap (count_open vars) is, ap (count_open vars) p.behind)

@@ -1,0 +1,124 @@
+use Rattle.std.proofs.Common.{◌≡◌, ◌≤◌, ◌<◌, ℕ, List, length, true, false, sym, subst, ◌∙◌, arith}
+use Rattle.proof_semantics.specs.Clauses.{values_of, is_subsumed}
+use Rattle.cdcl_trail.specs.Trails.{level, lower_steps}
+use Rattle.cdcl_trail.specs.Propagation.{is_complete, Propagates, IsReasonedTrail}
+use Rattle.cdcl.specs.Entries.{added_of}
+use Rattle.cdcl.specs.Room.{room, variables_of, variables_in}
+use Rattle.cdcl.specs.Searching.{IsOpen, AreTrue, is_satisfied, IsHinted, IsBackLevel, count_open}
+use Rattle.cdcl.specs.Solving.{IsModel}
+use Rattle.cdcl.proofs.RoomLaws.{all_over, own_over}
+use Rattle.cdcl.proofs.SearchLaws.{model_holds}
+use Rattle.cdcl.proofs.WayLaws.{way_starts, way_propagates, way_decides, way_lower, way_learns, way_back, way_core, way_true, work_learned, work_decided, count_open_small, decision_counts}
+use Rattle.cdcl.proofs.ProgressLaws.{first_variables, searched_none, searched_more, first_room_falls, new_spent, model_of}
+use Rattle.cdcl.proofs.searching.search.Goals as goal
+
+pub decisions-init : goal.decisions-init
+decisions-init c = record {
+  log = c.requires.log;
+  searched = searched_none c.args.assumptions.now c.args.log.now c.args.meter.now;
+  on_way = way_starts c.args.log.now.clauses c.args.assumptions.now c.level-base.result c.assume_all.new.trail.steps c.in_ok-assume_all.ensures c.level-base.ensures;
+}
+
+pub returns-in_default-choose-clause-answer : goal.returns-in_default-choose-clause-answer
+returns-in_default-choose-clause-answer c =
+    let way = way_propagates c.decisions.log.clauses c.args.assumptions.now c.level-base.result c.decisions.trail.steps c.propagate.new.self.steps c.decisions.invariant.on_way
+    (subst (λ cs. Propagates cs c.decisions.trail.steps c.propagate.new.self.steps) c.clauses.ensures c.propagate.ensures.reasons) in
+    let steps = c.propagate.new.self.steps in
+    let values = subst (λ ls. AreTrue c.in_ok-values.values ls) c.literals.ensures.value c.in_ok-values.ensures in
+    let satisfied = subst (λ cs. is_satisfied cs steps ≡ true) (c.as_slice.ensures ∙ c.clauses-in_default.ensures) c.in_default-choose.ensures.none in
+    subst (λ vs. IsModel (added_of c.args.log.now) c.args.assumptions.now (values_of vs)) (sym c.into_vec.ensures)
+    (model_of c.args.assumptions.now c.args.log.now c.decisions.log c.in_ok-values.values c.decisions.invariant.searched.added
+    (model_holds c.in_ok-values.values steps c.decisions.log.clauses values satisfied)
+    (way_true c.decisions.log.clauses c.args.assumptions.now c.level-base.result steps c.in_ok-values.values way values))
+
+pub decisions-smaller-in_default : goal.decisions-smaller-in_default
+decisions-smaller-in_default c =
+    let open_one = subst (λ cs. IsOpen cs c.propagate.new.self.steps c.in-Some-choose.literal) (c.as_slice.ensures ∙ c.clauses-in_default.ensures) c.in-Some-choose.ensures.open in
+    let vars : List ℕ = first_variables c.args.log.now.clauses c.args.assumptions.now in
+    let over = (c.decisions.invariant.searched.less vars (all_over c.args.log.now.clauses (variables_of c.args.assumptions.now))
+    (own_over c.args.assumptions.now (variables_in c.args.log.now.clauses))).over in
+    work_decided (room vars c.decisions.log.clauses) (length vars) (count_open vars c.assume.new.self.steps) (count_open vars c.decisions.trail.steps)
+    (decision_counts vars c.decisions.log.clauses c.decisions.trail.steps c.propagate.new.self.steps c.assume.new.self.steps c.in-Some-choose.literal over open_one
+    (subst (λ cs. Propagates cs c.decisions.trail.steps c.propagate.new.self.steps) c.clauses.ensures c.propagate.ensures.reasons) c.in_ok-assume.ensures.ok)
+
+pub decisions-preserved-in_default : goal.decisions-preserved-in_default
+decisions-preserved-in_default c =
+    let way = way_propagates c.decisions.log.clauses c.args.assumptions.now c.level-base.result c.decisions.trail.steps c.propagate.new.self.steps c.decisions.invariant.on_way
+    (subst (λ cs. Propagates cs c.decisions.trail.steps c.propagate.new.self.steps) c.clauses.ensures c.propagate.ensures.reasons) in
+    let open_one = subst (λ cs. IsOpen cs c.propagate.new.self.steps c.in-Some-choose.literal) (c.as_slice.ensures ∙ c.clauses-in_default.ensures) c.in-Some-choose.ensures.open in
+    let complete = subst (λ cs. is_complete cs c.propagate.new.self.steps ≡ true) c.clauses.ensures (c.in_ok-conflict.ensures.complete.0 c.in_default.is) in
+    record {
+      log = c.decisions.invariant.log;
+      searched = c.decisions.invariant.searched;
+      on_way = way_decides c.decisions.log.clauses c.args.assumptions.now c.level-base.result c.propagate.new.self.steps c.assume.new.self.steps c.in-Some-choose.literal
+          way complete open_one c.in_ok-assume.ensures.ok;
+    }
+
+pub trace-requires-clause-reasons : goal.trace-requires-clause-reasons
+trace-requires-clause-reasons c =
+    let way = way_propagates c.decisions.log.clauses c.args.assumptions.now c.level-base.result c.decisions.trail.steps c.propagate.new.self.steps c.decisions.invariant.on_way
+    (subst (λ cs. Propagates cs c.decisions.trail.steps c.propagate.new.self.steps) c.clauses.ensures c.propagate.ensures.reasons) in
+    subst (λ cs. IsReasonedTrail cs c.propagate.new.self.steps) (sym c.clauses-then-level-base.ensures) way.reasoned
+
+pub refusal-requires-clause-among : goal.refusal-requires-clause-among
+refusal-requires-clause-among c =
+    let way = way_propagates c.decisions.log.clauses c.args.assumptions.now c.level-base.result c.decisions.trail.steps c.propagate.new.self.steps c.decisions.invariant.on_way
+    (subst (λ cs. Propagates cs c.decisions.trail.steps c.propagate.new.self.steps) c.clauses.ensures c.propagate.ensures.reasons) in
+    let within : level c.propagate.new.self.steps ≤ c.level-base.result = omega (arith, c.level.ensures, c.if-level-base.true) in
+    way_core c.decisions.log.clauses c.args.assumptions.now c.in_ok-traced.traced.clause c.level-base.result c.propagate.new.self.steps way within c.in_ok-traced.ensures.assumed
+
+pub learn-requires-clause-reasons : goal.learn-requires-clause-reasons
+learn-requires-clause-reasons c =
+    let way = way_propagates c.decisions.log.clauses c.args.assumptions.now c.level-base.result c.decisions.trail.steps c.propagate.new.self.steps c.decisions.invariant.on_way
+    (subst (λ cs. Propagates cs c.decisions.trail.steps c.propagate.new.self.steps) c.clauses.ensures c.propagate.ensures.reasons) in
+    subst (λ cs. IsReasonedTrail cs c.propagate.new.self.steps) (sym c.clauses-in-decisions.ensures) way.reasoned
+
+pub learn-requires-clause-complete : goal.learn-requires-clause-complete
+learn-requires-clause-complete c =
+    let way = way_propagates c.decisions.log.clauses c.args.assumptions.now c.level-base.result c.decisions.trail.steps c.propagate.new.self.steps c.decisions.invariant.on_way
+    (subst (λ cs. Propagates cs c.decisions.trail.steps c.propagate.new.self.steps) c.clauses.ensures c.propagate.ensures.reasons) in
+    let above : c.level-base.result < level c.propagate.new.self.steps = omega (arith, c.level.ensures, c.if-level-base.false) in
+    subst (λ cs. is_complete cs (lower_steps c.propagate.new.self.steps) ≡ true) (sym c.clauses-in-decisions.ensures)
+    (way_lower c.decisions.log.clauses c.args.assumptions.now c.level-base.result c.propagate.new.self.steps way above)
+
+pub learn-requires-in-decisions : goal.learn-requires-in-decisions
+learn-requires-in-decisions c =
+    let way = way_propagates c.decisions.log.clauses c.args.assumptions.now c.level-base.result c.decisions.trail.steps c.propagate.new.self.steps c.decisions.invariant.on_way
+    (subst (λ cs. Propagates cs c.decisions.trail.steps c.propagate.new.self.steps) c.clauses.ensures c.propagate.ensures.reasons) in
+    let says = way_learns c.decisions.log.clauses c.args.assumptions.now c.level-base.result c.propagate.new.self.steps c.in_ok-learned.learned way c.in_ok-learned.ensures.falsified
+    (subst (λ cs. IsHinted cs c.in_ok-learned.learned) c.clauses-in-decisions.ensures c.in_ok-learned.ensures.hints)
+    (subst (λ cs. is_subsumed cs c.in_ok-learned.learned.clause ≡ false) c.clauses-in-decisions.ensures c.in_ok-learned.ensures.new) c.in_ok-learned.ensures.last_level in
+    new_spent c.decisions.log c.args.assumptions.now c.in_ok-learned.learned c.decisions.invariant.log says
+
+pub decisions-smaller : goal.decisions-smaller
+decisions-smaller c =
+    let way = way_propagates c.decisions.log.clauses c.args.assumptions.now c.level-base.result c.decisions.trail.steps c.propagate.new.self.steps c.decisions.invariant.on_way
+    (subst (λ cs. Propagates cs c.decisions.trail.steps c.propagate.new.self.steps) c.clauses.ensures c.propagate.ensures.reasons) in
+    let says = way_learns c.decisions.log.clauses c.args.assumptions.now c.level-base.result c.propagate.new.self.steps c.in_ok-learned.learned way c.in_ok-learned.ensures.falsified
+    (subst (λ cs. IsHinted cs c.in_ok-learned.learned) c.clauses-in-decisions.ensures c.in_ok-learned.ensures.hints)
+    (subst (λ cs. is_subsumed cs c.in_ok-learned.learned.clause ≡ false) c.clauses-in-decisions.ensures c.in_ok-learned.ensures.new) c.in_ok-learned.ensures.last_level in
+    let vars : List ℕ = first_variables c.args.log.now.clauses c.args.assumptions.now in
+    work_learned (room vars c.learn-in-decisions.new.self.clauses) (room vars c.decisions.log.clauses) (length vars) (count_open vars c.back_to.new.self.steps)
+    (count_open vars c.decisions.trail.steps)
+    (first_room_falls c.args.assumptions.now c.args.log.now c.decisions.log c.learn-in-decisions.new.self c.args.meter.now c.decisions.meter c.in_ok-learned.learned
+    says c.in_ok-learn.ensures.clauses c.decisions.invariant.searched)
+    (count_open_small vars c.back_to.new.self.steps)
+
+pub decisions-preserved : goal.decisions-preserved
+decisions-preserved c =
+    let way = way_propagates c.decisions.log.clauses c.args.assumptions.now c.level-base.result c.decisions.trail.steps c.propagate.new.self.steps c.decisions.invariant.on_way
+    (subst (λ cs. Propagates cs c.decisions.trail.steps c.propagate.new.self.steps) c.clauses.ensures c.propagate.ensures.reasons) in
+    let says = way_learns c.decisions.log.clauses c.args.assumptions.now c.level-base.result c.propagate.new.self.steps c.in_ok-learned.learned way c.in_ok-learned.ensures.falsified
+    (subst (λ cs. IsHinted cs c.in_ok-learned.learned) c.clauses-in-decisions.ensures c.in_ok-learned.ensures.hints)
+    (subst (λ cs. is_subsumed cs c.in_ok-learned.learned.clause ≡ false) c.clauses-in-decisions.ensures c.in_ok-learned.ensures.new) c.in_ok-learned.ensures.last_level in
+    let next = searched_more c.args.assumptions.now c.args.log.now c.decisions.log c.learn-in-decisions.new.self c.args.meter.now c.decisions.meter c.learn-in-decisions.new.meter
+    c.in_ok-learned.learned c.decisions.invariant.log c.requires.sizes says c.in_ok-learn.ensures.clauses c.in_ok-learn.ensures.sources c.in_ok-learn.ensures.counted
+    c.decisions.invariant.searched in
+    let back = subst (λ xs. IsBackLevel c.propagate.new.self.steps xs c.level-base.result c.level_after-target.result) c.as_slice-in-decisions.ensures c.level_after-target.ensures in
+    record {
+      log = next.0;
+      searched = next.1;
+      on_way = way_back c.decisions.log.clauses c.learn-in-decisions.new.self.clauses c.args.assumptions.now c.in_ok-learned.learned.clause c.level-base.result c.level_after-target.result
+          c.propagate.new.self.steps c.back_to.new.self.steps way back c.in_ok-learned.ensures.falsified c.in_ok-learned.ensures.last_level c.in_ok-learn.ensures.clauses
+          c.back_to.ensures.steps c.back_to.ensures.level;
+    }

@@ -1,0 +1,42 @@
+//! When a search goes back to its assumptions and begins again, by the fixed sequence of Luby,
+//! Sinclair and Zuckerman (1993): after 1, 1, 2, 1, 1, 2, 4, .. hundreds of conflicts. The main type
+//! is `Restarts`. No contract rests on it.
+
+/// How many conflicts the number 1 of the sequence stands for.
+const UNIT: u64 = 100;
+
+/// How far a search has come in the sequence. After Knuth, each number of the sequence is a power
+/// of two that divides its round; a round ends with the greatest of them.
+#[derive(Clone, Copy, Debug)]
+pub(crate) struct Restarts {
+    round: u64,
+    length: u64,
+    conflicts: u64,
+}
+
+impl Restarts {
+    /// No conflict was counted.
+    pub(crate) fn new() -> Restarts {
+        Restarts {
+            round: 1,
+            length: 1,
+            conflicts: 0,
+        }
+    }
+
+    /// Counts a conflict, and tells whether the search is to begin again.
+    pub(crate) fn count(&mut self) -> bool {
+        self.conflicts = self.conflicts.saturating_add(1);
+        if self.conflicts < self.length.saturating_mul(UNIT) {
+            return false;
+        }
+        self.conflicts = 0;
+        if self.round & self.length == 0 {
+            self.length = self.length.saturating_mul(2);
+        } else {
+            self.round = self.round.saturating_add(1);
+            self.length = 1;
+        }
+        true
+    }
+}

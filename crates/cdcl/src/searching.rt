@@ -1,0 +1,79 @@
+//! The search for a model or a core. The main call is `search`.
+ghost use Rattle.std.specs.Prelude.{◌≡◌, [], IfOk, IfErr, false};
+ghost use Rattle.proof_semantics.specs.Clauses.{is_tautology};
+ghost use Rattle.cdcl.specs.Entries.{AreSized, IsLog, added_of};
+ghost use Rattle.cdcl.specs.Progress.{IsSearched};
+ghost use Rattle.cdcl.specs.Searching.{AssumesAll};
+ghost use Rattle.cdcl.specs.Solving.{IsAnswer, IsEnd, has_opposites};
+
+use crate::choosing::choose;
+use crate::log::Log;
+use crate::order::Order;
+use crate::refusing::refusal;
+use crate::restarts::Restarts;
+use crate::returning::level_after;
+use crate::solving::Answer;
+use crate::values::values_from;
+use cdcl_learn::{learn, trace};
+use cdcl_trail::Trail;
+use cnf::Lit;
+use edge::{Meter, SolveEnd};
+use std::alloc::{AllocError, Global};
+
+/// Assumes the assumptions, and then propagates and decides until there is a model, or a conflict
+/// that the assumptions alone bring. Learns from every other conflict, and goes back.
+pub(crate) fn search(
+    alloc: Global,
+    log: &mut Log,
+    order: &mut Order,
+    assumptions: &[Lit],
+    meter: &mut Meter,
+) -> Result<Answer, SolveEnd>
+    requires log { IsLog log.old }
+    requires apart { has_opposites assumptions.now ≡ false }
+    requires sizes { AreSized assumptions.now }
+    ensures log { IsLog log.new }
+    ensures answer { IfOk result (IsAnswer (added_of log.old) assumptions.now) }
+    ensures end { IfErr result (IsEnd meter.new) }
+    ensures searched { IsSearched assumptions.now log.old log.new meter.old meter.new }
+{
+    let mut trail = Trail::new(alloc);
+    assume_all(&mut trail, assumptions)?;
+    let base = trail.level();
+    let mut restarts = Restarts::new();
+    'decisions: loop {
+        let Some(conflict) = trail.propagate(log.clauses())? else {
+            let Some(literal) = choose(order, &trail, log.clauses().as_slice()) else {
+                let values = values_from(alloc, trail.literals())?;
+                return Ok(Answer::Sat(values.into_vec()));
+            };
+            trail.assume(literal)?;
+            continue;
+        };
+        if trail.level() <= base {
+            let traced = trace(alloc, log.clauses(), &trail, conflict)?;
+            return Ok(refusal(alloc, log, assumptions, traced)?);
+        }
+        let learned = learn(alloc, log.clauses(), &trail, conflict)?;
+        order.keep(trail.literals())?;
+        order.bump(log.clauses(), &learned)?;
+        let target = level_after(&mut restarts, &trail, learned.clause.as_slice(), base);
+        log.learn(learned, meter)?;
+        trail.back_to(target);
+    }
+}
+
+// Assumes each of the literals that has no value yet.
+fn assume_all(trail: &mut Trail, assumptions: &[Lit]) -> Result<(), AllocError>
+    requires empty { trail.old.steps ≡ [] }
+    requires consistent { is_tautology assumptions.now ≡ false }
+    ensures { IfOk result (λ _. AssumesAll assumptions.now trail.new.steps) }
+{
+    for literal in assumptions {
+        if trail.value(literal.var).is_some() {
+            continue;
+        }
+        trail.assume(*literal)?;
+    }
+    Ok(())
+}
