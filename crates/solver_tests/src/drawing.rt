@@ -1,0 +1,98 @@
+//! Questions drawn from a seed. The main call is `draw_question`.
+
+use std::alloc::{AllocError, Global};
+
+/// Clauses in two parts, of which the second is added later, and assumptions.
+#[derive(Debug, Drop)]
+pub(crate) struct Drawn {
+    pub(crate) first: Vec<i64>,
+    pub(crate) second: Vec<i64>,
+    pub(crate) assumed: Vec<i64>,
+}
+
+/// Three to eight variables, two to five clauses a variable in all, of one to three literals each, and none to two
+/// assumptions. The same from the same seed.
+pub(crate) fn draw_question(alloc: Global, seed: u64) -> Result<Drawn, AllocError> {
+    let mut draws = Draws { state: seed };
+    let variables = draws.below(6).saturating_add(3);
+    let half = draws
+        .below(variables.saturating_add(3))
+        .saturating_add(variables);
+    Ok(Drawn {
+        first: draw_clauses(alloc, &mut draws, variables, half)?,
+        second: draw_clauses(alloc, &mut draws, variables, half)?,
+        assumed: draw_assumptions(alloc, &mut draws, variables)?,
+    })
+}
+
+// So many clauses, with a 0 behind each. One in 32 has one literal, and two in 32 have two. A literal may stand
+// twice, or beside its negation.
+fn draw_clauses(
+    alloc: Global,
+    draws: &mut Draws,
+    variables: u64,
+    count: u64,
+) -> Result<Vec<i64>, AllocError> {
+    let mut made = Vec::new(alloc);
+    for _ in 0..count {
+        let length = match draws.below(32) {
+            0 => 1,
+            1 | 2 => 2,
+            _ => 3u64,
+        };
+        for _ in 0..length {
+            made.push(draws.literal(variables))?;
+        }
+        made.push(0)?;
+    }
+    Ok(made)
+}
+
+// None to two literals. The second is the first one again where it would be its negation.
+fn draw_assumptions(
+    alloc: Global,
+    draws: &mut Draws,
+    variables: u64,
+) -> Result<Vec<i64>, AllocError> {
+    let mut made = Vec::new(alloc);
+    let count = draws.below(3);
+    let first = draws.literal(variables);
+    let second = draws.literal(variables);
+    if count > 0 {
+        made.push(first)?;
+    }
+    if count > 1 {
+        let is_same = second.unsigned_abs() == first.unsigned_abs();
+        made.push(if is_same { first } else { second })?;
+    }
+    Ok(made)
+}
+
+/// A linear congruential generator with the constants of Knuth's MMIX. Its first state is the seed.
+#[derive(Debug, Drop)]
+struct Draws {
+    state: u64,
+}
+
+impl Draws {
+    // A number below `count`, and 0 where that is 0.
+    fn below(&mut self, count: u64) -> u64 {
+        self.state = self
+            .state
+            .wrapping_mul(6_364_136_223_846_793_005)
+            .wrapping_add(1_442_695_040_888_963_407);
+        (self.state / 8_589_934_592).checked_rem(count).unwrap_or(0)
+    }
+
+    // A literal of a variable from 1 to `variables`, with either sign.
+    fn literal(&mut self, variables: u64) -> i64 {
+        let number = i64::try_from(self.below(variables))
+            .unwrap_or(0)
+            .saturating_add(1);
+        if self.below(2) == 0 {
+            number
+        } else {
+            0i64.saturating_sub(number)
+        }
+    }
+}

@@ -1,0 +1,14 @@
+//! Wide tests of the solver: many small questions, each answer held against a search through all values, and each
+//! proof given to the checker.
+#![tactic(auto)]
+
+#[cfg(test)]
+mod drawing;
+#[cfg(test)]
+mod judging;
+#[cfg(test)]
+mod questions;
+#[cfg(test)]
+mod session;
+#[cfg(test)]
+mod tests;

@@ -1,0 +1,81 @@
+//! A solver beside a record of what it was given. The main type is `Session`.
+
+use crate::judging::{Said, judge};
+use crate::questions::{clauses, literals};
+use cdcl::{Answer, Solver, are_sized, has_opposites};
+use cnf::{Clause, Lit};
+use edge::{Meter, SolveEnd};
+use std::alloc::{AllocError, Global};
+
+/// No limit of conflicts.
+pub(crate) const NO_LIMIT: u64 = 4_294_967_295;
+
+/// A solver, and the clauses that were added to it.
+#[derive(Debug, Drop)]
+pub(crate) struct Session {
+    alloc: Global,
+    solver: Solver,
+    added: Vec<i64>,
+    conflicts: u64,
+}
+
+impl Session {
+    /// A solver with these clauses, with a 0 behind each.
+    pub(crate) fn new(alloc: Global, numbers: &[i64]) -> Result<Session, AllocError> {
+        let mut session = Session {
+            alloc,
+            solver: Solver::new(alloc)?,
+            added: Vec::new(alloc),
+            conflicts: 0,
+        };
+        session.add(numbers)?;
+        Ok(session)
+    }
+
+    /// Adds clauses behind those that are there.
+    pub(crate) fn add(&mut self, numbers: &[i64]) -> Result<(), AllocError> {
+        self.added.extend_from_slice(numbers)?;
+        for clause in clauses(self.alloc, numbers)? {
+            add_one(&mut self.solver, clause)?;
+        }
+        Ok(())
+    }
+
+    /// What the solver says under assumptions, after a look at it.
+    pub(crate) fn ask(&mut self, assumed: &[i64], limit: u64) -> Result<Said, AllocError> {
+        let assumptions = literals(self.alloc, assumed)?;
+        let mut meter = Meter::new(limit, 0);
+        let answer = ask_one(&mut self.solver, assumptions.as_slice(), &mut meter)?;
+        self.conflicts = meter.spending().conflicts();
+        match answer {
+            Ok(found) => judge(self.alloc, self.added.as_slice(), assumed, &found),
+            Err(SolveEnd::Spent(_)) => Ok(Said::Spent),
+            Err(SolveEnd::Memory) => Ok(Said::Memory),
+        }
+    }
+
+    /// How many conflicts the last question took.
+    pub(crate) fn conflicts(&self) -> u64 {
+        self.conflicts
+    }
+}
+
+// Adds a clause; one that may not be added is left out, and then the answers are wrong.
+fn add_one(solver: &mut Solver, clause: Clause) -> Result<(), AllocError> {
+    if are_sized(clause.as_slice()) {
+        solver.add(clause)?;
+    }
+    Ok(())
+}
+
+// Asks what may be asked. Other assumptions are an error, so that no test passes over them.
+fn ask_one(
+    solver: &mut Solver,
+    assumptions: &[Lit],
+    meter: &mut Meter,
+) -> Result<Result<Answer, SolveEnd>, AllocError> {
+    if has_opposites(assumptions) || !are_sized(assumptions) {
+        return Err(AllocError);
+    }
+    Ok(solver.solve(assumptions, meter))
+}
