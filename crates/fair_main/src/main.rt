@@ -1,4 +1,4 @@
-//! fairlive: tells whether a request of a circuit can wait for ever, and checks such answers.
+//! fairlive: checks answers that a request of a circuit can wait for ever, and writes generated models.
 //! The program makes the real shelf and sink, and ends with the number of the status that `run` answers.
 #![tactic(auto)]
 

@@ -42,12 +42,13 @@ const TWO_POSITIONS: &str = "1\nj0\n0\n\n\n.\n";
 const CERTIFICATE: &str =
     "0\nj0\nversion 1\nreach 1 0\n\n3 0\nproof 1\n6 0 4 2 5 0\nrefute 1 1\n0\n7 0 4 5 0\nend\n";
 
-const USAGE: &str = "usage: fairlive check MODEL ANSWER\n";
+pub(crate) const USAGE: &str =
+    "usage: fairlive check MODEL ANSWER\n       fairlive gen KIND SEED SIZE [--binary]\n";
 
-const TWO_FROM_0: &str = "accepted lasso j0 positions 2 loop 0\n";
+pub(crate) const TWO_FROM_0: &str = "accepted lasso j0 positions 2 loop 0\n";
 
 // Models and answers, with the text that must be written and the number that the program must end with.
-const ROWS: [(&str, &str, &str, u8); 51] = [
+const ROWS: [(&str, &str, &str, u8); 53] = [
     (TOGGLE, TWO_POSITIONS, TWO_FROM_0, 0),
     (TOGGLE, "1\nj0\nc hello\nx\n\n\n\n.\n", TWO_FROM_0, 0),
     (
@@ -163,6 +164,8 @@ const ROWS: [(&str, &str, &str, u8); 51] = [
     ("", TWO_POSITIONS, "model refused truncated 0\n", 3),
     (CYCLE, TWO_POSITIONS, "model refused cycle 2\n", 3),
     ("aag 1048577 0 0 0 0\n", "", "model refused limit 0\n", 3),
+    ("ai", TWO_POSITIONS, "model refused truncated 2\n", 3),
+    ("aix", TWO_POSITIONS, "model refused header 0\n", 3),
     (
         "aig 1 0 1 0 0 0 0 1 0\n3\n1\n2\n",
         TWO_POSITIONS,
@@ -173,13 +176,13 @@ const ROWS: [(&str, &str, &str, u8); 51] = [
 
 /// What a run answered, and what it wrote.
 #[derive(Drop)]
-struct Outcome {
-    status: Status,
-    text: Vec<u8>,
+pub(crate) struct Outcome {
+    pub(crate) status: Status,
+    pub(crate) text: Vec<u8>,
 }
 
 /// Runs `check m a` over these texts, with at most `most` bytes a call, and with these calls failing.
-fn check<R: Threads + Wait + Sync>(
+pub(crate) fn check<R: Threads + Wait + Sync>(
     rt: &R,
     alloc: Global,
     model: &[u8],
@@ -195,7 +198,7 @@ fn check<R: Threads + Wait + Sync>(
 }
 
 /// Runs these words over a shelf that holds the model as `m` and the answer as `a`.
-fn run_words<R: Threads + Wait + Sync>(
+pub(crate) fn run_words<R: Threads + Wait + Sync>(
     rt: &R,
     alloc: Global,
     words: &[&str],

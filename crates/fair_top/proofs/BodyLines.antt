@@ -1,13 +1,13 @@
 -- The lines between that of the property and the dot, from what was read of them.
-use Rattle.std.proofs.Common.{◌≡◌, ◌≢◌, ℕ, ◌+◌, ◌-◌, ◌^◌, ◌<◌, ◌≤◌, ◌⊎◌, inl, inr, Bool, true, false, List, [], ◌∷◌, ◌++◌, map, length, refl, sym, ap, ◌∙◌, subst, append_assoc, arith, All, IsSome, IsTrue, length-append, Err}
-use Rattle.std.specs.Prelude.{codes, Option, None, Some}
+use Rattle.std.proofs.Common.{◌≡◌, ◌≢◌, ℕ, ◌+◌, ◌-◌, ◌<◌, ◌≤◌, inl, inr, Bool, true, false, List, [], ◌∷◌, ◌++◌, length, refl, sym, ap, ◌∙◌, subst, append_assoc, arith, All, IsSome, length-append}
+use Rattle.std.specs.Prelude.{codes}
 use Rattle.std.proofs.lemmas.Bool.{false≢true}
 use Rattle.std.proofs.lemmas.List.{append-nil}
-use Rattle.std.proofs.lemmas.List.Elements.{All-head, All-tail, All-cons, All-nil}
+use Rattle.std.proofs.lemmas.List.Elements.{All-head, All-tail, All-nil}
 use Rattle.aig_semantics.specs.declared.traces.Stimulus.{Stimulus}
 use Rattle.text_grammar.specs.Lines.{lines_of, ended_lines}
 use Rattle.text_grammar.proofs.LineLaws.{lines_are_text}
-use Rattle.stimulus.specs.Texts.{value_of, row_values, present, is_skipped, IsStimulusLine, IsTextOf, IsFirstBad, LacksLatches, IsShape}
+use Rattle.stimulus.specs.Texts.{value_of, row_values, is_skipped, IsStimulusLine, IsTextOf, IsFirstBad, IsShape}
 use Rattle.stimulus.proofs.TextLemmas.{good_lines}
 use Rattle.stimulus.specs.declared.ends.ReplayFault.TheVariants as replays
 use Rattle.fair_top.specs.declared.lines.Lines.{Lines}
@@ -15,7 +15,7 @@ use Rattle.fair_top.specs.declared.ends.AnswerFault.{AnswerFault}
 use Rattle.fair_top.specs.declared.ends.AnswerFault.TheVariants.{Shape, Trailing}
 use Rattle.fair_top.specs.declared.ends.AnswerEnd.{AnswerEnd}
 use Rattle.fair_top.specs.declared.ends.AnswerEnd.TheVariants.{Refused, ReadFault, Memory}
-use Rattle.fair_top.specs.Answers.{Numbered, kept_from, Opens, IsValues, AreValues, Spells, IsNoRow, HasLineFault}
+use Rattle.fair_top.specs.Answers.{Numbered, kept_from, Opens, IsValues, Spells, IsNoRow, HasLineFault}
 use Rattle.fair_top.specs.Walks.{kept_at, end_at, OfRefusal}
 use Rattle.fair_top.proofs.KeptLines.{kept-other, kept-append, kept-lines, kept-values, kept-none}
 use Rattle.fair_top.proofs.OneFault.{spelled_rows, some_rows}

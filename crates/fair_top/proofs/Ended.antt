@@ -1,17 +1,16 @@
 -- The end of the check of an answer, from what was read and how it replayed.
-use Rattle.std.proofs.Common.{◌≡◌, ◌⊎◌, ℕ, ◌+◌, ◌<◌, ◌≤◌, List, Some, map, length, refl, sym, ◌∙◌, ap, subst, inl, inr, arith, Ok, Err}
-use Rattle.std.specs.Prelude.{Option, Result, Bool}
+use Rattle.std.proofs.Common.{◌≡◌, ◌⊎◌, ℕ, ◌<◌, ◌≤◌, List, Some, map, length, refl, sym, ◌∙◌, ap, subst, inl, inr, arith, Ok, Err}
+use Rattle.std.specs.Prelude.{Option, Result}
 use Rattle.edge.specs.Told.{IfTold}
 use Rattle.aig_semantics.specs.Circuits.{Circuit}
 use Rattle.aig_semantics.specs.declared.traces.Stimulus.{Stimulus}
 use Rattle.aig_semantics.specs.declared.traces.Lasso.{Lasso as LassoOf}
 use Rattle.aig_semantics.specs.Stimuli.{HasLasso, StandsFor}
 use Rattle.stimulus.specs.declared.ends.ReplayFault.{ReplayFault}
-use Rattle.stimulus.specs.declared.ends.ReplayEnd.{ReplayEnd}
 use Rattle.stimulus.specs.declared.ends.ReplayEnd.TheVariants as replays
 use Rattle.stimulus.specs.Ends.{FailsUnlessMemory}
 use Rattle.stimulus.specs.Faults.{HasReplayFault}
-use Rattle.stimulus.specs.Texts.{row_values, present}
+use Rattle.stimulus.specs.Texts.{row_values}
 use Rattle.stimulus.proofs.TextLemmas.{one_spelled}
 use Rattle.fair_top.specs.declared.answers.TheConstants.{MAX_ANSWER_BYTES}
 use Rattle.fair_top.specs.declared.ends.Accepted.{Accepted}
@@ -20,7 +19,7 @@ use Rattle.fair_top.specs.declared.ends.AnswerFault.{AnswerFault}
 use Rattle.fair_top.specs.declared.ends.AnswerFault.TheVariants.{Shape, NoProperty, Replay, TooLong, Trailing, UnknownStatus}
 use Rattle.fair_top.specs.declared.ends.AnswerEnd.{AnswerEnd}
 use Rattle.fair_top.specs.declared.ends.AnswerEnd.TheVariants.{Refused, ReadFault, Memory}
-use Rattle.fair_top.specs.Answers.{Numbered, kept_in, end_of, IsAnswer, HasLineFault, OfAnswer, IsAccepted, IsRefused, IsMisread, DecidesEnd}
+use Rattle.fair_top.specs.Answers.{Numbered, kept_in, end_of, IsAnswer, HasLineFault, OfAnswer, DecidesEnd}
 use Rattle.fair_top.specs.Walks.{OfRefusal}
 use Rattle.fair_top.specs.Judged.{EndSays, CheckSays, ReplaySays, ReplayDecides, Ends}
 use Rattle.fair_top.proofs.OneFault.{one_fault, no_fault, same_answer}
@@ -94,13 +93,13 @@ answer_says c n s text (Err ReadFault) below short a h = absurd h
 answer_says c n s text (Err Memory) below short a h = tt
 
 -- a text is one answer
-one_answer : (c : Circuit) (n m : ℕ) (s t : Stimulus) (text : List ℕ) → n < length c.justice → m < length c.justice
+pub one_answer : (c : Circuit) (n m : ℕ) (s t : Stimulus) (text : List ℕ) → n < length c.justice → m < length c.justice
     → IsAnswer n s text → IsAnswer m t text → (n ≡ m) × (s ≡ t)
 one_answer c n m s t text below under a b =
     let same : (n ≡ m) × (a.2.0 ≡ b.2.0) = same_answer (length c.justice) (end_of text) n m s t (kept_in text) a.0 b.0 below under a.1 b.1 a.2 b.2 in
     (same.0, one_spelled s t (sym a.2.3 ∙ ap (λ (rows : List Numbered). row_values (map (λ row. row.1) rows)) same.1 ∙ b.2.3))
 
-unread_answer : (c : Circuit) (n : ℕ) (s : Stimulus) (text : List ℕ) (fault : AnswerFault) → n < length c.justice → IsAnswer n s text
+pub unread_answer : (c : Circuit) (n : ℕ) (s : Stimulus) (text : List ℕ) (fault : AnswerFault) → n < length c.justice → IsAnswer n s text
     → HasLineFault (length c.justice) (kept_in text) (end_of text) fault → ⊥
 unread_answer c n s text fault below a h = no_fault (length c.justice) (end_of text) n s (kept_in text) a.0 fault below a.1 a.2 h
 

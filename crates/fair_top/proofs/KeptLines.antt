@@ -1,16 +1,16 @@
 -- The lines of a text that are not skipped.
-use Rattle.std.proofs.Common.{◌≡◌, ◌≢◌, ℕ, ◌+◌, ◌-◌, ◌^◌, ◌<◌, ◌≤◌, ◌⊎◌, inl, inr, Bool, true, false, List, [], ◌∷◌, ◌++◌, map, length, take, drop, min, refl, sym, ap, ◌∙◌, subst, append_assoc, arith, All, IsTrue, length-append}
+use Rattle.std.proofs.Common.{◌≡◌, ◌≢◌, ℕ, ◌+◌, ◌-◌, ◌<◌, ◌≤◌, ◌⊎◌, inl, inr, Bool, true, false, List, [], ◌∷◌, ◌++◌, map, length, take, refl, sym, ap, ◌∙◌, subst, append_assoc, arith, All, IsTrue, length-append}
 use Rattle.std.specs.Prelude.{codes}
 use Rattle.std.proofs.lemmas.Bool.{false≢true}
 use Rattle.std.proofs.lemmas.List.{append-nil, length-take}
 use Rattle.std.proofs.lemmas.List.Elements.{All-head, All-tail, All-cons, All-nil}
 use Rattle.text_grammar.specs.Pieces.{Lacks}
-use Rattle.text_grammar.specs.Lines.{IsLine, IsNextLine, lines_of, ended_lines}
+use Rattle.text_grammar.specs.Lines.{IsNextLine, lines_of, ended_lines}
 use Rattle.text_grammar.proofs.LineLaws.{reads_written_lines}
 use Rattle.stimulus.specs.Texts.{is_skipped, kept_lines, IsStimulusLine}
 use Rattle.fair_top.specs.declared.lines.Lines.{Lines}
-use Rattle.fair_top.specs.Answers.{Numbered, kept_from, IsValues, AreValues}
-use Rattle.fair_top.specs.Walks.{kept_at, end_at, HasRoom}
+use Rattle.fair_top.specs.Answers.{kept_from, IsValues, AreValues}
+use Rattle.fair_top.specs.Walks.{kept_at, end_at}
 
 module _ (n : ℕ) (line : List ℕ) (lines : List (List ℕ)) where
   pub kept-skipped : is_skipped line ≡ true → kept_from n (line ∷ lines) ≡ kept_from (n + 1) lines

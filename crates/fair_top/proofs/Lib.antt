@@ -1,8 +1,11 @@
 pub mod KeptLines
 pub mod OneFault
 mod TextsRead
-mod Ended
+mod LineLaws
+pub mod Ended
 mod TextsJudged
 mod Names
 mod BodyLines
+mod Values
 mod Taken
+mod Written

@@ -1,9 +1,9 @@
 -- The lines of a text are an answer, or have one first fault: by a function that judges them.
-use Rattle.std.proofs.Common.{◌≡◌, ◌≢◌, ℕ, ◌+◌, ◌^◌, ◌<◌, ◌≤◌, ◌⊎◌, inl, inr, Bool, true, false, not, ◌&&◌, ◌||◌, List, [], ◌∷◌, ◌++◌, map, length, refl, sym, ap, ◌∙◌, subst, append_assoc, arith, eqb-true, All, Option, Some, None, IsSome, Result, Ok, Err, ltb, eqb}
-use Rattle.std.specs.Prelude.{codes, decimal, is_some, if◌then◌else◌, nat_lt, ◌==◌}
+use Rattle.std.proofs.Common.{◌≡◌, ◌≢◌, ℕ, ◌^◌, ◌<◌, ◌≤◌, ◌⊎◌, inl, inr, Bool, true, false, ◌&&◌, ◌||◌, List, [], ◌∷◌, ◌++◌, map, refl, sym, ap, ◌∙◌, subst, append_assoc, arith, eqb-true, Option, Some, None, IsSome, Result, Ok, Err, ltb, eqb}
+use Rattle.std.specs.Prelude.{codes, decimal, is_some, if◌then◌else◌, ◌==◌}
 use Rattle.std.specs.Str.{bytes_eq}
 use Rattle.std.specs.Bool.{Decides}
-use Rattle.std.proofs.lemmas.Bool.{false≢true, lt-ltb}
+use Rattle.std.proofs.lemmas.Bool.{lt-ltb}
 use Rattle.std.proofs.lemmas.Bool.Decides.{Decides-by_and, Decides-ltb}
 use Rattle.std.proofs.lemmas.Slice.Eq.{bytes_eq-Decides}
 use Rattle.std.proofs.lemmas.List.{append-nil}
@@ -15,7 +15,7 @@ use Rattle.text_grammar.proofs.NumeralLaws.{stands_read, read_stands}
 use Rattle.stimulus.specs.Texts.{value_of, row_values, present}
 use Rattle.fair_top.specs.declared.ends.AnswerFault.{AnswerFault}
 use Rattle.fair_top.specs.declared.ends.AnswerFault.TheVariants.{Shape, NoProperty, Replay, TooLong, Trailing, UnknownStatus}
-use Rattle.fair_top.specs.Answers.{Numbered, property_line, Opens, IsValues, AreValues, Spells, IsNoStatus, IsNoName, IsNoRow, IsBehind, BehindStatus, BehindProperty, HasLineFault}
+use Rattle.fair_top.specs.Answers.{Numbered, property_line, Opens, IsValues, AreValues, Spells, IsNoStatus, IsNoName, IsNoRow, IsBehind, HasLineFault}
 
 -- ---- tests
 
@@ -28,7 +28,7 @@ abbrev pub is_values : List ℕ → Bool
 is_values [] = true
 is_values (character ∷ line) = is_some (value_of character) && is_values line
 
-values-Decides : (line : List ℕ) → Decides (is_values line) (IsValues line)
+pub values-Decides : (line : List ℕ) → Decides (is_values line) (IsValues line)
 values-Decides = Decides-by_and (λ character. is_some (value_of character)) (λ character. IsSome (value_of character)) is_values (λ character. (λ e. e, λ e. e)) refl (λ character line. refl)
 
 abbrev pub is_filled : List Numbered → Bool
@@ -55,7 +55,7 @@ abbrev pub number_in : List ℕ → Option ℕ
 number_in [] = None
 number_in (b ∷ digits) = if b == 106 then whole (number_at limit digits) else None
 
-named_in : (n : ℕ) → n < 2 ^ 63 → number_in (property_line n) ≡ Some n
+pub named_in : (n : ℕ) → n < 2 ^ 63 → number_in (property_line n) ≡ Some n
 named_in n small =
     let stands : IsNumeral limit n (decimal n) [] = record { small = omega (arith, small); spelled = sym (append-nil (decimal n)); whole = refl } in
     ap whole (stands_read limit n (decimal n) [] (omega arith) stands)
@@ -65,7 +65,7 @@ whole_is None n e = let wrong : ◌≡◌ {A = Option ℕ} None (Some n) = e in 
 whole_is (Some (m, [])) n e = let same : m ≡ n = same_Some m n e in ap (λ k. Some (k, [])) same
 whole_is (Some (m, b ∷ rest)) n e = let wrong : ◌≡◌ {A = Option ℕ} None (Some n) = e in absurd (cc)
 
-in_named : (line : List ℕ) (n : ℕ) → number_in line ≡ Some n → (n < 2 ^ 63) × (line ≡ property_line n)
+pub in_named : (line : List ℕ) (n : ℕ) → number_in line ≡ Some n → (n < 2 ^ 63) × (line ≡ property_line n)
 in_named [] n e = cc
 in_named (b ∷ digits) n e = by (eqb b 106) refl e
   where

@@ -1,12 +1,10 @@
--- The verdict on both texts, from the model and the end of the check; and that of the words.
-use Rattle.std.proofs.Common.{◌≡◌, ◌⊎◌, ℕ, ◌+◌, ◌-◌, ◌^◌, ◌≤◌, min, List, Some, refl, sym, ◌∙◌, ap, subst, inl, inr, arith, Ok, Err}
-use Rattle.std.specs.Prelude.{Option, Result, codes}
-use Rattle.clap.specs.Walk.{Row, Text}
+-- The verdict on both texts, from the model and the end of the check.
+use Rattle.std.proofs.Common.{◌≡◌, ℕ, ◌≤◌, List, Some, refl, sym, ◌∙◌, ap, subst, inl, inr, arith, Ok, Err}
+use Rattle.std.specs.Prelude.{Option, Result}
 use Rattle.aig_semantics.specs.Circuits.{Circuit}
 use Rattle.aiger_grammar.specs.Models.{Model}
 use Rattle.aiger_grammar.specs.AsciiTexts.{SameFault}
 use Rattle.circuit.specs.declared.faults.ModelFault.{ModelFault}
-use Rattle.edge.specs.Told.{IfTold}
 use Rattle.edge.specs.Faults.{Rose}
 use Rattle.fair_top.specs.declared.ends.Accepted.{Accepted}
 use Rattle.fair_top.specs.declared.ends.Accepted.TheVariants as accepted
@@ -14,11 +12,10 @@ use Rattle.fair_top.specs.declared.ends.AnswerEnd.{AnswerEnd}
 use Rattle.fair_top.specs.declared.ends.AnswerEnd.TheVariants as ends
 use Rattle.fair_top.specs.declared.status.Status.{Status}
 use Rattle.fair_top.specs.declared.status.Status.TheVariants as statuses
-use Rattle.fair_top.specs.declared.status.Done.TheVariants.{Lasso}
+use Rattle.fair_top.specs.declared.status.Done.TheVariants.{Lasso, Printed}
 use Rattle.fair_top.specs.Answers.{IsAccepted, IsRefused, DecidesEnd}
 use Rattle.fair_top.specs.ModelTexts.{IsModelText}
-use Rattle.fair_top.specs.Commands.{name_in, IsCheck, IsUsage}
-use Rattle.fair_top.specs.Headline.{TextsSay, TextsDecide, IsFound, IsVerdict, Answers, OfNames}
+use Rattle.fair_top.specs.Headline.{TextsSay, TextsDecide, Answers}
 use Rattle.fair_top.specs.Judged.{status_of, CheckSays, Ends, IsModelOf, IsFaultOf, EndsWithoutModel}
 
 -- Where the model was read.
@@ -51,6 +48,7 @@ exact_by : (m : Model) (model answer : Option (List ℕ)) (end : Result Accepted
 exact_by m model answer end h exact (statuses.Done (Lasso j k from)) (text, e, (claimed, f, (n, form, said))) =
     as_status end (Ok (accepted.Lasso j k from)) (exact claimed (Ok (accepted.Lasso j k from)) f
     (subst (λ (x : Model). IsAccepted x.circuit claimed (accepted.Lasso j k from)) (sym (h.one text n e form)) said))
+exact_by m model answer end h exact (statuses.Done Printed) d = absurd d
 exact_by m model answer end h exact (statuses.Refused fault) (text, e, (claimed, f, (n, form, said))) =
     as_status end (Err (ends.Refused fault)) (exact claimed (Err (ends.Refused fault)) f
     (subst (λ (x : Model). IsRefused x.circuit claimed fault) (sym (h.one text n e form)) said))
@@ -93,6 +91,7 @@ bad_exact : (model answer : Option (List ℕ)) (fault : ModelFault) → IsFaultO
     → (verdict : Status) → TextsDecide model answer verdict → Answers (statuses.BadModel fault) verdict
 bad_exact model answer fault h (statuses.BadModel other) (text, e, bad) = same_bad fault other (h.one text other e bad)
 bad_exact model answer fault h (statuses.Done (Lasso j k from)) (text, e, (claimed, f, (m, form, said))) = absurd (h.none text m e form)
+bad_exact model answer fault h (statuses.Done Printed) d = absurd d
 bad_exact model answer fault h (statuses.Refused other) (text, e, (claimed, f, (m, form, said))) = absurd (h.none text m e form)
 bad_exact model answer fault h statuses.Memory d = absurd d
 bad_exact model answer fault h statuses.ReadFault d = absurd d
@@ -114,55 +113,3 @@ without_model_exact model answer statuses.Usage h verdict d = absurd h
 -- a count that rose since a later moment rose since an earlier one
 pub rose_since : (a b n : ℕ) → a ≤ b → Rose b n → Rose a n
 rose_since a b n le h = omega arith
-
--- The words.
-
-same_rows : (name : List ℕ) (a b : List Row) → ◌≡◌ {A = Option (Text × List Row)} (Some (name, a)) (Some (name, b)) → a ≡ b
-same_rows name a b e = let same : ◌≡◌ {A = Text × List Row} (name, a) (name, b) = cc in ap (λ x. x.1) same
-
-pub same_names : (words : List (List ℕ)) (m a m' a' : List ℕ) → IsCheck words m a → IsCheck words m' a' → (m ≡ m') × (a ≡ a')
-same_names words m a m' a' one two =
-    let rows : one.rows ≡ two.rows = same_rows (codes "check") one.rows two.rows (sym one.command ∙ two.command) in (
-      sym one.model_name ∙ ap (λ (r : List Row). name_in r (codes "MODEL")) rows ∙ two.model_name,
-      sym one.answer_name ∙ ap (λ (r : List Row). name_in r (codes "ANSWER")) rows ∙ two.answer_name,
-    )
-
-pub words_say : (held : List ℕ → Option (List ℕ)) (words : List (List ℕ)) (m a : List ℕ) (status : Status) → IsCheck words m a → TextsSay (held m) (held a) status → IsFound held words status
-words_say held words m a (statuses.Done done) check h = (m, a, check, h)
-words_say held words m a (statuses.Refused fault) check h = (m, a, check, h)
-words_say held words m a (statuses.BadModel fault) check h = (m, a, check, h)
-words_say held words m a statuses.Memory check h = tt
-words_say held words m a statuses.ReadFault check h = tt
-words_say held words m a statuses.WriteFault check h = absurd h
-words_say held words m a statuses.Usage check h = absurd h
-
-pub words_exact : (held : List ℕ → Option (List ℕ)) (words : List (List ℕ)) (m a : List ℕ) (status : Status) → IsCheck words m a
-    → ((verdict : Status) → TextsDecide (held m) (held a) verdict → Answers status verdict)
-    → (verdict : Status) → IsVerdict held words verdict → Answers status verdict
-words_exact held words m a status check exact verdict v = elim v [
-  | inl usage ↦ absurd (usage.0 check.taken)
-  | inr named ↦
-      let same : (named.0 ≡ m) × (named.1 ≡ a) = same_names words named.0 named.1 m a named.2 check in
-      exact verdict (subst (λ (x : List ℕ). TextsDecide (held m) (held x) verdict) same.1
-      (subst (λ (x : List ℕ). TextsDecide (held x) (held named.1) verdict) same.0 named.3))
-]
-
--- where no names were read
-abbrev pub EndsWithoutNames : List (List ℕ) → Status → Type 0
-EndsWithoutNames words status = ((status ≡ statuses.Usage) × IsUsage words) ⊎ (status ≡ statuses.Memory)
-
-pub without_names_say : (held : List ℕ → Option (List ℕ)) (words : List (List ℕ)) (status : Status) → EndsWithoutNames words status → IsFound held words status
-without_names_say held words status h = elim h [
-  | inl usage ↦ subst (IsFound held words) (sym usage.0) usage.1
-  | inr e ↦ subst (IsFound held words) (sym e) tt
-]
-
-pub without_names_exact : (held : List ℕ → Option (List ℕ)) (words : List (List ℕ)) (status : Status) → EndsWithoutNames words status
-    → (verdict : Status) → IsVerdict held words verdict → Answers status verdict
-without_names_exact held words status h verdict v = elim h [
-  | inl usage ↦ elim v [
-    | inl both ↦ inl (inl (usage.0 ∙ sym both.1))
-    | inr named ↦ absurd (usage.1 named.2.taken)
-  ]
-  | inr e ↦ inr (inl e)
-]

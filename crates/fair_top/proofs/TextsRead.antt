@@ -1,5 +1,5 @@
 -- A text that is read to a limit, and one byte more where it is longer.
-use Rattle.std.proofs.Common.{◌≡◌, ℕ, ◌+◌, ◌-◌, ◌<◌, ◌≤◌, ◌⊎◌, min, List, length, take, Some, Ok, Err, refl, sym, ◌∙◌, ap, subst, arith, inl, inr, ltb}
+use Rattle.std.proofs.Common.{◌≡◌, ℕ, ◌+◌, ◌<◌, ◌≤◌, ◌⊎◌, min, List, length, take, Some, Ok, Err, refl, sym, ◌∙◌, ap, subst, arith, inl, inr, ltb}
 use Rattle.std.specs.Prelude.{Option, None, Result, Bool, true, false, codes}
 use Rattle.std.proofs.lemmas.Bool.{lt-ltb, ltb-false, ltb-true}
 use Rattle.std.specs.Bool.{Decides}
@@ -42,15 +42,15 @@ same_test P false true d e = d.1 (e.0 refl)
 pub tested : (r : Bool) (front word : List ℕ) → Decides r (front ≡ word) → r ≡ bytes_eq front word
 tested r front word d = same_test (front ≡ word) r (bytes_eq front word) d (bytes_eq-Decides front word)
 
--- a text of less than three bytes is in ASCII
-pub short_form : (bytes : List ℕ) → length bytes < 3 → false ≡ is_binary bytes
+-- a text of less than two bytes is in ASCII
+pub short_form : (bytes : List ℕ) → length bytes < 2 → false ≡ is_binary bytes
 short_form bytes short = by (is_binary bytes) refl
   where
     by : (b : Bool) → is_binary bytes ≡ b → false ≡ is_binary bytes
     by false e = sym e
     by true e =
-        let same : take 3 bytes ≡ codes "aig" = (bytes_eq-Decides (take 3 bytes) (codes "aig")).0 e in
-        absurd (omega (arith, short, ap length same, length-take 3 bytes))
+        let same : take 2 bytes ≡ codes "ai" = (bytes_eq-Decides (take 2 bytes) (codes "ai")).0 e in
+        absurd (omega (arith, short, ap length same, length-take 2 bytes))
 
 -- ---- its length
 
@@ -89,7 +89,7 @@ read_in false read text fault e bad =
 
 -- and has its form
 same_form : (read text : List ℕ) → read ≡ take (MAX_MODEL_BYTES + 1) text → is_binary read ≡ is_binary text
-same_form read text e = ap is_binary e ∙ ap (λ front. bytes_eq front (codes "aig")) (take-take 3 (MAX_MODEL_BYTES + 1) text (omega arith))
+same_form read text e = ap is_binary e ∙ ap (λ front. bytes_eq front (codes "ai")) (take-take 2 (MAX_MODEL_BYTES + 1) text (omega arith))
 
 fault_read : (read text : List ℕ) (fault : ModelFault) → read ≡ take (MAX_MODEL_BYTES + 1) text → IsBadModel text fault → IsBadModel read fault
 fault_read read text fault e bad =

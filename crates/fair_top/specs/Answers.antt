@@ -5,7 +5,6 @@ use Rattle.aig_semantics.specs.declared.traces.Stimulus.{Stimulus}
 use Rattle.aig_semantics.specs.Circuits.{Circuit}
 use Rattle.aig_semantics.specs.Stimuli.{StandsFor}
 use Rattle.text_grammar.specs.Lines.{lines_of}
-use Rattle.stimulus.specs.declared.ends.ReplayFault.{ReplayFault}
 use Rattle.stimulus.specs.Texts.{value_of, row_values, present, is_skipped}
 use Rattle.stimulus.specs.Faults.{HasReplayFault}
 use Rattle.fair_top.specs.declared.answers.TheConstants.{MAX_ANSWER_BYTES}

@@ -1,6 +1,5 @@
 -- What the parts of a check answer: the model, and the end of the check of an answer.
 use Rattle.std.specs.Prelude.{◌≡◌, ◌⊎◌, ℕ, List, Option, Some, Result, Ok, Err}
-use Rattle.edge.specs.Told.{MayBe}
 use Rattle.aig_semantics.specs.Circuits.{Circuit}
 use Rattle.circuit.specs.declared.faults.ModelFault.{ModelFault}
 use Rattle.aiger_grammar.specs.Models.{Model}
@@ -16,7 +15,7 @@ use Rattle.fair_top.specs.declared.ends.AnswerEnd.TheVariants as ends
 use Rattle.fair_top.specs.declared.status.Status.{Status}
 use Rattle.fair_top.specs.declared.status.Status.TheVariants as statuses
 use Rattle.fair_top.specs.declared.status.Done.TheVariants.{Lasso}
-use Rattle.fair_top.specs.Answers.{IsAccepted, IsRefused, DecidesEnd}
+use Rattle.fair_top.specs.Answers.{IsAccepted, IsRefused}
 use Rattle.fair_top.specs.ModelTexts.{IsModelText, IsBadModel}
 use Rattle.fair_top.specs.Headline.{OfSomeText}
 
@@ -50,7 +49,7 @@ ReplayDecides c n stimulus (Err (ends.Refused _)) = ⊥
 ReplayDecides c n stimulus (Err ends.ReadFault) = ⊥
 ReplayDecides c n stimulus (Err ends.Memory) = ⊥
 
--- what it says of a text on the shelf; want of memory and a failed read say nothing
+-- what the end of a check says of a text on the shelf; want of memory and a failed read say nothing
 abbrev pub CheckSays : Circuit → Option (List ℕ) → Result Accepted AnswerEnd → Type 0
 CheckSays c told (Ok found) = OfSomeText told (λ text. IsAccepted c text found)
 CheckSays c told (Err (ends.Refused fault)) = OfSomeText told (λ text. IsRefused c text fault)

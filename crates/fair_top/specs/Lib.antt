@@ -1,5 +1,8 @@
 pub mod Answers
+pub mod AnswerLaws
 pub mod Commands
+pub mod Asking
+pub mod Generating
 pub mod ModelTexts
 pub mod Walks
 pub mod Statuses

@@ -1,5 +1,5 @@
--- Texts of models, in ASCII or in binary, as their first three bytes tell (AIGER 1.9; Biere, Heljanko, Wieringa, 2011).
-use Rattle.std.specs.Prelude.{◌≡◌, ◌⊎◌, ℕ, Bool, true, false, List, take, codes}
+-- Texts of models, in ASCII or in binary, as their first two bytes tell (AIGER 1.9; Biere, Heljanko, Wieringa, 2011).
+use Rattle.std.specs.Prelude.{ℕ, Bool, true, false, List, take, codes}
 use Rattle.std.specs.Str.{bytes_eq}
 use Rattle.aig_semantics.specs.Circuits.{Circuit}
 use Rattle.circuit.specs.declared.faults.ModelFault.{ModelFault}
@@ -9,7 +9,7 @@ use Rattle.aiger_grammar.specs.BinaryTexts.{IsBinaryTextOf, HasBinaryFault}
 
 -- the text begins as a binary one does
 abbrev pub is_binary : List ℕ → Bool
-is_binary text = bytes_eq (take 3 text) (codes "aig")
+is_binary text = bytes_eq (take 2 text) (codes "ai")
 
 -- the bytes are a text of the model in the one form or the other
 abbrev pub IsTextIn : Bool → Model → List ℕ → Type 0

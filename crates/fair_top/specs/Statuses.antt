@@ -1,5 +1,6 @@
 -- What a failed read becomes, and the statuses of runs that end without a text.
-use Rattle.std.specs.Prelude.{Bool, true, false}
+use Rattle.std.specs.Prelude.{Bool, true, false, Result, Ok, Err}
+use Rattle.fair_top.specs.declared.texts.Outcome.{Outcome}
 use Rattle.edge.specs.declared.reading.ReadEnd.{ReadEnd}
 use Rattle.edge.specs.declared.reading.ReadEnd.TheVariants as reads
 use Rattle.fair_top.specs.declared.ends.AnswerEnd.{AnswerEnd}
@@ -24,3 +25,8 @@ ends_silently statuses.Usage = false
 ends_silently (statuses.Done done) = false
 ends_silently (statuses.Refused fault) = false
 ends_silently (statuses.BadModel fault) = false
+
+-- the status with which a run ends
+abbrev pub ends_with : Result Outcome Status → Status
+ends_with (Ok outcome) = outcome.status
+ends_with (Err status) = status

@@ -7,7 +7,7 @@ use Rattle.stimulus.specs.declared.ends.ReplayFault.TheVariants.{Shape, Width, N
 use Rattle.fair_top.specs.declared.status.Status.{Status}
 use Rattle.fair_top.specs.declared.status.Status.TheVariants as statuses
 use Rattle.fair_top.specs.declared.status.Done.{Done}
-use Rattle.fair_top.specs.declared.status.Done.TheVariants.{Lasso}
+use Rattle.fair_top.specs.declared.status.Done.TheVariants.{Lasso, Printed}
 use Rattle.fair_top.specs.declared.ends.AnswerFault.{AnswerFault}
 use Rattle.fair_top.specs.declared.ends.AnswerFault.TheVariants as answers
 
@@ -55,13 +55,14 @@ answer_text answers.UnknownStatus = codes "refused unknown status\n"
 
 -- the usage text: a line for each command
 abbrev pub usage_text : List ℕ
-usage_text = codes "usage: fairlive check MODEL ANSWER\n"
+usage_text = codes "usage: fairlive check MODEL ANSWER\n       fairlive gen KIND SEED SIZE [--binary]\n"
 
 abbrev pub done_text : Done → List ℕ
 done_text (Lasso property positions from) =
     codes "accepted lasso j" ++ decimal property ++ codes " positions " ++ decimal positions ++ codes " loop " ++ decimal from ++ codes "\n"
+done_text Printed = []
 
--- the text of a status; three have none of their own (a failed write leaves a part of another's: see Writes)
+-- the text of a status; four have none of their own (of a model that is printed it is the model's: see GoesWith)
 abbrev pub text_of : Status → List ℕ
 text_of (statuses.Done done) = done_text done
 text_of (statuses.Refused fault) = answer_text fault

@@ -1,5 +1,5 @@
 -- A reading of the lines of an answer under way.
-use Rattle.std.specs.Prelude.{◌≡◌, ◌≢◌, ℕ, ◌+◌, ◌^◌, ◌≤◌, ◌⊎◌, List, [], ◌∷◌, ◌++◌, length, All, codes, Result, Ok, Err}
+use Rattle.std.specs.Prelude.{◌≡◌, ℕ, ◌+◌, ◌^◌, ◌≤◌, List, length}
 use Rattle.text_grammar.specs.Lines.{lines_of}
 use Rattle.fair_top.specs.declared.lines.Lines.{Lines}
 use Rattle.fair_top.specs.declared.ends.AnswerFault.{AnswerFault}
@@ -19,7 +19,7 @@ end_at lines = lines.number + length (lines_of lines.rest.now)
 abbrev pub HasRoom : Lines → Type 0
 HasRoom lines = lines.number + length lines.rest.now ≤ 2 ^ 63
 
--- the same text, further on
+-- the lines end at the same number, and none of their numbers is too great to count
 pub record IsLater (old new : Lines) : Type 0 where
   pub end : end_at new ≡ end_at old
   pub room : HasRoom new

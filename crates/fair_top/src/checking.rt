@@ -1,38 +1,20 @@
 //! The command `check`: reads MODEL and ANSWER, and judges the answer. Writes nothing.
 
 ghost use Rattle.std.specs.Prelude.{◌≡◌};
-ghost use Rattle.edge.specs.Faults.{Rose, NoneFell};
+ghost use Rattle.edge.specs.Faults.{NoneFell};
 ghost use Rattle.edge.specs.Reads.{KeepsTexts};
-ghost use Rattle.fair_top.specs.Commands.{bytes_of, IsTakenOrUsage};
-ghost use Rattle.fair_top.specs.Headline.{TextsSay, TextsDecide, FailedFor, IsFound, IsVerdict, Answers, ReadFailed};
+ghost use Rattle.fair_top.specs.Headline.{TextsSay, TextsDecide, FailedFor, Answers};
 ghost use Rattle.fair_top.specs.Judged.{status_of};
 
 use crate::answers::check_answer;
 use crate::ends::{Accepted, AnswerEnd};
 use crate::models::model_of;
 use crate::status::{Done, Status};
-use crate::words::names_of;
 use edge::Shelf;
 use std::alloc::Global;
 
-/// The status with which the command ends, but for its writing.
-pub(crate) fn check<H: Shelf>(alloc: Global, words: &[String], shelf: &mut H) -> Status
-    ensures found { IsFound (H.held shelf.old) (bytes_of words.now) result }
-    ensures exactly { (verdict : Status) → IsVerdict (H.held shelf.old) (bytes_of words.now) verdict → Answers result verdict }
-    ensures words { IsTakenOrUsage (bytes_of words.now) }
-    ensures unwritten { result ≡ Status.WriteFault → ⊥ }
-    ensures read { result ≡ Status.ReadFault → ReadFailed (H.held shelf.old) (bytes_of words.now) (H.faults shelf.old) (H.faults shelf.new) }
-    ensures counts { NoneFell (H.faults shelf.old) (H.faults shelf.new) }
-    ensures kept { KeepsTexts (H.held shelf.old) (H.held shelf.new) }
-{
-    match names_of(alloc, words) {
-        Ok((model, answer)) => judge_named(alloc, shelf, model, answer),
-        Err(status) => status,
-    }
-}
-
-/// Reads both texts and judges the answer.
-fn judge_named<H: Shelf>(alloc: Global, shelf: &mut H, model: &str, answer: &str) -> Status
+/// Reads the texts under both names and judges the answer: the status with which the command ends, but for its writing.
+pub(crate) fn check<H: Shelf>(alloc: Global, shelf: &mut H, model: &str, answer: &str) -> Status
     ensures found { TextsSay (H.held shelf.old model.now) (H.held shelf.old answer.now) result }
     ensures exactly { (verdict : Status) → TextsDecide (H.held shelf.old model.now) (H.held shelf.old answer.now) verdict → Answers result verdict }
     ensures read { result ≡ Status.ReadFault → FailedFor (H.held shelf.old model.now) (H.faults shelf.old model.now) (H.faults shelf.new model.now) (H.faults shelf.old answer.now) (H.faults shelf.new answer.now) }

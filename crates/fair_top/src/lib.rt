@@ -3,10 +3,14 @@
 
 mod answers;
 mod checking;
+mod commands;
 mod ends;
+mod generating;
+mod laws;
 mod lines;
 mod models;
 mod reading;
+mod requests;
 mod running;
 mod status;
 mod texts;
@@ -14,5 +18,7 @@ mod words;
 
 pub use answers::check_answer;
 pub use ends::{Accepted, AnswerEnd, AnswerFault};
+pub use laws::answer_laws;
+pub use requests::{Kind, Request};
 pub use running::{run, run_alone};
 pub use status::{Done, Status};

@@ -62,8 +62,8 @@ fn read_in(alloc: Global, binary: bool, bytes: &[u8]) -> Result<Model, ModelEnd>
 fn is_binary(bytes: &[u8]) -> bool
     ensures { result ≡ is_binary bytes.now }
 {
-    if bytes.len() < 3 {
+    if bytes.len() < 2 {
         return false;
     }
-    is_word(&bytes[..3], b"aig")
+    is_word(&bytes[..2], b"ai")
 }

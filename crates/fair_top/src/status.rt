@@ -14,7 +14,7 @@ pub enum Status {
     Done(Done),
     /// `check`: the answer is not a good one, and this is its first failing item.
     Refused(AnswerFault),
-    /// The bytes of MODEL are in no model text, and this is their first fault.
+    /// The bytes of MODEL are the text of no model, and this is their first fault.
     BadModel(ModelFault),
     /// A read of MODEL or ANSWER failed. Nothing was written.
     ReadFault,
@@ -22,7 +22,7 @@ pub enum Status {
     WriteFault,
     /// Memory was refused. Nothing was written.
     Memory,
-    /// The words are no command. Nothing was read.
+    /// The words are no command, or ask `gen` for no model that there is. Nothing was read.
     Usage,
 }
 
@@ -36,11 +36,13 @@ pub enum Done {
         positions: u64,
         from: u64,
     },
+    /// `gen`: the text of the model was written.
+    Printed,
 }
 
 impl Status {
     /// The number with which the program ends: 0 for work done, 1 for a refused answer, 3 for a bad model, 4 and 5 for
-    /// failed reads and writes, 6 for want of memory, and 64 for words that are no command.
+    /// failed reads and writes, 6 for want of memory, and 64 for words that are no command or ask for no model.
     pub fn number(&self) -> u8
         ensures { result ≡ exit_number self.now }
     {

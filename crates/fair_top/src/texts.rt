@@ -1,6 +1,7 @@
-//! The text that each status writes.
+//! The text that each status writes. The main call is `told`.
 
-ghost use Rattle.std.specs.Prelude.{◌≡◌, ◌++◌, IfOk, OnOk, codes, decimal};
+ghost use Rattle.std.specs.Prelude.{◌≡◌, ◌⊎◌, ◌++◌, true, false, IfOk, IfErr, OnOk, codes, decimal};
+ghost use Rattle.fair_top.specs.Statuses.{ends_silently, ends_with};
 ghost use Rattle.fair_top.specs.Texts.{text_of, line_with, model_text, replay_text, answer_text, done_text};
 
 use crate::ends::AnswerFault;
@@ -11,10 +12,41 @@ use stimulus::ReplayFault;
 use text_grammar::push_number;
 
 /// What is written where the words are no command: a line for each command.
-const USAGE: &str = "usage: fairlive check MODEL ANSWER\n";
+const USAGE: &str =
+    "usage: fairlive check MODEL ANSWER\n       fairlive gen KIND SEED SIZE [--binary]\n";
+
+/// A status, and the text that is written with it.
+#[derive(Drop)]
+pub(crate) struct Outcome {
+    pub(crate) status: Status,
+    pub(crate) text: Vec<u8>,
+}
+
+/// The status with its own text, or the status alone where nothing is written with it; or `Memory`.
+pub(crate) fn told(alloc: Global, status: Status) -> Result<Outcome, Status>
+    ensures status { (ends_with result ≡ status) ⊎ (ends_with result ≡ Status.Memory) }
+    ensures text { IfOk result (λ outcome. (outcome.status ≡ status) × (outcome.text.items ≡ text_of status)) }
+    ensures aloud { IfOk result (λ outcome. ends_silently status ≡ false) }
+    ensures silent { IfErr result (λ other. ends_silently other ≡ true) }
+{
+    if is_silent(&status) {
+        return Err(status);
+    }
+    match status_text(alloc, &status) {
+        Ok(text) => Ok(Outcome { status, text }),
+        Err(_) => Err(Status::Memory),
+    }
+}
+
+/// Whether a run ends with this status without a word.
+fn is_silent(status: &Status) -> bool
+    ensures { result ≡ ends_silently status.now }
+{
+    matches!(status, Status::ReadFault | Status::Memory)
+}
 
 /// The whole text of a status.
-pub(crate) fn status_text(alloc: Global, status: &Status) -> Result<Vec<u8>, AllocError>
+fn status_text(alloc: Global, status: &Status) -> Result<Vec<u8>, AllocError>
     ensures { IfOk result (λ text. text.items ≡ text_of status.now) }
 {
     match status {
@@ -103,5 +135,6 @@ fn text_of_done(alloc: Global, done: &Done) -> Result<Vec<u8>, AllocError>
             line.push(b'\n')?;
             Ok(line)
         }
+        Done::Printed => Ok(Vec::new(alloc)),
     }
 }

@@ -1,4 +1,4 @@
-use Rattle.std.proofs.Common.{ℕ, ◌<◌, ◌^◌, ◌≤◌, length, arith}
+use Rattle.std.proofs.Common.{◌≤◌, length, arith}
 use Rattle.fair_top.proofs.TextsRead.{whole_read}
 use Rattle.fair_top.proofs.answers.answer_bytes.Goals as goal
 

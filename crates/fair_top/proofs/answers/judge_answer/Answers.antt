@@ -1,4 +1,4 @@
-use Rattle.std.proofs.Common.{rules, ℕ, ◌≤◌, length}
+use Rattle.std.proofs.Common.{rules, ◌≤◌, length}
 use Rattle.fair_top.proofs.Ended.{answer_exact, misread_exact}
 use Rattle.fair_top.proofs.answers.judge_answer.Goals as goal
 

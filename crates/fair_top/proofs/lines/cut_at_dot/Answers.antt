@@ -1,6 +1,5 @@
-use Rattle.std.proofs.Common.{◌≡◌, ℕ, List, sym, ◌∙◌, ap, rules}
-use Rattle.std.specs.Prelude.{codes}
-use Rattle.fair_top.proofs.KeptLines.{DotFree, DotFree-more, IsCutAtDot, cut_found}
+use Rattle.std.proofs.Common.{rules}
+use Rattle.fair_top.proofs.KeptLines.{DotFree-more, cut_found}
 use Rattle.fair_top.proofs.lines.cut_at_dot.Goals as goal
 
 pub loop-line-preserved : goal.loop-line-preserved

@@ -1,4 +1,4 @@
-use Rattle.std.proofs.Common.{◌≡◌, ◌∙◌, Err, ap, refl}
+use Rattle.std.proofs.Common.{◌∙◌, refl}
 use Rattle.fair_top.proofs.TextsRead.{model_read, fault_given, one_given, no_fault_given, no_model_given, same_given}
 use Rattle.fair_top.proofs.models.model_of.Goals as goal
 

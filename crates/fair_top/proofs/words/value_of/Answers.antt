@@ -2,7 +2,7 @@ use Rattle.std.proofs.Common.{ℕ, List, [], sym, ◌∙◌, ap}
 use Rattle.std.specs.Prelude.{Option, unwrap_or}
 use Rattle.clap.specs.Matches.{found_of}
 use Rattle.clap.proofs.WalkLemmas.{first_value-rows}
-use Rattle.fair_top.proofs.words.text_of.Goals as goal
+use Rattle.fair_top.proofs.words.value_of.Goals as goal
 
 pub returns-in-Some : goal.returns-in-Some
 returns-in-Some c =

@@ -1,0 +1,196 @@
+//! Runs of `gen`: its texts, made by another program, its words, and writes that fail.
+
+ghost use Rattle.std.specs.Prelude.{◌≤◌};
+
+use crate::tests::{Outcome, TWO_FROM_0, USAGE, check, run_words};
+use fair_top::{Done, Status};
+use std::alloc::Global;
+use std::sync::Wait;
+use std::test::Fail;
+use std::thread::Threads;
+
+const RING: &str = "aag 2 0 2 0 0 0 0 1\n2 4 1\n4 2\n2\n2\n4\n";
+
+const RING_IN_BINARY: &[u8] = b"aig 2 0 2 0 0 0 0 1\n4 1\n2\n2\n2\n4\n";
+
+// Kind, seed and size, and the text in ASCII and in binary.
+const MODELS: [(&str, &str, &str, &str, &[u8]); 5] = [
+    ("ring", "0", "2", RING, RING_IN_BINARY),
+    (
+        "ring",
+        "5",
+        "3",
+        "aag 3 0 3 0 0 0 0 1\n2 6\n4 2\n6 4 1\n3\n2\n4\n6\n",
+        b"aig 3 0 3 0 0 0 0 1\n6\n2\n4 1\n3\n2\n4\n6\n",
+    ),
+    (
+        "scramble",
+        "0",
+        "1",
+        "aag 5 2 1 0 2 0 0 1 1\n2\n4\n6 5 6\n2\n8\n11\n0\n8 7 0\n10 7 6\n",
+        b"aig 5 2 1 0 2 0 0 1 1\n5 6\n2\n8\n11\n0\n\x01\x07\x03\x01",
+    ),
+    (
+        "scramble",
+        "7",
+        "2",
+        "aag 8 2 2 0 4 0 0 1 1\n2\n4\n6 13 1\n8 13 8\n2\n2\n2\n15\n10 8 1\n12 9 5\n14 7 1\n16 8 4\n",
+        b"aig 8 2 2 0 4 0 0 1 1\n13 1\n13 8\n2\n2\n2\n15\n\x02\x07\x03\x04\x07\x06\x08\x04",
+    ),
+    (
+        "scramble",
+        "4294967295",
+        "2",
+        "aag 8 2 2 0 4 0 0 1 1\n2\n4\n6 7\n8 15 1\n2\n1\n7\n16\n10 9 6\n12 11 4\n14 11 10\n16 8 8\n",
+        b"aig 8 2 2 0 4 0 0 1 1\n7\n15 1\n2\n1\n7\n16\n\x01\x03\x01\x07\x03\x01\x08\x00",
+    ),
+];
+
+/// Runs these words, with at most `most` bytes a call, and with these writes failing.
+fn run_gen<R: Threads + Wait + Sync>(
+    rt: &R,
+    alloc: Global,
+    words: &[&str],
+    most: u64,
+    writes: &[u64],
+) -> Result<Outcome, Fail>
+    requires { 1 ≤ most }
+{
+    run_words(rt, alloc, words, b"", "", most, &[], writes)
+}
+
+/// The texts of both forms, at once and at one byte a call.
+#[test]
+fn models_of_gen(rt: HostRuntime) -> Result<(), Fail> {
+    for (kind, seed, size, ascii, binary) in MODELS {
+        for (words, text) in [
+            (
+                ["fairlive", "gen", kind, seed, size].as_slice(),
+                ascii.as_bytes(),
+            ),
+            (&["fairlive", "gen", kind, seed, size, "--binary"], binary),
+        ] {
+            for most in [1000, 1] {
+                let ran = run_gen(&rt, rt.alloc(), words, most, &[])?;
+                assert_eq!(rt; ran.text.as_slice(), text);
+                assert_eq!(rt; ran.status, Status::Done(Done::Printed));
+                assert_eq!(rt; ran.status.number(), 0);
+            }
+        }
+    }
+    Ok(())
+}
+
+/// The ring is checked in both forms: its latches are 10, then 01, then 10 again.
+#[test]
+fn answers_of_a_ring(rt: HostRuntime) -> Result<(), Fail> {
+    for model in [RING.as_bytes(), RING_IN_BINARY] {
+        let ran = check(&rt, rt.alloc(), model, "1\nj0\n10\n\n\n.\n", 1000, &[], &[])?;
+        assert_eq!(rt; ran.text.as_slice(), TWO_FROM_0.as_bytes());
+    }
+    Ok(())
+}
+
+/// The ASCII text of the model that a binary text stands for.
+fn in_ascii(alloc: Global, text: &[u8]) -> Result<Vec<u8>, Fail> {
+    let model = aiger_binary::read(alloc, text)?;
+    Ok(aiger_ascii::write(alloc, &model)?)
+}
+
+/// Both forms stand for one model, also of the greatest seed and size.
+#[test]
+fn forms_of_a_scramble(rt: HostRuntime) -> Result<(), Fail> {
+    for (seed, size, ascii, binary) in [("7", "2", 77, 49), ("4294967295", "256", 8849, 3282)] {
+        let words = ["fairlive", "gen", "scramble", seed, size];
+        let plain = run_gen(&rt, rt.alloc(), &words, 1000, &[])?;
+        let words = ["fairlive", "gen", "scramble", seed, size, "--binary"];
+        let packed = run_gen(&rt, rt.alloc(), &words, 1000, &[])?;
+        assert_eq!(rt; plain.status.number(), 0);
+        assert_eq!(rt; packed.status.number(), 0);
+        assert_eq!(rt; plain.text.len(), ascii);
+        assert_eq!(rt; packed.text.len(), binary);
+        let read = in_ascii(rt.alloc(), packed.text.as_slice())?;
+        assert_eq!(rt; read.as_slice(), plain.text.as_slice());
+    }
+    Ok(())
+}
+
+/// Words that ask for no model.
+#[test]
+fn words_that_gen_refuses(rt: HostRuntime) -> Result<(), Fail> {
+    for words in [
+        ["fairlive", "gen"].as_slice(),
+        &["fairlive", "gen", "ring"],
+        &["fairlive", "gen", "ring", "0"],
+        &["fairlive", "gen", "rings", "0", "2"],
+        &["fairlive", "gen", "Ring", "0", "2"],
+        &["fairlive", "gen", "", "0", "2"],
+        &["fairlive", "gen", "ring", "-1", "2"],
+        &["fairlive", "gen", "ring", "4294967296", "2"],
+        &["fairlive", "gen", "ring", "18446744073709551616", "2"],
+        &["fairlive", "gen", "ring", "0", "0"],
+        &["fairlive", "gen", "ring", "0", "257"],
+        &["fairlive", "gen", "ring", "0", "2", "--binary", "--binary"],
+        &["fairlive", "gen", "ring", "0", "2", "--binary=true"],
+        &["fairlive", "gen", "ring", "0", "2", "x"],
+        &["fairlive", "gen", "ring", "x", "2"],
+        &["fairlive", "gen", "ring", "", "2"],
+        &["fairlive", "gen", "ring", "0", "2", "--help"],
+        &["fairlive", "gen", "ring", "0", "2", "--", "--binary"],
+    ] {
+        let ran = run_gen(&rt, rt.alloc(), words, 1000, &[])?;
+        assert_eq!(rt; ran.text.as_slice(), USAGE.as_bytes());
+        assert_eq!(rt; ran.status.number(), 64);
+    }
+    Ok(())
+}
+
+/// Words that are taken by the customs of the command line.
+#[test]
+fn words_that_gen_takes(rt: HostRuntime) -> Result<(), Fail> {
+    for (words, text) in [
+        (
+            ["fairlive", "gen", "ring", "+0", "002"].as_slice(),
+            RING.as_bytes(),
+        ),
+        (
+            &["fairlive", "gen", "ring", "0", "--", "2"],
+            RING.as_bytes(),
+        ),
+        (
+            &["fairlive", "gen", "--binary", "ring", "0", "2"],
+            RING_IN_BINARY,
+        ),
+        (
+            &["fairlive", "gen", "ring", "--binary", "0", "2"],
+            RING_IN_BINARY,
+        ),
+    ] {
+        let ran = run_gen(&rt, rt.alloc(), words, 1000, &[])?;
+        assert_eq!(rt; ran.text.as_slice(), text);
+        assert_eq!(rt; ran.status.number(), 0);
+    }
+    Ok(())
+}
+
+/// Each write failing in turn leaves a part of the text. Beside the bytes a call, how many calls a run makes.
+#[test]
+fn failing_writes_of_gen(rt: HostRuntime) -> Result<(), Fail> {
+    let words = ["fairlive", "gen", "ring", "0", "2"];
+    for (most, writes) in [(1, 36), (5, 8), (1000, 1)] {
+        for k in 1..45 {
+            let ran = run_gen(&rt, rt.alloc(), &words, most, &[k])?;
+            assert_eq!(rt;
+                ran.status.number(),
+                if k <= writes { 5 } else { 0 },
+                "write {k}"
+            );
+            assert!(rt;
+                RING.as_bytes().starts_with(ran.text.as_slice()),
+                "write {k}"
+            );
+            assert_eq!(rt; ran.text.len() < RING.len(), k <= writes, "write {k}");
+        }
+    }
+    Ok(())
+}

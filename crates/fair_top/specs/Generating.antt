@@ -1,0 +1,39 @@
+-- The text that the command `gen` writes: of a generated model, in ASCII or in binary.
+use Rattle.std.specs.Prelude.{◌≡◌, ◌≤◌, ℕ, Bool, true, false, List, length}
+use Rattle.aig_semantics.specs.declared.limits.TheConstants.{MAX_MODEL_BYTES}
+use Rattle.aiger_grammar.specs.Models.{Model}
+use Rattle.aiger_grammar.specs.Spelling.{ascii_text, HasAsciiForm, binary_text}
+use Rattle.aiger_binary.specs.Forms.{HasBinaryForm}
+use Rattle.model_gen.specs.Generated.{ring_model, scramble_model}
+use Rattle.fair_top.specs.declared.requests.Kind.{Kind}
+use Rattle.fair_top.specs.declared.requests.Kind.TheVariants.{Ring, Scramble}
+use Rattle.fair_top.specs.declared.requests.Request.{Request}
+use Rattle.fair_top.specs.Commands.{IsGen}
+use Rattle.fair_top.specs.ModelTexts.{IsTextIn}
+
+abbrev pub generated : Kind → ℕ → ℕ → Model
+generated Ring seed size = ring_model seed size
+generated Scramble seed size = scramble_model seed size
+
+-- the model that is asked for
+abbrev pub asked_model : Request → Model
+asked_model request = generated request.kind request.seed request.size
+
+abbrev pub text_in : Bool → Model → List ℕ
+text_in true m = binary_text m
+text_in false m = ascii_text m
+
+-- the bytes stand for the model in this form, however long they are
+abbrev pub StandsIn : Bool → Model → List ℕ → Type 0
+StandsIn true m text = HasBinaryForm m text
+StandsIn false m text = HasAsciiForm m text
+
+-- the text is that of the model that is asked for; it stands for it, and is read as it where it is not too long
+pub record IsTextOfRequest (request : Request) (text : List ℕ) : Type 0 where
+  pub spelled : text ≡ text_in request.binary (asked_model request)
+  pub stands : StandsIn request.binary (asked_model request) text
+  pub read : length text ≤ MAX_MODEL_BYTES → IsTextIn request.binary (asked_model request) text
+
+-- the words are `gen`, and this is the text of the model that they ask for
+abbrev pub Generates : List (List ℕ) → List ℕ → Type 0
+Generates words text = (request : Request) × IsGen words request × IsTextOfRequest request text
