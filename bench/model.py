@@ -1,12 +1,13 @@
 #!/usr/bin/env python3
-"""Writes an ASCII AIGER model of so many gates, valid and with its gates shuffled: the same from the same seed.
+"""Writes an AIGER model of so many gates, the same from the same seed.
 
-    model.py SEED INPUTS LATCHES GATES MODEL
+    model.py SEED INPUTS LATCHES GATES MODEL [--binary] [--bare]
 
-Each gate reads two literals of variables that come before it in an order of the generator's own. The variables are
-numbered at random and the lines of the gates stand in a random order, so a reader has to find an order in which they
-can be evaluated. The first latches, at most 20, count the positions in binary where there are gates enough; the other
-latches step to literals at random. There is one property and one fairness literal.
+Each gate reads two literals of variables that come before it in an order of the generator's own. In ASCII the variables
+are numbered at random and the lines of the gates stand in a random order, so a reader has to find an order in which
+they can be evaluated. In binary they stand in the generator's order, as that form wants. The first latches, at most 20,
+count the positions in binary where there are gates enough; the other latches step to literals at random. There is one
+property and one fairness literal, and with --bare neither.
 """
 import random
 import sys
@@ -15,10 +16,11 @@ COUNTED = 20
 
 
 class Maker:
-    def __init__(self, chance, inputs, latches, gates):
+    def __init__(self, chance, inputs, latches, gates, is_shuffled):
         self.chance = chance
         numbers = list(range(1, inputs + latches + gates + 1))
-        shuffle(chance, numbers)
+        if is_shuffled:
+            shuffle(chance, numbers)
         self.inputs = numbers[:inputs]
         self.latches = numbers[inputs : inputs + latches]
         self.names = iter(numbers[inputs + latches :])
@@ -58,30 +60,63 @@ def counter(maker, bits):
     return steps
 
 
-def make(seed, inputs, latches, gates):
-    chance = random.Random(seed)
-    maker = Maker(chance, inputs, latches, gates)
-    bits = min(COUNTED, latches, gates // 3)
-    steps = counter(maker, bits)
-    while len(maker.gates) < gates:
-        maker.gate(maker.literal(), maker.literal())
-    steps += [maker.literal() for _ in range(latches - bits)]
-    fair = [maker.literal(), maker.literal()]
-    shuffle(chance, maker.gates)
-    lines = [f"aag {inputs + latches + gates} {inputs} {latches} 0 {gates} 0 0 1 1"]
-    lines += [f"{2 * variable}" for variable in maker.inputs]
-    lines += [f"{2 * variable} {step}" for variable, step in zip(maker.latches, steps)]
-    lines += ["1", f"{fair[0]}", f"{fair[1]}"]
-    lines += [f"{left} {first} {second}" for left, first, second in maker.gates]
-    return "\n".join(lines) + "\n"
+class Made:
+    """A model: its inputs and latches, the latches' next literals, the fairness literals and the gates."""
+
+    def __init__(self, seed, inputs, latches, gates, is_shuffled, is_bare):
+        chance = random.Random(seed)
+        maker = Maker(chance, inputs, latches, gates, is_shuffled)
+        bits = min(COUNTED, latches, gates // 3)
+        steps = counter(maker, bits)
+        while len(maker.gates) < gates:
+            maker.gate(maker.literal(), maker.literal())
+        self.steps = steps + [maker.literal() for _ in range(latches - bits)]
+        self.fair = [maker.literal(), maker.literal()]
+        if is_shuffled:
+            shuffle(chance, maker.gates)
+        self.inputs, self.latches, self.gates = maker.inputs, maker.latches, maker.gates
+        self.is_bare = is_bare
+        self.counts = f"{inputs + latches + gates} {inputs} {latches} 0 {gates}" + ("" if is_bare else " 0 0 1 1")
+
+    def properties(self):
+        return [] if self.is_bare else ["1", f"{self.fair[0]}", f"{self.fair[1]}"]
+
+
+def ascii_text(made):
+    lines = [f"aag {made.counts}"]
+    lines += [f"{2 * variable}" for variable in made.inputs]
+    lines += [f"{2 * variable} {step}" for variable, step in zip(made.latches, made.steps)]
+    lines += made.properties()
+    lines += [f"{left} {first} {second}" for left, first, second in made.gates]
+    return ("\n".join(lines) + "\n").encode()
+
+
+def binary_text(made):
+    lines = [f"aig {made.counts}", *map(str, made.steps), *made.properties()]
+    text = bytearray(("\n".join(lines) + "\n").encode())
+    for left, first, second in made.gates:
+        greater, less = max(first, second), min(first, second)
+        push_delta(text, left - greater)
+        push_delta(text, greater - less)
+    return text
+
+
+def push_delta(text, delta):
+    while delta >= 128:
+        text.append(delta % 128 + 128)
+        delta //= 128
+    text.append(delta)
 
 
 def main(words):
-    if len(words) != 5:
-        sys.exit("usage: model.py SEED INPUTS LATCHES GATES MODEL")
+    options = words[5:]
+    is_binary = "--binary" in options
+    if len(words) < 5 or not set(options) <= {"--binary", "--bare"}:
+        sys.exit("usage: model.py SEED INPUTS LATCHES GATES MODEL [--binary] [--bare]")
     seed, inputs, latches, gates = map(int, words[:4])
-    with open(words[4], "w") as file:
-        file.write(make(seed, inputs, latches, gates))
+    made = Made(seed, inputs, latches, gates, not is_binary, "--bare" in options)
+    with open(words[4], "wb") as file:
+        file.write(binary_text(made) if is_binary else ascii_text(made))
 
 
 if __name__ == "__main__":

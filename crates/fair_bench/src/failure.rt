@@ -1,30 +1,37 @@
 //! Why a run ends without a verdict. The main type is `Failure`.
 
-use edge::{Failed, ReadEnd};
+use circuit::ModelEnd;
+use edge::{Failed, ReadEnd, SolveEnd};
 use std::alloc::{AllocError, AllocFailed};
 use std::io;
 
 /// Why a run ends without a verdict.
 #[derive(Clone, Copy, Debug, PartialEq, Eq)]
 pub(crate) enum Failure {
-    /// The text of the clauses is not in DIMACS form.
-    BadFormula,
+    /// A text is not in its form: clauses in DIMACS form, or a model.
+    BadInput,
     /// A read of a file or of the words failed.
     Read,
     /// A write failed.
     Write,
     /// Memory ran out.
     Memory,
+    /// A limit of the solver was reached.
+    Spent,
+    /// The solver's answer did not pass its check.
+    WrongAnswer,
 }
 
 impl Failure {
     /// The number with which the program ends.
     pub(crate) fn number(self) -> u8 {
         match self {
-            Failure::BadFormula => 3,
+            Failure::BadInput => 3,
             Failure::Read => 4,
             Failure::Write => 5,
             Failure::Memory => 6,
+            Failure::Spent => 7,
+            Failure::WrongAnswer => 8,
         }
     }
 }
@@ -47,9 +54,27 @@ impl From<io::Error> for Failure {
     }
 }
 
+impl From<ModelEnd> for Failure {
+    fn from(end: ModelEnd) -> Failure {
+        match end {
+            ModelEnd::Fault(_) => Failure::BadInput,
+            ModelEnd::Memory => Failure::Memory,
+        }
+    }
+}
+
 impl From<Failed> for Failure {
     fn from(_: Failed) -> Failure {
         Failure::Write
+    }
+}
+
+impl From<SolveEnd> for Failure {
+    fn from(end: SolveEnd) -> Failure {
+        match end {
+            SolveEnd::Spent(_) => Failure::Spent,
+            SolveEnd::Memory => Failure::Memory,
+        }
     }
 }
 

@@ -22,13 +22,13 @@ pub(crate) fn read_formula(alloc: Global, text: &[u8]) -> Result<Db, Failure> {
             continue;
         }
         if heading.is_none() {
-            heading = Some(clauses_said(line).ok_or(Failure::BadFormula)?);
+            heading = Some(clauses_said(line).ok_or(Failure::BadInput)?);
         } else {
             clauses.push(read_clause(alloc, line)?)?;
         }
     }
     if heading != Some(clauses.len() as u64) {
-        return Err(Failure::BadFormula);
+        return Err(Failure::BadInput);
     }
     Ok(clauses)
 }
@@ -51,16 +51,16 @@ fn read_clause(alloc: Global, line: &[u8]) -> Result<Clause, Failure> {
     let mut is_ended = false;
     for field in line.split(|byte| *byte == b' ') {
         if is_ended {
-            return Err(Failure::BadFormula);
+            return Err(Failure::BadInput);
         }
         if field == b"0".as_slice() {
             is_ended = true;
         } else {
-            clause.push(signed(field).ok_or(Failure::BadFormula)?)?;
+            clause.push(signed(field).ok_or(Failure::BadInput)?)?;
         }
     }
     if !is_ended {
-        return Err(Failure::BadFormula);
+        return Err(Failure::BadInput);
     }
     Ok(clause)
 }

@@ -3,12 +3,12 @@
 use crate::failure::Failure;
 use crate::formula::read_formula;
 use crate::hints::count_hints;
+use crate::stamps::Stamp;
 use crate::verdict::{Verdict, judge_lines, verdict_text};
 use edge::{FileShelf, StdSink, read_text, write_all};
 use lrat::Checker;
 use std::alloc::Global;
 use std::io;
-use std::time::{CpuClock, Duration, Instant};
 
 // The greatest length of a file, in bytes. No text in memory is longer.
 const MAX_BYTES: u64 = 9_223_372_036_854_775_807;
@@ -34,34 +34,12 @@ pub(crate) fn run_lrat(rt: &HostRuntime, formula: &str, proof: &str) -> Result<u
     })
 }
 
-/// A reading of the clock, and of the processor time that this thread has used.
-#[derive(Clone, Copy, Debug)]
-struct Stamp {
-    clock: Instant,
-    processor: Duration,
-}
-
-impl Stamp {
-    fn now(rt: &HostRuntime) -> io::Result<Stamp> {
-        Ok(Stamp {
-            clock: Instant::now(rt)?,
-            processor: rt.thread_cpu_time()?,
-        })
-    }
-}
-
 // Prints to standard error what the checking took between two readings.
 fn print_times(rt: &HostRuntime, start: Stamp, end: Stamp, hints: u64) -> io::Result<()> {
-    let clock = nanoseconds(end.clock.duration_since(start.clock));
-    let processor = nanoseconds(end.processor.saturating_sub(start.processor));
+    let clock = start.clock_to(end);
+    let processor = start.processor_to(end);
     let per_hint = processor.checked_div(hints).unwrap_or(0);
     eprintln!(rt; "nanoseconds by the clock {clock}")?;
     eprintln!(rt; "nanoseconds of processor time {processor}")?;
     eprintln!(rt; "nanoseconds per hint {per_hint}")
-}
-
-// A time in whole nanoseconds, or the greatest number where it is longer.
-fn nanoseconds(time: Duration) -> u64 {
-    let whole = time.as_secs().saturating_mul(1_000_000_000);
-    whole.saturating_add(u64::from(time.subsec_nanos()))
 }

@@ -7,15 +7,25 @@ mod formula;
 mod hints;
 mod lines;
 mod lrat_run;
+mod outside;
+mod rewrite_run;
+mod sat_run;
+mod stamps;
 mod verdict;
 
 use crate::failure::Failure;
 use crate::lrat_run::run_lrat;
-use edge::{StdSink, write_all};
+use crate::outside::print_text;
+use crate::rewrite_run::run_rewrite;
+use crate::sat_run::run_sat;
 use std::process::ExitCode;
 use std::{env, io};
 
-const USAGE: &str = "usage: fair_bench lrat CNF PROOF\n";
+const USAGE: &str = "\
+usage: fair_bench lrat CNF PROOF
+       fair_bench rewrite MODEL
+       fair_bench sat CNF
+";
 
 fn main(rt: HostRuntime) -> ExitCode {
     let number = match run(&rt) {
@@ -28,15 +38,20 @@ fn main(rt: HostRuntime) -> ExitCode {
 /// Runs the subcommand that the words name, and gives the number with which the program ends.
 fn run(rt: &HostRuntime) -> Result<u8, Failure> {
     let words = words_of(rt)?;
-    match lrat_names(&words) {
-        Some((formula, proof)) => run_lrat(rt, formula, proof),
+    if let Some((formula, proof)) = lrat_names(&words) {
+        return run_lrat(rt, formula, proof);
+    }
+    if let Some(model) = file_name(&words, "rewrite") {
+        return run_rewrite(rt, model);
+    }
+    match file_name(&words, "sat") {
+        Some(formula) => run_sat(rt, formula),
         None => print_usage(rt),
     }
 }
 
 fn print_usage(rt: &HostRuntime) -> Result<u8, Failure> {
-    let mut out = StdSink::new(rt);
-    write_all(&mut out, USAGE.as_bytes())?;
+    print_text(rt, USAGE)?;
     Ok(64)
 }
 
@@ -49,6 +64,17 @@ fn lrat_names(words: &[String]) -> Option<(&str, &str)> {
         return None;
     }
     Some((formula.as_str(), proof.as_str()))
+}
+
+/// The name of the file, where the words are this subcommand and one name.
+fn file_name<'a>(words: &'a [String], wanted: &str) -> Option<&'a str> {
+    let [_, command, name] = words else {
+        return None;
+    };
+    if command.as_str() != wanted {
+        return None;
+    }
+    Some(name.as_str())
 }
 
 /// The words of the command line.

@@ -1,0 +1,169 @@
+//! The subcommand `rewrite`: reads a model and writes it in memory in both forms, and measures each beside a plain loop
+//! over the same text. The main call is `run_rewrite`.
+
+use crate::failure::Failure;
+use crate::outside::{print_text, read_file};
+use crate::stamps::Stamp;
+use aig_semantics::MAX_MODEL_BYTES;
+use aiger_names::Model;
+use circuit::ModelEnd;
+use std::alloc::{AllocError, Global};
+use std::io;
+
+/// The length of a text, and the nanoseconds of processor time that reading or writing it took, and that a plain loop
+/// over it took.
+#[derive(Clone, Copy, Debug)]
+struct Measured {
+    bytes: u64,
+    work: u64,
+    plain: u64,
+    sum: u64,
+}
+
+/// What was measured of reading, of writing in ASCII, and of writing in binary, where the model has a binary text as it
+/// stands.
+#[derive(Clone, Copy, Debug)]
+struct Report {
+    reading: Measured,
+    ascii: Measured,
+    binary: Option<Measured>,
+}
+
+/// Reads the model in a file and writes it in memory. Standard output gets the lengths of the texts, and standard error
+/// the times. Gives the number with which the program ends.
+pub(crate) fn run_rewrite(rt: &HostRuntime, name: &str) -> Result<u8, Failure> {
+    let report = measure_file(rt, name)?;
+    print_lengths(rt, report)?;
+    print_times(rt, report)?;
+    Ok(0)
+}
+
+fn measure_file(rt: &HostRuntime, name: &str) -> Result<Report, Failure> {
+    let bytes = read_file(rt, name, MAX_MODEL_BYTES)?;
+    let plain = measure_loop(rt, &bytes)?;
+    measure_model(rt, &bytes, plain)
+}
+
+// Measures a loop over a text. The work is not measured yet.
+fn measure_loop(rt: &HostRuntime, bytes: &[u8]) -> Result<Measured, Failure> {
+    let start = Stamp::now(rt)?;
+    let sum = sum_of_numbers(bytes);
+    let end = Stamp::now(rt)?;
+    Ok(Measured {
+        bytes: bytes.len() as u64,
+        work: 0,
+        plain: start.processor_to(end),
+        sum,
+    })
+}
+
+// The sum of the numbers in a text, to compare with: each byte is looked at once, and nothing is kept.
+fn sum_of_numbers(bytes: &[u8]) -> u64 {
+    let mut sum: u64 = 0;
+    let mut number: u64 = 0;
+    for byte in bytes {
+        match byte {
+            b'0'..=b'9' => {
+                let digit = u64::from(byte.wrapping_sub(b'0'));
+                number = number.wrapping_mul(10).wrapping_add(digit);
+            }
+            _ => {
+                sum = sum.wrapping_add(number);
+                number = 0;
+            }
+        }
+    }
+    sum.wrapping_add(number)
+}
+
+fn measure_model(rt: &HostRuntime, bytes: &[u8], plain: Measured) -> Result<Report, Failure> {
+    let (model, work) = time_reading(rt, bytes)?;
+    let ascii = measure_ascii(rt, &model)?;
+    let binary = measure_binary(rt, &model)?;
+    Ok(Report {
+        reading: Measured { work, ..plain },
+        ascii,
+        binary,
+    })
+}
+
+fn time_reading(rt: &HostRuntime, bytes: &[u8]) -> Result<(Model, u64), Failure> {
+    let start = Stamp::now(rt)?;
+    let model = read_model(rt.alloc(), bytes)?;
+    let end = Stamp::now(rt)?;
+    Ok((model, start.processor_to(end)))
+}
+
+// The model of a text, by its first two bytes.
+fn read_model(alloc: Global, bytes: &[u8]) -> Result<Model, ModelEnd> {
+    if bytes.starts_with(b"ai") {
+        return aiger_binary::read(alloc, bytes);
+    }
+    aiger_ascii::read(alloc, bytes)
+}
+
+fn measure_ascii(rt: &HostRuntime, model: &Model) -> Result<Measured, Failure> {
+    let (text, work) = time_ascii(rt, model)?;
+    let plain = measure_loop(rt, &text)?;
+    Ok(Measured { work, ..plain })
+}
+
+fn time_ascii(rt: &HostRuntime, model: &Model) -> Result<(Vec<u8>, u64), Failure> {
+    let start = Stamp::now(rt)?;
+    let text = aiger_ascii::write(rt.alloc(), model)?;
+    let end = Stamp::now(rt)?;
+    Ok((text, start.processor_to(end)))
+}
+
+// None where the model has no binary text as it stands.
+fn measure_binary(rt: &HostRuntime, model: &Model) -> Result<Option<Measured>, Failure> {
+    let start = Stamp::now(rt)?;
+    let Some(text) = write_binary(rt.alloc(), model)? else {
+        return Ok(None);
+    };
+    let end = Stamp::now(rt)?;
+    let plain = measure_loop(rt, &text)?;
+    let work = start.processor_to(end);
+    Ok(Some(Measured { work, ..plain }))
+}
+
+fn write_binary(alloc: Global, model: &Model) -> Result<Option<Vec<u8>>, AllocError> {
+    if !aiger_binary::is_ordered(model) {
+        return Ok(None);
+    }
+    let text = aiger_binary::write(alloc, model)?;
+    Ok(Some(text))
+}
+
+fn print_lengths(rt: &HostRuntime, report: Report) -> Result<(), Failure> {
+    print_length(rt, "read", report.reading)?;
+    print_length(rt, "written in ASCII", report.ascii)?;
+    match report.binary {
+        Some(binary) => print_length(rt, "written in binary", binary),
+        None => print_text(rt, "no binary text\n"),
+    }
+}
+
+fn print_length(rt: &HostRuntime, what: &str, measured: Measured) -> Result<(), Failure> {
+    let line = format!(in rt.alloc(); "bytes {what} {}\n", measured.bytes)?;
+    print_text(rt, line.as_str())
+}
+
+fn print_times(rt: &HostRuntime, report: Report) -> io::Result<()> {
+    print_time(rt, "read", report.reading)?;
+    print_time(rt, "written in ASCII", report.ascii)?;
+    match report.binary {
+        Some(binary) => print_time(rt, "written in binary", binary),
+        None => Ok(()),
+    }
+}
+
+// The sum is printed too, so that the loop is run.
+fn print_time(rt: &HostRuntime, what: &str, measured: Measured) -> io::Result<()> {
+    eprintln!(rt; "nanoseconds {what} {}", measured.work)?;
+    eprintln!(rt;
+        "nanoseconds of a loop over what was {what} {}",
+        measured.plain
+    )?;
+    eprintln!(rt; "sum of the numbers {what} {}", measured.sum)
+}

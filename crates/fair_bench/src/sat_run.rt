@@ -1,0 +1,132 @@
+//! The subcommand `sat`: solves clauses, measures it, and looks at the answer. The main call is `run_sat`.
+
+use crate::failure::Failure;
+use crate::formula::read_formula;
+use crate::outside::{print_text, read_file};
+use crate::stamps::Stamp;
+use cdcl::{Answer, Solver, are_sized};
+use cnf::{Clause, Db, ProofLine, eval};
+use edge::{Meter, SolveEnd};
+use lrat::Checker;
+use std::alloc::{AllocError, Global};
+use std::io;
+
+// The greatest length of a file, in bytes. No text in memory is longer.
+const MAX_BYTES: u64 = 9_223_372_036_854_775_807;
+
+// No limit of conflicts.
+const NO_LIMIT: u64 = 4_294_967_295;
+
+/// What an answer took: conflicts, and nanoseconds by the clock and of processor time.
+#[derive(Clone, Copy, Debug)]
+struct Cost {
+    conflicts: u64,
+    clock: u64,
+    processor: u64,
+}
+
+/// Solves the clauses in a file, and writes the answer with a model or the length of the proof. What it took goes to
+/// standard error; the look at the answer is not in it. Gives the number with which the program ends: 10 where there
+/// is a model, and 20 where there is none.
+pub(crate) fn run_sat(rt: &HostRuntime, name: &str) -> Result<u8, Failure> {
+    let text = read_file(rt, name, MAX_BYTES)?;
+    let (answer, cost) = solve_timed(rt, read_formula(rt.alloc(), &text)?)?;
+    print_cost(rt, cost)?;
+    say_answer(rt, read_formula(rt.alloc(), &text)?, answer)
+}
+
+fn solve_timed(rt: &HostRuntime, clauses: Db) -> Result<(Answer, Cost), Failure> {
+    let start = Stamp::now(rt)?;
+    let (answer, conflicts) = solve(rt.alloc(), clauses)?;
+    let end = Stamp::now(rt)?;
+    let cost = Cost {
+        conflicts,
+        clock: start.clock_to(end),
+        processor: start.processor_to(end),
+    };
+    Ok((answer, cost))
+}
+
+// The answer, and after how many conflicts.
+fn solve(alloc: Global, clauses: Db) -> Result<(Answer, u64), Failure> {
+    let mut solver = solver_of(alloc, clauses)?;
+    let mut meter = Meter::new(NO_LIMIT, 0);
+    let answer = solve_free(&mut solver, &mut meter)?;
+    Ok((answer, meter.spending().conflicts()))
+}
+
+fn solver_of(alloc: Global, clauses: Db) -> Result<Solver, Failure> {
+    let mut solver = Solver::new(alloc)?;
+    for clause in clauses.into_vec() {
+        add_one(&mut solver, clause)?;
+    }
+    Ok(solver)
+}
+
+fn add_one(solver: &mut Solver, clause: Clause) -> Result<(), Failure> {
+    if !are_sized(clause.as_slice()) {
+        return Err(Failure::BadInput);
+    }
+    solver.add(clause)?;
+    Ok(())
+}
+
+// Solves without assumptions.
+fn solve_free(solver: &mut Solver, meter: &mut Meter) -> Result<Answer, SolveEnd> {
+    solver.solve(&[], meter)
+}
+
+fn print_cost(rt: &HostRuntime, cost: Cost) -> io::Result<()> {
+    eprintln!(rt; "conflicts {}", cost.conflicts)?;
+    eprintln!(rt; "nanoseconds by the clock {}", cost.clock)?;
+    eprintln!(rt; "nanoseconds of processor time {}", cost.processor)
+}
+
+// Looks at the answer and writes it.
+fn say_answer(rt: &HostRuntime, clauses: Db, answer: Answer) -> Result<u8, Failure> {
+    match answer {
+        Answer::Sat(values) => say_model(rt, &clauses, values.as_slice()),
+        Answer::Unsat(_, proof) => say_refutation(rt, clauses, proof.as_slice()),
+    }
+}
+
+fn say_model(rt: &HostRuntime, clauses: &Db, values: &[bool]) -> Result<u8, Failure> {
+    if !eval(clauses, values) {
+        return Err(Failure::WrongAnswer);
+    }
+    let text = model_text(rt.alloc(), values)?;
+    print_text(rt, text.as_str())?;
+    Ok(10)
+}
+
+// The literals that are true, of the variables up to the last that is.
+fn model_text(alloc: Global, values: &[bool]) -> Result<String, AllocError> {
+    let mut text = String::from_str(alloc, "sat\nv")?;
+    for (variable, value) in values.iter().enumerate().skip(1) {
+        let sign = if *value { "" } else { "-" };
+        let literal = format!(in alloc; " {sign}{variable}")?;
+        text.push_str(literal.as_str())?;
+    }
+    text.push_str(" 0\n")?;
+    Ok(text)
+}
+
+fn say_refutation(rt: &HostRuntime, clauses: Db, proof: &[ProofLine]) -> Result<u8, Failure> {
+    if !is_refuted(rt.alloc(), clauses, proof)? {
+        return Err(Failure::WrongAnswer);
+    }
+    let text = format!(in rt.alloc(); "unsat\nproof lines {}\n", proof.len())?;
+    print_text(rt, text.as_str())?;
+    Ok(20)
+}
+
+// Whether the checker takes every line, and an empty clause is proved.
+fn is_refuted(alloc: Global, clauses: Db, proof: &[ProofLine]) -> Result<bool, AllocError> {
+    let mut checker = Checker::new(alloc, clauses)?;
+    for line in proof {
+        if checker.step(line.as_slice()).is_err() {
+            return Ok(false);
+        }
+    }
+    Ok(checker.proved_empty())
+}
