@@ -17,12 +17,12 @@ use circuit::{ModelEnd, ModelFault, Parts, check_circuit};
 use std::alloc::Global;
 
 /// The model of an ASCII text, or the first fault with its place. Places are counted in bytes from 0; those of
-/// `Undefined`, `Twice` and `Cycle` are variables. A text of more than 67,108,864 bytes is `Limit` at 67,108,864. Then
-/// come the header's faults (`Header` at 0, `Truncated`, and `Limit` at 0 for a greatest variable above 1,048,576), then
-/// those of the sections and names in the order of the file (`Number`, `Range`, `Truncated`, `Limit` at the size line of
-/// a property that has more than 256 literals with fairness, `Trailing`, `Symbol`), then `Twice`, then `Undefined`, then
-/// `Cycle`. Takes memory for what was read, whatever the header says; the work is in proportion to the text and to the
-/// greatest variable.
+/// `Undefined`, `Twice` and `Cycle` are variables. A text of more than 1,073,741,824 bytes is `Limit` at 1,073,741,824.
+/// Then come the header's faults (`Header` at 0, `Truncated`, and `Limit` at 0 for a greatest variable above
+/// 16,777,216), then those of the sections and names in the order of the file (`Number`, `Range`, `Truncated`, `Limit`
+/// at the size line of a property that has more than 256 literals with fairness, `Trailing`, `Symbol`), then `Twice`,
+/// then `Undefined`, then `Cycle`. Takes memory for what was read, whatever the header says; the work is in proportion
+/// to the text and to the greatest variable.
 pub fn read(alloc: Global, bytes: &[u8]) -> Result<Model, ModelEnd>
     ensures found { IfOk result (λ m. IsAsciiTextOf m bytes.now) }
     ensures every { (m : ModelOf) → IsAsciiTextOf m bytes.now

@@ -21,7 +21,7 @@ const FAULTS: [(usize, usize, &str, ModelFault); 53] = [
     (4, ALL, "4294967296", ModelFault::Header(0)),
     (4, 1, "2", ModelFault::Header(0)),
     (21, 0, " 1", ModelFault::Header(0)),
-    (4, 1, "1048577", ModelFault::Limit(0)),
+    (4, 1, "16777217", ModelFault::Limit(0)),
     (22, 1, "02", ModelFault::Number(22)),
     (22, ALL, "02", ModelFault::Number(22)),
     (22, 1, "x", ModelFault::Number(22)),

@@ -12,7 +12,7 @@ use text_grammar::push_number;
 
 /// The ASCII text of a model: zeros at the end of the header's last four numbers are left out, a reset of 0 is left
 /// out, and all lines stand in the model's order. It stands for the model, so where it is no longer than what is read,
-/// 67,108,864 bytes, it is read as the model again. The error is want of memory.
+/// 1,073,741,824 bytes, it is read as the model again. The error is want of memory.
 pub fn write(alloc: Global, model: &Model) -> Result<Vec<u8>, AllocError>
     ensures text { IfOk result (λ text. text.items ≡ ascii_text model.now) }
     ensures stands { IfOk result (λ text. HasAsciiForm model.now text.items) }

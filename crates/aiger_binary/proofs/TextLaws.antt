@@ -169,7 +169,7 @@ gates_join : (j max k : ℕ) (xs : List Gate) (bytes rest : List ℕ) → max �
 gates_join j max k [] bytes rest few low s = s
 gates_join j max k (x ∷ xs) bytes rest few low s =
     let below : x.rhs0 < 2 * (j + 1 + k) = s.1.below in
-    let most : max ≤ 1048576 = few in
+    let most : max ≤ 16777216 = few in
     (s.0, (s.1, (omega arith, omega arith)), gates_join j max (k + 1) xs s.0 rest few (omega arith) s.2)
 
 -- ---- the sections

@@ -67,16 +67,16 @@ comment_written : (comment : Option (List ℕ)) → CommentAtEnd comment (commen
 comment_written None = refl
 comment_written (Some text) = refl
 
-low_literals : (max : ℕ) (literals : List ℕ) → max ≤ 1048576 → All (λ n. n ≤ 2 * max + 1) literals → All (λ n. n ≤ MAX_NUMBER) literals
+low_literals : (max : ℕ) (literals : List ℕ) → max ≤ 16777216 → All (λ n. n ≤ 2 * max + 1) literals → All (λ n. n ≤ MAX_NUMBER) literals
 low_literals max literals m all = λ k d below. let h : _ ≤ 2 * max + 1 = all k d below in omega arith
 
-low_latches : (max : ℕ) (latches : List Latch) → max ≤ 1048576 → All (λ latch. (1 ≤ latch.var) × (latch.var ≤ max)) latches → All (λ latch. latch.next ≤ 2 * max + 1) latches → All LatchIsLow latches
+low_latches : (max : ℕ) (latches : List Latch) → max ≤ 16777216 → All (λ latch. (1 ≤ latch.var) × (latch.var ≤ max)) latches → All (λ latch. latch.next ≤ 2 * max + 1) latches → All LatchIsLow latches
 low_latches max latches m vars nexts = λ k d below.
     let v = (vars k d below).1 in
     let n = nexts k d below in
     record { var = omega (arith, m, v); next = omega (arith, m, n) }
 
-low_gates : (max : ℕ) (gates : List Gate) → max ≤ 1048576 → All (λ gate. (1 ≤ gate.var) × (gate.var ≤ max)) gates → All IsDescending gates → All GateIsWritable gates
+low_gates : (max : ℕ) (gates : List Gate) → max ≤ 16777216 → All (λ gate. (1 ≤ gate.var) × (gate.var ≤ max)) gates → All IsDescending gates → All GateIsWritable gates
 low_gates max gates m vars descending = λ k d below.
     let v = (vars k d below).1 in
     record { low = omega (arith, m, v); descends = descending k d below }
@@ -92,7 +92,7 @@ writes_binary m is ordered =
     let c = m.circuit in
     let fit = fitting m is in
     let order = from_ordered m ordered in
-    let max : c.max ≤ 1048576 = is.limits.max in
+    let max : c.max ≤ 16777216 = is.limits.max in
     let at_comment = comment_text m.names.comment in
     let at_symbols = flat_map symbol_line m.names.symbols ++ at_comment in
     let at_gates = flat_map gate_deltas c.gates ++ at_symbols in

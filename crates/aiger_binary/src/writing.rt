@@ -14,7 +14,7 @@ use std::alloc::{AllocError, Global};
 
 /// The binary text of a model that is ordered, as `is_ordered` tells: zeros at the end of the header's last four numbers
 /// are left out, a reset of 0 is left out, and everything stands in the model's order. It stands for the model, so where
-/// it is no longer than what is read, 67,108,864 bytes, it is read as the model again. The error is want of memory.
+/// it is no longer than what is read, 1,073,741,824 bytes, it is read as the model again. The error is want of memory.
 pub fn write(alloc: Global, model: &Model) -> Result<Vec<u8>, AllocError>
     requires { IsOrdered model.now }
     ensures text { IfOk result (λ text. text.items ≡ binary_text model.now) }

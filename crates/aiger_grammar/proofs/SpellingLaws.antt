@@ -129,23 +129,23 @@ fitting m is = IsFitting-from (sections_of m) (record {
 abbrev Literals : ℕ → List ℕ → Type 0
 Literals max literals = All (λ n. n ≤ 2 * max + 1) literals
 
-low_literals : (max : ℕ) (literals : List ℕ) → max ≤ 1048576 → Literals max literals → All (λ n. n ≤ MAX_NUMBER) literals
+low_literals : (max : ℕ) (literals : List ℕ) → max ≤ 16777216 → Literals max literals → All (λ n. n ≤ MAX_NUMBER) literals
 low_literals max literals m all = λ k d below. let h : _ ≤ 2 * max + 1 = all k d below in omega arith
 
-low_latches : (max : ℕ) (latches : List Latch) → max ≤ 1048576 → All (λ latch. (1 ≤ latch.var) × (latch.var ≤ max)) latches → All (λ latch. latch.next ≤ 2 * max + 1) latches → All LatchIsLow latches
+low_latches : (max : ℕ) (latches : List Latch) → max ≤ 16777216 → All (λ latch. (1 ≤ latch.var) × (latch.var ≤ max)) latches → All (λ latch. latch.next ≤ 2 * max + 1) latches → All LatchIsLow latches
 low_latches max latches m vars nexts = λ k d below.
     let v = (vars k d below).1 in
     let n = nexts k d below in
     record { var = omega (arith, m, v); next = omega (arith, m, n) }
 
-low_gates : (max : ℕ) (gates : List Gate) → max ≤ 1048576 → All (λ gate. (1 ≤ gate.var) × (gate.var ≤ max)) gates
+low_gates : (max : ℕ) (gates : List Gate) → max ≤ 16777216 → All (λ gate. (1 ≤ gate.var) × (gate.var ≤ max)) gates
     → All (λ gate. (gate.rhs0 ≤ 2 * max + 1) × (gate.rhs1 ≤ 2 * max + 1)) gates → All GateIsLow gates
 low_gates max gates m vars sides = λ k d below.
     let v = (vars k d below).1 in
     let s = sides k d below in
     record { var = omega (arith, m, v); rhs0 = omega (arith, m, s.0); rhs1 = omega (arith, m, s.1) }
 
-low_inputs : (max : ℕ) (inputs : List ℕ) → max ≤ 1048576 → All (λ v. (1 ≤ v) × (v ≤ max)) inputs → All (λ v. 2 * v ≤ MAX_NUMBER) inputs
+low_inputs : (max : ℕ) (inputs : List ℕ) → max ≤ 16777216 → All (λ v. (1 ≤ v) × (v ≤ max)) inputs → All (λ v. 2 * v ≤ MAX_NUMBER) inputs
 low_inputs max inputs m vars = λ k d below. let v = (vars k d below).1 in omega (arith, m, v)
 
 low_sizes : (justice : List (List ℕ)) (fairness : ℕ) → All (λ property. length property + fairness ≤ 256) justice → All (λ n. n ≤ MAX_NUMBER) (map length justice)
@@ -180,7 +180,7 @@ pub writes_ascii : WritesAscii
 writes_ascii m is =
     let c = m.circuit in
     let fit = fitting m is in
-    let max : c.max ≤ 1048576 = is.limits.max in
+    let max : c.max ≤ 16777216 = is.limits.max in
     let at_comment = comment_text m.names.comment in
     let at_symbols = flat_map symbol_line m.names.symbols ++ at_comment in
     let at_gates = flat_map gate_line c.gates ++ at_symbols in

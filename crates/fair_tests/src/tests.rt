@@ -163,7 +163,13 @@ const ROWS: [(&str, &str, &str, u8); 53] = [
     (ON_STEM, TWO_POSITIONS, "refused no fair loop\n", 1),
     ("", TWO_POSITIONS, "model refused truncated 0\n", 3),
     (CYCLE, TWO_POSITIONS, "model refused cycle 2\n", 3),
-    ("aag 1048577 0 0 0 0\n", "", "model refused limit 0\n", 3),
+    ("aag 16777217 0 0 0 0\n", "", "model refused limit 0\n", 3),
+    (
+        "aag 1048577 0 0 0 0\n",
+        TWO_POSITIONS,
+        "refused property 0\n",
+        1,
+    ),
     ("ai", TWO_POSITIONS, "model refused truncated 2\n", 3),
     ("aix", TWO_POSITIONS, "model refused header 0\n", 3),
     (
