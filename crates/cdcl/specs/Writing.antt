@@ -7,7 +7,7 @@ use Rattle.std.specs.Option.{unwrap_or}
 use Rattle.proof_semantics.specs.Lines.{Line, addition, text_of}
 use Rattle.proof_semantics.specs.Proofs.{ProofState, start, clause_at, judge_all}
 use Rattle.proof_semantics.specs.declared.literals.Lit.{Lit}
-use Rattle.cdcl_trail.specs.Propagation.{clause_numbered}
+use Rattle.cnf.specs.Clauses.{clause_numbered}
 use Rattle.cdcl.specs.Entries.{Entries, added_in, added_of}
 
 -- The id of each clause by its number, where it has one, with 0 in front; the lines; how many added clauses have their

@@ -6,7 +6,8 @@ use Rattle.proof_semantics.specs.Propagation.{hints_fault}
 use Rattle.proof_semantics.specs.declared.literals.Lit.{Lit}
 use Rattle.cdcl_trail.specs.Trails.{Step, lower_steps}
 use Rattle.cdcl_learn.specs.Learning.{is_assumed}
-use Rattle.cdcl_trail.specs.Propagation.{is_true, is_false, is_falsified, is_unit, clause_numbered}
+use Rattle.cdcl_trail.specs.Propagation.{is_true, is_false, is_falsified, is_unit}
+use Rattle.cnf.specs.Clauses.{clause_numbered}
 
 -- the last literal that was assumed stands at this place
 pub record IsLastAssumed (reasons : List (Option ℕ)) (place : ℕ) : Type 0 where
