@@ -1,0 +1,5 @@
+pub mod States
+pub mod Entries
+pub mod Allowing
+pub mod Skeletons
+pub mod Validity
