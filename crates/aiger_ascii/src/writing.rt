@@ -6,7 +6,8 @@ ghost use Rattle.aiger_grammar.specs.AsciiTexts.{IsAsciiTextOf};
 ghost use Rattle.aiger_grammar.specs.Spelling.{input_line, latch_line, gate_line, ascii_text, HasAsciiForm};
 
 use aig_semantics::{Gate, Latch, MAX_MODEL_BYTES, MAX_VARIABLE};
-use aiger_names::{Model, push_header, push_names, push_next, push_properties};
+use aiger_names::{Model, push_names, push_next, push_properties};
+use aiger_sections::push_header;
 use std::alloc::{AllocError, Global};
 use text_grammar::push_number;
 

@@ -14,7 +14,7 @@ use Rattle.circuit.specs.declared.faults.ModelEnd.TheVariants.{Fault}
 use Rattle.circuit.specs.Sections.{circuit_of, used_by}
 use Rattle.circuit.specs.Faults.{IsTwice, IsFirstTwice, IsUndefined, IsFirstUndefined, IsOnlyOnCycle, AnswersExactlyWhere, AnswersCycleExactlyWhere, AnswersNoOther}
 use Rattle.circuit.proofs.Verdicts.{first-is_one, once-not_twice, defined-not_undefined}
-use Rattle.aiger_grammar.specs.AsciiTexts.{HasPartsFault, SameFault}
+use Rattle.aiger_grammar.specs.BothForms.{HasPartsFault, SameFault}
 
 -- a model that is checked has no fault
 pub checked_has_none : (parts : Parts) (fault : ModelFault) → IsChecked (circuit_of parts) → AreDefined (circuit_of parts) (used_by parts) → HasPartsFault parts fault → ⊥
