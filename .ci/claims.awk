@@ -11,7 +11,7 @@ function close_block() {
     complain("no clause stands under the functions in front of this line")
     for (i = 1; i <= count; i++) printf "%d\t%s\t%s\t\n", begun, file, name[i]
   }
-  count = given = 0
+  count = given = depth = 0
   clause = ""
 }
 
