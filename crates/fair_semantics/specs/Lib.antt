@@ -3,3 +3,4 @@ pub mod Entries
 pub mod Allowing
 pub mod Skeletons
 pub mod Validity
+pub mod Laws

@@ -4,7 +4,12 @@
 #![tactic(auto)]
 
 mod entries;
+mod laws;
 mod skeletons;
 
 pub use entries::{Kind, Side, Use};
+pub use laws::{
+    certificates_leave_no_lasso, loops_keep_sides, reach_holds_runs, sets_over_uses,
+    steps_and_initial_states,
+};
 pub use skeletons::{Situation, Skeleton};
