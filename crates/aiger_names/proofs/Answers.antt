@@ -4,7 +4,7 @@ use Rattle.std.specs.Prelude.{IfOk}
 use Rattle.circuit.specs.declared.faults.ModelFault.{ModelFault}
 use Rattle.circuit.specs.declared.faults.ModelEnd.{ModelEnd}
 use Rattle.circuit.specs.declared.faults.ModelEnd.TheVariants as ends
-use Rattle.circuit.specs.Faults.{AnswersExactlyWhere}
+use Rattle.unless_memory.specs.Answers.{GivesExactlyWhere}
 use Rattle.aiger_grammar.specs.declared.names.Names.{Names}
 use Rattle.aiger_grammar.specs.declared.names.Counts.{Counts}
 use Rattle.aiger_grammar.specs.Names.{names_at, AreNames, HasNamesFault}
@@ -54,7 +54,7 @@ fault_whenever counts total bytes (Err (ends.Fault other)) fault read has =
     inl (ap (λ f. Err (ends.Fault f)) (same_refused other fault (sym read ∙ (reads_first_fault counts total fault bytes).1 has)))
 
 pub fault : (counts : Counts) (total : ℕ) (bytes : List ℕ) (r : Answer) → Gives (λ names. names) r (names_at counts total bytes)
-    → (fault : ModelFault) → AnswersExactlyWhere r fault (HasNamesFault counts total bytes fault)
+    → (fault : ModelFault) → GivesExactlyWhere {T = Answer} (Err ends.Memory) (Err (ends.Fault fault)) (HasNamesFault counts total bytes fault) r
 fault counts total bytes r read f = record {
   only = fault_only counts total bytes r f read;
   whenever = fault_whenever counts total bytes r f read;

@@ -1,7 +1,7 @@
 //! Symbols and the comment, read. The main call is `read_names`.
 
 ghost use Rattle.std.specs.Prelude.{◌≡◌, ◌≤◌, ◌⊎◌, length, drop, IfOk, option_map, Ok, Err};
-ghost use Rattle.circuit.specs.Faults.{AnswersExactlyWhere};
+ghost use Rattle.unless_memory.specs.Answers.{GivesExactlyWhere};
 ghost use Rattle.aiger_grammar.specs.declared.names.Names.{Names as NamesOf};
 ghost use Rattle.aiger_grammar.specs.Names.{count_of, is_letter, ends_symbols, line_at, symbol_at, symbols_at, comment_at, names_at, fault_at, AreNames, HasNamesFault};
 ghost use Rattle.text_grammar.specs.Numerals.{begins_with_digit};
@@ -33,7 +33,8 @@ pub fn read_names(
     ensures every { (names : NamesOf) → AreNames counts.now names (drop from bytes.now)
         → (result ≡ Ok names) ⊎ (result ≡ Err ModelEnd.Memory) }
     ensures fault { (fault : ModelFault)
-        → AnswersExactlyWhere result fault (HasNamesFault counts.now (length bytes.now) (drop from bytes.now) fault) }
+        → GivesExactlyWhere (Err ModelEnd.Memory) (Err (ModelEnd.Fault fault))
+        (HasNamesFault counts.now (length bytes.now) (drop from bytes.now) fault) result }
     ensures exact { Gives (λ names. names) result (names_at counts.now (length bytes.now) (drop from bytes.now)) }
 {
     let (_, names) = bytes.split_at(from as usize);
