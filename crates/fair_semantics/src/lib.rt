@@ -6,6 +6,7 @@
 mod entries;
 mod laws;
 mod skeletons;
+pub mod worked_rows;
 
 pub use entries::{Kind, Side, Use};
 pub use laws::{
