@@ -48,7 +48,7 @@ pub(crate) const USAGE: &str =
 pub(crate) const TWO_FROM_0: &str = "accepted lasso j0 positions 2 loop 0\n";
 
 // Models and answers, with the text that must be written and the number that the program must end with.
-const ROWS: [(&str, &str, &str, u8); 53] = [
+const ROWS: [(&str, &str, &str, u8); 54] = [
     (TOGGLE, TWO_POSITIONS, TWO_FROM_0, 0),
     (TOGGLE, "1\nj0\nc hello\nx\n\n\n\n.\n", TWO_FROM_0, 0),
     (

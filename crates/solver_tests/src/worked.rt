@@ -1,40 +1,11 @@
 //! Questions whose answers were worked out by hand.
-use super::*;
-use cnf::{Clause, Db, Lit, Proof};
+use crate::questions::{clauses, literals};
+use cdcl::{Answer, Solver, are_sized, has_opposites};
+use cnf::{Db, Lit, Proof};
 use edge::{Meter, SolveEnd};
 use lrat::Checker;
 use std::alloc::{AllocError, Global};
 use std::test::*;
-
-fn literal(number: i64) -> Lit {
-    Lit {
-        var: number.unsigned_abs(),
-        positive: number > 0,
-    }
-}
-
-fn literals(alloc: Global, numbers: &[i64]) -> Result<Vec<Lit>, AllocError> {
-    let mut made = Vec::new(alloc);
-    for number in numbers {
-        made.push(literal(*number))?;
-    }
-    Ok(made)
-}
-
-// The clauses, with a 0 behind each.
-fn clauses(alloc: Global, numbers: &[i64]) -> Result<Vec<Clause>, AllocError> {
-    let mut made = Vec::new(alloc);
-    let mut clause = Clause::new(alloc);
-    for number in numbers {
-        if *number != 0 {
-            clause.push(literal(*number))?;
-            continue;
-        }
-        made.push(clause)?;
-        clause = Clause::new(alloc);
-    }
-    Ok(made)
-}
 
 fn solver(alloc: Global, numbers: &[i64]) -> Result<Solver, AllocError> {
     let mut made = Solver::new(alloc)?;
