@@ -1,4 +1,4 @@
--- Scaffolding: what a reader answers, by cases on the answer, so that it computes along the reader's steps. It says
+-- What a reader answers, by cases on the answer, so that it computes along the reader's steps (scaffolding). It says
 -- what `Gives` of the crate unless_memory says: the answer is what is read, unless memory is refused.
 use Rattle.std.specs.Prelude.{◌≡◌, Result, Ok, Err}
 use Rattle.circuit.specs.declared.faults.ModelFault.{ModelFault}
