@@ -7,7 +7,7 @@ use Rattle.aig_semantics.specs.declared.limits.TheConstants.{MAX_NUMBER, MAX_VAR
 use Rattle.aig_semantics.specs.declared.parts.Latch.{Latch}
 use Rattle.aig_semantics.specs.declared.parts.Gate.{Gate}
 use Rattle.circuit.specs.declared.parts.Parts.{Parts}
-use Rattle.circuit.specs.Sections.{IsFitting}
+use Rattle.circuit.specs.Fitting.{IsFitting}
 use Rattle.circuit.proofs.Counting.{All-joined}
 use Rattle.circuit.proofs.Ranges.{IsFitting-from}
 use Rattle.aiger_grammar.specs.declared.names.TheConstants.{INPUT, LATCH, OUTPUT, BAD, CONSTRAINT, JUSTICE, FAIRNESS}

@@ -104,7 +104,7 @@ fn push_justice(out: &mut Vec<u8>, circuit: &Circuit) -> Result<(), AllocError>
 fn push_sizes(out: &mut Vec<u8>, circuit: &Circuit) -> Result<(), AllocError>
     ensures { OnOk result (out.new.items ≡ out.old.items ++ number_lines (map length circuit.now.justice)) }
 {
-    for j in 0..circuit.properties() {
+    for j in 0..circuit.property_count() {
         NumberLine.push(out, &(circuit.property(j).len() as u64))?;
     }
     Ok(())
@@ -114,7 +114,7 @@ fn push_property_literals(out: &mut Vec<u8>, circuit: &Circuit) -> Result<(), Al
     ensures { OnOk result (out.new.items
         ≡ out.old.items ++ number_lines (flat_map (λ property. property) circuit.now.justice)) }
 {
-    for j in 0..circuit.properties() {
+    for j in 0..circuit.property_count() {
         push_numbers(out, circuit.property(j))?;
     }
     Ok(())

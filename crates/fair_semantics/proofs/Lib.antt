@@ -4,3 +4,4 @@ pub mod Lists
 pub mod Runs
 pub mod Certified
 pub mod Initial
+pub mod Examples

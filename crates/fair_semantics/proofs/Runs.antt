@@ -8,7 +8,7 @@ use Rattle.std.proofs.lemmas.List.Elements.{All-head, All-tail, All-cons, All-ni
 use Rattle.aig_semantics.specs.declared.traces.Position.{Position}
 use Rattle.aig_semantics.specs.Circuits.{Circuit}
 use Rattle.aig_semantics.specs.Runs.{successor, StartsIn, IsRun, IsInitialRun, IsFairLasso}
-use Rattle.fair_semantics.specs.Validity.{IsClosed}
+use Rattle.fair_semantics.specs.Validity.{NoStepLeaves}
 use Rattle.fair_semantics.specs.Laws.{LieOn}
 
 -- the step from each of these positions is allowed
@@ -16,7 +16,7 @@ abbrev pub AreAllowed : Circuit → (List (List Bool) → Bool) → List Positio
 AreAllowed c allowed positions = All (λ p. allowed (p.latches ∷ successor c p ∷ []) ≡ true) positions
 
 -- a run that begins in the set stays there
-pub along : (c : Circuit) (allowed : List (List Bool) → Bool) (set : List Bool → Bool) → IsClosed c allowed set
+pub along : (c : Circuit) (allowed : List (List Bool) → Bool) (set : List Bool → Bool) → NoStepLeaves c allowed set
     → (s : List Bool) (run : List Position) → IsRun c run → StartsIn s run → AreAllowed c allowed run → set s ≡ true → LieOn c true set run
 along c allowed set closed s [] is_run starts able inside = All-nil (λ p. (set p.latches ≡ true) × (set (successor c p) ≡ true))
 along c allowed set closed s (p ∷ run) is_run starts able inside =
@@ -34,7 +34,7 @@ end_of c s [] = s
 end_of c s (p ∷ run) = end_of c (successor c p) run
 
 -- a run that ends outside the set was never in it
-pub back : (c : Circuit) (allowed : List (List Bool) → Bool) (set : List Bool → Bool) → IsClosed c allowed set
+pub back : (c : Circuit) (allowed : List (List Bool) → Bool) (set : List Bool → Bool) → NoStepLeaves c allowed set
     → (s : List Bool) (run : List Position) → IsRun c run → StartsIn s run → AreAllowed c allowed run → set (end_of c s run) ≡ false
     → (set s ≡ false) × LieOn c false set run
 back c allowed set closed s [] is_run starts able outside = (outside, All-nil (λ p. (set p.latches ≡ false) × (set (successor c p) ≡ false)))
@@ -55,7 +55,7 @@ back c allowed set closed s (p ∷ run) is_run starts able outside =
     (ap set (sym starts) ∙ here, All-cons Lies p run (here, rest.0) rest.1)
 
 -- a run that ends where it begins keeps its side
-pub round : (c : Circuit) (allowed : List (List Bool) → Bool) (set : List Bool → Bool) → IsClosed c allowed set
+pub round : (c : Circuit) (allowed : List (List Bool) → Bool) (set : List Bool → Bool) → NoStepLeaves c allowed set
     → (s : List Bool) (run : List Position) → IsRun c run → StartsIn s run → AreAllowed c allowed run → end_of c s run ≡ s
     → (side : Bool) × LieOn c side set run
 round c allowed set closed s run is_run starts able ends =

@@ -11,7 +11,7 @@ use Rattle.fair_semantics.specs.declared.entries.Kind.TheVariants.{Reach, Wall}
 use Rattle.fair_semantics.specs.declared.entries.Use.{Use}
 use Rattle.fair_semantics.specs.declared.skeletons.Skeleton.{Skeleton}
 use Rattle.fair_semantics.specs.States.{crosses, initial_cube}
-use Rattle.fair_semantics.specs.Entries.{Entry, Numbered, numbered, used_entries, entry_at, sets_of, set_over, Uses, AreClosed}
+use Rattle.fair_semantics.specs.Entries.{Entry, numbered, used_entries, entry_at, sets_of, set_at, set_over, Uses, AreClosed}
 use Rattle.fair_semantics.specs.Allowing.{allows_by, all_allow, allow}
 use Rattle.fair_semantics.specs.Skeletons.{IsSkeleton, places}
 use Rattle.fair_semantics.specs.Validity.{set_behind, IsValid, AreValid}
@@ -33,14 +33,14 @@ InitialIsInCube =
 abbrev pub SetsStandBehind : Type 0
 SetsStandBehind =
     (before : List Entry) (e : Entry) (after : List Entry) (s : List Bool)
-    → sets_of (numbered (before ++ e ∷ after)) (length before) s ≡ set_behind before e s
+    → set_at (before ++ e ∷ after) (length before) s ≡ set_behind before e s
 
 -- Closed uses can be understood without the rest of the list: the used entries have the same sets over each other, and
 -- so allow the same, and an entry with these uses has the same set.
 pub record StandAlone (before : List Entry) (uses : List Use) : Type 0 where
-  pub sets : (n : ℕ) → Uses uses n → (s : List Bool) → sets_of (used_entries before uses) n s ≡ sets_of (numbered before) n s
+  pub sets : (n : ℕ) → Uses uses n → (s : List Bool) → sets_of (used_entries before uses) n s ≡ set_at before n s
   pub allowed : (states : List (List Bool)) →
-      allow (used_entries before uses) states ≡ all_allow (sets_of (numbered before)) (used_entries before uses) states
+      allow (used_entries before uses) states ≡ all_allow (set_at before) (used_entries before uses) states
   pub entry : (e : Entry) → e.uses ≡ uses → (s : List Bool) → set_over (sets_of (used_entries before uses)) e s ≡ set_behind before e s
 
 abbrev pub UsesStandAlone : Type 0
@@ -68,14 +68,14 @@ abbrev pub ReachHoldsRuns : Type 0
 ReachHoldsRuns =
     (c : Circuit) (entries : List Entry) (n : ℕ) (run : List Position)
     → AreValid c entries → n < length entries → (entry_at entries n).kind ≡ Reach → IsInitialRun c run
-    → LieOn c true (sets_of (numbered entries) n) run
+    → LieOn c true (set_at entries n) run
 
 -- In a list of valid entries the loop of every fair lasso lies on one side of each wall.
 abbrev pub LoopsKeepSides : Type 0
 LoopsKeepSides =
     (c : Circuit) (entries : List Entry) (n j : ℕ) (run : List Position) (from : ℕ)
     → AreValid c entries → n < length entries → (entry_at entries n).kind ≡ Wall → IsFairLasso c j run from
-    → (side : Bool) × LieOn c side (sets_of (numbered entries) n) (drop from run)
+    → (side : Bool) × LieOn c side (set_at entries n) (drop from run)
 
 -- Where a list of valid entries allows no skeleton of a property, no initial run and place form a fair lasso of that
 -- property.

@@ -4,3 +4,4 @@ pub mod Allowing
 pub mod Skeletons
 pub mod Validity
 pub mod Laws
+pub mod Examples
