@@ -83,11 +83,7 @@ field_at test stop total bytes =
     byte_at stop total after >>= λ _ rest.
     Ok (n, rest)
 
--- What a call answered, seen by view, is what reading gives, unless memory ran out.
-abbrev pub Fails : {Y : Type 0} → ModelEnd → Result Y ModelFault → Type 0
-Fails ends.Memory read = Unit {0}
-Fails (ends.Fault fault) read = read ≡ Err fault
-
-abbrev pub Gives : {X Y : Type 0} → (X → Y) → Result X ModelEnd → Result Y ModelFault → Type 0
-Gives view (Ok x) read = read ≡ Ok (view x)
-Gives view (Err e) read = Fails e read
+-- what a call answers where this is read
+abbrev pub answer_of : {A : Type 0} → Result A ModelFault → Result A ModelEnd
+answer_of (Ok x) = Ok x
+answer_of (Err fault) = Err (ends.Fault fault)

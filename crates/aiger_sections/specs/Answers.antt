@@ -1,4 +1,5 @@
--- What a reader of a form of text may answer.
+-- Scaffolding: what a reader of a form of text may answer, by cases on the answer. The public readers say the same by
+-- clauses of their own.
 use Rattle.std.specs.Prelude.{ℕ, List, Result, Ok, Err}
 use Rattle.circuit.specs.declared.faults.ModelFault.{ModelFault}
 use Rattle.circuit.specs.declared.faults.ModelEnd.{ModelEnd}

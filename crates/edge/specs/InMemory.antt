@@ -1,5 +1,5 @@
 -- A shelf and a sink in memory, as contracts see them. Their calls are numbered from 1.
-use Rattle.std.specs.Prelude.{ℕ, List, map, ◌⊎◌, Contains, Option, option_map, IsNone, find, Vec, String, string_bytes}
+use Rattle.std.specs.Prelude.{ℕ, Bool, if◌then◌else◌, List, map, ◌⊎◌, Contains, Option, option_map, IsNone, find, Vec, String, string_bytes}
 use Rattle.std.specs.Str.{bytes_eq}
 use Rattle.std.specs.declared.alloc.Global.{Global}
 use Rattle.edge.specs.Faults.{one_more}
@@ -18,6 +18,13 @@ pub record ShelfInMemory : Type 0 where
   -- how many calls there were, and how many of them failed
   pub calls : ℕ
   pub faults : ℕ
+
+-- the shelf after one more call, which failed or did not
+abbrev pub counted_read : ShelfInMemory → Bool → ShelfInMemory
+counted_read shelf failed = record shelf {
+  calls = one_more shelf.calls;
+  faults = if failed then one_more shelf.faults else shelf.faults;
+}
 
 -- the text of the first pair with that name
 abbrev pub text_of : List NamedText → List ℕ → Option (List ℕ)

@@ -1,5 +1,7 @@
 -- What a read gives of a text.
-use Rattle.std.specs.Prelude.{ℕ, ◌≡◌, ◌-◌, ◌<◌, ◌≤◌, List, Option, length, take, drop}
+use Rattle.std.specs.Prelude.{ℕ, zero, suc, ◌≡◌, ◌-◌, ◌<◌, ◌≤◌, Bool, true, false, List, Option, Result, Ok, Err, length, take, drop}
+use Rattle.edge.specs.declared.reading.ReadEnd.{ReadEnd}
+use Rattle.edge.specs.declared.reading.ReadEnd.TheVariants as ends
 
 -- a read at the place `from` of a text gave n bytes, which now stand at the front of the buffer
 pub record GivesBytes (text : List ℕ) (from n : ℕ) (buffer : List ℕ) : Type 0 where
@@ -13,3 +15,22 @@ pub record GivesBytes (text : List ℕ) (from n : ℕ) (buffer : List ℕ) : Typ
 -- what is held under each name is as before
 abbrev pub KeepsTexts : (List ℕ → Option (List ℕ)) → (List ℕ → Option (List ℕ)) → Type 0
 KeepsTexts old new = (name : List ℕ) → new name ≡ old name
+
+-- Which reads lead from one state of a shelf to another, where `Read old name failed new` says that one read of the name
+-- does, which failed or did not.
+
+-- so many reads of the name, none of which failed
+abbrev pub GoodReads : {Shelf : Type 0} → (Shelf → List ℕ → Bool → Shelf → Type 0) → List ℕ → ℕ → Shelf → Shelf → Type 0
+GoodReads Read name zero old new = new ≡ old
+GoodReads Read name (suc n) old new = (mid : _) × GoodReads Read name n old mid × Read mid name false new
+
+-- reads of the name and of no other; the last of them failed, or none did
+abbrev pub Reads : {Shelf : Type 0} → (Shelf → List ℕ → Bool → Shelf → Type 0) → List ℕ → Bool → Shelf → Shelf → Type 0
+Reads Read name false old new = (n : ℕ) × GoodReads Read name n old new
+Reads Read name true old new = (n : ℕ) × (last : _) × GoodReads Read name n old last × Read last name true new
+
+-- the reading of a text ended with a failed read
+abbrev pub has_failed : {T : Type 0} → Result T ReadEnd → Bool
+has_failed (Ok read) = false
+has_failed (Err ends.Failed) = true
+has_failed (Err ends.Memory) = false

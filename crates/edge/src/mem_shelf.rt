@@ -4,7 +4,7 @@ ghost use Rattle.std.specs.Str.{bytes_eq};
 ghost use Rattle.edge.specs.Faults.{one_more, HasCause, NoneFell};
 ghost use Rattle.edge.specs.Told.{IfTold};
 ghost use Rattle.edge.specs.Reads.{GivesBytes, KeepsTexts};
-ghost use Rattle.edge.specs.InMemory.{text_of, named_texts, IsRefused};
+ghost use Rattle.edge.specs.InMemory.{text_of, named_texts, counted_read, IsRefused};
 
 use crate::failures::Failed;
 use crate::reading::Shelf;
@@ -66,6 +66,8 @@ impl Shelf for MemShelf {
 
     ghost faults = { λ s _. s.faults };
 
+    ghost reads = { λ old _ failed new. new ≡ counted_read old failed };
+
     fn read_at(&mut self, name: &str, from: u64, buf: &mut [u8]) -> Result<usize, Failed>
         ensures bound { IfOk result (λ n. n ≤ length buf.new) }
         ensures bytes { IfOk result (λ n. IfTold (text_of self.old.texts name.now) (λ text. GivesBytes text from n buf.new)) }
@@ -78,10 +80,7 @@ impl Shelf for MemShelf {
         ensures ready { self.old.failing ≡ [] → IsSome (text_of self.old.texts name.now) → IsOk result }
         ensures amount { IfOk result (λ n. IfTold (text_of self.old.texts name.now)
             (λ text. n ≡ min self.old.most (min (length buf.new) (length text - from)))) }
-        ensures counted { self.new ≡ record self.old {
-          calls = one_more self.old.calls;
-          faults = if is_err result then one_more self.old.faults else self.old.faults;
-        } }
+        ensures counted { self.new ≡ counted_read self.old (is_err result) }
     {
         self.calls = self.calls.saturating_add(1);
         if !self.failing.contains(&self.calls) {

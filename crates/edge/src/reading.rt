@@ -1,9 +1,9 @@
 //! Shelves, by the texts that they hold under their names and by their counts of faults.
 //! The main call is `read_text`, which reads a text whole, however little a shelf gives at a time.
-ghost use Rattle.std.specs.Prelude.{ℕ, List, Option, ◌≡◌, ◌+◌, ◌^◌, ◌<◌, ◌≤◌, ◌++◌, length, take, IfOk, IsErrOf, vec_len};
+ghost use Rattle.std.specs.Prelude.{ℕ, Bool, List, Option, ◌≡◌, ◌+◌, ◌^◌, ◌<◌, ◌≤◌, ◌++◌, length, take, IfOk, IsErrOf, is_err, vec_len};
 ghost use Rattle.edge.specs.Faults.{Rose, HasCause, NoneFell};
 ghost use Rattle.edge.specs.Told.{IfTold};
-ghost use Rattle.edge.specs.Reads.{GivesBytes, KeepsTexts};
+ghost use Rattle.edge.specs.Reads.{GivesBytes, KeepsTexts, Reads, has_failed};
 
 use crate::failures::Failed;
 use std::alloc::{AllocError, Global};
@@ -18,6 +18,9 @@ pub trait Shelf {
     // stands still at 2^64 - 1.
     ghost faults: { Self → List ℕ → ℕ };
 
+    // What a read of a name, which failed or did not, makes of the shelf. In code over any shelf nothing else gives this.
+    ghost reads: { Self → List ℕ → Bool → Self → Type 0 };
+
     /// Reads bytes of the text of a name, from the place `from` on, into the front of `buf`, and says how many.
     /// 0 bytes into a buffer that is not empty mean the end of the text. A missing name is a failure.
     fn read_at(&mut self, name: &str, from: u64, buf: &mut [u8]) -> Result<usize, Failed>
@@ -25,7 +28,8 @@ pub trait Shelf {
         ensures bytes { IfOk result (λ n. IfTold (held self.old name.now) (λ text. GivesBytes text from n buf.new)) }
         ensures kept { KeepsTexts (held self.old) (held self.new) }
         ensures cause { HasCause (faults self.old name.now) (faults self.new name.now) result }
-        ensures others { NoneFell (faults self.old) (faults self.new) };
+        ensures others { NoneFell (faults self.old) (faults self.new) }
+        ensures step { reads self.old name.now (is_err result) self.new };
 }
 
 /// Why a text was not read.
@@ -79,6 +83,8 @@ pub fn read_text<H: Shelf>(
     ensures failed { IsErrOf result ReadEnd.Failed → Rose (H.faults shelf.old name.now) (H.faults shelf.new name.now) }
     ensures counts { NoneFell (H.faults shelf.old) (H.faults shelf.new) }
     ensures kept { KeepsTexts (H.held shelf.old) (H.held shelf.new) }
+    // Nothing is read but this name, and nothing after a failed read, which is answered.
+    ensures reads { Reads H.reads name.now (has_failed result) shelf.old shelf.new }
 {
     let mut chunk = zeros(alloc, CHUNK as usize)?;
     let mut text = Vec::new(alloc);
@@ -106,6 +112,7 @@ fn read_more<H: Shelf>(
     ensures kept { KeepsTexts (H.held shelf.old) (H.held shelf.new) }
     ensures failed { IsErrOf result ReadEnd.Failed → Rose (H.faults shelf.old name.now) (H.faults shelf.new name.now) }
     ensures counts { NoneFell (H.faults shelf.old) (H.faults shelf.new) }
+    ensures step { H.reads shelf.old name.now (has_failed result) shelf.new }
 {
     let count = shelf.read_at(name, front.len() as u64, room)?;
     front.extend_from_slice(&room[..count])?;
