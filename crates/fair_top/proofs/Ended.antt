@@ -21,7 +21,7 @@ use Rattle.fair_top.specs.declared.ends.AnswerEnd.{AnswerEnd}
 use Rattle.fair_top.specs.declared.ends.AnswerEnd.TheVariants.{Refused, ReadFault, Memory}
 use Rattle.fair_top.specs.Answers.{Numbered, kept_in, end_of, IsAnswer, HasLineFault, OfAnswer, DecidesEnd}
 use Rattle.fair_top.specs.Walks.{OfRefusal}
-use Rattle.fair_top.specs.Judged.{EndSays, CheckSays, ReplaySays, ReplayDecides, Ends}
+use Rattle.fair_top.specs.Judged.{EndSays, CheckSays, ReplaySays, ReplayDecides, EndsWith}
 use Rattle.fair_top.proofs.OneFault.{one_fault, no_fault, same_answer}
 
 abbrev pub End : Type 0
@@ -169,7 +169,7 @@ check_says c told bytes (Err Memory) same h = tt
 
 pub check_exact : (c : Circuit) (told : Option (List ℕ)) (bytes : List ℕ) (end : End) → IfTold told (λ text. bytes ≡ text)
     → ((verdict : End) → DecidesEnd c bytes verdict → (end ≡ verdict) ⊎ (end ≡ Err Memory))
-    → (text : List ℕ) (verdict : End) → told ≡ Some text → DecidesEnd c text verdict → Ends end verdict
+    → (text : List ℕ) (verdict : End) → told ≡ Some text → DecidesEnd c text verdict → EndsWith end verdict
 check_exact c told bytes end same exact text verdict e d =
     elim (exact verdict (subst (λ (b : List ℕ). DecidesEnd c b verdict) (sym (same text e)) d)) [ inl p ↦ inl p | inr p ↦ inr (inl p) ]
 
@@ -178,5 +178,5 @@ unread_says c told ReadFault h = tt
 unread_says c told Memory h = tt
 unread_says c told (Refused fault) h = elim h [ inl e ↦ (let wrong = e in absurd (cc)) | inr e ↦ (let wrong = e in absurd (cc)) ]
 
-pub unread_exact : (end : AnswerEnd) (verdict : End) → (end ≡ ReadFault) ⊎ (end ≡ Memory) → Ends (Err end) verdict
+pub unread_exact : (end : AnswerEnd) (verdict : End) → (end ≡ ReadFault) ⊎ (end ≡ Memory) → EndsWith (Err end) verdict
 unread_exact end verdict h = elim h [ inl e ↦ inr (inr (ap (λ (x : AnswerEnd). Err x) e)) | inr e ↦ inr (inl (ap (λ (x : AnswerEnd). Err x) e)) ]

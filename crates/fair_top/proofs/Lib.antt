@@ -3,9 +3,5 @@ pub mod OneFault
 mod TextsRead
 mod LineLaws
 pub mod Ended
-mod TextsJudged
 mod Names
 mod BodyLines
-mod Values
-mod Taken
-mod Written

@@ -14,17 +14,9 @@ use Rattle.fair_top.specs.declared.ends.AnswerEnd.{AnswerEnd}
 use Rattle.fair_top.specs.declared.ends.AnswerEnd.TheVariants as ends
 use Rattle.fair_top.specs.declared.status.Status.{Status}
 use Rattle.fair_top.specs.declared.status.Status.TheVariants as statuses
-use Rattle.fair_top.specs.declared.status.Done.TheVariants.{Lasso}
 use Rattle.fair_top.specs.Answers.{IsAccepted, IsRefused}
 use Rattle.fair_top.specs.ModelTexts.{IsModelText, IsBadModel}
-use Rattle.fair_top.specs.Headline.{OfSomeText}
-
--- the status with which a run ends that checked an answer
-abbrev pub status_of : Result Accepted AnswerEnd → Status
-status_of (Ok (accepted.Lasso property positions from)) = statuses.Done (Lasso property positions from)
-status_of (Err (ends.Refused fault)) = statuses.Refused fault
-status_of (Err ends.ReadFault) = statuses.ReadFault
-status_of (Err ends.Memory) = statuses.Memory
+use Rattle.fair_top.specs.ModelGiven.{OfSomeText}
 
 -- what the end of a check says of a text in memory; want of memory says nothing
 abbrev pub EndSays : Circuit → List ℕ → Result Accepted AnswerEnd → Type 0
@@ -57,8 +49,8 @@ CheckSays c told (Err ends.ReadFault) = Unit {0}
 CheckSays c told (Err ends.Memory) = Unit {0}
 
 -- this end comes, but for want of memory and a failed read
-abbrev pub Ends : Result Accepted AnswerEnd → Result Accepted AnswerEnd → Type 0
-Ends result verdict = (result ≡ verdict) ⊎ ((result ≡ Err ends.Memory) ⊎ (result ≡ Err ends.ReadFault))
+abbrev pub EndsWith : Result Accepted AnswerEnd → Result Accepted AnswerEnd → Type 0
+EndsWith result verdict = (result ≡ verdict) ⊎ ((result ≡ Err ends.Memory) ⊎ (result ≡ Err ends.ReadFault))
 
 -- m is the one model whose text MODEL is
 pub record IsModelOf (told : Option (List ℕ)) (m : Model) : Type 0 where
