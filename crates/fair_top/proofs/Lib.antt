@@ -5,3 +5,7 @@ mod LineLaws
 pub mod Ended
 mod Names
 mod BodyLines
+mod Judging
+mod Values
+mod Taken
+mod Ending

@@ -44,11 +44,7 @@ pub(crate) fn outcome_of<H: Shelf>(
 }
 
 /// The same for what is asked for: a case for each command.
-fn outcome_for<H: Shelf>(
-    alloc: Global,
-    asked: Asked,
-    shelf: &mut H,
-) -> Result<Outcome, Status>
+fn outcome_for<H: Shelf>(alloc: Global, asked: Asked, shelf: &mut H) -> Result<Outcome, Status>
     requires { (words : List (List ℕ)) × AsksFor words (meant asked) }
     ensures found { IfOk result (λ outcome. Gives (H.held shelf.old) (meant asked.entry) outcome.status outcome.text.items) }
     ensures silent { IfErr result IsSilent }

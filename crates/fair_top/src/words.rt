@@ -159,7 +159,7 @@ fn kind_of(name: &str) -> Option<GenKind>
 /// The number that is given for a name, if it is from the low one to the high one.
 fn number_of(given: &ArgMatches, name: &str, low: u64, high: u64) -> Option<u64>
     ensures found { IfSome result (IsNumberGiven (rows_of (found_of given.now)) name.now low high) }
-    ensures exactly { (n : ℕ) → IsNumberGiven (rows_of (found_of given.now)) name.now low high n → result ≡ Some n }
+    ensures none { IfNone result ((n : ℕ) → IsNumberGiven (rows_of (found_of given.now)) name.now low high n → ⊥) }
 {
     number_in(value_of(given, name)?, low, high)
 }
