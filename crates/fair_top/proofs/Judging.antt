@@ -31,11 +31,9 @@ told_form told m h text e = subst (IsModelText m) (sym (h.text.1 text e)) h.text
 
 says : (m : Model) (model answer : Option (List ℕ)) (end : End) → IsModelOf model m → CheckSays m.circuit answer end
     → JudgesAs OfSomeText model answer (status_of end) ⊎ IsSilent (status_of end)
-says m model answer (Ok found) h r = inl (inr (Ok found, refl, (h.text.0, h.text.1, (r.0, r.1, (m, h.text.2, r.2)))))
-says m model answer (Err (ends.Refused fault)) h r =
-    inl (inr (Err (ends.Refused fault), refl, (h.text.0, h.text.1, (r.0, r.1, (m, h.text.2, r.2)))))
-says m model answer (Err ends.ReadFault) h r = inr (inl refl)
-says m model answer (Err ends.Memory) h r = inr (inr refl)
+says m model answer end h (inl (inl e)) = inr (inl (ap status_of e))
+says m model answer end h (inl (inr r)) = inl (inr (end, refl, (h.text.0, h.text.1, (r.0, r.1, (m, h.text.2, r.2)))))
+says m model answer end h (inr e) = inr (inr (ap status_of e))
 
 pub judged : (c : Circuit) (m : Model) (model now answer : Option (List ℕ)) (end : End) → c ≡ m.circuit → now ≡ answer
     → IsModelOf model m → CheckSays c now end → JudgesAs OfSomeText model answer (status_of end) ⊎ IsSilent (status_of end)
@@ -44,8 +42,8 @@ judged c m model now answer end same kept h r =
 
 as_status : (end verdict : End) → EndsWith end verdict → IsAnswered (status_of verdict) (status_of end)
 as_status end verdict h = elim h [
-  | inl e ↦ inl (inl (inl (ap status_of e)))
-  | inr other ↦ elim other [ inl e ↦ inr (ap status_of e) | inr e ↦ inl (inr (inl (ap status_of e))) ]
+  | inl other ↦ elim other [ inl e ↦ inl (inl (inl (ap status_of e))) | inr e ↦ inl (inr (inl (ap status_of e))) ]
+  | inr e ↦ inr (ap status_of e)
 ]
 
 exact_by : (m : Model) (model answer : Option (List ℕ)) (end : End) → IsModelOf model m

@@ -4,9 +4,10 @@ ghost use Rattle.std.specs.Prelude.{◌≡◌, ◌⊎◌, ℕ, List, Some, Resul
 ghost use Rattle.edge.specs.Faults.{Rose, NoneFell};
 ghost use Rattle.edge.specs.Reads.{KeepsTexts, Reads};
 ghost use Rattle.edge.specs.Told.{IfTold};
+ghost use Rattle.unless_memory.specs.Answers.{Gives, GivesSome};
 ghost use Rattle.fair_top.specs.Answers.{DecidesEnd};
 ghost use Rattle.fair_top.specs.Statuses.{has_unread};
-ghost use Rattle.fair_top.specs.Judged.{EndSays, CheckSays, ReplaySays, ReplayDecides, EndsWith};
+ghost use Rattle.fair_top.specs.Judged.{CheckSays, ReplayDecides, EndsWith};
 
 use crate::ends::{Accepted, AnswerEnd, AnswerFault};
 use crate::reading::read_answer;
@@ -58,8 +59,8 @@ fn answer_bytes<H: Shelf>(alloc: Global, shelf: &mut H, name: &str) -> Result<Ve
 
 /// Judges the text of an answer.
 fn judge_answer(alloc: Global, circuit: &Circuit, text: &[u8]) -> Result<Accepted, AnswerEnd>
-    ensures found { EndSays circuit.now text.now result }
-    ensures exactly { (verdict : Result Accepted AnswerEnd) → DecidesEnd circuit.now text.now verdict → (result ≡ verdict) ⊎ (result ≡ Err AnswerEnd.Memory) }
+    ensures found { GivesSome (Err AnswerEnd.Memory) (DecidesEnd circuit.now text.now) result }
+    ensures exactly { (verdict : Result Accepted AnswerEnd) → DecidesEnd circuit.now text.now verdict → Gives (Err AnswerEnd.Memory) verdict result }
 {
     match read_answer(alloc, circuit, text) {
         Ok((property, stimulus)) => replay_answer(alloc, circuit, property, &stimulus),
@@ -74,8 +75,8 @@ fn replay_answer(
     property: u32,
     stimulus: &Stimulus,
 ) -> Result<Accepted, AnswerEnd>
-    ensures found { ReplaySays circuit.now property stimulus.now result }
-    ensures exactly { (verdict : Result Accepted AnswerEnd) → ReplayDecides circuit.now property stimulus.now verdict → (result ≡ verdict) ⊎ (result ≡ Err AnswerEnd.Memory) }
+    ensures found { GivesSome (Err AnswerEnd.Memory) (ReplayDecides circuit.now property stimulus.now) result }
+    ensures exactly { (verdict : Result Accepted AnswerEnd) → ReplayDecides circuit.now property stimulus.now verdict → Gives (Err AnswerEnd.Memory) verdict result }
 {
     match replay(alloc, circuit, property, stimulus) {
         Ok(lasso) => Ok(Accepted::Lasso {
