@@ -1,6 +1,6 @@
 -- How a run ends, from what is asked for and from what its command gives.
-use Rattle.std.proofs.Common.{◌≡◌, ◌⊎◌, inl, inr, ℕ, Bool, true, false, List, [], refl, sym, ap, ◌∙◌, subst, Ok, Err}
-use Rattle.std.specs.Prelude.{Option, Result}
+use Rattle.std.proofs.Common.{◌≡◌, ◌⊎◌, inl, inr, ℕ, Bool, false, List, refl, sym, subst}
+use Rattle.std.specs.Prelude.{Option}
 use Rattle.edge.specs.Writes.{Adds, AddsPart}
 use Rattle.fair_top.specs.declared.requests.GenRequest.{GenRequest}
 use Rattle.fair_top.specs.declared.status.Status.{Status}
@@ -8,7 +8,7 @@ use Rattle.fair_top.specs.declared.status.Status.TheVariants as statuses
 use Rattle.fair_top.specs.declared.status.Done.TheVariants.{Printed}
 use Rattle.fair_top.specs.Asked.{Asked, Gen, names_in}
 use Rattle.fair_top.specs.Commands.{Decides}
-use Rattle.fair_top.specs.Headline.{AsksFor, IsUsage, Ends, IsSilent, IsVerdict, IsAnswered, Writes, FailedOf, ReadFailed, ReadsModelFirst, HasRead}
+use Rattle.fair_top.specs.Headline.{AsksFor, IsUsage, Ends, IsVerdict, IsAnswered, Writes, FailedOf, ReadFailed, ReadsModelFirst, HasRead}
 use Rattle.fair_top.specs.Statuses.{is_read_fault}
 use Rattle.fair_top.proofs.Taken.{one_asked, not_usage}
 

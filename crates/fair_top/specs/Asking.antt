@@ -1,5 +1,5 @@
 -- Scaffolding of inner functions: what the command that `clap` met asks for, in the form that the code has it in.
-use Rattle.std.specs.Prelude.{◌≡◌, ℕ, List, Option, Some}
+use Rattle.std.specs.Prelude.{◌≡◌, List, Option, Some}
 use Rattle.clap.specs.Walk.{Row, Text}
 use Rattle.fair_top.specs.declared.requests.Asked.{Asked as AskedInCode}
 use Rattle.fair_top.specs.declared.requests.Asked.TheVariants as code

@@ -1,5 +1,5 @@
 -- What a run of the program answers, writes and reads, whatever its commands are.
-use Rattle.std.specs.Prelude.{◌≡◌, ◌≢◌, ◌⊎◌, ℕ, Bool, true, false, List, [], ◌∷◌, Option, Some}
+use Rattle.std.specs.Prelude.{◌≡◌, ◌≢◌, ◌⊎◌, ℕ, Bool, false, List, [], ◌∷◌, Option, Some}
 use Rattle.circuit.specs.declared.faults.ModelFault.TheVariants.{Cycle}
 use Rattle.clap.specs.Walk.{Row}
 use Rattle.clap.specs.Simple.{subcommand_of}

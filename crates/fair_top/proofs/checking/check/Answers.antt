@@ -1,6 +1,5 @@
-use Rattle.std.proofs.Common.{◌≡◌, ◌⊎◌, ◌∷◌, [], Err, ap, subst, sym, ◌∙◌, inl, inr}
+use Rattle.std.proofs.Common.{◌⊎◌, ◌∷◌, [], subst, sym, ◌∙◌, inl, inr}
 use Rattle.fair_top.specs.declared.status.Status.{Status}
-use Rattle.fair_top.specs.declared.status.Status.TheVariants.{ReadFault}
 use Rattle.fair_top.specs.ModelGiven.{OfSomeText}
 use Rattle.fair_top.specs.Check.{JudgesAs}
 use Rattle.fair_top.specs.Statuses.{is_read_fault}
