@@ -68,6 +68,13 @@ impl Checker {
         self.store.restart(kept, more)
     }
 
+    /// How many clauses were given: so many may be kept at a restart. Takes no memory.
+    pub fn given(&self) -> usize
+        ensures { result ≡ length self.now.given }
+    {
+        self.store.given()
+    }
+
     /// Tests a line, given without its line feed. `Ok` comes exactly for an accepted line, which
     /// adds or deletes; `Fault` is the first test that the line fails, and never `Unfinished`. In
     /// every other case but `Ok` the checker is as before.

@@ -69,6 +69,13 @@ impl Store {
         Ok(())
     }
 
+    /// How many clauses were given.
+    pub(crate) fn given(&self) -> usize
+        ensures { result ≡ length self.now.given }
+    {
+        self.given
+    }
+
     /// How many literals all clauses have.
     pub(crate) fn count(&self) -> usize {
         self.arena.literals.len()
