@@ -1,8 +1,7 @@
 -- Positions, successors and runs, with constraints, resets, justice and fairness as in AIGER 1.9 (Biere, Heljanko,
 -- Wieringa, 2011); a fair lasso as in Liveness Checking as Safety Checking (Biere, Artho, Schuppan, 2002).
-use Rattle.std.specs.Prelude.{◌≡◌, ℕ, ◌-◌, ◌<◌, Bool, true, false, not, List, [], ◌∷◌, map, length, drop, Option, Some, slice_get, IsTrue}
+use Rattle.std.specs.Prelude.{◌≡◌, ℕ, ◌-◌, ◌<◌, Bool, true, false, not, List, [], ◌∷◌, map, length, drop, Some, slice_get, IsTrue}
 use Rattle.std.specs.List.{All, Any, AllZip}
-use Rattle.aig_semantics.specs.declared.parts.Latch.{Latch}
 use Rattle.aig_semantics.specs.declared.parts.Reset.{Reset}
 use Rattle.aig_semantics.specs.declared.parts.Reset.TheVariants.{Zero, One, Free}
 use Rattle.aig_semantics.specs.declared.traces.Position.{Position}

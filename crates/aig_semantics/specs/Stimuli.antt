@@ -1,6 +1,6 @@
 -- Stimuli, after the witnesses of AIGER 1.9 (Biere, Heljanko, Wieringa, 2011), and the runs that they give. Which of its
 -- lassos a stimulus stands for is a rule of this program.
-use Rattle.std.specs.Prelude.{◌≡◌, ℕ, ◌≤◌, ◌<◌, ◌⊎◌, Bool, List, [], ◌∷◌, length, take}
+use Rattle.std.specs.Prelude.{◌≡◌, ℕ, ◌≤◌, Bool, List, [], ◌∷◌, length, take}
 use Rattle.std.specs.List.{All}
 use Rattle.aig_semantics.specs.declared.traces.Position.{Position}
 use Rattle.aig_semantics.specs.declared.traces.Stimulus.{Stimulus}

@@ -1,15 +1,15 @@
 -- A model that has a binary text is ordered.
-use Rattle.std.proofs.Common.{◌≡◌, ℕ, ◌+◌, ◌*◌, ◌<◌, ◌↔◌, List, [], ◌∷◌, map, length, Result, Ok, Err, refl, sym, ap, subst, ◌∙◌, arith}
+use Rattle.std.proofs.Common.{◌≡◌, ℕ, ◌+◌, ◌*◌, ◌<◌, List, [], ◌∷◌, map, length, Result, Ok, Err, refl, sym, ap, subst, ◌∙◌, arith}
 use Rattle.std.specs.Prelude.{IfOk}
 use Rattle.std.specs.List.{AllByRecursion, range_with_len}
 use Rattle.std.proofs.lemmas.List.Elements.{All-from_recursion}
 use Rattle.aig_semantics.specs.declared.parts.Gate.{Gate}
 use Rattle.circuit.specs.declared.faults.ModelEnd.{ModelEnd}
-use Rattle.aiger_grammar.specs.Models.{Model, IsModel}
+use Rattle.aiger_grammar.specs.Models.{Model}
 use Rattle.aiger_grammar.specs.Lines.{NumberedLines}
 use Rattle.aiger_grammar.specs.Spelling.{binary_text}
 use Rattle.aiger_grammar.specs.BinaryTexts.{NumberedLatch, NumberedGate, IsBinaryText, IsBinaryTextOf, HasBinaryForm, HasBinaryFault}
-use Rattle.aiger_grammar.specs.Ordered.{IsDescending, IsOrdered, HasBinaryText, HasBinaryTextWhereOrdered}
+use Rattle.aiger_grammar.specs.Ordered.{IsDescending, IsOrdered, HasBinaryTextWhereOrdered}
 use Rattle.aiger_sections.specs.Answers.{IsAnswer}
 use Rattle.aiger_binary.proofs.Order.{ordered_by}
 use Rattle.aiger_binary.proofs.Written.{writes_binary}
