@@ -30,7 +30,8 @@ pub fn write(alloc: Global, model: &Model) -> Result<Vec<u8>, AllocError>
 
 // The lines of the inputs and of the latches.
 fn push_definitions(out: &mut Vec<u8>, model: &Model) -> Result<(), AllocError>
-    ensures { OnOk result (out.new.items ≡ out.old.items ++ flat_map input_line model.now.circuit.inputs ++ flat_map latch_line model.now.circuit.latches) }
+    ensures { OnOk result (out.new.items ≡ out.old.items
+        ++ flat_map input_line model.now.circuit.inputs ++ flat_map latch_line model.now.circuit.latches) }
 {
     let circuit = model.circuit();
     push_inputs(out, circuit.inputs())?;

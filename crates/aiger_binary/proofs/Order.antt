@@ -4,19 +4,10 @@ use Rattle.std.specs.List.{All, range_with_len}
 use Rattle.std.proofs.lemmas.List.{length-map, get_or-map, get_or_append_left, get_or-append-add}
 use Rattle.std.proofs.lemmas.List.FromFn.{length-range_with_len, get_or-range_with_len}
 use Rattle.aig_semantics.specs.Circuits.{defined}
+use Rattle.aiger_grammar.proofs.Ranges.{range_append}
 use Rattle.aiger_grammar.specs.Models.{Model}
 use Rattle.aiger_grammar.specs.Ordered.{IsDescending, IsOrdered}
 use Rattle.aiger_binary.specs.Numbered.{AreNumbered, IsInOrder}
-
-range_append : (a m k : ℕ) → range_with_len a m ++ range_with_len (a + m) k ≡ range_with_len a (m + k)
-range_append a zero k =
-    let e : a + 0 ≡ a = omega arith in
-    let f : k ≡ 0 + k = omega arith in
-    ap (λ b. range_with_len b k) e ∙ ap (range_with_len a) f
-range_append a (suc m) k =
-    let e : a + suc m ≡ a + 1 + m = omega arith in
-    let f : suc (m + k) ≡ suc m + k = omega arith in
-    ap (λ xs. a ∷ xs) (ap (λ b. range_with_len (a + 1) m ++ range_with_len b k) e ∙ range_append (a + 1) m k) ∙ ap (range_with_len a) f
 
 -- numbered elements have the variables of a range
 pub numbered_range : {X : Type 0} (var : X → ℕ) (first : ℕ) (xs : List X) → AreNumbered var first xs → map var xs ≡ range_with_len first (length xs)

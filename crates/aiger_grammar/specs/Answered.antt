@@ -1,5 +1,5 @@
--- Scaffolding: what a reader answers, by cases on the answer, so that it computes along the reader's steps. Of an answer
--- and what is read it says what `Gives` of the crate unless_memory says: the one is the other, unless memory is refused.
+-- What a reader answers, by cases on the answer, so that it computes along the reader's steps (scaffolding). It says
+-- what `Gives` of the crate unless_memory says: the answer is what is read, unless memory is refused.
 use Rattle.std.specs.Prelude.{◌≡◌, Result, Ok, Err}
 use Rattle.circuit.specs.declared.faults.ModelFault.{ModelFault}
 use Rattle.circuit.specs.declared.faults.ModelEnd.{ModelEnd}

@@ -32,12 +32,16 @@ HasOneModel = (m n : Model) (bytes : List ℕ) → IsAsciiTextOf m bytes → IsA
 
 -- what stands for a model has no fault
 abbrev pub TextHasNoFault : Type 0
-TextHasNoFault = (m : Model) (bytes : List ℕ) (fault : ModelFault) → IsAsciiTextOf m bytes → HasAsciiFault bytes fault → ⊥
+TextHasNoFault =
+    (m : Model) (bytes : List ℕ) (fault : ModelFault) → IsAsciiTextOf m bytes → HasAsciiFault bytes fault → ⊥
 
 -- any bytes stand for a model, or have a fault
 abbrev pub IsTextOrFaulty : Type 0
-IsTextOrFaulty = (bytes : List ℕ) → ((m : Model) × IsAsciiTextOf m bytes) ⊎ ((fault : ModelFault) × HasAsciiFault bytes fault)
+IsTextOrFaulty =
+    (bytes : List ℕ) → ((m : Model) × IsAsciiTextOf m bytes) ⊎ ((fault : ModelFault) × HasAsciiFault bytes fault)
 
 -- a text has one fault at most
 abbrev pub HasOneFault : Type 0
-HasOneFault = (bytes : List ℕ) (first second : ModelFault) → HasAsciiFault bytes first → HasAsciiFault bytes second → SameFault first second
+HasOneFault =
+    (bytes : List ℕ) (first second : ModelFault) → HasAsciiFault bytes first → HasAsciiFault bytes second
+    → SameFault first second

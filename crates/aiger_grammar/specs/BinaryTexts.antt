@@ -51,14 +51,17 @@ pub record IsBinaryText (shown : ℕ) (m : Model) (bytes : List ℕ) : Type 0 wh
   pub model : IsModel m
   pub numbered : IsNumbered m
   pub header : HeaderLine (codes "aig") (header_numbers m) shown bytes at_latches
-  pub latches : NumberedLines (λ k. NumberedLatch (length m.circuit.inputs + 1 + k)) 0 m.circuit.latches at_latches at_outputs
+  pub latches :
+      NumberedLines (λ k. NumberedLatch (length m.circuit.inputs + 1 + k)) 0 m.circuit.latches at_latches at_outputs
   pub outputs : LinesOf EndsLine m.outputs at_outputs at_bad
   pub bad : LinesOf EndsLine m.bad at_bad at_constraints
   pub constraints : LinesOf EndsLine m.circuit.constraints at_constraints at_sizes
   pub sizes : LinesOf EndsLine (map length m.circuit.justice) at_sizes at_justice
   pub justice : LinesOf EndsLine (flat_map (λ property. property) m.circuit.justice) at_justice at_fairness
   pub fairness : LinesOf EndsLine m.circuit.fairness at_fairness at_gates
-  pub gates : NumberedLines (λ k. NumberedGate (length m.circuit.inputs + length m.circuit.latches + 1 + k)) 0 m.circuit.gates at_gates at_symbols
+  pub gates :
+      NumberedLines (λ k. NumberedGate (length m.circuit.inputs + length m.circuit.latches + 1 + k)) 0
+      m.circuit.gates at_gates at_symbols
   pub symbols : LinesOf SymbolLine m.names.symbols at_symbols at_comment
   pub comment : CommentAtEnd m.names.comment at_comment
 
@@ -117,12 +120,16 @@ BinaryHasOneModel = (m n : Model) (bytes : List ℕ) → IsBinaryTextOf m bytes 
 
 -- what stands for a model has no fault
 abbrev pub BinaryHasNoFault : Type 0
-BinaryHasNoFault = (m : Model) (bytes : List ℕ) (fault : ModelFault) → IsBinaryTextOf m bytes → HasBinaryFault bytes fault → ⊥
+BinaryHasNoFault =
+    (m : Model) (bytes : List ℕ) (fault : ModelFault) → IsBinaryTextOf m bytes → HasBinaryFault bytes fault → ⊥
 
 -- any bytes stand for a model, or have a fault
 abbrev pub IsBinaryOrFaulty : Type 0
-IsBinaryOrFaulty = (bytes : List ℕ) → ((m : Model) × IsBinaryTextOf m bytes) ⊎ ((fault : ModelFault) × HasBinaryFault bytes fault)
+IsBinaryOrFaulty =
+    (bytes : List ℕ) → ((m : Model) × IsBinaryTextOf m bytes) ⊎ ((fault : ModelFault) × HasBinaryFault bytes fault)
 
 -- a text has one fault at most
 abbrev pub BinaryHasOneFault : Type 0
-BinaryHasOneFault = (bytes : List ℕ) (first second : ModelFault) → HasBinaryFault bytes first → HasBinaryFault bytes second → SameFault first second
+BinaryHasOneFault =
+    (bytes : List ℕ) (first second : ModelFault) → HasBinaryFault bytes first → HasBinaryFault bytes second
+    → SameFault first second

@@ -1,6 +1,6 @@
--- What the ASCII and the binary form of a text share (AIGER 1.9; Biere, Heljanko, Wieringa, 2011): how its parts are read
--- one behind the other, the model of what was read, and the first fault. The faults, their order and their places are this
--- program's.
+-- What the ASCII and the binary form of a text share (AIGER 1.9; Biere, Heljanko, Wieringa, 2011): how its parts are
+-- read one behind the other, the model of what was read, and the first fault. The faults, their order and their places
+-- are this program's.
 use Rattle.std.specs.Prelude.{◌≡◌, ◌⊎◌, ℕ, List, length, Result, Ok, Err, nat_lt, if◌then◌else◌}
 use Rattle.aig_semantics.specs.declared.limits.TheConstants.{MAX_MODEL_BYTES}
 use Rattle.circuit.specs.declared.parts.Parts.{Parts}

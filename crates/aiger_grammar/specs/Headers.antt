@@ -57,7 +57,8 @@ defined_count h = h.inputs + h.latches + h.gates
 
 -- A header that fits or does not, where its greatest variable is within its limit.
 abbrev pub within_limit : Bool → Heading → List ℕ → Result (Heading × List ℕ) ModelFault
-within_limit fits h body = if fits then (if nat_le h.max MAX_VARIABLE then Ok (h, body) else Err (Limit 0)) else Err (Header 0)
+within_limit fits h body =
+    if fits then (if nat_le h.max MAX_VARIABLE then Ok (h, body) else Err (Limit 0)) else Err (Header 0)
 
 -- An ASCII header: the greatest variable leaves room for inputs, latches and gates, and is within its limit.
 unfoldable pub ascii_heading_at : ℕ → Reader Heading

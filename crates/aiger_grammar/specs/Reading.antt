@@ -1,7 +1,7 @@
 -- Reading the text of a model (AIGER 1.9; Biere, Heljanko, Wieringa, 2011) from the left: a reader gives a value and
 -- the bytes behind it, or the first fault with its place. The faults, their order and their places are this program's.
 -- A place is how many bytes of the whole text, of which there are total, stand in front.
-use Rattle.std.specs.Prelude.{◌≡◌, ℕ, zero, suc, ◌+◌, ◌-◌, Bool, not, ◌&&◌, ◌||◌, List, [], ◌∷◌, length, Option, Some, None, Result, Ok, Err, nat_le, nat_lt, ◌==◌, if◌then◌else◌}
+use Rattle.std.specs.Prelude.{ℕ, zero, suc, ◌+◌, ◌-◌, Bool, not, ◌&&◌, ◌||◌, List, [], ◌∷◌, length, Option, Some, None, Result, Ok, Err, nat_le, nat_lt, ◌==◌, if◌then◌else◌}
 use Rattle.aig_semantics.specs.declared.limits.TheConstants.{MAX_NUMBER, MAX_PROPERTY_LITERALS}
 use Rattle.aig_semantics.specs.Literals.{variable_of, is_negated}
 use Rattle.text_grammar.specs.Numerals.{number_at}

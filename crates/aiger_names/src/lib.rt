@@ -7,7 +7,8 @@
 //! | `read_names` | symbols and comment from a place of a text on, or their first fault |
 //! | `read_last_names` | the same of the last bytes of a text |
 //! | `write_names` | the text of symbols and comment |
-//! | `push_next`, `push_properties`, `push_names` | a latch's next literal and reset, the sections of literals, and the names, written at the end of a text |
+//! | `push_next` | a latch's next literal and reset, written at the end of a text |
+//! | `push_properties`, `push_names` | the sections of literals, and the names, written at the end of a text |
 #![tactic(auto)]
 
 mod lines;

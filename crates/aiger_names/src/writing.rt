@@ -111,7 +111,8 @@ fn push_sizes(out: &mut Vec<u8>, circuit: &Circuit) -> Result<(), AllocError>
 }
 
 fn push_property_literals(out: &mut Vec<u8>, circuit: &Circuit) -> Result<(), AllocError>
-    ensures { OnOk result (out.new.items ≡ out.old.items ++ number_lines (flat_map (λ property. property) circuit.now.justice)) }
+    ensures { OnOk result (out.new.items
+        ≡ out.old.items ++ number_lines (flat_map (λ property. property) circuit.now.justice)) }
 {
     for j in 0..circuit.property_count() {
         push_numbers(out, circuit.property(j))?;
@@ -137,10 +138,10 @@ fn push_comment(out: &mut Vec<u8>, comment: &Option<Items<u8>>) -> Result<(), Al
     out.extend_from_slice(text.as_slice())
 }
 
-/// The text of symbols and comment, in their order. It stands for these names, so that they are read again, exactly where
-/// they can be written: each symbol is one of an element that is there, with an index of at most 4,294,967,295 and a name
-/// of at least one byte and no line feed, and the comment does not begin with a digit. The names of a `Model` can be
-/// written. The error is want of memory.
+/// The text of symbols and comment, in their order. It stands for these names, so that they are read again, exactly
+/// where they can be written: each symbol is one of an element that is there, with an index of at most 4,294,967,295 and
+/// a name of at least one byte and no line feed, and the comment does not begin with a digit. The names of a `Model` can
+/// be written. The error is want of memory.
 pub fn write_names(alloc: Global, names: &Names) -> Result<Vec<u8>, AllocError>
     ensures text { IfOk result (λ text. text.items ≡ names_text names.now) }
     ensures stands { IfOk result (λ text. (counts : Counts)

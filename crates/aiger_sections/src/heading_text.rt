@@ -6,8 +6,8 @@ use aiger_grammar::Heading;
 use std::alloc::AllocError;
 use text_grammar::push_number;
 
-/// Writes a header at the end: the word, and the numbers without zeros at the end of the last four. The error is want of
-/// memory.
+/// Writes a header at the end: the word, and the numbers without zeros at the end of the last four. The error is want
+/// of memory.
 pub fn push_header(out: &mut Vec<u8>, word: &str, heading: &Heading) -> Result<(), AllocError>
     ensures { OnOk result (out.new.items ≡ out.old.items ++ header_text word.now heading.now) }
 {
@@ -44,7 +44,8 @@ fn push_spaced(out: &mut Vec<u8>, numbers: &[u64]) -> Result<(), AllocError>
 
 // How many of the last four numbers are shown.
 fn shown_count(heading: &Heading) -> usize
-    ensures { result ≡ length (without_zeros (heading.now.bad ∷ heading.now.constraints ∷ heading.now.justice ∷ heading.now.fairness ∷ [])) }
+    ensures { result ≡ length (without_zeros
+        (heading.now.bad ∷ heading.now.constraints ∷ heading.now.justice ∷ heading.now.fairness ∷ [])) }
 {
     if heading.fairness != 0 {
         return 4;

@@ -4,7 +4,7 @@
 //!
 //! | Call | What it gives |
 //! |---|---|
-//! | `number`, `value`, `field` | the number at the front; one that passes a `Test`; such a one and the byte that ends it |
+//! | `number`, `value`, `field` | the number at the front; one that passes a `Test`; that and the byte behind it |
 //! | `behind` | what stands behind a byte that has to be there |
 //! | `passes` | whether a number may stand where a `Test` is asked |
 //! | `place`, `unfit` | how many bytes stand in front of the last ones; the fault where none fits |

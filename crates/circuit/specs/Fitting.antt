@@ -1,4 +1,4 @@
--- Scaffolding: what `AreInRange` says, section by section, as the tests of it go.
+-- What `AreInRange` says, section by section, as the tests of it go (scaffolding).
 use Rattle.std.specs.Prelude.{ℕ, ◌+◌, ◌*◌, ◌≤◌, List, length}
 use Rattle.std.specs.List.{All}
 use Rattle.aig_semantics.specs.declared.limits.TheConstants.{MAX_VARIABLE, MAX_NUMBER, MAX_PROPERTY_LITERALS}

@@ -1,4 +1,4 @@
--- Scaffolding: how a lasso is gone along, in computed forms of what it must meet. The definitions stand in aig_semantics.
+-- How a lasso is gone along, in computed forms of what it must meet (scaffolding).
 use Rattle.std.specs.Prelude.{◌≡◌, ℕ, ◌==◌, Bool, true, false, ◌&&◌, ◌||◌, List, [], ◌∷◌, length, take, drop, replicate, IsTrue}
 use Rattle.std.specs.List.{list_all}
 use Rattle.aig_semantics.specs.declared.parts.Latch.{Latch}

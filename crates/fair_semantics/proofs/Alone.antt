@@ -1,17 +1,16 @@
 -- Closed uses stand alone: their entries have the same sets over each other as in the list, and allow the same.
-use Rattle.std.proofs.Common.{◌≡◌, ℕ, zero, suc, ◌+◌, ◌<◌, ◌≤◌, Bool, true, false, ◌&&◌, List, [], ◌∷◌, ◌++◌, map, length, get_or, refl, sym, ap, ap₂, ◌∙◌, subst, inl, inr, arith}
+use Rattle.std.proofs.Common.{◌≡◌, ℕ, zero, suc, ◌+◌, ◌<◌, Bool, true, false, ◌&&◌, List, [], ◌∷◌, length, get_or, refl, sym, ap, ap₂, ◌∙◌, subst, inr, arith}
 use Rattle.std.proofs.Math.Path.{fun_ext}
-use Rattle.std.specs.List.{All, Any, list_all}
+use Rattle.std.specs.List.{All, list_all}
 use Rattle.std.proofs.lemmas.Bool.{and_parts, and_from}
 use Rattle.std.proofs.lemmas.List.Elements.{All-head, All-tail, Contains-get_or}
 use Rattle.aig_semantics.specs.Circuits.{Circuit}
-use Rattle.fair_semantics.specs.declared.entries.Kind.TheVariants.{Reach, Wall}
 use Rattle.fair_semantics.specs.declared.entries.Use.{Use}
 use Rattle.fair_semantics.specs.Entries.{Entry, Numbered, numbered_from, numbered, used_entries, entry_at, set_over, sets_of, IsSigned, Uses, AreClosed}
 use Rattle.fair_semantics.specs.Allowing.{allows_by, all_allow, allow}
-use Rattle.fair_semantics.specs.Validity.{set_behind, IsValid, IsReachBase}
+use Rattle.fair_semantics.specs.Validity.{set_behind, IsValid}
 use Rattle.fair_semantics.specs.Laws.{StandAlone}
-use Rattle.fair_semantics.proofs.Sets.{set_over-agree, sets_of-own, alone, IsClosedUse}
+use Rattle.fair_semantics.proofs.Sets.{set_over-agree, alone, IsClosedUse}
 
 -- ---- a test of each numbered entry
 

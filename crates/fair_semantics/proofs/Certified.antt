@@ -1,13 +1,13 @@
 -- Valid entries over the runs and loops of a circuit: reach entries hold runs, loops keep their sides, and so a fair
 -- lasso would give a skeleton that every entry allows.
-use Rattle.std.proofs.Common.{◌≡◌, ℕ, zero, suc, ◌+◌, ◌<◌, Bool, true, false, not, ◌&&◌, ◌||◌, List, [], ◌∷◌, ◌++◌, length, drop, get_or, refl, sym, ap, ◌∙◌, subst, inl, inr, ◌⊎◌, arith, max}
+use Rattle.std.proofs.Common.{◌≡◌, ℕ, suc, ◌<◌, Bool, true, false, not, List, [], ◌∷◌, length, drop, get_or, refl, sym, ap, ◌∙◌, subst, inl, inr, ◌⊎◌, arith, max}
 use Rattle.std.specs.Prelude.{IsTrue}
 use Rattle.std.specs.List.{All, Any, Contains}
 use Rattle.std.proofs.lemmas.Bool.{and_from, or_left, or_right, both_ways, false_from_ne_true}
-use Rattle.std.proofs.lemmas.List.Elements.{All-head, All-tail, All-cons, All-nil, All-contains, All-drop, All-weaker, Contains-get_or}
+use Rattle.std.proofs.lemmas.List.Elements.{All-head, All-tail, All-cons, All-nil, All-contains, All-drop, All-weaker}
 use Rattle.aig_semantics.specs.declared.traces.Position.{Position}
 use Rattle.aig_semantics.specs.Circuits.{Circuit, fair_literals}
-use Rattle.aig_semantics.specs.Runs.{literal_at, successor, MeetsConstraints, IsRun, IsInitialRun, MeetsFairness, IsFairLasso}
+use Rattle.aig_semantics.specs.Runs.{literal_at, successor, MeetsConstraints, IsRun, IsInitialRun, IsFairLasso}
 use Rattle.proof_semantics.specs.Clauses.{bool_eq}
 use Rattle.fair_semantics.specs.declared.entries.Kind.{Kind}
 use Rattle.fair_semantics.specs.declared.entries.Kind.TheVariants.{Reach, Wall}
@@ -21,7 +21,7 @@ use Rattle.fair_semantics.specs.Validity.{set_behind, IsValid, AreValid}
 use Rattle.fair_semantics.specs.Laws.{LieOn}
 use Rattle.fair_semantics.proofs.Alone.{all_allow-each, numbered-all, uses_allow}
 use Rattle.fair_semantics.proofs.Lists.{Each, each-valid}
-use Rattle.fair_semantics.proofs.Runs.{AreAllowed, along, round, run-of, IsLoop, loop-of}
+use Rattle.fair_semantics.proofs.Runs.{AreAllowed, along, round, IsLoop, loop-of}
 
 -- ---- what a side allows
 

@@ -1,11 +1,10 @@
 -- Steps of circuits of one latch, and entries without uses, for the worked rows.
-use Rattle.std.proofs.Common.{◌≡◌, ℕ, zero, suc, ◌<◌, Bool, true, false, List, [], ◌∷◌, length, refl, sym, ap, ◌∙◌, subst, arith}
-use Rattle.std.proofs.Math.Path.{subst₂}
+use Rattle.std.proofs.Common.{◌≡◌, ◌<◌, Bool, true, false, List, [], ◌∷◌, length, refl, sym, ap, ◌∙◌, subst, arith}
 use Rattle.std.proofs.lemmas.List.Elements.{All-nil, All-cons}
 use Rattle.aig_semantics.specs.declared.traces.Position.{Position}
 use Rattle.aig_semantics.specs.Valuations.{value_beside, given_value, value_through, values_below, valuation}
 use Rattle.aig_semantics.specs.Runs.{successor, MeetsConstraints}
-use Rattle.aig_semantics.specs.Examples.{stuck, kept}
+use Rattle.aig_semantics.specs.Examples.{stuck}
 use Rattle.aig_semantics.proofs.Lassos.{constraints-met}
 use Rattle.fair_semantics.specs.declared.entries.Use.{Use}
 use Rattle.fair_semantics.specs.States.{IsStep}

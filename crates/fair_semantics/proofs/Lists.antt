@@ -1,5 +1,5 @@
 -- Lists of valid entries: what holds of each entry by what stands before it.
-use Rattle.std.proofs.Common.{◌≡◌, ℕ, zero, suc, ◌+◌, ◌<◌, Bool, true, false, List, [], ◌∷◌, ◌++◌, length, refl, sym, ap, ◌∙◌, subst, inl, inr, arith, append_assoc, append-nil, length-append}
+use Rattle.std.proofs.Common.{◌≡◌, ℕ, ◌<◌, Bool, List, [], ◌∷◌, ◌++◌, length, sym, ap, subst, inl, inr, arith, append_assoc, append-nil, length-append}
 use Rattle.std.proofs.Math.Path.{fun_ext, subst₂}
 use Rattle.std.proofs.lemmas.Bool.{cases_lt}
 use Rattle.aig_semantics.specs.Circuits.{Circuit}

@@ -1,16 +1,16 @@
 -- The sets of entries by their numbers: what later entries leave, and what closed uses need.
-use Rattle.std.proofs.Common.{◌≡◌, ℕ, zero, suc, ◌+◌, ◌<◌, ◌≤◌, ◌==◌, Bool, true, false, List, [], ◌∷◌, ◌++◌, map, length, refl, sym, ap, ◌∙◌, subst, inl, inr, ◌⊎◌, arith}
-use Rattle.std.proofs.lemmas.Bool.{eqb-true, ne_eqb, eq-eqb, cases_Bool, cases_eq}
-use Rattle.std.specs.List.{All, Any, AllPairs, list_all}
+use Rattle.std.proofs.Common.{◌≡◌, ℕ, zero, suc, ◌+◌, ◌<◌, ◌≤◌, Bool, false, List, [], ◌∷◌, ◌++◌, length, refl, sym, ap, ◌∙◌, inl, inr, ◌⊎◌, arith}
+use Rattle.std.proofs.lemmas.Bool.{ne_eqb, eq-eqb, cases_eq}
+use Rattle.std.specs.List.{All, AllPairs, list_all}
 use Rattle.std.proofs.Common.{not, ◌&&◌, ap₂, take, drop, get_or, length-take}
 use Rattle.std.proofs.Math.Seq.{split_at}
 use Rattle.std.proofs.lemmas.List.{get_or_append_left, take-append-drop}
 use Rattle.std.proofs.lemmas.List.Elements.{All-head, All-tail}
-use Rattle.fair_semantics.specs.declared.entries.Kind.TheVariants.{Reach, Wall}
+use Rattle.fair_semantics.specs.declared.entries.Kind.TheVariants.{Reach}
 use Rattle.fair_semantics.specs.declared.entries.Side.{Side}
 use Rattle.fair_semantics.specs.declared.entries.Side.TheVariants as sides
 use Rattle.fair_semantics.specs.States.{meets_clauses}
-use Rattle.fair_semantics.specs.Entries.{lies_on, IsSigned, Uses, AreClosed}
+use Rattle.fair_semantics.specs.Entries.{lies_on, IsSigned, Uses}
 use Rattle.fair_semantics.specs.declared.entries.Use.{Use}
 use Rattle.fair_semantics.specs.Entries.{Entry, Numbered, numbered_from, numbered, used_entries, entry_at, sets_after, with_set, set_over, sets_of}
 use Rattle.fair_semantics.specs.Validity.{set_behind}

@@ -1,12 +1,11 @@
 -- The laws of entries. What they come to: where a list of valid entries allows no skeleton of a property, the circuit
 -- has no fair lasso of it.
-use Rattle.std.specs.Prelude.{◌≡◌, ℕ, ◌<◌, ◌↔◌, Bool, true, false, not, List, [], ◌∷◌, ◌++◌, length, drop, take}
+use Rattle.std.specs.Prelude.{◌≡◌, ℕ, ◌<◌, ◌↔◌, Bool, true, false, not, List, [], ◌∷◌, ◌++◌, length, drop}
 use Rattle.std.specs.List.{All}
 use Rattle.aig_semantics.specs.declared.traces.Position.{Position}
 use Rattle.aig_semantics.specs.Circuits.{Circuit}
 use Rattle.aig_semantics.specs.Runs.{successor, IsInitial, IsInitialRun, IsFairLasso}
 use Rattle.proof_semantics.specs.Clauses.{cube_value, values_of}
-use Rattle.fair_semantics.specs.declared.entries.Kind.{Kind}
 use Rattle.fair_semantics.specs.declared.entries.Kind.TheVariants.{Reach, Wall}
 use Rattle.fair_semantics.specs.declared.entries.Use.{Use}
 use Rattle.fair_semantics.specs.declared.skeletons.Skeleton.{Skeleton}

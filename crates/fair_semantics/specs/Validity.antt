@@ -1,11 +1,10 @@
 -- When an entry is valid over the entries before it, in terms of states; after the inductive sets of IC3 (Bradley,
 -- 2011) and the walls of FAIR (Bradley, Somenzi, Hassan, Zhang, 2011).
-use Rattle.std.specs.Prelude.{◌≡◌, ℕ, Bool, true, List, [], ◌∷◌, ◌++◌}
+use Rattle.std.specs.Prelude.{◌≡◌, Bool, true, List, [], ◌∷◌, ◌++◌}
 use Rattle.std.specs.List.{All}
 use Rattle.aig_semantics.specs.Circuits.{Circuit}
 use Rattle.aig_semantics.specs.Runs.{IsInitial}
-use Rattle.fair_semantics.specs.declared.entries.Kind.{Kind}
-use Rattle.fair_semantics.specs.declared.entries.Kind.TheVariants.{Reach, Wall}
+use Rattle.fair_semantics.specs.declared.entries.Kind.TheVariants.{Reach}
 use Rattle.fair_semantics.specs.States.{IsStep}
 use Rattle.fair_semantics.specs.Entries.{Entry, used_entries, entry_at, set_at, set_over, AreClosed}
 use Rattle.fair_semantics.specs.Allowing.{all_allow}

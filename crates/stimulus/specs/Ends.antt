@@ -1,4 +1,4 @@
--- Scaffolding: how the inner functions of reading and replay end.
+-- How the inner functions of reading and replay end (scaffolding).
 use Rattle.std.specs.Prelude.{Result, IfErr}
 use Rattle.stimulus.specs.declared.ends.ReplayFault.{ReplayFault}
 use Rattle.stimulus.specs.declared.ends.ReplayEnd.{ReplayEnd}

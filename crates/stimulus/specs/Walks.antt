@@ -1,4 +1,4 @@
--- Scaffolding: a run under way, with the state that comes next, and where states and literals were met.
+-- A run under way: the state that comes next, and where states and literals were met (scaffolding).
 use Rattle.std.specs.Prelude.{◌≡◌, ◌≢◌, ℕ, ◌-◌, ◌<◌, Bool, List, [], ◌∷◌, drop, map, slice_get, Some, unwrap_or, IsTrue, All, Any, if◌then◌else◌}
 use Rattle.aig_semantics.specs.Circuits.{Circuit}
 use Rattle.aig_semantics.specs.Runs.{position_of, successor, literal_at}

@@ -1,9 +1,9 @@
-use Rattle.std.proofs.Common.{◌≡◌, ℕ, zero, suc, ◌<◌, true, false, [], ◌∷◌, length, refl, ap, ◌∙◌, lit<, arith}
+use Rattle.std.proofs.Common.{◌≡◌, zero, suc, ◌<◌, [], ◌∷◌, ap, ◌∙◌, arith}
 use Rattle.fair_semantics.specs.declared.entries.Kind.TheVariants.{Reach, Wall}
 use Rattle.fair_semantics.specs.declared.entries.Side.TheVariants as sides
 use Rattle.fair_semantics.specs.declared.entries.Use.{Use}
-use Rattle.fair_semantics.specs.Entries.{AreClosed, Uses}
-use Rattle.fair_semantics.specs.Examples.{risen, not_risen, use_of, latch_entry}
+use Rattle.fair_semantics.specs.Entries.{Uses}
+use Rattle.fair_semantics.specs.Examples.{use_of}
 use Rattle.fair_semantics.proofs.worked_rows.closed_uses.Goals as goal
 
 not_zero : Uses (use_of 1 sides.In ∷ []) 0 → ⊥

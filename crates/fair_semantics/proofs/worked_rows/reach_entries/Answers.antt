@@ -1,11 +1,11 @@
-use Rattle.std.proofs.Common.{◌≡◌, ℕ, Bool, true, false, List, [], ◌∷◌, refl, ap, ◌∙◌, arith}
+use Rattle.std.proofs.Common.{◌≡◌, Bool, true, false, List, [], ◌∷◌, refl, ap, ◌∙◌, arith}
 use Rattle.aig_semantics.specs.Runs.{IsInitial}
 use Rattle.aig_semantics.specs.Examples.{stuck}
 use Rattle.fair_semantics.specs.declared.entries.Kind.TheVariants.{Reach, Wall}
 use Rattle.fair_semantics.specs.declared.entries.Side.TheVariants as sides
 use Rattle.fair_semantics.specs.Entries.{Entry}
-use Rattle.fair_semantics.specs.Validity.{IsValid, set_behind}
-use Rattle.fair_semantics.specs.Examples.{rises, risen, use_of, latch_entry}
+use Rattle.fair_semantics.specs.Validity.{set_behind}
+use Rattle.fair_semantics.specs.Examples.{use_of, latch_entry}
 use Rattle.fair_semantics.proofs.Examples.{no_uses, stuck-step, rises-begins}
 use Rattle.fair_semantics.proofs.worked_rows.reach_entries.Goals as goal
 

@@ -1,4 +1,4 @@
-use Rattle.std.proofs.Common.{◌≡◌, true, false, [], ◌∷◌, refl, arith}
+use Rattle.std.proofs.Common.{true, [], ◌∷◌, refl, arith}
 use Rattle.std.proofs.lemmas.List.Elements.{All-cons, All-nil}
 use Rattle.aig_semantics.specs.Examples.{kept}
 use Rattle.aig_semantics.specs.Valuations.{value_beside, given_value, value_through, values_below, valuation}

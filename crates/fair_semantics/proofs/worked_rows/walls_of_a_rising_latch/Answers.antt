@@ -1,13 +1,10 @@
-use Rattle.std.proofs.Common.{◌≡◌, ℕ, zero, suc, Bool, true, false, List, [], ◌∷◌, length, refl, sym, ap, ◌∙◌, subst, subst₂, lit<, arith}
-use Rattle.fair_semantics.specs.declared.entries.Kind.{Kind}
-use Rattle.fair_semantics.specs.declared.entries.Kind.TheVariants.{Reach, Wall}
+use Rattle.std.proofs.Common.{◌≡◌, Bool, true, false, List, [], ◌∷◌, refl, subst, subst₂, lit<}
 use Rattle.fair_semantics.specs.declared.entries.Side.TheVariants as sides
-use Rattle.fair_semantics.specs.States.{IsStep}
-use Rattle.fair_semantics.specs.Entries.{Entry, AreClosed, set_at, used_entries}
+use Rattle.fair_semantics.specs.Entries.{set_at, used_entries}
 use Rattle.fair_semantics.specs.Allowing.{all_allow}
-use Rattle.fair_semantics.specs.Validity.{IsValid, IsReachBase, set_behind}
-use Rattle.fair_semantics.specs.Examples.{rises, risen, not_risen, use_of, latch_entry}
-use Rattle.fair_semantics.proofs.Examples.{no_uses, one_use, one_value, rises-step, rises-begins, no_reach, risen_valid}
+use Rattle.fair_semantics.specs.Validity.{IsValid, set_behind}
+use Rattle.fair_semantics.specs.Examples.{rises, risen, not_risen, use_of}
+use Rattle.fair_semantics.proofs.Examples.{one_use, one_value, rises-step, rises-begins, no_reach, risen_valid}
 use Rattle.fair_semantics.proofs.worked_rows.walls_of_a_rising_latch.Goals as goal
 
 -- no step outside the first wall begins in the second
