@@ -4,11 +4,9 @@ use Rattle.std.proofs.Math.Path.{fun_ext}
 use Rattle.std.specs.List.{All, list_all}
 use Rattle.std.proofs.lemmas.Bool.{and_parts, and_from}
 use Rattle.std.proofs.lemmas.List.Elements.{All-head, All-tail, Contains-get_or}
-use Rattle.aig_semantics.specs.Circuits.{Circuit}
 use Rattle.fair_semantics.specs.declared.entries.Use.{Use}
-use Rattle.fair_semantics.specs.Entries.{Entry, Numbered, numbered_from, numbered, used_entries, entry_at, set_over, sets_of, IsSigned, Uses, AreClosed}
+use Rattle.fair_semantics.specs.Entries.{Entry, Numbered, numbered_from, numbered, used_entries, entry_at, sets_of, IsSigned, Uses, AreClosed}
 use Rattle.fair_semantics.specs.Allowing.{allows_by, all_allow, allow}
-use Rattle.fair_semantics.specs.Validity.{set_behind, IsValid}
 use Rattle.fair_semantics.specs.Laws.{StandAlone}
 use Rattle.fair_semantics.proofs.Sets.{set_over-agree, alone, IsClosedUse}
 

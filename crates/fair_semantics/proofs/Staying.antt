@@ -1,6 +1,6 @@
 -- Entries in other lists: an entry stays valid where the entries that it uses say the same, and the front of a list
 -- allows what the list allows.
-use Rattle.std.proofs.Common.{◌≡◌, ℕ, zero, suc, ◌+◌, ◌<◌, Bool, true, false, ◌&&◌, List, [], ◌∷◌, ◌++◌, length, get_or, refl, sym, ap, ap₂, ◌∙◌, subst, inl, inr, arith, length-append}
+use Rattle.std.proofs.Common.{◌≡◌, ℕ, ◌<◌, Bool, true, false, ◌&&◌, List, [], ◌∷◌, ◌++◌, length, get_or, refl, sym, ap, ap₂, ◌∙◌, subst, arith, length-append}
 use Rattle.std.specs.Prelude.{◌==◌, if◌then◌else◌}
 use Rattle.std.proofs.Math.Path.{fun_ext}
 use Rattle.std.specs.List.{All, list_all}
@@ -13,7 +13,7 @@ use Rattle.fair_semantics.specs.States.{meets_clauses}
 use Rattle.fair_semantics.specs.Entries.{Entry, Numbered, numbered, used_entries, entry_at, lies_on, set_over, with_set, sets_after, sets_of, IsSigned, Uses, AreClosed}
 use Rattle.fair_semantics.specs.Allowing.{allows_by, all_allow, allow}
 use Rattle.fair_semantics.specs.Validity.{set_behind, IsValid}
-use Rattle.fair_semantics.specs.Laws.{StandAlone, named_use, named_uses, SayTheSame}
+use Rattle.fair_semantics.specs.Laws.{named_use, named_uses, SayTheSame}
 use Rattle.fair_semantics.proofs.Sets.{sets_of-earlier, entry_at-earlier}
 use Rattle.fair_semantics.proofs.Alone.{numbered-at, numbered-all, uses_stand_alone}
 
