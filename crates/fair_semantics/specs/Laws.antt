@@ -35,7 +35,8 @@ InitialIsInCube =
 abbrev pub HoldsInitialStates : Type 0
 HoldsInitialStates =
     (c : Circuit) (clauses : List (List Lit)) (s : List Bool)
-    → All (λ clause. list_any (has_literal clause) (initial_cube c) ≡ true) clauses → IsInitial c s → meets_clauses clauses s ≡ true
+    → All (λ clause. list_any (has_literal clause) (initial_cube c) ≡ true) clauses → IsInitial c s
+    → meets_clauses clauses s ≡ true
 
 -- The set of an entry is the one that it has over the entries before it, whatever stands behind it.
 abbrev pub SetsStandBehind : Type 0
@@ -49,7 +50,8 @@ pub record StandAlone (before : List Entry) (uses : List Use) : Type 0 where
   pub sets : (n : ℕ) → Uses uses n → (s : List Bool) → sets_of (used_entries before uses) n s ≡ set_at before n s
   pub allowed : (states : List (List Bool)) →
       allow (used_entries before uses) states ≡ all_allow (set_at before) (used_entries before uses) states
-  pub entry : (e : Entry) → e.uses ≡ uses → (s : List Bool) → set_over (sets_of (used_entries before uses)) e s ≡ set_behind before e s
+  pub entry : (e : Entry) → e.uses ≡ uses → (s : List Bool) →
+      set_over (sets_of (used_entries before uses)) e s ≡ set_behind before e s
 
 abbrev pub UsesStandAlone : Type 0
 UsesStandAlone = (before : List Entry) (uses : List Use) → AreClosed before uses → StandAlone before uses
@@ -75,8 +77,8 @@ pub record SayTheSame (e f : Entry) : Type 0 where
   pub clauses : e.clauses ≡ f.clauses
   pub named : named_uses e.uses ≡ named_uses f.uses
 
--- An entry that is valid behind one list is valid behind each in which the numbers that it uses stand for entries of the
--- same kind, with the same clauses and named sides.
+-- An entry that is valid behind one list is valid behind each in which the numbers that it uses stand for entries of
+-- the same kind, with the same clauses and named sides.
 abbrev pub StaysValid : Type 0
 StaysValid =
     (c : Circuit) (before other : List Entry) (e : Entry) → IsValid c before e

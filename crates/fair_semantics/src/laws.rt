@@ -29,8 +29,8 @@ pub fn loops_keep_sides()
     ensures { LoopsKeepSides }
 {}
 
-/// Where a list of valid entries, or closed uses of it, allow no skeleton of a property, no initial run and place form a
-/// fair lasso of that property.
+/// Where a list of valid entries, or closed uses of it, allow no skeleton of a property, no initial run and place form
+/// a fair lasso of that property.
 pub fn certificates_leave_no_lasso()
     ensures list { CertifiesNoLasso }
     ensures uses { UsesCertifyNoLasso }
