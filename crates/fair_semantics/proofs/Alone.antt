@@ -4,11 +4,9 @@ use Rattle.std.proofs.Math.Path.{fun_ext}
 use Rattle.std.specs.List.{All, list_all}
 use Rattle.std.proofs.lemmas.Bool.{and_parts, and_from}
 use Rattle.std.proofs.lemmas.List.Elements.{All-head, All-tail, Contains-get_or}
-use Rattle.aig_semantics.specs.Circuits.{Circuit}
 use Rattle.fair_semantics.specs.declared.entries.Use.{Use}
-use Rattle.fair_semantics.specs.Entries.{Entry, Numbered, numbered_from, numbered, used_entries, entry_at, set_over, sets_of, IsSigned, Uses, AreClosed}
+use Rattle.fair_semantics.specs.Entries.{Entry, Numbered, numbered_from, numbered, used_entries, entry_at, sets_of, IsSigned, Uses, AreClosed}
 use Rattle.fair_semantics.specs.Allowing.{allows_by, all_allow, allow}
-use Rattle.fair_semantics.specs.Validity.{set_behind, IsValid}
 use Rattle.fair_semantics.specs.Laws.{StandAlone}
 use Rattle.fair_semantics.proofs.Sets.{set_over-agree, alone, IsClosedUse}
 
@@ -91,54 +89,3 @@ uses_allow entries uses states h all =
     λ k d inside. numbered-at test 0 entries (get_or uses k d).entry (get_or uses k d).entry (h.present k d inside) (omega arith) all
     in
     (uses_stand_alone entries uses h).allowed states ∙ all_allow-each sets entries uses states each
-
--- ---- the same entries in another list
-
-used_entries-same : (before other : List Entry) (uses : List Use)
-    → All (λ u. entry_at other u.entry ≡ entry_at before u.entry) uses → used_entries other uses ≡ used_entries before uses
-used_entries-same before other [] h = refl
-used_entries-same before other (u ∷ uses) h =
-    let P : Use → Type 0 = λ v. entry_at other v.entry ≡ entry_at before v.entry in
-    let first = All-head P u uses h in
-    let rest = used_entries-same before other uses (All-tail P u uses h) in
-    λ i. record { number = u.entry; entry = first i } ∷ rest i
-
--- the uses are closed there too
-closed-same : (before other : List Entry) (uses : List Use) → AreClosed before uses
-    → All (λ u. u.entry < length other) uses → All (λ u. entry_at other u.entry ≡ entry_at before u.entry) uses → AreClosed other uses
-closed-same before other uses h present same =
-    record {
-      ascend = h.ascend;
-      present = present;
-      walls = λ k d inside signed. ap (λ e. e.kind) (same k d inside) ∙ h.walls k d inside signed;
-      closed = λ k d inside.
-          let number : ℕ = (get_or uses k d).entry in
-          subst (λ e. All (λ named. IsSigned named → (named.entry < number) × Uses uses named.entry) e.uses) (sym (same k d inside)) (h.closed k d inside);
-    }
-
-pub stays_valid : (c : Circuit) (before other : List Entry) (e : Entry) → IsValid c before e
-    → All (λ u. (u.entry < length other) × (entry_at other u.entry ≡ entry_at before u.entry)) e.uses → IsValid c other e
-stays_valid c before other e valid there =
-    let present : All (λ u. u.entry < length other) e.uses = λ k d inside. (there k d inside).0 in
-    let same : All (λ u. entry_at other u.entry ≡ entry_at before u.entry) e.uses = λ k d inside. (there k d inside).1 in
-    let uses : AreClosed other e.uses = closed-same before other e.uses valid.uses present same in
-    let here = uses_stand_alone before e.uses valid.uses in
-    let elsewhere = uses_stand_alone other e.uses uses in
-    let entries : used_entries other e.uses ≡ used_entries before e.uses = used_entries-same before other e.uses same in
-    let set : (s : List Bool) → set_behind other e s ≡ set_behind before e s =
-    λ s. sym (elsewhere.entry e refl s) ∙ ap (λ es. set_over (sets_of es) e s) entries ∙ here.entry e refl s
-    in
-    let allowed : (states : List (List Bool)) →
-    all_allow (sets_of (numbered other)) (used_entries other e.uses) states ≡ all_allow (sets_of (numbered before)) (used_entries before e.uses) states =
-    λ states. sym (elsewhere.allowed states) ∙ ap (λ es. allow es states) entries ∙ here.allowed states
-    in
-    record {
-      uses = uses;
-      closed = λ s t step able inside. set t ∙ valid.closed s t step (sym (allowed (s ∷ t ∷ [])) ∙ able) (sym (set s) ∙ inside);
-      reach = λ is_reach.
-          let base = valid.reach is_reach in
-          record {
-            initial = λ s initial. set s ∙ base.initial s initial;
-            uses = λ k d inside. ap (λ f. f.kind) (same k d inside) ∙ base.uses k d inside;
-          };
-    }

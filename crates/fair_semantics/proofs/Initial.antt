@@ -1,7 +1,12 @@
 -- Steps that entries allow, and the initial cube.
 use Rattle.std.proofs.Common.{◌≡◌, ℕ, suc, ◌+◌, ◌<◌, Bool, true, false, not, ◌&&◌, ◌||◌, ◌↔◌, List, [], ◌∷◌, length, get_or, refl, sym, ap, ◌∙◌, arith}
-use Rattle.std.specs.List.{AllZip, list_all}
-use Rattle.std.proofs.lemmas.Bool.{and_parts, and_from, not-true}
+use Rattle.std.proofs.Common.{inl, inr}
+use Rattle.std.specs.List.{All, AllZip, list_all, list_any}
+use Rattle.std.proofs.lemmas.List.Elements.{All-head, All-tail}
+use Rattle.proof_semantics.specs.declared.literals.Lit.{Lit}
+use Rattle.proof_semantics.proofs.LiteralLaws.{lit_eq-true}
+use Rattle.fair_semantics.specs.States.{meets_clauses}
+use Rattle.std.proofs.lemmas.Bool.{and_parts, and_from, or_cases, or_left, or_right, both_ways, not-true}
 use Rattle.std.proofs.lemmas.Option.{unwrap_or-slice_get}
 use Rattle.std.proofs.lemmas.Slice.Zip.{AllZip-long}
 use Rattle.std.proofs.lemmas.List.Folds.{list_all-append}
@@ -10,7 +15,7 @@ use Rattle.aig_semantics.specs.declared.parts.Reset.{Reset}
 use Rattle.aig_semantics.specs.declared.parts.Reset.TheVariants.{Zero, One, Free}
 use Rattle.aig_semantics.specs.Circuits.{Circuit}
 use Rattle.aig_semantics.specs.Runs.{AgreesWith, IsInitial}
-use Rattle.proof_semantics.specs.Clauses.{bool_eq, literal_value, cube_value, values_of}
+use Rattle.proof_semantics.specs.Clauses.{bool_eq, lit_eq, has_literal, clause_value, literal_value, cube_value, values_of}
 use Rattle.fair_semantics.specs.declared.entries.Kind.TheVariants.{Reach, Wall}
 use Rattle.fair_semantics.specs.States.{crosses, reset_literals, initial_literals, initial_cube}
 use Rattle.fair_semantics.specs.Allowing.{allows_by}
@@ -84,3 +89,31 @@ initial-in_cube c s = (
   λ h. (AllZip-long (λ (latch : Latch) (value : Bool). AgreesWith latch.reset value) c.latches s h, cube-true (values_of s) 0 c.latches s (state-has s) h),
   λ h. cube-agrees (values_of s) 0 c.latches s (state-has s) h.0 h.1,
 )
+
+-- ---- clauses that hold a literal of the initial cube
+
+has-true : (v : ℕ → Bool) (clause : List Lit) (a : Lit) → has_literal clause a ≡ true → literal_value v a ≡ true → clause_value v clause ≡ true
+has-true v [] a has h = absurd (both_ways true (sym has) refl)
+has-true v (b ∷ clause) a has h =
+    elim (or_cases (lit_eq a b) (has_literal clause a) has) [
+      | inl same ↦ or_left (literal_value v b) _ (ap (literal_value v) (sym (lit_eq-true a b same)) ∙ h)
+      | inr later ↦ or_right (literal_value v b) _ (has-true v clause a later h)
+    ]
+
+cube-meets : (v : ℕ → Bool) (clause cube : List Lit) → list_any (has_literal clause) cube ≡ true → list_all (literal_value v) cube ≡ true → clause_value v clause ≡ true
+cube-meets v clause [] some h = absurd (both_ways true (sym some) refl)
+cube-meets v clause (a ∷ cube) some h =
+    let parts = and_parts _ _ h in
+    elim (or_cases (has_literal clause a) (list_any (has_literal clause) cube) some) [
+      | inl here ↦ has-true v clause a here parts.0
+      | inr later ↦ cube-meets v clause cube later parts.1
+    ]
+
+pub holds-initial : (c : Circuit) (clauses : List (List Lit)) (s : List Bool)
+    → All (λ clause. list_any (has_literal clause) (initial_cube c) ≡ true) clauses → IsInitial c s → meets_clauses clauses s ≡ true
+holds-initial c [] s each initial = refl
+holds-initial c (clause ∷ clauses) s each initial =
+    let P : List Lit → Type 0 = λ k. list_any (has_literal k) (initial_cube c) ≡ true in
+    let cube : list_all (literal_value (values_of s)) (initial_cube c) ≡ true = cube-true (values_of s) 0 c.latches s (state-has s) initial in
+    and_from _ _ (cube-meets (values_of s) clause (initial_cube c) (All-head P clause clauses each) cube)
+    (holds-initial c clauses s (All-tail P clause clauses each) initial)

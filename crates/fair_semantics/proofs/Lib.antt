@@ -1,5 +1,6 @@
 pub mod Sets
 pub mod Alone
+pub mod Staying
 pub mod Lists
 pub mod Runs
 pub mod Certified

@@ -73,10 +73,14 @@ IsSigned u = u.side ≢ sides.Any
 abbrev pub Uses : List Use → ℕ → Type 0
 Uses uses n = Any (λ u. u.entry ≡ n) uses
 
+-- each entry of which entry n names a side stands among the uses, before n
+abbrev pub NamesUsed : List Use → ℕ → Entry → Type 0
+NamesUsed uses n e = All (λ named. IsSigned named → (named.entry < n) × Uses uses named.entry) e.uses
+
 -- Uses of earlier entries that can be understood without further entries: numbers ascend, only walls have a side named,
 -- and each entry of which a used entry names a side stands among the uses, before that one.
 pub record AreClosed (entries : List Entry) (uses : List Use) : Type 0 where
   pub ascend : AllPairs (λ u v. u.entry < v.entry) uses
   pub present : All (λ u. u.entry < length entries) uses
   pub walls : All (λ u. IsSigned u → (entry_at entries u.entry).kind ≡ Wall) uses
-  pub closed : All (λ u. All (λ named. IsSigned named → (named.entry < u.entry) × Uses uses named.entry) (entry_at entries u.entry).uses) uses
+  pub closed : All (λ u. NamesUsed uses u.entry (entry_at entries u.entry)) uses

@@ -15,7 +15,8 @@ set_behind before e = set_over (set_at before) e
 
 -- no step that the used entries allow leaves the set
 abbrev pub NoStepLeaves : Circuit → (List (List Bool) → Bool) → (List Bool → Bool) → Type 0
-NoStepLeaves c allowed set = (s t : List Bool) → IsStep c s t → allowed (s ∷ t ∷ []) ≡ true → set s ≡ true → set t ≡ true
+NoStepLeaves c allowed set =
+    (s t : List Bool) → IsStep c s t → allowed (s ∷ t ∷ []) ≡ true → set s ≡ true → set t ≡ true
 
 -- The set of a reach entry holds every initial state, and the entry uses reach entries alone.
 pub record IsReachBase (c : Circuit) (before : List Entry) (e : Entry) : Type 0 where

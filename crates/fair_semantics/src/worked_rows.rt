@@ -49,8 +49,8 @@ pub fn walls_of_a_rising_latch()
     ensures leaves { IsValid rises [] (latch_entry Wall false []) → ⊥ }
 {}
 
-/// A stuck latch is never 1, as a reach entry says. A reach entry holds the initial states and the states after them, and
-/// uses no wall.
+/// A stuck latch is never 1, as a reach entry says. A reach entry holds the initial states and the states after them,
+/// and uses no wall.
 pub fn reach_entries()
     ensures stuck { AreValid stuck (latch_entry Reach false [] ∷ []) }
     ensures not_initial { IsValid stuck [] (latch_entry Reach true []) → ⊥ }
@@ -58,12 +58,12 @@ pub fn reach_entries()
     ensures uses_wall { IsValid rises (risen ∷ []) (latch_entry Reach false (use_of 0 sides.Out ∷ [])) → ⊥ }
 {}
 
-/// A latch that rises is 0 at one position, whose successor lies on the other side of the wall. So the wall excludes each
-/// skeleton, and there is no fair lasso.
+/// A latch that rises is 0 at one position, whose successor lies on the other side of the wall. So the wall excludes
+/// each skeleton, and there is no fair lasso.
 pub fn skeletons_of_a_rising_latch()
     ensures one { IsSkeleton rises 0 (one_situation false true) }
     ensures excluded { excludes (risen ∷ []) 0 (one_situation false true) ≡ true }
-    ensures none { (skeleton : Skeleton) → IsSkeleton rises 0 skeleton → allow (numbered (risen ∷ [])) (places skeleton) ≡ false }
+    ensures none { (sk : Skeleton) → IsSkeleton rises 0 sk → allow (numbered (risen ∷ [])) (places sk) ≡ false }
     ensures no_lasso { (run : List Position) → (from : ℕ) → IsFairLasso rises 0 run from → ⊥ }
 {}
 
