@@ -71,11 +71,12 @@ BINARY = [
     ("many binary symbols", "aig 1 1 0 0 0\n" + "i0 a\n" * 1_000_000, READ),
 ]
 
-# at their limits, and past the limit on the text's length
+# at their limits and past them; the last number is how long the text is made, by bytes of 0 at its end
 GREAT = [
-    ("as many inputs as there may be", f"aig {VARIABLES} {VARIABLES} 0 0 0\n", READ),
-    ("a text that is too long", "aag 0 0 0 0 0\nc\n" + "x" * LENGTH, f"model refused limit {LENGTH}\n"),
-    ("a binary text that is too long", "aig 0 0 0 0 0\nc\n" + "x" * LENGTH, f"model refused limit {LENGTH}\n"),
+    ("as many inputs as there may be", f"aig {VARIABLES} {VARIABLES} 0 0 0\n", READ, 0),
+    ("a text as long as it may be", "aag 0 0 0 0 0\nc\n", READ, LENGTH),
+    ("a text that is too long", "aag 0 0 0 0 0\nc\n", f"model refused limit {LENGTH}\n", LENGTH + 1),
+    ("a binary text that is too long", "aig 0 0 0 0 0\nc\n", f"model refused limit {LENGTH}\n", LENGTH + 1),
 ]
 
 
@@ -187,11 +188,12 @@ def main():
             file.write("2\n")
         good = True
         short = SHORT + [case for sections in SECTIONS for case in prefixes(*sections)]
-        cases = [(LITTLE, case) for case in short] + [(MEMORY, case) for case in ASCII + BINARY]
+        cases = [(LITTLE, (*case, 0)) for case in short] + [(MEMORY, (*case, 0)) for case in ASCII + BINARY]
         cases += [(MUCH, case) for case in GREAT]
-        for memory, (name, text, wanted) in cases:
+        for memory, (name, text, wanted, length) in cases:
             with open(model, "wb") as file:
                 file.write(text if isinstance(text, bytes) else text.encode())
+                file.truncate(max(length, file.tell()))
             good = check(name, model, answer, memory, wanted) and good
         good = check_endless(folder, answer) and good
     if good:

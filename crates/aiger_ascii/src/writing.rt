@@ -6,7 +6,8 @@ ghost use Rattle.aiger_grammar.specs.AsciiTexts.{IsAsciiTextOf};
 ghost use Rattle.aiger_grammar.specs.Spelling.{input_line, latch_line, gate_line, ascii_text, HasAsciiForm};
 
 use aig_semantics::{Gate, Latch, MAX_MODEL_BYTES, MAX_VARIABLE};
-use aiger_names::{Model, push_header, push_names, push_next, push_properties};
+use aiger_names::{Model, push_names, push_next, push_properties};
+use aiger_sections::push_header;
 use std::alloc::{AllocError, Global};
 use text_grammar::push_number;
 
@@ -29,7 +30,8 @@ pub fn write(alloc: Global, model: &Model) -> Result<Vec<u8>, AllocError>
 
 // The lines of the inputs and of the latches.
 fn push_definitions(out: &mut Vec<u8>, model: &Model) -> Result<(), AllocError>
-    ensures { OnOk result (out.new.items ≡ out.old.items ++ flat_map input_line model.now.circuit.inputs ++ flat_map latch_line model.now.circuit.latches) }
+    ensures { OnOk result (out.new.items ≡ out.old.items
+        ++ flat_map input_line model.now.circuit.inputs ++ flat_map latch_line model.now.circuit.latches) }
 {
     let circuit = model.circuit();
     push_inputs(out, circuit.inputs())?;

@@ -1,4 +1,4 @@
--- How far a search has come from where it began.
+-- Scaffolding of inner functions. How far a search has come from where it began.
 use Rattle.std.specs.Prelude.{◌≡◌, ℕ, ◌+◌, ◌-◌, ◌≤◌, true, false, List, [], ◌∷◌, ◌++◌, length}
 use Rattle.edge.specs.Units.{Spendings}
 use Rattle.proof_semantics.specs.Clauses.{is_subsumed, has_opposites}

@@ -1,4 +1,4 @@
--- What a search for values that satisfy clauses finds, and where it stands.
+-- Scaffolding of inner functions. What a search for values that satisfy clauses finds, and where it stands.
 use Rattle.std.specs.Prelude.{◌≡◌, ◌≢◌, ℕ, ◌+◌, ◌<◌, ◌≤◌, Bool, true, false, List, [], ◌∷◌, ◌++◌, Option, None, Some, map, slice_get, nat_eq, ◌⊎◌}
 use Rattle.std.specs.List.{list_any, list_all}
 use Rattle.proof_semantics.specs.Clauses.{negation, literal_value, values_of, has_literal, is_subsumed, has_opposites}

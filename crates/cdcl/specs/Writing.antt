@@ -1,4 +1,4 @@
--- How a proof is written: the added clauses have the ids from 1 on, in the order of adding, and each learned clause that
+-- Scaffolding of inner functions. How a proof is written: the added clauses have the ids from 1 on, in the order of adding, and each learned clause that
 -- is needed has an id above all those before it. The form of the lines is that of LRAT (Cruz-Filipe, Heule, Hunt,
 -- Kaufmann, Schneider-Kamp, 2017).
 use Rattle.std.specs.Prelude.{◌≡◌, ℕ, ◌+◌, ◌<◌, ◌≤◌, Bool, true, false, List, [], ◌∷◌, ◌++◌, length, take, map, Option, Some, None, Ok, slice_get, nat_le, nat_eq, ◌⊎◌}

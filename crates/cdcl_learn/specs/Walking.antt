@@ -1,4 +1,4 @@
--- The way back over a trail, from its last literal to the one that opened the last level.
+-- Scaffolding of inner functions. The way back over a trail, from its last literal to the one that opened the last level.
 use Rattle.std.specs.Prelude.{◌≡◌, ℕ, suc, ◌<◌, true, false, not, ◌&&◌, ◌||◌, List, length, take, drop, Option, Some, None, is_some, slice_get, map, ◌⊎◌}
 use Rattle.std.specs.List.{list_all}
 use Rattle.proof_semantics.specs.Clauses.{lit_eq, negation, has_literal}

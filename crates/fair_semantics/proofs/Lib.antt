@@ -1,0 +1,7 @@
+pub mod Sets
+pub mod Alone
+pub mod Lists
+pub mod Runs
+pub mod Certified
+pub mod Initial
+pub mod Examples

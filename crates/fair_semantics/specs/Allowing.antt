@@ -1,5 +1,5 @@
 -- What entries allow: one definition over lists of states, for steps and for skeletons.
-use Rattle.std.specs.Prelude.{◌≡◌, ℕ, Bool, true, false, ◌||◌, List, [], ◌∷◌}
+use Rattle.std.specs.Prelude.{ℕ, Bool, true, false, ◌||◌, List}
 use Rattle.std.specs.List.{list_all}
 use Rattle.proof_semantics.specs.Clauses.{bool_eq}
 use Rattle.fair_semantics.specs.declared.entries.Kind.{Kind}

@@ -61,6 +61,10 @@ sets_after sets (e ∷ entries) = sets_after (with_set sets e) entries
 abbrev pub sets_of : List Numbered → ℕ → List Bool → Bool
 sets_of entries = sets_after (λ n s. false) entries
 
+-- the set of entry n of a list
+abbrev pub set_at : List Entry → ℕ → List Bool → Bool
+set_at entries n = sets_of (numbered entries) n
+
 -- a use that names a side
 abbrev pub IsSigned : Use → Type 0
 IsSigned u = u.side ≢ sides.Any

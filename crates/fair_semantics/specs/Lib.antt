@@ -3,3 +3,5 @@ pub mod Entries
 pub mod Allowing
 pub mod Skeletons
 pub mod Validity
+pub mod Laws
+pub mod Examples

@@ -6,7 +6,7 @@ use Rattle.aig_semantics.specs.Circuits.{Circuit, fair_literals}
 use Rattle.aig_semantics.specs.Runs.{literal_at, successor, MeetsConstraints}
 use Rattle.fair_semantics.specs.declared.skeletons.Situation.{Situation}
 use Rattle.fair_semantics.specs.declared.skeletons.Skeleton.{Skeleton}
-use Rattle.fair_semantics.specs.Entries.{Entry, numbered, entry_at, sets_of}
+use Rattle.fair_semantics.specs.Entries.{Entry, entry_at, set_at}
 use Rattle.fair_semantics.specs.Allowing.{allows_by}
 
 -- a position at which every constraint is true, with its successor
@@ -38,4 +38,4 @@ places skeleton = states_of skeleton.situations
 
 -- entry n of a list does not allow the skeleton
 abbrev pub excludes : List Entry → ℕ → Skeleton → Bool
-excludes entries n skeleton = not (allows_by (entry_at entries n).kind (sets_of (numbered entries) n) (places skeleton))
+excludes entries n skeleton = not (allows_by (entry_at entries n).kind (set_at entries n) (places skeleton))

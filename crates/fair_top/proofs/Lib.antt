@@ -3,9 +3,9 @@ pub mod OneFault
 mod TextsRead
 mod LineLaws
 pub mod Ended
-mod TextsJudged
 mod Names
 mod BodyLines
+mod Judging
 mod Values
 mod Taken
-mod Written
+mod Ending

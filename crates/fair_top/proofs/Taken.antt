@@ -1,20 +1,19 @@
--- Words that `clap` does not refuse are the command `check` with its names, or `gen` with its values.
-use Rattle.std.proofs.Common.{◌≡◌, ◌⊎◌, inl, inr, ℕ, Bool, true, false, List, [], ◌∷◌, refl, sym, ap, ◌∙◌, subst}
-use Rattle.std.specs.Prelude.{codes, Option, None, Some, is_some, find, slice_index_or, option_map, not, ◌&&◌}
+-- Words that `clap` takes are a command, with values that are a request of it or none.
+use Rattle.std.proofs.Common.{◌≡◌, inl, inr, Bool, true, false, List, [], ◌∷◌, refl, sym, ap, ◌∙◌, subst}
+use Rattle.std.specs.Prelude.{Option, None, Some, is_some, not, ◌&&◌}
 use Rattle.std.proofs.lemmas.Bool.{false≢true}
 use Rattle.std.specs.List.{list_any}
 use Rattle.clap.specs.Facts.{explicit_source}
 use Rattle.clap.specs.Takes.{is_given}
-use Rattle.clap.specs.Walk.{Held, Names, Row, Text, answers_to, finished, nothing_held, settled, walk, walk_from}
-use Rattle.clap.specs.Simple.{App, Shape, argument_words, built, entered, help_shape, label_of, names_of, rows_at, subcommand_of}
+use Rattle.clap.specs.Walk.{Held, Names, Row, Text, finished, nothing_held, settled, walk, walk_from}
+use Rattle.clap.specs.Simple.{Shape, argument_words, built, entered, names_of, subcommand_of}
 use Rattle.clap.specs.Kinds.{Kinds, or_else, check_kinds}
 use Rattle.clap.specs.Faults.{fault_of, level_fault, entered_fault, check_fault, defaults_fault, settle_fault, walk_fault}
-use Rattle.fair_top.specs.declared.requests.Asked.{Asked}
-use Rattle.fair_top.specs.declared.requests.Asked.TheVariants.{Check, Gen}
-use Rattle.fair_top.specs.declared.requests.Request.{Request}
-use Rattle.fair_top.specs.Commands.{fairlive, name_in, IsTaken, IsRequest, IsUsage, IsTakenOrUsage, AsksFor}
-use Rattle.fair_top.specs.Asking.{IsMet, MeansAsked, MeansNoRequest}
-use Rattle.fair_top.proofs.Values.{request_or_none}
+use Rattle.fair_top.specs.Asked.{Asked}
+use Rattle.fair_top.specs.Commands.{fairlive, Means}
+use Rattle.fair_top.specs.Headline.{IsTaken, AsksFor, IsUsage, IsTakenOrUsage}
+use Rattle.fair_top.specs.Asking.{MetFor}
+use Rattle.fair_top.proofs.Values.{SomeOrNone, asked_or_none, one_meant}
 
 or_else-none : (a b : Kinds) → or_else a b ≡ [] → b ≡ []
 or_else-none [] b e = e
@@ -44,54 +43,6 @@ level_none s names h words has below e =
     or_else-none third last (or_else-none second (or_else third last) (or_else-none below (or_else second (or_else third last))
     (or_else-none first (or_else below (or_else second (or_else third last))) e)))
 
--- of one subcommand it is that one, and of two it is one of them
-module _ (s : Shape) (p : Text × List Text) where
-  by_test : (t : Bool) → answers_to p.0 (label_of s) ≡ t → is_some (option_map (λ s. rows_at s p.1) (find (λ s. answers_to p.0 (label_of s)) (s ∷ []))) ≡ true
-      → (rows : List Row) × (option_map (λ s. rows_at s p.1) (find (λ s. answers_to p.0 (label_of s)) (s ∷ [])) ≡ Some (s.name, rows))
-  by_test true is e = ((rows_at s p.1).1, (rw is))
-  by_test false is e = absurd (false≢true (sym (rw is) ∙ e))
-
--- what is entered where a walk stopped at a word, among these subcommands
-abbrev pub met_among : Text × List Text → List Shape → Option (Text × List Row)
-met_among p subs = option_map (λ s. rows_at s p.1) (find (λ s. answers_to p.0 (label_of s)) subs)
-
-abbrev pub IsOf : Text → Text → Option (Text × List Row) → Type 0
-IsOf first second met = (rows : List Row) × ((met ≡ Some (first, rows)) ⊎ (met ≡ Some (second, rows)))
-
-module _ (s t : Shape) (p : Text × List Text) where
-  by_tests : (u : Bool) → answers_to p.0 (label_of s) ≡ u → is_some (met_among p (s ∷ t ∷ [])) ≡ true → IsOf s.name t.name (met_among p (s ∷ t ∷ []))
-  by_tests true is e = ((rows_at s p.1).1, inl (rw is))
-  by_tests false is e =
-      let past : met_among p (s ∷ t ∷ []) ≡ met_among p (t ∷ []) = rw is in
-      let later : (rows : List Row) × (met_among p (t ∷ []) ≡ Some (t.name, rows)) =
-      by_test t p (answers_to p.0 (label_of t)) refl (ap is_some (sym past) ∙ e) in
-      (later.0, inr (past ∙ later.1))
-
-entered_two : (a : App) (s t : Shape) → a.subs ≡ s ∷ t ∷ [] → (stop : Option (Text × List Text)) → is_some (entered a stop) ≡ true
-    → IsOf s.name t.name (entered a stop)
-entered_two a s t two None e = absurd (false≢true e)
-entered_two a s t two (Some p) e =
-    let P : List Shape → Type 0 = λ subs. is_some (met_among p subs) ≡ true → IsOf s.name t.name (met_among p subs) in
-    subst P (sym two) (by_tests s t p (answers_to p.0 (label_of s)) refl) e
-
-the_check : Shape
-the_check = slice_index_or (built fairlive).subs 0 help_shape
-
-the_gen : Shape
-the_gen = slice_index_or (built fairlive).subs 1 help_shape
-
-two_commands : (built fairlive).subs ≡ the_check ∷ the_gen ∷ []
-unfolding the_check the_gen
-two_commands = refl
-
-check_name : the_check.name ≡ codes "check"
-unfolding the_check
-check_name = refl
-
-gen_name : the_gen.name ≡ codes "gen"
-unfolding the_gen
-gen_name = refl
-
 stop_at : List Text → Option (Text × List Text)
 stop_at words = (walk (built fairlive).top.rules (names_of (built fairlive)) nothing_held (argument_words fairlive words)).stopped
 
@@ -104,52 +55,59 @@ there words e =
     check_none a.top (finished a.top.rules (walk a.top.rules (names_of a) nothing_held words_left).held) has refl
     (level_none a.top (names_of a) nothing_held words_left has (entered_fault a (stop_at words)) e)
 
-in_names : (first second first' second' : Text) (met : Option (Text × List Row)) → first ≡ first' → second ≡ second' → IsOf first second met → IsOf first' second' met
-in_names first second first' second' met same same' h = elim h.1 [
-  | inl e ↦ (h.0, inl (e ∙ ap (λ (name : Text). Some (name, h.0)) same))
-  | inr e ↦ (h.0, inr (e ∙ ap (λ (name : Text). Some (name, h.0)) same'))
-]
-
-pub met : (words : List Text) → fault_of fairlive words ≡ [] → IsMet (subcommand_of fairlive words)
+-- what was met
+pub some_met : (words : List Text) → fault_of fairlive words ≡ [] → (name : Text) × (rows : List Row) × (subcommand_of fairlive words ≡ Some (name, rows))
 unfolding stop_at
-met words e =
-    in_names the_check.name the_gen.name (codes "check") (codes "gen") (subcommand_of fairlive words) check_name gen_name
-    (entered_two (built fairlive) the_check the_gen two_commands (stop_at words) (there words e))
+some_met words e = by (subcommand_of fairlive words) refl (there words e)
+  where
+    by : (found : Option (Text × List Row)) → subcommand_of fairlive words ≡ found → is_some found ≡ true
+        → (name : Text) × (rows : List Row) × (subcommand_of fairlive words ≡ Some (name, rows))
+    by (Some (name, rows)) same some = (name, rows, same)
+    by None same some = absurd (false≢true some)
 
-with_values : (words : List Text) (rows : List Row) → IsTaken words (codes "gen") rows
-    → ((request : Request) × IsRequest rows request) ⊎ ((request : Request) → IsRequest rows request → ⊥) → IsTakenOrUsage words
-with_values words rows taken h = elim h [
-  | inl found ↦ inr (inr (found.0, record { rows = rows; taken = taken; values = found.1 }))
-  | inr none ↦ inl (inr (record { rows = rows; taken = taken; refused = none }))
-]
+of_taken : (words : List Text) (name : Text) (rows : List Row) → IsTaken words name rows → SomeOrNone (λ (asked : Asked). Means asked name rows) → IsTakenOrUsage words
+of_taken words name rows taken (inl found) = inr (found.0, record { name = name; rows = rows; taken = taken; means = found.1 })
+of_taken words name rows taken (inr none) = inl (inr (record { name = name; rows = rows; taken = taken; refused = none }))
 
-pub taken_or_usage : (words : List (List ℕ)) → IsTakenOrUsage words
+pub taken_or_usage : (words : List Text) → IsTakenOrUsage words
 taken_or_usage words = by (fault_of fairlive words) refl
   where
-    by_name : (found : IsMet (subcommand_of fairlive words)) → fault_of fairlive words ≡ [] → IsTakenOrUsage words
-    by_name (rows, inl e) none =
-        let taken : IsTaken words (codes "check") rows = record { faultless = none; command = e } in
-        inr (inl (
-          name_in rows (codes "MODEL"),
-          name_in rows (codes "ANSWER"),
-          record { rows = rows; taken = taken; model_name = refl; answer_name = refl },
-        ))
-    by_name (rows, inr e) none = with_values words rows (record { faultless = none; command = e }) (request_or_none rows)
-
     by : (kinds : Kinds) → fault_of fairlive words ≡ kinds → IsTakenOrUsage words
-    by [] e = by_name (met words e) e
+    by [] e =
+        let found = some_met words e in
+        of_taken words found.0 found.1 (record { faultless = e; command = found.2 }) (asked_or_none found.0 found.1)
     by (k ∷ ks) e = inl (inl (λ none. (let wrong : k ∷ ks ≡ [] = sym e ∙ none in absurd (cc))))
 
 -- ---- what was met is what the words are
 
-pub asks_for : (words : List Text) (met : Option (Text × List Row)) (asked : Asked) → fault_of fairlive words ≡ [] → met ≡ subcommand_of fairlive words
-    → MeansAsked met asked → AsksFor words asked
-asks_for words met (Check model answer) none same (rows, e, (model_is, answer_is)) =
-    record { rows = rows; taken = record { faultless = none; command = sym same ∙ e }; model_name = model_is; answer_name = answer_is }
-asks_for words met (Gen request) none same (rows, e, values) =
-    record { rows = rows; taken = record { faultless = none; command = sym same ∙ e }; values = values }
-
 pub no_request : (words : List Text) (met : Option (Text × List Row)) → fault_of fairlive words ≡ [] → met ≡ subcommand_of fairlive words
-    → MeansNoRequest met → IsUsage words
-no_request words met none same (rows, e, refused) =
-    inr (record { rows = rows; taken = record { faultless = none; command = sym same ∙ e }; refused = refused })
+    → ((asked : Asked) → MetFor met asked → ⊥) → IsUsage words
+no_request words met none same refused =
+    let found = some_met words none in
+    inr (record {
+      name = found.0;
+      rows = found.1;
+      taken = record { faultless = none; command = found.2 };
+      refused = λ asked means. refused asked (found.0, found.1, same ∙ found.2, means);
+    })
+
+-- ---- the words ask for one thing at most
+
+same_taken : (name other : Text) (rows others : List Row) → ◌≡◌ {A = Option (Text × List Row)} (Some (name, rows)) (Some (other, others)) → (name ≡ other) × (rows ≡ others)
+same_taken name other rows others e =
+    let pair : ◌≡◌ {A = Text × List Row} (name, rows) (other, others) = cc in
+    (ap (λ (p : Text × List Row). p.0) pair, ap (λ (p : Text × List Row). p.1) pair)
+
+moved : (name other : Text) (rows others : List Row) (asked : Asked) → (name ≡ other) × (rows ≡ others) → Means asked other others → Means asked name rows
+moved name other rows others asked same h =
+    subst (λ (n : Text). Means asked n rows) (sym same.0) (subst (λ (r : List Row). Means asked other r) (sym same.1) h)
+
+pub one_asked : (words : List Text) (a b : Asked) → AsksFor words a → AsksFor words b → a ≡ b
+one_asked words a b h k =
+    one_meant h.name h.rows a b h.means
+    (moved h.name k.name h.rows k.rows b (same_taken h.name k.name h.rows k.rows (sym h.taken.command ∙ k.taken.command)) k.means)
+
+pub not_usage : (words : List Text) (asked : Asked) → AsksFor words asked → IsUsage words → ⊥
+not_usage words asked h (inl fault) = fault h.taken.faultless
+not_usage words asked h (inr k) =
+    k.refused asked (moved k.name h.name k.rows h.rows asked (same_taken k.name h.name k.rows h.rows (sym k.taken.command ∙ h.taken.command)) h.means)

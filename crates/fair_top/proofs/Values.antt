@@ -1,30 +1,36 @@
--- The values of `gen` are a request, or are none.
-use Rattle.std.proofs.Common.{◌≡◌, ◌⊎◌, inl, inr, ℕ, ◌<◌, ◌^◌, Bool, true, false, List, refl, sym, ◌∙◌, arith, codes}
+-- The values of a command are a request of it, or are none; and they are one at most.
+use Rattle.std.specs.Prelude.{Option, None, Some}
+use Rattle.std.proofs.Common.{◌≡◌, ◌⊎◌, inl, inr, ℕ, ◌<◌, ◌^◌, Bool, true, false, List, refl, sym, ◌∙◌, ap, subst, arith, codes}
 use Rattle.std.specs.Str.{bytes_eq}
 use Rattle.std.specs.Str.Parse.{digits_value, without_leading_plus}
 use Rattle.std.proofs.lemmas.Bool.{false≢true}
 use Rattle.std.proofs.lemmas.Slice.Eq.{bytes_eq-Decides}
-use Rattle.clap.specs.Walk.{Row}
+use Rattle.clap.specs.Walk.{Row, first_of}
 use Rattle.clap.specs.Values.{IsUnsignedIn}
 use Rattle.clap.specs.ValueTests.{is_unsigned_in}
 use Rattle.clap.specs.declared.builder.value_parser.ValueParser.TheVariants.{Unsigned}
 use Rattle.clap.proofs.ValueTestLemmas.{accepts-Accepts, Accepts-accepts}
-use Rattle.fair_top.specs.declared.requests.Kind.{Kind}
-use Rattle.fair_top.specs.declared.requests.Kind.TheVariants.{Ring, Scramble}
-use Rattle.fair_top.specs.Commands.{name_in, flag_in, name_of_kind, IsNumberIn, IsRequest}
+use Rattle.fair_top.specs.declared.requests.GenKind.{GenKind}
+use Rattle.fair_top.specs.declared.requests.GenKind.TheVariants.{Ring, Scramble}
+use Rattle.fair_top.specs.declared.requests.GenRequest.{GenRequest}
+use Rattle.fair_top.specs.Asked.{Asked, Check, Gen}
+use Rattle.fair_top.specs.Words.{IsGiven, IsNumberIn, IsNumberGiven, flag_in}
+use Rattle.fair_top.specs.Check.{MeansCheck}
+use Rattle.fair_top.specs.Gen.{name_of_kind, MeansGen}
+use Rattle.fair_top.specs.Commands.{Means}
 
 -- something has the property, or nothing
-abbrev SomeOrNone : {A : Type 0} → (A → Type 0) → Type 0
+abbrev pub SomeOrNone : {A : Type 0} → (A → Type 0) → Type 0
 SomeOrNone {A} P = ((x : A) × P x) ⊎ ((x : A) → P x → ⊥)
 
-kind_or_none : (name : List ℕ) → SomeOrNone (λ (kind : Kind). name ≡ name_of_kind kind)
+kind_or_none : (name : List ℕ) → SomeOrNone (λ (kind : GenKind). name ≡ name_of_kind kind)
 kind_or_none name = by (bytes_eq name (codes "ring")) (bytes_eq name (codes "scramble")) refl refl
   where
-    neither : bytes_eq name (codes "ring") ≡ false → bytes_eq name (codes "scramble") ≡ false → (kind : Kind) → name ≡ name_of_kind kind → ⊥
+    neither : bytes_eq name (codes "ring") ≡ false → bytes_eq name (codes "scramble") ≡ false → (kind : GenKind) → name ≡ name_of_kind kind → ⊥
     neither e f Ring same = false≢true (sym e ∙ (bytes_eq-Decides name (codes "ring")).1 same)
     neither e f Scramble same = false≢true (sym f ∙ (bytes_eq-Decides name (codes "scramble")).1 same)
 
-    by : (a b : Bool) → bytes_eq name (codes "ring") ≡ a → bytes_eq name (codes "scramble") ≡ b → SomeOrNone (λ (kind : Kind). name ≡ name_of_kind kind)
+    by : (a b : Bool) → bytes_eq name (codes "ring") ≡ a → bytes_eq name (codes "scramble") ≡ b → SomeOrNone (λ (kind : GenKind). name ≡ name_of_kind kind)
     by true b e f = inl (Ring, (bytes_eq-Decides name (codes "ring")).0 e)
     by false true e f = inl (Scramble, (bytes_eq-Decides name (codes "scramble")).0 f)
     by false false e f = inr (neither e f)
@@ -41,17 +47,116 @@ number_or_none low high text small = by (is_unsigned_in low high text) refl
         inl (digits_value 10 (without_leading_plus text), record { numeral = h.0; value = refl; least = h.2; most = h.3 })
     by false e = inr (λ n h. false≢true (sym e ∙ Accepts-accepts false (Unsigned low high) text (within n h)))
 
-pub request_or_none : (rows : List Row) → SomeOrNone (IsRequest rows)
-request_or_none rows =
-    by (kind_or_none (name_in rows (codes "KIND"))) (number_or_none 0 4294967295 (name_in rows (codes "SEED")) (omega arith))
-    (number_or_none 1 256 (name_in rows (codes "SIZE")) (omega arith))
+-- of what is given under a name
+given_or_none : {A : Type 0} (P : List ℕ → A → Type 0) (given : Option (List ℕ)) → ((text : List ℕ) → SomeOrNone (P text))
+    → SomeOrNone (λ (x : A). (text : List ℕ) × (given ≡ Some text) × P text x)
+given_or_none P None each = inr (λ x h. (let wrong = h.1 in cc))
+given_or_none P (Some text) each = by (each text)
   where
-    by : SomeOrNone (λ (kind : Kind). name_in rows (codes "KIND") ≡ name_of_kind kind) → SomeOrNone (IsNumberIn 0 4294967295 (name_in rows (codes "SEED")))
-        → SomeOrNone (IsNumberIn 1 256 (name_in rows (codes "SIZE"))) → SomeOrNone (IsRequest rows)
+    by : SomeOrNone (P text) → SomeOrNone (λ x. (other : List ℕ) × (Some text ≡ Some other) × P other x)
+    by (inl found) = inl (found.0, (text, refl, found.1))
+    by (inr none) = inr (λ x h. (let same : h.0 ≡ text = cc in none x (subst (λ (t : List ℕ). P t x) same h.2)))
+
+number_given_or_none : (rows : List Row) (name : List ℕ) (low high : ℕ) → high < 2 ^ 64 → SomeOrNone (IsNumberGiven rows name low high)
+number_given_or_none rows name low high small =
+    given_or_none (λ text n. IsNumberIn low high text n) (first_of name rows) (λ text. number_or_none low high text small)
+
+-- ---- `gen`
+
+pub request_or_none : (rows : List Row) → SomeOrNone (MeansGen rows)
+request_or_none rows =
+    by (given_or_none (λ text kind. text ≡ name_of_kind kind) (first_of (codes "KIND") rows) kind_or_none)
+    (number_given_or_none rows (codes "SEED") 0 4294967295 (omega arith)) (number_given_or_none rows (codes "SIZE") 1 256 (omega arith))
+  where
+    by : SomeOrNone (λ (kind : GenKind). (text : List ℕ) × IsGiven rows (codes "KIND") text × (text ≡ name_of_kind kind))
+        → SomeOrNone (IsNumberGiven rows (codes "SEED") 0 4294967295) → SomeOrNone (IsNumberGiven rows (codes "SIZE") 1 256) → SomeOrNone (MeansGen rows)
     by (inl kind) (inl seed) (inl size) = inl (
       record { kind = kind.0; seed = seed.0; size = size.0; binary = flag_in rows (codes "binary") },
-      record { kind_name = kind.1; seed_number = seed.1; size_number = size.1; form = refl },
+      record { kind_name = kind.1.1 ∙ ap (λ (text : List ℕ). Some text) kind.1.2; seed_number = seed.1; size_number = size.1; form = refl },
     )
-    by (inr none) seed size = inr (λ request h. none request.kind h.kind_name)
+    by (inr none) seed size = inr (λ request h. none request.kind (name_of_kind request.kind, h.kind_name, refl))
     by (inl kind) (inr none) size = inr (λ request h. none request.seed h.seed_number)
     by (inl kind) (inl seed) (inr none) = inr (λ request h. none request.size h.size_number)
+
+apart : (a b : List ℕ) → bytes_eq a b ≡ false → a ≡ b → ⊥
+apart a b e same = false≢true (sym e ∙ (bytes_eq-Decides a b).1 same)
+
+one_text : (o : Option (List ℕ)) (a b : List ℕ) → o ≡ Some a → o ≡ Some b → a ≡ b
+one_text o a b e f = let same : Some a ≡ Some b = sym e ∙ f in cc
+
+one_kind : (a b : GenKind) → name_of_kind a ≡ name_of_kind b → a ≡ b
+one_kind Ring Ring e = refl
+one_kind Scramble Scramble e = refl
+one_kind Ring Scramble e = absurd (apart (codes "ring") (codes "scramble") refl e)
+one_kind Scramble Ring e = absurd (apart (codes "scramble") (codes "ring") refl e)
+
+one_number : (rows : List Row) (name : List ℕ) (low high n m : ℕ) → IsNumberGiven rows name low high n → IsNumberGiven rows name low high m → n ≡ m
+one_number rows name low high n m a b =
+    let same : a.0 ≡ b.0 = one_text (first_of name rows) a.0 b.0 a.1 b.1 in
+    sym a.2.value ∙ ap (λ (text : List ℕ). digits_value 10 (without_leading_plus text)) same ∙ b.2.value
+
+same_request : (a b : GenRequest) → a.kind ≡ b.kind → a.seed ≡ b.seed → a.size ≡ b.size → a.binary ≡ b.binary → a ≡ b
+same_request a b k s z f = λ i. record { kind = k i; seed = s i; size = z i; binary = f i }
+
+one_request : (rows : List Row) (a b : GenRequest) → MeansGen rows a → MeansGen rows b → a ≡ b
+one_request rows a b h k =
+    same_request a b (one_kind a.kind b.kind (one_text (first_of (codes "KIND") rows) (name_of_kind a.kind) (name_of_kind b.kind) h.kind_name k.kind_name))
+    (one_number rows (codes "SEED") 0 4294967295 a.seed b.seed h.seed_number k.seed_number)
+    (one_number rows (codes "SIZE") 1 256 a.size b.size h.size_number k.size_number) (sym h.form ∙ k.form)
+
+-- ---- `check`
+
+pub names_or_none : (rows : List Row) → SomeOrNone (λ (names : List ℕ × List ℕ). MeansCheck rows names.0 names.1)
+names_or_none rows = by (first_of (codes "MODEL") rows) (first_of (codes "ANSWER") rows) refl refl
+  where
+    by : (m a : Option (List ℕ)) → first_of (codes "MODEL") rows ≡ m → first_of (codes "ANSWER") rows ≡ a
+        → SomeOrNone (λ (names : List ℕ × List ℕ). MeansCheck rows names.0 names.1)
+    by (Some model) (Some answer) e f = inl ((model, answer), record { model_name = e; answer_name = f })
+    by None a e f = inr (λ names h. (let wrong : None ≡ Some names.0 = sym e ∙ h.model_name in cc))
+    by (Some model) None e f = inr (λ names h. (let wrong : None ≡ Some names.1 = sym f ∙ h.answer_name in cc))
+
+-- ---- any of them
+
+two_names : (name : List ℕ) → name ≡ codes "check" → name ≡ codes "gen" → ⊥
+two_names name e f = apart (codes "check") (codes "gen") refl (sym e ∙ f)
+
+no_check : (name : List ℕ) (rows : List Row) → name ≡ codes "check" → ((names : List ℕ × List ℕ) → MeansCheck rows names.0 names.1 → ⊥)
+    → (asked : Asked) → Means asked name rows → ⊥
+no_check name rows e none (Check model answer) h = none (model, answer) h.1
+no_check name rows e none (Gen request) h = two_names name e h.0
+
+no_gen : (name : List ℕ) (rows : List Row) → name ≡ codes "gen" → ((request : GenRequest) → MeansGen rows request → ⊥)
+    → (asked : Asked) → Means asked name rows → ⊥
+no_gen name rows e none (Check model answer) h = two_names name h.0 e
+no_gen name rows e none (Gen request) h = none request h.1
+
+no_other : (name : List ℕ) (rows : List Row) → bytes_eq name (codes "check") ≡ false → bytes_eq name (codes "gen") ≡ false
+    → (asked : Asked) → Means asked name rows → ⊥
+no_other name rows e f (Check model answer) h = apart name (codes "check") e h.0
+no_other name rows e f (Gen request) h = apart name (codes "gen") f h.0
+
+pub asked_or_none : (name : List ℕ) (rows : List Row) → SomeOrNone (λ (asked : Asked). Means asked name rows)
+asked_or_none name rows = by (bytes_eq name (codes "check")) (bytes_eq name (codes "gen")) refl refl
+  where
+    of_check : name ≡ codes "check" → SomeOrNone (λ (names : List ℕ × List ℕ). MeansCheck rows names.0 names.1) → SomeOrNone (λ (asked : Asked). Means asked name rows)
+    of_check e (inl found) = inl (Check found.0.0 found.0.1, (e, found.1))
+    of_check e (inr none) = inr (no_check name rows e none)
+
+    of_gen : name ≡ codes "gen" → SomeOrNone (MeansGen rows) → SomeOrNone (λ (asked : Asked). Means asked name rows)
+    of_gen e (inl found) = inl (Gen found.0, (e, found.1))
+    of_gen e (inr none) = inr (no_gen name rows e none)
+
+    by : (a b : Bool) → bytes_eq name (codes "check") ≡ a → bytes_eq name (codes "gen") ≡ b → SomeOrNone (λ (asked : Asked). Means asked name rows)
+    by true b e f = of_check ((bytes_eq-Decides name (codes "check")).0 e) (names_or_none rows)
+    by false true e f = of_gen ((bytes_eq-Decides name (codes "gen")).0 f) (request_or_none rows)
+    by false false e f = inr (no_other name rows e f)
+
+-- the values are of one request at most
+pub one_meant : (name : List ℕ) (rows : List Row) (a b : Asked) → Means a name rows → Means b name rows → a ≡ b
+one_meant name rows (Check m n) (Check p q) h k = one_check (one_text (first_of (codes "MODEL") rows) m p h.1.model_name k.1.model_name) (one_text (first_of (codes "ANSWER") rows) n q h.1.answer_name k.1.answer_name)
+  where
+    one_check : m ≡ p → n ≡ q → Check m n ≡ Check p q
+    one_check e f = cc
+one_meant name rows (Check m n) (Gen r) h k = absurd (two_names name h.0 k.0)
+one_meant name rows (Gen r) (Check m n) h k = absurd (two_names name k.0 h.0)
+one_meant name rows (Gen r) (Gen s) h k = ap (λ (request : GenRequest). Gen request) (one_request rows r s h.1 k.1)

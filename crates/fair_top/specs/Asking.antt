@@ -1,23 +1,15 @@
--- What the command that `clap` met means.
-use Rattle.std.specs.Prelude.{◌≡◌, ◌⊎◌, List, Option, Some, codes}
+-- Scaffolding of inner functions: what the command that `clap` met asks for, in the form that the code has it in.
+use Rattle.std.specs.Prelude.{◌≡◌, List, Option, Some}
 use Rattle.clap.specs.Walk.{Row, Text}
-use Rattle.fair_top.specs.declared.requests.Asked.{Asked}
-use Rattle.fair_top.specs.declared.requests.Asked.TheVariants.{Check, Gen}
-use Rattle.fair_top.specs.declared.requests.Request.{Request}
-use Rattle.fair_top.specs.Commands.{name_in, IsRequest}
+use Rattle.fair_top.specs.declared.requests.Asked.{Asked as AskedInCode}
+use Rattle.fair_top.specs.declared.requests.Asked.TheVariants as code
+use Rattle.fair_top.specs.Asked.{Asked, Check, Gen}
+use Rattle.fair_top.specs.Commands.{Means}
 
--- one of the two commands was met
-abbrev pub IsMet : Option (Text × List Row) → Type 0
-IsMet met = (rows : List Row) × ((met ≡ Some (codes "check", rows)) ⊎ (met ≡ Some (codes "gen", rows)))
+abbrev pub meant : AskedInCode → Asked
+meant (code.Check model answer) = Check model.now answer.now
+meant (code.Gen request) = Gen request
 
--- a command of this name was met, and the claim holds of its values
-abbrev pub OfMet : Option (Text × List Row) → Text → (List Row → Type 0) → Type 0
-OfMet met name Claim = (rows : List Row) × (met ≡ Some (name, rows)) × Claim rows
-
-abbrev pub MeansAsked : Option (Text × List Row) → Asked → Type 0
-MeansAsked met (Check model answer) =
-    OfMet met (codes "check") (λ rows. (name_in rows (codes "MODEL") ≡ model.now) × (name_in rows (codes "ANSWER") ≡ answer.now))
-MeansAsked met (Gen request) = OfMet met (codes "gen") (λ rows. IsRequest rows request)
-
-abbrev pub MeansNoRequest : Option (Text × List Row) → Type 0
-MeansNoRequest met = OfMet met (codes "gen") (λ rows. (request : Request) → IsRequest rows request → ⊥)
+-- a command was met, and asks for this
+abbrev pub MetFor : Option (Text × List Row) → Asked → Type 0
+MetFor met asked = (name : Text) × (rows : List Row) × (met ≡ Some (name, rows)) × Means asked name rows

@@ -1,114 +1,141 @@
--- What a run of the program answers, from its words and the texts that the shelf holds under the names in them.
-use Rattle.std.specs.Prelude.{◌≡◌, ◌⊎◌, ℕ, List, Option, Some}
+-- What a run of the program answers, writes and reads, whatever its commands are.
+use Rattle.std.specs.Prelude.{◌≡◌, ◌≢◌, ◌⊎◌, ℕ, Bool, false, List, [], ◌∷◌, Option, Some}
 use Rattle.circuit.specs.declared.faults.ModelFault.TheVariants.{Cycle}
-use Rattle.edge.specs.Told.{IfTold, MayBe}
+use Rattle.clap.specs.Walk.{Row}
+use Rattle.clap.specs.Simple.{subcommand_of}
+use Rattle.clap.specs.Faults.{fault_of}
+use Rattle.edge.specs.Told.{IfTold}
 use Rattle.edge.specs.Faults.{Rose}
+use Rattle.edge.specs.Reads.{Reads}
 use Rattle.edge.specs.Writes.{Adds, AddsPart}
-use Rattle.fair_top.specs.declared.ends.Accepted.TheVariants as accepted
+use Rattle.unless_memory.specs.Answers.{GivesSome}
 use Rattle.fair_top.specs.declared.status.Status.{Status}
 use Rattle.fair_top.specs.declared.status.Status.TheVariants as statuses
-use Rattle.fair_top.specs.declared.status.Done.TheVariants.{Lasso, Printed}
-use Rattle.fair_top.specs.Answers.{IsAccepted, IsRefused}
-use Rattle.fair_top.specs.ModelTexts.{IsBadModel, OfModel}
-use Rattle.fair_top.specs.Commands.{IsCheck, IsUsage, AsksForModel}
-use Rattle.fair_top.specs.Generating.{Generates}
-use Rattle.fair_top.specs.Texts.{text_of}
+use Rattle.fair_top.specs.ModelTexts.{OfModel}
+use Rattle.fair_top.specs.Asked.{Asked, names_in}
+use Rattle.fair_top.specs.Commands.{fairlive, Means, Gives, Decides}
+use Rattle.fair_top.specs.Statuses.{is_read_fault}
+use Rattle.fair_top.specs.Texts.{usage_text}
 
--- the text is told, and the claim holds of it
-abbrev pub OfText : Option (List ℕ) → (List ℕ → Type 0) → Type 0
-OfText told Claim = (text : List ℕ) × (told ≡ Some text) × Claim text
+-- What the words ask for.
 
--- the claim holds of what the text may be, which is the text where it is told
-abbrev pub OfSomeText : Option (List ℕ) → (List ℕ → Type 0) → Type 0
-OfSomeText told Claim = (text : List ℕ) × MayBe told text × Claim text
+-- `clap` takes the words, as the command of this name with these values
+pub record IsTaken (words : List (List ℕ)) (name : List ℕ) (rows : List Row) : Type 0 where
+  pub faultless : fault_of fairlive words ≡ []
+  pub command : subcommand_of fairlive words ≡ Some (name, rows)
 
--- The status that MODEL's and ANSWER's texts give to `check`, the texts being taken by `Of`. Of ANSWER's nothing is asked
--- where MODEL is bad. A status that no text gives is `silent`.
-abbrev pub TextsGive : (Option (List ℕ) → (List ℕ → Type 0) → Type 0) → Type 0 → Option (List ℕ) → Option (List ℕ) → Status → Type 0
-TextsGive Of silent model answer (statuses.BadModel fault) = Of model (λ text. IsBadModel text fault)
-TextsGive Of silent model answer (statuses.Refused fault) =
-    Of model (λ text. Of answer (λ claimed. OfModel text (λ c. IsRefused c claimed fault)))
-TextsGive Of silent model answer (statuses.Done (Lasso property positions from)) =
-    Of model (λ text. Of answer (λ claimed. OfModel text (λ c. IsAccepted c claimed (accepted.Lasso property positions from))))
-TextsGive Of silent model answer (statuses.Done Printed) = ⊥
-TextsGive Of silent model answer statuses.ReadFault = silent
-TextsGive Of silent model answer statuses.Memory = silent
-TextsGive Of silent model answer statuses.WriteFault = ⊥
-TextsGive Of silent model answer statuses.Usage = ⊥
+-- the words ask for this
+pub record AsksFor (words : List (List ℕ)) (asked : Asked) : Type 0 where
+  pub name : List ℕ
+  pub rows : List Row
+  pub taken : IsTaken words name rows
+  pub means : Means asked name rows
 
--- what holds of MODEL's and ANSWER's texts where a run answers a status
-abbrev pub TextsSay : Option (List ℕ) → Option (List ℕ) → Status → Type 0
-TextsSay model answer status = TextsGive OfSomeText (Unit {0}) model answer status
+-- `clap` takes the words as a command, and its values are no request of it
+pub record AsksForNothing (words : List (List ℕ)) : Type 0 where
+  pub name : List ℕ
+  pub rows : List Row
+  pub taken : IsTaken words name rows
+  pub refused : (asked : Asked) → Means asked name rows → ⊥
 
--- the status that they decide, where they are told
-abbrev pub TextsDecide : Option (List ℕ) → Option (List ℕ) → Status → Type 0
-TextsDecide model answer status = TextsGive OfText ⊥ model answer status
+-- the words are no command: `clap` does not take them (so a request for help), for another cause than memory, or their
+-- values are no request
+abbrev pub IsUsage : List (List ℕ) → Type 0
+IsUsage words = (fault_of fairlive words ≢ []) ⊎ AsksForNothing words
 
--- The same of the words and of what a shelf holds under each name.
+-- the words ask for something, or are no command
+abbrev pub IsTakenOrUsage : List (List ℕ) → Type 0
+IsTakenOrUsage words = IsUsage words ⊎ ((asked : Asked) × AsksFor words asked)
 
--- the words are `check`, and the claim holds of the names of MODEL and ANSWER
-abbrev pub OfNames : List (List ℕ) → (List ℕ → List ℕ → Type 0) → Type 0
-OfNames words Claim = (model : List ℕ) × (answer : List ℕ) × IsCheck words model answer × Claim model answer
+-- nothing is read for the words
+abbrev pub ReadsNothing : List (List ℕ) → Type 0
+ReadsNothing words = IsUsage words ⊎ ((asked : Asked) × AsksFor words asked × (names_in asked ≡ []))
 
--- what holds where a run answers a status
+-- How a run ends.
+
+-- the status and the text with which a run ends that is not cut short: of words that are no command, or what the
+-- command gives
+abbrev pub Ends : (List ℕ → Option (List ℕ)) → List (List ℕ) → Status → List ℕ → Type 0
+Ends held words status text =
+    (IsUsage words × (status ≡ statuses.Usage) × (text ≡ usage_text))
+    ⊎ ((asked : Asked) × AsksFor words asked × Gives held asked status text)
+
+-- a run ends so without a text
+abbrev pub IsSilent : Status → Type 0
+IsSilent status = (status ≡ statuses.ReadFault) ⊎ (status ≡ statuses.Memory)
+
+-- what holds where a run answers a status; after a failed write the status that it would have answered says so
 abbrev pub IsFound : (List ℕ → Option (List ℕ)) → List (List ℕ) → Status → Type 0
-IsFound held words statuses.Usage = IsUsage words
-IsFound held words statuses.ReadFault = Unit {0}
-IsFound held words statuses.WriteFault = Unit {0}
-IsFound held words statuses.Memory = Unit {0}
-IsFound held words (statuses.BadModel fault) = OfNames words (λ model answer. TextsSay (held model) (held answer) (statuses.BadModel fault))
-IsFound held words (statuses.Refused fault) = OfNames words (λ model answer. TextsSay (held model) (held answer) (statuses.Refused fault))
-IsFound held words (statuses.Done (Lasso property positions from)) =
-    OfNames words (λ model answer. TextsSay (held model) (held answer) (statuses.Done (Lasso property positions from)))
-IsFound held words (statuses.Done Printed) = AsksForModel words
+IsFound held words status =
+    ((text : List ℕ) × Ends held words status text)
+    ⊎ (IsSilent status ⊎ ((status ≡ statuses.WriteFault) × (meant : Status) × (text : List ℕ) × Ends held words meant text))
 
--- the status that the words and the told texts decide
+-- what a sink has taken: the text of the end, of which a failed write leaves a part; or nothing
+abbrev pub Writes : (List ℕ → Option (List ℕ)) → List (List ℕ) → Option (List ℕ) → Option (List ℕ) → Status → Type 0
+Writes held words old new status =
+    ((text : List ℕ) × Ends held words status text × Adds old new text)
+    ⊎ ((IsSilent status × (new ≡ old))
+    ⊎ ((status ≡ statuses.WriteFault) × (meant : Status) × (text : List ℕ) × Ends held words meant text × AddsPart old new text))
+
+-- What is decided once.
+
+-- the status is the only right one
 abbrev pub IsVerdict : (List ℕ → Option (List ℕ)) → List (List ℕ) → Status → Type 0
 IsVerdict held words verdict =
-    (IsUsage words × (verdict ≡ statuses.Usage))
-    ⊎ (OfNames words (λ model answer. TextsDecide (held model) (held answer) verdict)
-    ⊎ (AsksForModel words × (verdict ≡ statuses.Done Printed)))
+    (IsUsage words × (verdict ≡ statuses.Usage)) ⊎ ((asked : Asked) × AsksFor words asked × Decides held asked verdict)
 
 -- The same status. A cycle may be said at any variable on one: each is right that `IsFound` holds of.
 abbrev pub SameVerdict : Status → Status → Type 0
-SameVerdict status verdict =
+SameVerdict verdict status =
     (status ≡ verdict) ⊎ ((v : ℕ) × (w : ℕ) × (status ≡ statuses.BadModel (Cycle v)) × (verdict ≡ statuses.BadModel (Cycle w)))
 
--- the verdict is answered, but for want of memory and failed reads and writes
-abbrev pub Answers : Status → Status → Type 0
-Answers status verdict =
-    SameVerdict status verdict ⊎ ((status ≡ statuses.Memory) ⊎ ((status ≡ statuses.ReadFault) ⊎ (status ≡ statuses.WriteFault)))
+-- a read or a write failed
+abbrev pub IsCut : Status → Type 0
+IsCut status = (status ≡ statuses.ReadFault) ⊎ (status ≡ statuses.WriteFault)
 
--- reads failed of MODEL, or of ANSWER where MODEL is a model's text
-abbrev pub FailedFor : Option (List ℕ) → ℕ → ℕ → ℕ → ℕ → Type 0
-FailedFor model model_before model_now answer_before answer_now =
-    Rose model_before model_now ⊎ (IfTold model (λ text. OfModel text (λ c. Unit {0})) × Rose answer_before answer_now)
+-- the verdict is answered, unless memory is refused or a read or write fails
+abbrev pub IsAnswered : Status → Status → Type 0
+IsAnswered verdict result = GivesSome statuses.Memory (λ status. SameVerdict verdict status ⊎ IsCut status) result
+
+-- What a run reads.
+
+-- the shelf holds a model under the name, where it tells
+abbrev pub HoldsModel : (List ℕ → Option (List ℕ)) → List ℕ → Type 0
+HoldsModel held name = IfTold (held name) (λ text. OfModel text (λ c. Unit {0}))
+
+-- reads failed of one of these names
+abbrev pub FailedAmong : List (List ℕ) → (List ℕ → ℕ) → (List ℕ → ℕ) → Type 0
+FailedAmong [] before now = ⊥
+FailedAmong (name ∷ names) before now = Rose (before name) (now name) ⊎ FailedAmong names before now
+
+-- reads failed of MODEL, or of another of these names where MODEL is a model's text
+abbrev pub FailedOf : (List ℕ → Option (List ℕ)) → List (List ℕ) → (List ℕ → ℕ) → (List ℕ → ℕ) → Type 0
+FailedOf held [] before now = ⊥
+FailedOf held (model ∷ others) before now =
+    Rose (before model) (now model) ⊎ (HoldsModel held model × FailedAmong others before now)
 
 abbrev pub ReadFailed : (List ℕ → Option (List ℕ)) → List (List ℕ) → (List ℕ → ℕ) → (List ℕ → ℕ) → Type 0
-ReadFailed held words before now = OfNames words (λ model answer. FailedFor (held model) (before model) (now model) (before answer) (now answer))
+ReadFailed held words before now = (asked : Asked) × AsksFor words asked × FailedOf held (names_in asked) before now
 
--- the text goes with the status: of `gen` the model's, of another the one that it tells; three go with none
-abbrev pub GoesWith : List (List ℕ) → Status → List ℕ → Type 0
-GoesWith words (statuses.Done Printed) text = Generates words text
-GoesWith words (statuses.Done (Lasso property positions from)) text = text ≡ text_of (statuses.Done (Lasso property positions from))
-GoesWith words (statuses.Refused fault) text = text ≡ text_of (statuses.Refused fault)
-GoesWith words (statuses.BadModel fault) text = text ≡ text_of (statuses.BadModel fault)
-GoesWith words statuses.Usage text = text ≡ text_of statuses.Usage
-GoesWith words statuses.Memory text = ⊥
-GoesWith words statuses.ReadFault text = ⊥
-GoesWith words statuses.WriteFault text = ⊥
+-- Which reads lead from one state of a shelf to another, where `Read old name failed new` says that one read does. A
+-- failed read is the last one.
 
--- the text of the status is added
-abbrev pub AddsText : List (List ℕ) → Option (List ℕ) → Option (List ℕ) → Status → Type 0
-AddsText words old new status = (text : List ℕ) × GoesWith words status text × Adds old new text
+-- reads of the names, in this order
+abbrev pub ReadsInTurn : {Shelf : Type 0} → (Shelf → List ℕ → Bool → Shelf → Type 0) → List (List ℕ) → Bool → Shelf → Shelf → Type 0
+ReadsInTurn Read [] failed old new = (new ≡ old) × (failed ≡ false)
+ReadsInTurn Read (name ∷ names) failed old new =
+    Reads Read name failed old new ⊎ ((mid : _) × Reads Read name false old mid × ReadsInTurn Read names failed mid new)
 
--- what a sink has taken: the text of the status, a part of the text that this run would have written, or nothing
-abbrev pub Writes : (List ℕ → Option (List ℕ)) → List (List ℕ) → Option (List ℕ) → Option (List ℕ) → Status → Type 0
-Writes held words old new statuses.Memory = new ≡ old
-Writes held words old new statuses.ReadFault = new ≡ old
-Writes held words old new statuses.WriteFault =
-    (verdict : Status) × (text : List ℕ) × IsFound held words verdict × GoesWith words verdict text × AddsPart old new text
-Writes held words old new statuses.Usage = AddsText words old new statuses.Usage
-Writes held words old new (statuses.BadModel fault) = AddsText words old new (statuses.BadModel fault)
-Writes held words old new (statuses.Refused fault) = AddsText words old new (statuses.Refused fault)
-Writes held words old new (statuses.Done done) = AddsText words old new (statuses.Done done)
+-- reads of MODEL, and of the others only where its text is a model's
+abbrev pub ReadsModelFirst : {Shelf : Type 0} → (Shelf → List ℕ → Bool → Shelf → Type 0) → (List ℕ → Option (List ℕ)) → List (List ℕ) → Bool → Shelf → Shelf → Type 0
+ReadsModelFirst Read held [] failed old new = (new ≡ old) × (failed ≡ false)
+ReadsModelFirst Read held (model ∷ others) failed old new =
+    Reads Read model failed old new
+    ⊎ ((mid : _) × Reads Read model false old mid × HoldsModel held model × ReadsInTurn Read others failed mid new)
+
+-- the reads of a run: none for words that are no command, and else those of what they ask for. Exactly where one
+-- failed the status says so.
+abbrev pub HasRead : {Shelf : Type 0} → (Shelf → List ℕ → Bool → Shelf → Type 0) → (List ℕ → Option (List ℕ)) → List (List ℕ) → Status → Shelf → Shelf → Type 0
+HasRead Read held words status old new =
+    (IsUsage words × (new ≡ old) × (is_read_fault status ≡ false))
+    ⊎ ((asked : Asked) × AsksFor words asked × ReadsModelFirst Read held (names_in asked) (is_read_fault status) old new)

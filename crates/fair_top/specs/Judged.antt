@@ -3,7 +3,7 @@ use Rattle.std.specs.Prelude.{◌≡◌, ◌⊎◌, ℕ, List, Option, Some, Res
 use Rattle.aig_semantics.specs.Circuits.{Circuit}
 use Rattle.circuit.specs.declared.faults.ModelFault.{ModelFault}
 use Rattle.aiger_grammar.specs.Models.{Model}
-use Rattle.aiger_grammar.specs.AsciiTexts.{SameFault}
+use Rattle.aiger_grammar.specs.BothForms.{SameFault}
 use Rattle.fair_top.specs.declared.ends.Accepted.{Accepted}
 use Rattle.fair_top.specs.declared.ends.Accepted.TheVariants as accepted
 use Rattle.aig_semantics.specs.declared.traces.Stimulus.{Stimulus}
@@ -14,51 +14,28 @@ use Rattle.fair_top.specs.declared.ends.AnswerEnd.{AnswerEnd}
 use Rattle.fair_top.specs.declared.ends.AnswerEnd.TheVariants as ends
 use Rattle.fair_top.specs.declared.status.Status.{Status}
 use Rattle.fair_top.specs.declared.status.Status.TheVariants as statuses
-use Rattle.fair_top.specs.declared.status.Done.TheVariants.{Lasso}
-use Rattle.fair_top.specs.Answers.{IsAccepted, IsRefused}
+use Rattle.unless_memory.specs.Answers.{GivesSome}
+use Rattle.fair_top.specs.Answers.{DecidesEnd}
 use Rattle.fair_top.specs.ModelTexts.{IsModelText, IsBadModel}
-use Rattle.fair_top.specs.Headline.{OfSomeText}
+use Rattle.fair_top.specs.ModelGiven.{OfSomeText}
 
--- the status with which a run ends that checked an answer
-abbrev pub status_of : Result Accepted AnswerEnd → Status
-status_of (Ok (accepted.Lasso property positions from)) = statuses.Done (Lasso property positions from)
-status_of (Err (ends.Refused fault)) = statuses.Refused fault
-status_of (Err ends.ReadFault) = statuses.ReadFault
-status_of (Err ends.Memory) = statuses.Memory
-
--- what the end of a check says of a text in memory; want of memory says nothing
-abbrev pub EndSays : Circuit → List ℕ → Result Accepted AnswerEnd → Type 0
-EndSays c text (Ok found) = IsAccepted c text found
-EndSays c text (Err (ends.Refused fault)) = IsRefused c text fault
-EndSays c text (Err ends.ReadFault) = ⊥
-EndSays c text (Err ends.Memory) = Unit {0}
-
--- what the replay of a stimulus for property n says; want of memory says nothing
-abbrev pub ReplaySays : Circuit → ℕ → Stimulus → Result Accepted AnswerEnd → Type 0
-ReplaySays c n stimulus (Ok (accepted.Lasso property positions from)) = (property ≡ n) × StandsFor c n stimulus positions from
-ReplaySays c n stimulus (Err (ends.Refused (Replay fault))) = HasReplayFault c n stimulus fault
-ReplaySays c n stimulus (Err (ends.Refused _)) = ⊥
-ReplaySays c n stimulus (Err ends.ReadFault) = ⊥
-ReplaySays c n stimulus (Err ends.Memory) = Unit {0}
-
--- the stimulus decides this end
+-- the stimulus, of an answer for property n, decides this end of its replay
 abbrev pub ReplayDecides : Circuit → ℕ → Stimulus → Result Accepted AnswerEnd → Type 0
 ReplayDecides c n stimulus (Ok (accepted.Lasso property positions from)) = (property ≡ n) × StandsFor c n stimulus positions from
 ReplayDecides c n stimulus (Err (ends.Refused (Replay fault))) = HasReplayFault c n stimulus fault
-ReplayDecides c n stimulus (Err (ends.Refused _)) = ⊥
-ReplayDecides c n stimulus (Err ends.ReadFault) = ⊥
-ReplayDecides c n stimulus (Err ends.Memory) = ⊥
+ReplayDecides c n stimulus (Err _) = ⊥
 
--- what the end of a check says of a text on the shelf; want of memory and a failed read say nothing
+-- what the end of a check says of the text on the shelf; a failed read says nothing of it
+abbrev pub SaysOfAnswer : Circuit → Option (List ℕ) → Result Accepted AnswerEnd → Type 0
+SaysOfAnswer c told end = (end ≡ Err ends.ReadFault) ⊎ OfSomeText told (λ text. DecidesEnd c text end)
+
+-- the same, unless memory is refused
 abbrev pub CheckSays : Circuit → Option (List ℕ) → Result Accepted AnswerEnd → Type 0
-CheckSays c told (Ok found) = OfSomeText told (λ text. IsAccepted c text found)
-CheckSays c told (Err (ends.Refused fault)) = OfSomeText told (λ text. IsRefused c text fault)
-CheckSays c told (Err ends.ReadFault) = Unit {0}
-CheckSays c told (Err ends.Memory) = Unit {0}
+CheckSays c told result = GivesSome (Err ends.Memory) (SaysOfAnswer c told) result
 
--- this end comes, but for want of memory and a failed read
-abbrev pub Ends : Result Accepted AnswerEnd → Result Accepted AnswerEnd → Type 0
-Ends result verdict = (result ≡ verdict) ⊎ ((result ≡ Err ends.Memory) ⊎ (result ≡ Err ends.ReadFault))
+-- this end comes, unless memory is refused or a read fails
+abbrev pub EndsWith : Result Accepted AnswerEnd → Result Accepted AnswerEnd → Type 0
+EndsWith result verdict = GivesSome (Err ends.Memory) (λ end. (end ≡ verdict) ⊎ (end ≡ Err ends.ReadFault)) result
 
 -- m is the one model whose text MODEL is
 pub record IsModelOf (told : Option (List ℕ)) (m : Model) : Type 0 where

@@ -1,9 +1,13 @@
 pub mod Answers
 pub mod AnswerLaws
+pub mod ModelTexts
+pub mod ModelGiven
+pub mod Words
+pub mod Asked
+pub mod Check
+pub mod Gen
 pub mod Commands
 pub mod Asking
-pub mod Generating
-pub mod ModelTexts
 pub mod Walks
 pub mod Statuses
 pub mod Texts

@@ -16,6 +16,16 @@ abbrev pub status_of_read : ReadEnd → Status
 status_of_read reads.Failed = statuses.ReadFault
 status_of_read reads.Memory = statuses.Memory
 
+-- the status says that a read failed
+abbrev pub is_read_fault : Status → Bool
+is_read_fault statuses.ReadFault = true
+is_read_fault statuses.Memory = false
+is_read_fault statuses.WriteFault = false
+is_read_fault statuses.Usage = false
+is_read_fault (statuses.Done done) = false
+is_read_fault (statuses.Refused fault) = false
+is_read_fault (statuses.BadModel fault) = false
+
 -- a run ends with this status before it writes
 abbrev pub ends_silently : Status → Bool
 ends_silently statuses.ReadFault = true
@@ -30,3 +40,14 @@ ends_silently (statuses.BadModel fault) = false
 abbrev pub ends_with : Result Outcome Status → Status
 ends_with (Ok outcome) = outcome.status
 ends_with (Err status) = status
+
+-- the call ended with a failed read
+abbrev pub has_unread : {T : Type 0} → Result T AnswerEnd → Bool
+has_unread (Ok read) = false
+has_unread (Err (ends.Refused fault)) = false
+has_unread (Err ends.ReadFault) = true
+has_unread (Err ends.Memory) = false
+
+abbrev pub has_read_fault : {T : Type 0} → Result T Status → Bool
+has_read_fault (Ok read) = false
+has_read_fault (Err status) = is_read_fault status

@@ -24,17 +24,17 @@ exit_number statuses.Usage = 64
 abbrev pub line_with : List ℕ → ℕ → List ℕ
 line_with words n = words ++ decimal n ++ codes "\n"
 
-abbrev pub model_text : ModelFault → List ℕ
-model_text (Header place) = line_with (codes "model refused header ") place
-model_text (Number place) = line_with (codes "model refused number ") place
-model_text (Range place) = line_with (codes "model refused range ") place
-model_text (Undefined variable) = line_with (codes "model refused undefined ") variable
-model_text (Twice variable) = line_with (codes "model refused twice ") variable
-model_text (Cycle variable) = line_with (codes "model refused cycle ") variable
-model_text (Truncated place) = line_with (codes "model refused truncated ") place
-model_text (Limit place) = line_with (codes "model refused limit ") place
-model_text (Trailing place) = line_with (codes "model refused trailing ") place
-model_text (Symbol place) = line_with (codes "model refused symbol ") place
+abbrev pub bad_model_text : ModelFault → List ℕ
+bad_model_text (Header place) = line_with (codes "model refused header ") place
+bad_model_text (Number place) = line_with (codes "model refused number ") place
+bad_model_text (Range place) = line_with (codes "model refused range ") place
+bad_model_text (Undefined variable) = line_with (codes "model refused undefined ") variable
+bad_model_text (Twice variable) = line_with (codes "model refused twice ") variable
+bad_model_text (Cycle variable) = line_with (codes "model refused cycle ") variable
+bad_model_text (Truncated place) = line_with (codes "model refused truncated ") place
+bad_model_text (Limit place) = line_with (codes "model refused limit ") place
+bad_model_text (Trailing place) = line_with (codes "model refused trailing ") place
+bad_model_text (Symbol place) = line_with (codes "model refused symbol ") place
 
 -- an answer is never refused for Shape or NoProperty of its stimulus, since its own lines are judged before
 abbrev pub replay_text : ReplayFault → List ℕ
@@ -45,13 +45,13 @@ replay_text NoFairLoop = codes "refused no fair loop\n"
 replay_text (Shape line) = line_with (codes "refused shape line ") line
 replay_text NoProperty = codes "refused property\n"
 
-abbrev pub answer_text : AnswerFault → List ℕ
-answer_text (answers.Shape line) = line_with (codes "refused shape line ") line
-answer_text (answers.NoProperty n) = line_with (codes "refused property ") n
-answer_text (answers.Replay fault) = replay_text fault
-answer_text answers.TooLong = codes "refused too long\n"
-answer_text (answers.Trailing line) = line_with (codes "refused trailing line ") line
-answer_text answers.UnknownStatus = codes "refused unknown status\n"
+abbrev pub refusal_text : AnswerFault → List ℕ
+refusal_text (answers.Shape line) = line_with (codes "refused shape line ") line
+refusal_text (answers.NoProperty n) = line_with (codes "refused property ") n
+refusal_text (answers.Replay fault) = replay_text fault
+refusal_text answers.TooLong = codes "refused too long\n"
+refusal_text (answers.Trailing line) = line_with (codes "refused trailing line ") line
+refusal_text answers.UnknownStatus = codes "refused unknown status\n"
 
 -- the usage text: a line for each command
 abbrev pub usage_text : List ℕ
@@ -62,11 +62,11 @@ done_text (Lasso property positions from) =
     codes "accepted lasso j" ++ decimal property ++ codes " positions " ++ decimal positions ++ codes " loop " ++ decimal from ++ codes "\n"
 done_text Printed = []
 
--- the text of a status; four have none of their own (of a model that is printed it is the model's: see GoesWith)
+-- the text of a status; four have none of their own (of a model that is printed it is the model's)
 abbrev pub text_of : Status → List ℕ
 text_of (statuses.Done done) = done_text done
-text_of (statuses.Refused fault) = answer_text fault
-text_of (statuses.BadModel fault) = model_text fault
+text_of (statuses.Refused fault) = refusal_text fault
+text_of (statuses.BadModel fault) = bad_model_text fault
 text_of statuses.ReadFault = []
 text_of statuses.WriteFault = []
 text_of statuses.Memory = []

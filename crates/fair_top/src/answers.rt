@@ -2,10 +2,12 @@
 
 ghost use Rattle.std.specs.Prelude.{◌≡◌, ◌⊎◌, ℕ, List, Some, Result, Err, IfOk, IfErr};
 ghost use Rattle.edge.specs.Faults.{Rose, NoneFell};
-ghost use Rattle.edge.specs.Reads.{KeepsTexts};
+ghost use Rattle.edge.specs.Reads.{KeepsTexts, Reads};
 ghost use Rattle.edge.specs.Told.{IfTold};
+ghost use Rattle.unless_memory.specs.Answers.{Gives, GivesSome};
 ghost use Rattle.fair_top.specs.Answers.{DecidesEnd};
-ghost use Rattle.fair_top.specs.Judged.{EndSays, CheckSays, ReplaySays, ReplayDecides, Ends};
+ghost use Rattle.fair_top.specs.Statuses.{has_unread};
+ghost use Rattle.fair_top.specs.Judged.{CheckSays, ReplayDecides, EndsWith};
 
 use crate::ends::{Accepted, AnswerEnd, AnswerFault};
 use crate::reading::read_answer;
@@ -31,8 +33,9 @@ pub fn check_answer<H: Shelf>(
     // What is answered is so, of the text that the shelf tells;
     ensures found { CheckSays circuit.now (H.held shelf.old name.now) result }
     // and what is so is answered, unless memory is refused or a read fails.
-    ensures exactly { (text : List ℕ) (verdict : Result Accepted AnswerEnd) → H.held shelf.old name.now ≡ Some text → DecidesEnd circuit.now text verdict → Ends result verdict }
+    ensures exactly { (text : List ℕ) (verdict : Result Accepted AnswerEnd) → H.held shelf.old name.now ≡ Some text → DecidesEnd circuit.now text verdict → EndsWith result verdict }
     ensures read { result ≡ Err AnswerEnd.ReadFault → Rose (H.faults shelf.old name.now) (H.faults shelf.new name.now) }
+    ensures reads { Reads H.reads name.now (has_unread result) shelf.old shelf.new }
     ensures counts { NoneFell (H.faults shelf.old) (H.faults shelf.new) }
     ensures kept { KeepsTexts (H.held shelf.old) (H.held shelf.new) }
 {
@@ -47,6 +50,7 @@ fn answer_bytes<H: Shelf>(alloc: Global, shelf: &mut H, name: &str) -> Result<Ve
     ensures found { IfOk result (λ bytes. IfTold (H.held shelf.old name.now) (λ text. bytes.items ≡ text)) }
     ensures ended { IfErr result (λ end. (end ≡ AnswerEnd.ReadFault) ⊎ (end ≡ AnswerEnd.Memory)) }
     ensures read { result ≡ Err AnswerEnd.ReadFault → Rose (H.faults shelf.old name.now) (H.faults shelf.new name.now) }
+    ensures reads { Reads H.reads name.now (has_unread result) shelf.old shelf.new }
     ensures counts { NoneFell (H.faults shelf.old) (H.faults shelf.new) }
     ensures kept { KeepsTexts (H.held shelf.old) (H.held shelf.new) }
 {
@@ -55,8 +59,8 @@ fn answer_bytes<H: Shelf>(alloc: Global, shelf: &mut H, name: &str) -> Result<Ve
 
 /// Judges the text of an answer.
 fn judge_answer(alloc: Global, circuit: &Circuit, text: &[u8]) -> Result<Accepted, AnswerEnd>
-    ensures found { EndSays circuit.now text.now result }
-    ensures exactly { (verdict : Result Accepted AnswerEnd) → DecidesEnd circuit.now text.now verdict → (result ≡ verdict) ⊎ (result ≡ Err AnswerEnd.Memory) }
+    ensures found { GivesSome (Err AnswerEnd.Memory) (DecidesEnd circuit.now text.now) result }
+    ensures exactly { (verdict : Result Accepted AnswerEnd) → DecidesEnd circuit.now text.now verdict → Gives (Err AnswerEnd.Memory) verdict result }
 {
     match read_answer(alloc, circuit, text) {
         Ok((property, stimulus)) => replay_answer(alloc, circuit, property, &stimulus),
@@ -71,8 +75,8 @@ fn replay_answer(
     property: u32,
     stimulus: &Stimulus,
 ) -> Result<Accepted, AnswerEnd>
-    ensures found { ReplaySays circuit.now property stimulus.now result }
-    ensures exactly { (verdict : Result Accepted AnswerEnd) → ReplayDecides circuit.now property stimulus.now verdict → (result ≡ verdict) ⊎ (result ≡ Err AnswerEnd.Memory) }
+    ensures found { GivesSome (Err AnswerEnd.Memory) (ReplayDecides circuit.now property stimulus.now) result }
+    ensures exactly { (verdict : Result Accepted AnswerEnd) → ReplayDecides circuit.now property stimulus.now verdict → Gives (Err AnswerEnd.Memory) verdict result }
 {
     match replay(alloc, circuit, property, stimulus) {
         Ok(lasso) => Ok(Accepted::Lasso {

@@ -1,10 +1,12 @@
 //! The command `check`: reads MODEL and ANSWER, and judges the answer. Writes nothing.
 
-ghost use Rattle.std.specs.Prelude.{◌≡◌};
+ghost use Rattle.std.specs.Prelude.{◌≡◌, ◌⊎◌, [], ◌∷◌};
 ghost use Rattle.edge.specs.Faults.{NoneFell};
 ghost use Rattle.edge.specs.Reads.{KeepsTexts};
-ghost use Rattle.fair_top.specs.Headline.{TextsSay, TextsDecide, FailedFor, Answers};
-ghost use Rattle.fair_top.specs.Judged.{status_of};
+ghost use Rattle.fair_top.specs.ModelGiven.{OfSomeText};
+ghost use Rattle.fair_top.specs.Check.{status_of, done_of, JudgesAs, DecidesCheck};
+ghost use Rattle.fair_top.specs.Headline.{IsSilent, IsAnswered, FailedOf, ReadsModelFirst};
+ghost use Rattle.fair_top.specs.Statuses.{is_read_fault};
 
 use crate::answers::check_answer;
 use crate::ends::{Accepted, AnswerEnd};
@@ -15,9 +17,10 @@ use std::alloc::Global;
 
 /// Reads the texts under both names and judges the answer: the status with which the command ends, but for its writing.
 pub(crate) fn check<H: Shelf>(alloc: Global, shelf: &mut H, model: &str, answer: &str) -> Status
-    ensures found { TextsSay (H.held shelf.old model.now) (H.held shelf.old answer.now) result }
-    ensures exactly { (verdict : Status) → TextsDecide (H.held shelf.old model.now) (H.held shelf.old answer.now) verdict → Answers result verdict }
-    ensures read { result ≡ Status.ReadFault → FailedFor (H.held shelf.old model.now) (H.faults shelf.old model.now) (H.faults shelf.new model.now) (H.faults shelf.old answer.now) (H.faults shelf.new answer.now) }
+    ensures found { JudgesAs OfSomeText (H.held shelf.old model.now) (H.held shelf.old answer.now) result ⊎ IsSilent result }
+    ensures exactly { (verdict : Status) → DecidesCheck (H.held shelf.old model.now) (H.held shelf.old answer.now) verdict → IsAnswered verdict result }
+    ensures read { result ≡ Status.ReadFault → FailedOf (H.held shelf.old) (model.now ∷ answer.now ∷ []) (H.faults shelf.old) (H.faults shelf.new) }
+    ensures reads { ReadsModelFirst H.reads (H.held shelf.old) (model.now ∷ answer.now ∷ []) (is_read_fault result) shelf.old shelf.new }
     ensures counts { NoneFell (H.faults shelf.old) (H.faults shelf.new) }
     ensures kept { KeepsTexts (H.held shelf.old) (H.held shelf.new) }
 {
@@ -32,19 +35,26 @@ fn checked(end: Result<Accepted, AnswerEnd>) -> Status
     ensures { result ≡ status_of end }
 {
     match end {
-        Ok(
-            Accepted::Lasso {
-                property,
-                positions,
-                from,
-            },
-        ) => Status::Done(Done::Lasso {
-            property,
-            positions,
-            from,
-        }),
+        Ok(found) => Status::Done(done_of(found)),
         Err(AnswerEnd::Refused(fault)) => Status::Refused(fault),
         Err(AnswerEnd::ReadFault) => Status::ReadFault,
         Err(AnswerEnd::Memory) => Status::Memory,
+    }
+}
+
+/// What was done where an answer was accepted.
+fn done_of(found: Accepted) -> Done
+    ensures { result ≡ done_of found }
+{
+    match found {
+        Accepted::Lasso {
+            property,
+            positions,
+            from,
+        } => Done::Lasso {
+            property,
+            positions,
+            from,
+        },
     }
 }

@@ -1,19 +1,20 @@
 //! The commands. The main call is `outcome_of`, which does what the words ask for. Writes nothing.
 
-ghost use Rattle.std.specs.Prelude.{◌≡◌, ◌⊎◌, true, IfOk, IfErr};
+ghost use Rattle.std.specs.Prelude.{◌≡◌, ◌⊎◌, List, ℕ, true, false, IfOk, IfErr};
 ghost use Rattle.edge.specs.Faults.{NoneFell};
 ghost use Rattle.edge.specs.Reads.{KeepsTexts};
-ghost use Rattle.fair_top.specs.declared.status.Done.TheVariants.{Printed};
-ghost use Rattle.fair_top.specs.declared.requests.Request.{Request as RequestOf};
-ghost use Rattle.fair_top.specs.Commands.{bytes_of, IsGen, IsUsage, IsTakenOrUsage, AsksForModel};
-ghost use Rattle.fair_top.specs.Headline.{IsFound, IsVerdict, GoesWith, Answers, ReadFailed};
-ghost use Rattle.fair_top.specs.Statuses.{ends_silently, ends_with};
+ghost use Rattle.fair_top.specs.Words.{bytes_of};
+ghost use Rattle.fair_top.specs.Asked.{names_in};
+ghost use Rattle.fair_top.specs.Asking.{meant};
+ghost use Rattle.fair_top.specs.Commands.{Gives, Decides};
+ghost use Rattle.fair_top.specs.Headline.{AsksFor, IsTakenOrUsage, ReadsNothing, Ends, IsSilent, IsVerdict, IsAnswered, FailedOf, ReadFailed, ReadsModelFirst, HasRead};
+ghost use Rattle.fair_top.specs.Statuses.{ends_with, is_read_fault};
 
 use crate::checking::check;
 use crate::generating::generate;
 use crate::requests::Asked;
 use crate::status::Status;
-use crate::texts::{Outcome, told};
+use crate::texts::{Outcome, with_text};
 use crate::words::asked_of;
 use edge::Shelf;
 use std::alloc::Global;
@@ -25,20 +26,37 @@ pub(crate) fn outcome_of<H: Shelf>(
     words: &[String],
     shelf: &mut H,
 ) -> Result<Outcome, Status>
-    ensures found { IsFound (H.held shelf.old) (bytes_of words.now) (ends_with result) }
-    ensures exactly { (verdict : Status) → IsVerdict (H.held shelf.old) (bytes_of words.now) verdict → Answers (ends_with result) verdict }
+    ensures found { IfOk result (λ outcome. Ends (H.held shelf.old) (bytes_of words.now) outcome.status outcome.text.items) }
+    ensures silent { IfErr result IsSilent }
+    ensures aloud { IfOk result (λ outcome. is_read_fault outcome.status ≡ false) }
+    ensures exactly { (verdict : Status) → IsVerdict (H.held shelf.old) (bytes_of words.now) verdict → IsAnswered verdict (ends_with result) }
     ensures words { IsTakenOrUsage (bytes_of words.now) }
-    ensures printed { (request : RequestOf) → IsGen (bytes_of words.now) request → (ends_with result ≡ Status.Done Printed) ⊎ (ends_with result ≡ Status.Memory) }
-    ensures text { IfOk result (λ outcome. GoesWith (bytes_of words.now) outcome.status outcome.text.items) }
-    ensures silent { IfErr result (λ status. ends_silently status ≡ true) }
     ensures read { ends_with result ≡ Status.ReadFault → ReadFailed (H.held shelf.old) (bytes_of words.now) (H.faults shelf.old) (H.faults shelf.new) }
-    ensures unread { IsUsage (bytes_of words.now) ⊎ AsksForModel (bytes_of words.now) → shelf.new ≡ shelf.old }
+    ensures reads { HasRead H.reads (H.held shelf.old) (bytes_of words.now) (ends_with result) shelf.old shelf.new }
+    ensures unread { ReadsNothing (bytes_of words.now) → shelf.new ≡ shelf.old }
     ensures counts { NoneFell (H.faults shelf.old) (H.faults shelf.new) }
     ensures kept { KeepsTexts (H.held shelf.old) (H.held shelf.new) }
 {
     match asked_of(alloc, words) {
-        Ok(Asked::Check { model, answer }) => told(alloc, check(alloc, shelf, model, answer)),
-        Ok(Asked::Gen(request)) => generate(alloc, &request),
-        Err(status) => told(alloc, status),
+        Ok(asked) => outcome_for(alloc, asked, shelf),
+        Err(status) => with_text(alloc, status),
+    }
+}
+
+/// The same for what is asked for: a case for each command.
+fn outcome_for<H: Shelf>(alloc: Global, asked: Asked, shelf: &mut H) -> Result<Outcome, Status>
+    requires { (words : List (List ℕ)) × AsksFor words (meant asked) }
+    ensures found { IfOk result (λ outcome. Gives (H.held shelf.old) (meant asked.entry) outcome.status outcome.text.items) }
+    ensures silent { IfErr result IsSilent }
+    ensures aloud { IfOk result (λ outcome. is_read_fault outcome.status ≡ false) }
+    ensures exactly { (verdict : Status) → Decides (H.held shelf.old) (meant asked.entry) verdict → IsAnswered verdict (ends_with result) }
+    ensures read { ends_with result ≡ Status.ReadFault → FailedOf (H.held shelf.old) (names_in (meant asked.entry)) (H.faults shelf.old) (H.faults shelf.new) }
+    ensures reads { ReadsModelFirst H.reads (H.held shelf.old) (names_in (meant asked.entry)) (is_read_fault (ends_with result)) shelf.old shelf.new }
+    ensures counts { NoneFell (H.faults shelf.old) (H.faults shelf.new) }
+    ensures kept { KeepsTexts (H.held shelf.old) (H.held shelf.new) }
+{
+    match asked {
+        Asked::Check { model, answer } => with_text(alloc, check(alloc, shelf, model, answer)),
+        Asked::Gen(request) => generate(alloc, &request),
     }
 }

@@ -2,10 +2,10 @@
 
 ghost use Rattle.std.specs.Prelude.{◌≡◌, ◌≤◌, IfOk, IfErr};
 ghost use Rattle.aiger_grammar.specs.Ordered.{IsOrdered};
-ghost use Rattle.fair_top.specs.Generating.{asked_model, IsTextOfRequest};
+ghost use Rattle.fair_top.specs.Gen.{asked_model, IsTextOfRequest};
 ghost use Rattle.fair_top.specs.declared.status.Done.TheVariants.{Printed};
 
-use crate::requests::{Kind, Request};
+use crate::requests::{GenKind, GenRequest};
 use crate::status::{Done, Status};
 use crate::texts::Outcome;
 use aiger_names::Model;
@@ -13,14 +13,14 @@ use model_gen::{ring, scramble};
 use std::alloc::{AllocError, Global};
 
 /// The text of the model that is asked for. The error is `Memory`.
-pub(crate) fn generate(alloc: Global, request: &Request) -> Result<Outcome, Status>
+pub(crate) fn generate(alloc: Global, request: &GenRequest) -> Result<Outcome, Status>
     requires some { 1 ≤ request.now.size }
     requires few { request.now.size ≤ 256 }
     ensures done { IfOk result (λ outcome. outcome.status ≡ Status.Done Printed) }
     ensures text { IfOk result (λ outcome. IsTextOfRequest request.now outcome.text.items) }
     ensures ended { IfErr result (λ status. status ≡ Status.Memory) }
 {
-    match model_text(alloc, request) {
+    match generated_text(alloc, request) {
         Ok(text) => Ok(Outcome {
             status: Status::Done(Done::Printed),
             text,
@@ -29,7 +29,7 @@ pub(crate) fn generate(alloc: Global, request: &Request) -> Result<Outcome, Stat
     }
 }
 
-fn model_text(alloc: Global, request: &Request) -> Result<Vec<u8>, AllocError>
+fn generated_text(alloc: Global, request: &GenRequest) -> Result<Vec<u8>, AllocError>
     requires some { 1 ≤ request.now.size }
     requires few { request.now.size ≤ 256 }
     ensures { IfOk result (λ text. IsTextOfRequest request.now text.items) }
@@ -42,14 +42,14 @@ fn model_text(alloc: Global, request: &Request) -> Result<Vec<u8>, AllocError>
     }
 }
 
-fn asked_model(alloc: Global, request: &Request) -> Result<Model, AllocError>
+fn asked_model(alloc: Global, request: &GenRequest) -> Result<Model, AllocError>
     requires some { 1 ≤ request.now.size }
     requires few { request.now.size ≤ 256 }
     ensures model { IfOk result (λ model. model ≡ asked_model request.now) }
     ensures ordered { IfOk result IsOrdered }
 {
     match request.kind {
-        Kind::Ring => ring(alloc, request.seed, request.size),
-        Kind::Scramble => scramble(alloc, request.seed, request.size),
+        GenKind::Ring => ring(alloc, request.seed, request.size),
+        GenKind::Scramble => scramble(alloc, request.seed, request.size),
     }
 }

@@ -19,6 +19,6 @@ mod words;
 pub use answers::check_answer;
 pub use ends::{Accepted, AnswerEnd, AnswerFault};
 pub use laws::answer_laws;
-pub use requests::{Kind, Request};
+pub use requests::{GenKind, GenRequest};
 pub use running::{run, run_alone};
 pub use status::{Done, Status};

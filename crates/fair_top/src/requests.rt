@@ -6,13 +6,13 @@ pub(crate) enum Asked<'a> {
     /// Check the answer under one name against the model under the other.
     Check { model: &'a str, answer: &'a str },
     /// Write a generated model.
-    Gen(Request),
+    Gen(GenRequest),
 }
 
 /// Which generated model is asked for, and in which form.
 #[derive(Clone, Copy, Debug, PartialEq, Eq)]
-pub struct Request {
-    pub kind: Kind,
+pub struct GenRequest {
+    pub kind: GenKind,
     /// 0 to 4,294,967,295.
     pub seed: u64,
     /// The number of latches, 1 to 256.
@@ -23,7 +23,7 @@ pub struct Request {
 
 /// The kinds of generated models.
 #[derive(Clone, Copy, Debug, PartialEq, Eq)]
-pub enum Kind {
+pub enum GenKind {
     /// Latches in a ring, of which one begins with 1.
     Ring,
     /// Two inputs, latches and twice as many gates, whose literals are drawn.

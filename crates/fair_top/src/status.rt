@@ -8,7 +8,7 @@ use circuit::ModelFault;
 use edge::ReadEnd;
 
 /// How a run of the program ended.
-#[derive(Clone, Copy, Debug, PartialEq, Eq)]
+#[derive(Debug, PartialEq, Eq, Drop)]
 pub enum Status {
     /// The command did its work.
     Done(Done),
@@ -27,7 +27,7 @@ pub enum Status {
 }
 
 /// What a command did.
-#[derive(Clone, Copy, Debug, PartialEq, Eq)]
+#[derive(Debug, PartialEq, Eq, Drop)]
 pub enum Done {
     /// The stimulus of the answer stands for a fair lasso of this property, counted from 0: its number of positions,
     /// and the place, counted from 0, that its last position steps back to.

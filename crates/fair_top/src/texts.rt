@@ -1,8 +1,8 @@
-//! The text that each status writes. The main call is `told`.
+//! The text that each status writes. The main call is `with_text`.
 
 ghost use Rattle.std.specs.Prelude.{◌≡◌, ◌⊎◌, ◌++◌, true, false, IfOk, IfErr, OnOk, codes, decimal};
-ghost use Rattle.fair_top.specs.Statuses.{ends_silently, ends_with};
-ghost use Rattle.fair_top.specs.Texts.{text_of, line_with, model_text, replay_text, answer_text, done_text};
+ghost use Rattle.fair_top.specs.Statuses.{ends_silently, ends_with, is_read_fault};
+ghost use Rattle.fair_top.specs.Texts.{text_of, line_with, bad_model_text, replay_text, refusal_text, done_text};
 
 use crate::ends::AnswerFault;
 use crate::status::{Done, Status};
@@ -23,11 +23,12 @@ pub(crate) struct Outcome {
 }
 
 /// The status with its own text, or the status alone where nothing is written with it; or `Memory`.
-pub(crate) fn told(alloc: Global, status: Status) -> Result<Outcome, Status>
+pub(crate) fn with_text(alloc: Global, status: Status) -> Result<Outcome, Status>
     ensures status { (ends_with result ≡ status) ⊎ (ends_with result ≡ Status.Memory) }
     ensures text { IfOk result (λ outcome. (outcome.status ≡ status) × (outcome.text.items ≡ text_of status)) }
     ensures aloud { IfOk result (λ outcome. ends_silently status ≡ false) }
     ensures silent { IfErr result (λ other. ends_silently other ≡ true) }
+    ensures fault { is_read_fault (ends_with result) ≡ is_read_fault status }
 {
     if is_silent(&status) {
         return Err(status);
@@ -75,7 +76,7 @@ fn numbered(alloc: Global, text: &str, number: u64) -> Result<Vec<u8>, AllocErro
 }
 
 fn text_of_model(alloc: Global, fault: &ModelFault) -> Result<Vec<u8>, AllocError>
-    ensures { IfOk result (λ line. line.items ≡ model_text fault.now) }
+    ensures { IfOk result (λ line. line.items ≡ bad_model_text fault.now) }
 {
     match *fault {
         ModelFault::Header(place) => numbered(alloc, "model refused header ", place),
@@ -92,7 +93,7 @@ fn text_of_model(alloc: Global, fault: &ModelFault) -> Result<Vec<u8>, AllocErro
 }
 
 fn text_of_answer(alloc: Global, fault: &AnswerFault) -> Result<Vec<u8>, AllocError>
-    ensures { IfOk result (λ line. line.items ≡ answer_text fault.now) }
+    ensures { IfOk result (λ line. line.items ≡ refusal_text fault.now) }
 {
     match fault {
         AnswerFault::Shape(line) => numbered(alloc, "refused shape line ", *line),

@@ -1,18 +1,23 @@
 //! The words of the command line, read with `clap`. The main call is `asked_of`.
 
-ghost use Rattle.std.specs.Prelude.{◌≡◌, ◌⊎◌, ◌≤◌, ◌<◌, ◌^◌, ℕ, List, Some, IfOk, IfErr, IfSome, codes, false};
+ghost use Rattle.std.specs.Prelude.{◌≡◌, ◌⊎◌, ◌≤◌, ◌<◌, ◌^◌, ℕ, List, Some, option_map, IfOk, IfErr, IfSome, IfNone, codes, false};
 ghost use Rattle.clap.specs.Simple.{app_of, subcommand_rows_of, subcommand_of};
-ghost use Rattle.clap.specs.Walk.{Row, rows_of};
+ghost use Rattle.clap.specs.Walk.{Row, rows_of, first_of};
 ghost use Rattle.clap.specs.Matches.{found_of};
 ghost use Rattle.clap.specs.Kinds.{FailsBy};
 ghost use Rattle.clap.specs.declared.builder.command.Command.TheViews.{out-Command as fields_of};
 ghost use Rattle.clap.specs.Faults.{fault_of};
-ghost use Rattle.fair_top.specs.declared.requests.Kind.{Kind as KindOf};
-ghost use Rattle.fair_top.specs.declared.requests.Request.{Request as RequestOf};
-ghost use Rattle.fair_top.specs.Commands.{bytes_of, fairlive, check_command, gen_command, name_in, flag_in, name_of_kind, IsNumberIn, IsRequest, IsUsage, IsTakenOrUsage, AsksFor};
-ghost use Rattle.fair_top.specs.Asking.{IsMet, MeansAsked, MeansNoRequest};
+ghost use Rattle.fair_top.specs.declared.requests.GenKind.{GenKind as KindOf};
+ghost use Rattle.fair_top.specs.declared.requests.GenRequest.{GenRequest as RequestOf};
+ghost use Rattle.fair_top.specs.Words.{bytes_of, flag_in, IsGiven, IsNumberIn, IsNumberGiven};
+ghost use Rattle.fair_top.specs.Asked.{Asked as AskedFor};
+ghost use Rattle.fair_top.specs.Check.{check_command, MeansCheck};
+ghost use Rattle.fair_top.specs.Gen.{gen_command, name_of_kind, MeansGen};
+ghost use Rattle.fair_top.specs.Commands.{fairlive, Means};
+ghost use Rattle.fair_top.specs.Headline.{AsksFor, IsUsage, IsTakenOrUsage};
+ghost use Rattle.fair_top.specs.Asking.{meant, MetFor};
 
-use crate::requests::{Asked, Kind, Request};
+use crate::requests::{Asked, GenKind, GenRequest};
 use crate::status::Status;
 use clap::builder::ValueParser;
 use clap::error::ErrorKind;
@@ -22,12 +27,15 @@ use std::alloc::{AllocError, Global};
 /// What the words ask for, where `clap` takes them and their values are such as the command takes. The status is `Usage`
 /// where they are not, or `Memory`.
 pub(crate) fn asked_of<'a>(alloc: Global, words: &'a [String]) -> Result<Asked<'a>, Status>
-    ensures found { IfOk result (AsksFor (bytes_of words.now)) }
+    ensures found { IfOk result (λ asked. AsksFor (bytes_of words.now) (meant asked)) }
     ensures either { IsTakenOrUsage (bytes_of words.now) }
     ensures ended { IfErr result (λ status. ((status ≡ Status.Usage) × IsUsage (bytes_of words.now)) ⊎ (status ≡ Status.Memory)) }
 {
     match matches_of(alloc, words) {
-        Ok(matches) => asked_by(&matches),
+        Ok(matches) => match asked_by(&matches) {
+            Some(asked) => Ok(asked),
+            None => Err(Status::Usage),
+        },
         Err(error) => match error.kind() {
             ErrorKind::OutOfMemory => Err(Status::Memory),
             _ => Err(Status::Usage),
@@ -44,7 +52,7 @@ fn matches_of<'a>(alloc: Global, words: &'a [String]) -> Result<ArgMatches<'a>, 
     command.try_get_matches_from(words)
 }
 
-/// The program and its commands.
+/// The program and its commands: a line for each.
 fn program<'a>(alloc: Global) -> Result<Command<'a>, AllocError>
     ensures { IfOk result (λ command. app_of command ≡ fairlive) }
 {
@@ -55,6 +63,20 @@ fn program<'a>(alloc: Global) -> Result<Command<'a>, AllocError>
         .subcommand(gen_command(alloc)?)
 }
 
+/// What the command that was met asks for, if it is one of the program's and its values are a request: a case for each.
+fn asked_by<'a>(matches: &ArgMatches<'a>) -> Option<Asked<'a>>
+    ensures found { IfSome result (λ asked. MetFor (subcommand_rows_of matches.now) (meant asked)) }
+    ensures none { IfNone result ((asked : AskedFor) → MetFor (subcommand_rows_of matches.now) asked → ⊥) }
+{
+    if let Some(given) = matches.subcommand_matches("check") {
+        return check_of(given);
+    }
+    if let Some(given) = matches.subcommand_matches("gen") {
+        return gen_of(given);
+    }
+    None
+}
+
 fn check_command<'a>(alloc: Global) -> Result<Command<'a>, AllocError>
     ensures shape { IfOk result (λ command. app_of command ≡ check_command) }
     ensures local { IfOk result (λ command. (fields_of command).has_globals ≡ false) }
@@ -62,6 +84,16 @@ fn check_command<'a>(alloc: Global) -> Result<Command<'a>, AllocError>
     let model = Arg::new(alloc, "MODEL").required(true);
     let answer = Arg::new(alloc, "ANSWER").required(true);
     Command::new(alloc, "check").arg(model)?.arg(answer)
+}
+
+/// The names that `check` is given.
+fn check_of<'a>(given: &ArgMatches<'a>) -> Option<Asked<'a>>
+    ensures found { IfSome result (λ asked. Means (meant asked) (codes "check") (rows_of (found_of given.now))) }
+    ensures none { IfNone result ((model : List ℕ) (answer : List ℕ) → MeansCheck (rows_of (found_of given.now)) model answer → ⊥) }
+{
+    let model = value_of(given, "MODEL")?;
+    let answer = value_of(given, "ANSWER")?;
+    Some(Asked::Check { model, answer })
 }
 
 /// KIND is tested by the program itself, see `kind_of`.
@@ -86,37 +118,23 @@ fn gen_command<'a>(alloc: Global) -> Result<Command<'a>, AllocError>
         .arg(binary)
 }
 
-/// What the command that was met asks for. The status is `Usage`.
-fn asked_by<'a>(matches: &ArgMatches<'a>) -> Result<Asked<'a>, Status>
-    requires { IsMet (subcommand_rows_of matches.now) }
-    ensures found { IfOk result (MeansAsked (subcommand_rows_of matches.now)) }
-    ensures ended { IfErr result (λ status. (status ≡ Status.Usage) × MeansNoRequest (subcommand_rows_of matches.now)) }
+/// The request that the values of `gen` are.
+fn gen_of<'a>(given: &ArgMatches<'a>) -> Option<Asked<'a>>
+    ensures found { IfSome result (λ asked. Means (meant asked) (codes "gen") (rows_of (found_of given.now))) }
+    ensures none { IfNone result ((request : RequestOf) → MeansGen (rows_of (found_of given.now)) request → ⊥) }
 {
-    if let Some(given) = matches.subcommand_matches("check") {
-        return Ok(Asked::Check {
-            model: value_of(given, "MODEL"),
-            answer: value_of(given, "ANSWER"),
-        });
-    }
-    match matches.subcommand_matches("gen") {
-        Some(given) => match request_of(given) {
-            Some(request) => Ok(Asked::Gen(request)),
-            None => Err(Status::Usage),
-        },
-        None => unreachable!(),
-    }
+    Some(Asked::Gen(request_of(given)?))
 }
 
-/// The request that the values of `gen` are.
-fn request_of(given: &ArgMatches) -> Option<Request>
-    ensures found { IfSome result (IsRequest (rows_of (found_of given.now))) }
-    ensures exactly { (request : RequestOf) → IsRequest (rows_of (found_of given.now)) request → result ≡ Some request }
+fn request_of(given: &ArgMatches) -> Option<GenRequest>
+    ensures found { IfSome result (MeansGen (rows_of (found_of given.now))) }
+    ensures none { IfNone result ((request : RequestOf) → MeansGen (rows_of (found_of given.now)) request → ⊥) }
 {
-    let kind = kind_of(value_of(given, "KIND"))?;
-    let seed = number_in(value_of(given, "SEED"), 0, 4_294_967_295)?;
-    let size = number_in(value_of(given, "SIZE"), 1, 256)?;
+    let kind = kind_of(value_of(given, "KIND")?)?;
+    let seed = number_of(given, "SEED", 0, 4_294_967_295)?;
+    let size = number_of(given, "SIZE", 1, 256)?;
     let binary = flag_of(given, "binary");
-    Some(Request {
+    Some(GenRequest {
         kind,
         seed,
         size,
@@ -125,17 +143,25 @@ fn request_of(given: &ArgMatches) -> Option<Request>
 }
 
 /// The kind of this name.
-fn kind_of(name: &str) -> Option<Kind>
+fn kind_of(name: &str) -> Option<GenKind>
     ensures found { IfSome result (λ kind. name.now ≡ name_of_kind kind) }
     ensures exactly { (kind : KindOf) → name.now ≡ name_of_kind kind → result ≡ Some kind }
 {
     if name == "ring" {
-        return Some(Kind::Ring);
+        return Some(GenKind::Ring);
     }
     if name == "scramble" {
-        return Some(Kind::Scramble);
+        return Some(GenKind::Scramble);
     }
     None
+}
+
+/// The number that is given for a name, if it is from the low one to the high one.
+fn number_of(given: &ArgMatches, name: &str, low: u64, high: u64) -> Option<u64>
+    ensures found { IfSome result (IsNumberGiven (rows_of (found_of given.now)) name.now low high) }
+    ensures none { IfNone result ((n : ℕ) → IsNumberGiven (rows_of (found_of given.now)) name.now low high n → ⊥) }
+{
+    number_in(value_of(given, name)?, low, high)
 }
 
 /// The number that the text is, if it is from the low one to the high one.
@@ -164,15 +190,15 @@ fn within(number: u64, low: u64, high: u64) -> Option<u64>
 fn flag_of(given: &ArgMatches, name: &str) -> bool
     ensures { result ≡ flag_in (rows_of (found_of given.now)) name.now }
 {
-    value_of(given, name) == "true"
+    match value_of(given, name) {
+        Some(text) => text == "true",
+        None => false,
+    }
 }
 
 /// The text that was given for a name.
-fn value_of<'a>(given: &ArgMatches<'a>, name: &str) -> &'a str
-    ensures { name_in (rows_of (found_of given.now)) name.now ≡ result.now }
+fn value_of<'a>(given: &ArgMatches<'a>, name: &str) -> Option<&'a str>
+    ensures { option_map (λ text. text.now) result ≡ first_of name.now (rows_of (found_of given.now)) }
 {
-    match given.get_str(name) {
-        Some(text) => text,
-        None => "",
-    }
+    given.get_str(name)
 }

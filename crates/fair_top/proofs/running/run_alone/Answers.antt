@@ -1,11 +1,23 @@
-use Rattle.std.proofs.Common.{List, ℕ, subst}
-use Rattle.edge.specs.Writes.{Adds}
-use Rattle.fair_top.specs.Commands.{bytes_of}
-use Rattle.fair_top.proofs.Written.{written}
+use Rattle.fair_top.specs.Words.{bytes_of}
+use Rattle.fair_top.proofs.Ending.{is_printed, read_before, written, part_written}
 use Rattle.fair_top.proofs.running.run_alone.Goals as goal
+
+pub returns-in-Ok-write_all-clause-printed : goal.returns-in-Ok-write_all-clause-printed
+returns-in-Ok-write_all-clause-printed g c = λ request asks.
+    is_printed (g.H.Shelf.held c.args.shelf.now) (bytes_of c.args.words.now) (g.H.Shelf.faults c.args.shelf.now) (g.H.Shelf.faults c.outcome_of.new.shelf)
+    request c.in-Ok.field-0.status asks c.in-Ok.ensures.exactly c.in-Ok.ensures.read
 
 pub returns-in-Ok-write_all-clause-text : goal.returns-in-Ok-write_all-clause-text
 returns-in-Ok-write_all-clause-text g c =
     written (g.H.Shelf.held c.args.shelf.now) (bytes_of c.args.words.now) (g.O.Sink.taken c.args.out.now) (g.O.Sink.taken c.write_all.new.sink)
-    c.in-Ok.outcome.status c.in-Ok.outcome.text.items c.in-Ok.ensures.text
-    (subst (λ (bytes : List ℕ). Adds (g.O.Sink.taken c.args.out.now) (g.O.Sink.taken c.write_all.new.sink) bytes) c.deref.ensures.value c.in-Ok-write_all.ensures.all)
+    c.in-Ok.field-0.status c.in-Ok.field-0.text.items c.deref.result.now c.deref.ensures.value c.in-Ok.ensures.found c.in-Ok-write_all.ensures.all
+
+pub returns-in-Ok-clause-text : goal.returns-in-Ok-clause-text
+returns-in-Ok-clause-text g c =
+    part_written (g.H.Shelf.held c.args.shelf.now) (bytes_of c.args.words.now) (g.O.Sink.taken c.args.out.now) (g.O.Sink.taken c.write_all.new.sink)
+    c.in-Ok.field-0.status c.in-Ok.field-0.text.items c.deref.result.now c.deref.ensures.value c.in-Ok.ensures.found c.in-Err-write_all.ensures.part
+
+pub returns-in-Ok-clause-reads : goal.returns-in-Ok-clause-reads
+returns-in-Ok-clause-reads g c =
+    read_before g.H.Shelf.reads (g.H.Shelf.held c.args.shelf.now) (bytes_of c.args.words.now) c.in-Ok.field-0.status c.args.shelf.now c.outcome_of.new.shelf
+    c.in-Ok.ensures.aloud c.in-Ok.ensures.reads

@@ -2,7 +2,7 @@ use Rattle.std.proofs.Common.{rules, ap₂, codes, Bool, false, ◌||◌, ◌≡
 use Rattle.std.proofs.lemmas.Result.{IfOk-weaker}
 use Rattle.clap.specs.Walk.{rule_of}
 use Rattle.clap.specs.Simple.{app_of, new_app, with_rule}
-use Rattle.fair_top.specs.Commands.{wanted, wanted_number, flag}
+use Rattle.fair_top.specs.Words.{wanted, wanted_number, flag}
 use Rattle.fair_top.proofs.words.gen_command.Goals as goal
 
 pub returns-clause-shape : goal.returns-clause-shape

@@ -1,0 +1,66 @@
+-- How a run ends, from what is asked for and from what its command gives.
+use Rattle.std.proofs.Common.{◌≡◌, ◌⊎◌, inl, inr, ℕ, Bool, false, List, refl, sym, subst}
+use Rattle.std.specs.Prelude.{Option}
+use Rattle.edge.specs.Writes.{Adds, AddsPart}
+use Rattle.fair_top.specs.declared.requests.GenRequest.{GenRequest}
+use Rattle.fair_top.specs.declared.status.Status.{Status}
+use Rattle.fair_top.specs.declared.status.Status.TheVariants as statuses
+use Rattle.fair_top.specs.declared.status.Done.TheVariants.{Printed}
+use Rattle.fair_top.specs.Asked.{Asked, Gen, names_in}
+use Rattle.fair_top.specs.Commands.{Decides}
+use Rattle.fair_top.specs.Headline.{AsksFor, IsUsage, Ends, IsVerdict, IsAnswered, Writes, FailedOf, ReadFailed, ReadsModelFirst, HasRead}
+use Rattle.fair_top.specs.Statuses.{is_read_fault}
+use Rattle.fair_top.proofs.Taken.{one_asked, not_usage}
+
+-- what is decided for what is asked for is decided for the words
+pub exact_for : (held : List ℕ → Option (List ℕ)) (words : List (List ℕ)) (asked : Asked) (result : Status) → AsksFor words asked
+    → ((verdict : Status) → Decides held asked verdict → IsAnswered verdict result)
+    → (verdict : Status) → IsVerdict held words verdict → IsAnswered verdict result
+exact_for held words asked result asks exact verdict (inl usage) = absurd (not_usage words asked asks usage.0)
+exact_for held words asked result asks exact verdict (inr (other, others, d)) =
+    exact verdict (subst (λ (a : Asked). Decides held a verdict) (one_asked words other asked others asks) d)
+
+-- another status in the place of one that is answered: that status, or want of memory
+pub still_answered : (verdict status result : Status) → (result ≡ status) ⊎ (result ≡ statuses.Memory) → IsAnswered verdict status → IsAnswered verdict result
+still_answered verdict status result (inl same) h = subst (λ (s : Status). IsAnswered verdict s) (sym same) h
+still_answered verdict status result (inr memory) h = inr memory
+
+-- words that are no command
+pub usage_exact : (held : List ℕ → Option (List ℕ)) (words : List (List ℕ)) (verdict : Status) → IsUsage words → IsVerdict held words verdict → IsAnswered verdict statuses.Usage
+usage_exact held words verdict usage (inl (_, e)) = inl (inl (inl (sym e)))
+usage_exact held words verdict usage (inr (asked, asks, d)) = absurd (not_usage words asked asks usage)
+
+-- `gen` is answered with its model
+pub is_printed : (held : List ℕ → Option (List ℕ)) (words : List (List ℕ)) (before now : List ℕ → ℕ) (request : GenRequest) (status : Status)
+    → AsksFor words (Gen request) → ((verdict : Status) → IsVerdict held words verdict → IsAnswered verdict status)
+    → (status ≡ statuses.ReadFault → ReadFailed held words before now)
+    → (status ≡ statuses.Done Printed) ⊎ ((status ≡ statuses.Memory) ⊎ (status ≡ statuses.WriteFault))
+is_printed held words before now request status asks exact read = by (exact (statuses.Done Printed) (inr (Gen request, asks, refl)))
+  where
+    unread : ReadFailed held words before now → ⊥
+    unread (other, others, failed) = subst (λ (a : Asked). FailedOf held (names_in a) before now) (one_asked words other (Gen request) others asks) failed
+
+    by : IsAnswered (statuses.Done Printed) status → (status ≡ statuses.Done Printed) ⊎ ((status ≡ statuses.Memory) ⊎ (status ≡ statuses.WriteFault))
+    by (inl (inl (inl e))) = inl e
+    by (inl (inl (inr (v, w, e, wrong)))) = absurd (cc)
+    by (inl (inr (inl e))) = absurd (unread (read e))
+    by (inl (inr (inr e))) = inr (inr e)
+    by (inr e) = inr (inl e)
+
+-- no read failed where the text of the end was not written whole
+pub read_before : {Shelf : Type 0} (Read : Shelf → List ℕ → Bool → Shelf → Type 0) (held : List ℕ → Option (List ℕ)) (words : List (List ℕ)) (status : Status) (old new : Shelf)
+    → is_read_fault status ≡ false → HasRead Read held words status old new → HasRead Read held words statuses.WriteFault old new
+read_before Read held words status old new none (inl (usage, same, e)) = inl (usage, same, refl)
+read_before Read held words status old new none (inr (asked, asks, reads)) =
+    inr (asked, asks, subst (λ (failed : Bool). ReadsModelFirst Read held (names_in asked) failed old new) none reads)
+
+-- What the sink took.
+
+pub written : (held : List ℕ → Option (List ℕ)) (words : List (List ℕ)) (old new : Option (List ℕ)) (status : Status) (text bytes : List ℕ)
+    → bytes ≡ text → Ends held words status text → Adds old new bytes → Writes held words old new status
+written held words old new status text bytes same ends adds = inl (text, ends, subst (λ (b : List ℕ). Adds old new b) same adds)
+
+pub part_written : (held : List ℕ → Option (List ℕ)) (words : List (List ℕ)) (old new : Option (List ℕ)) (status : Status) (text bytes : List ℕ)
+    → bytes ≡ text → Ends held words status text → AddsPart old new bytes → Writes held words old new statuses.WriteFault
+part_written held words old new status text bytes same ends part =
+    inr (inr (refl, status, text, ends, subst (λ (b : List ℕ). AddsPart old new b) same part))

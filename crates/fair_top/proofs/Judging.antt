@@ -1,0 +1,119 @@
+-- The verdict on both texts, from the model and the end of the check.
+use Rattle.std.proofs.Common.{◌≡◌, ◌⊎◌, ℕ, ◌≤◌, Bool, false, List, [], ◌∷◌, Some, refl, sym, ◌∙◌, ap, subst, inl, inr, arith, Ok, Err}
+use Rattle.std.specs.Prelude.{Option, Result}
+use Rattle.aig_semantics.specs.Circuits.{Circuit}
+use Rattle.aiger_grammar.specs.Models.{Model}
+use Rattle.aiger_grammar.specs.BothForms.{SameFault}
+use Rattle.circuit.specs.declared.faults.ModelFault.{ModelFault}
+use Rattle.edge.specs.Faults.{Rose}
+use Rattle.edge.specs.Reads.{Reads}
+use Rattle.fair_top.specs.declared.ends.Accepted.{Accepted}
+use Rattle.fair_top.specs.declared.ends.AnswerEnd.{AnswerEnd}
+use Rattle.fair_top.specs.declared.ends.AnswerEnd.TheVariants as ends
+use Rattle.fair_top.specs.declared.status.Status.{Status}
+use Rattle.fair_top.specs.declared.status.Status.TheVariants as statuses
+use Rattle.fair_top.specs.Answers.{DecidesEnd}
+use Rattle.fair_top.specs.ModelTexts.{IsModelText}
+use Rattle.fair_top.specs.ModelGiven.{OfSomeText}
+use Rattle.fair_top.specs.Check.{status_of, JudgesAs, DecidesCheck}
+use Rattle.fair_top.specs.Statuses.{is_read_fault, has_unread}
+use Rattle.fair_top.specs.Headline.{IsSilent, IsAnswered, HoldsModel, ReadsModelFirst}
+use Rattle.fair_top.specs.Judged.{CheckSays, EndsWith, IsModelOf, IsFaultOf, EndsWithoutModel}
+
+abbrev pub End : Type 0
+End = Result Accepted AnswerEnd
+
+-- Where the model was read.
+
+-- a text that is told is the model's
+pub told_form : (told : Option (List ℕ)) (m : Model) → IsModelOf told m → (text : List ℕ) → told ≡ Some text → IsModelText m text
+told_form told m h text e = subst (IsModelText m) (sym (h.text.1 text e)) h.text.2
+
+says : (m : Model) (model answer : Option (List ℕ)) (end : End) → IsModelOf model m → CheckSays m.circuit answer end
+    → JudgesAs OfSomeText model answer (status_of end) ⊎ IsSilent (status_of end)
+says m model answer end h (inl (inl e)) = inr (inl (ap status_of e))
+says m model answer end h (inl (inr r)) = inl (inr (end, refl, (h.text.0, h.text.1, (r.0, r.1, (m, h.text.2, r.2)))))
+says m model answer end h (inr e) = inr (inr (ap status_of e))
+
+pub judged : (c : Circuit) (m : Model) (model now answer : Option (List ℕ)) (end : End) → c ≡ m.circuit → now ≡ answer
+    → IsModelOf model m → CheckSays c now end → JudgesAs OfSomeText model answer (status_of end) ⊎ IsSilent (status_of end)
+judged c m model now answer end same kept h r =
+    says m model answer end h (subst (λ (x : Circuit). CheckSays x answer end) same (subst (λ (told : Option (List ℕ)). CheckSays c told end) kept r))
+
+as_status : (end verdict : End) → EndsWith end verdict → IsAnswered (status_of verdict) (status_of end)
+as_status end verdict h = elim h [
+  | inl other ↦ elim other [ inl e ↦ inl (inl (inl (ap status_of e))) | inr e ↦ inl (inr (inl (ap status_of e))) ]
+  | inr e ↦ inr (ap status_of e)
+]
+
+exact_by : (m : Model) (model answer : Option (List ℕ)) (end : End) → IsModelOf model m
+    → ((text : List ℕ) (verdict : End) → answer ≡ Some text → DecidesEnd m.circuit text verdict → EndsWith end verdict)
+    → (verdict : Status) → DecidesCheck model answer verdict → IsAnswered verdict (status_of end)
+exact_by m model answer end h exact verdict (inl (fault, e, (text, told, bad))) = absurd (h.faultless text fault told bad)
+exact_by m model answer end h exact verdict (inr (other, e, (text, told, (claimed, claim_told, (n, form, said))))) =
+    let decided : DecidesEnd m.circuit claimed other = subst (λ (x : Model). DecidesEnd x.circuit claimed other) (sym (h.one text n told form)) said in
+    subst (λ (v : Status). IsAnswered v (status_of end)) (sym e) (as_status end other (exact claimed other claim_told decided))
+
+pub judged_exact : (c : Circuit) (m : Model) (model now answer : Option (List ℕ)) (end : End) → c ≡ m.circuit → now ≡ answer → IsModelOf model m
+    → ((text : List ℕ) (verdict : End) → now ≡ Some text → DecidesEnd c text verdict → EndsWith end verdict)
+    → (verdict : Status) → DecidesCheck model answer verdict → IsAnswered verdict (status_of end)
+judged_exact c m model now answer end same kept h exact =
+    exact_by m model answer end h (λ text verdict e d. exact text verdict (kept ∙ e) (subst (λ (x : Circuit). DecidesEnd x text verdict) (sym same) d))
+
+pub read_failed : (end : End) → status_of end ≡ statuses.ReadFault → end ≡ Err ends.ReadFault
+read_failed (Ok found) e = cc
+read_failed (Err (ends.Refused fault)) e = cc
+read_failed (Err ends.ReadFault) e = refl
+read_failed (Err ends.Memory) e = cc
+
+-- Where it was not.
+
+pub without_model : (model answer : Option (List ℕ)) (status : Status) → EndsWithoutModel model status → JudgesAs OfSomeText model answer status ⊎ IsSilent status
+without_model model answer (statuses.BadModel fault) h = inl (inl (fault, refl, h.text))
+without_model model answer statuses.ReadFault h = inr (inl refl)
+without_model model answer statuses.Memory h = inr (inr refl)
+without_model model answer (statuses.Done done) h = absurd h
+without_model model answer (statuses.Refused fault) h = absurd h
+without_model model answer statuses.WriteFault h = absurd h
+without_model model answer statuses.Usage h = absurd h
+
+same_bad : (f g : ModelFault) → SameFault f g → IsAnswered (statuses.BadModel g) (statuses.BadModel f)
+same_bad f g h = elim h [
+  | inl e ↦ inl (inl (inl (ap statuses.BadModel e)))
+  | inr two ↦ inl (inl (inr (two.0, two.1, ap statuses.BadModel two.2, ap statuses.BadModel two.3)))
+]
+
+bad_exact : (model answer : Option (List ℕ)) (fault : ModelFault) → IsFaultOf model fault
+    → (verdict : Status) → DecidesCheck model answer verdict → IsAnswered verdict (statuses.BadModel fault)
+bad_exact model answer fault h verdict (inl (other, e, (text, told, bad))) =
+    subst (λ (v : Status). IsAnswered v (statuses.BadModel fault)) (sym e) (same_bad fault other (h.one text other told bad))
+bad_exact model answer fault h verdict (inr (other, e, (text, told, (claimed, claim_told, (m, form, said))))) = absurd (h.none text m told form)
+
+pub without_model_exact : (model answer : Option (List ℕ)) (status : Status) → EndsWithoutModel model status
+    → (verdict : Status) → DecidesCheck model answer verdict → IsAnswered verdict status
+without_model_exact model answer (statuses.BadModel fault) h verdict d = bad_exact model answer fault h verdict d
+without_model_exact model answer statuses.ReadFault h verdict d = inl (inr (inl refl))
+without_model_exact model answer statuses.Memory h verdict d = inr refl
+without_model_exact model answer (statuses.Done done) h verdict d = absurd h
+without_model_exact model answer (statuses.Refused fault) h verdict d = absurd h
+without_model_exact model answer statuses.WriteFault h verdict d = absurd h
+without_model_exact model answer statuses.Usage h verdict d = absurd h
+
+-- Reads and faults.
+
+status_failed : (end : End) → is_read_fault (status_of end) ≡ has_unread end
+status_failed (Ok found) = refl
+status_failed (Err (ends.Refused fault)) = refl
+status_failed (Err ends.ReadFault) = refl
+status_failed (Err ends.Memory) = refl
+
+-- ANSWER was read after a model
+pub both_read : {Shelf : Type 0} (Read : Shelf → List ℕ → Bool → Shelf → Type 0) (held : List ℕ → Option (List ℕ)) (model answer : List ℕ)
+    (end : End) (old mid new : Shelf) → Reads Read model false old mid → HoldsModel held model → Reads Read answer (has_unread end) mid new
+    → ReadsModelFirst Read held (model ∷ answer ∷ []) (is_read_fault (status_of end)) old new
+both_read Read held model answer end old mid new first holds second =
+    inr (mid, first, holds, inl (subst (λ (failed : Bool). Reads Read answer failed mid new) (sym (status_failed end)) second))
+
+-- a count that rose since a later moment rose since an earlier one
+pub rose_since : (a b n : ℕ) → a ≤ b → Rose b n → Rose a n
+rose_since a b n le h = omega arith

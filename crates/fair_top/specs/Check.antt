@@ -1,0 +1,51 @@
+-- The command `check MODEL ANSWER`: what its words mean, and what it gives.
+use Rattle.std.specs.Prelude.{◌≡◌, ◌⊎◌, ℕ, List, Option, Result, Ok, Err, codes}
+use Rattle.clap.specs.Walk.{Row}
+use Rattle.clap.specs.Simple.{App, new_app, with_rule}
+use Rattle.fair_top.specs.declared.ends.Accepted.{Accepted}
+use Rattle.fair_top.specs.declared.ends.Accepted.TheVariants as accepted
+use Rattle.fair_top.specs.declared.ends.AnswerEnd.{AnswerEnd}
+use Rattle.fair_top.specs.declared.ends.AnswerEnd.TheVariants as ends
+use Rattle.fair_top.specs.declared.status.Status.{Status}
+use Rattle.fair_top.specs.declared.status.Status.TheVariants as statuses
+use Rattle.fair_top.specs.declared.status.Done.{Done}
+use Rattle.fair_top.specs.declared.status.Done.TheVariants as done
+use Rattle.fair_top.specs.Words.{wanted, IsGiven}
+use Rattle.fair_top.specs.Answers.{DecidesEnd}
+use Rattle.fair_top.specs.ModelTexts.{OfModel}
+use Rattle.fair_top.specs.ModelGiven.{Taking, OfText, OfSomeText, SaysBadModel}
+use Rattle.fair_top.specs.Texts.{text_of}
+
+abbrev pub check_command : App
+check_command = with_rule (with_rule (new_app (codes "check")) (wanted (codes "MODEL"))) (wanted (codes "ANSWER"))
+
+-- the names that are given
+pub record MeansCheck (rows : List Row) (model answer : List ℕ) : Type 0 where
+  pub model_name : IsGiven rows (codes "MODEL") model
+  pub answer_name : IsGiven rows (codes "ANSWER") answer
+
+-- what was done where an answer was accepted
+abbrev pub done_of : Accepted → Done
+done_of (accepted.Lasso property positions from) = done.Lasso property positions from
+
+-- the status for the end of the check of an answer
+abbrev pub status_of : Result Accepted AnswerEnd → Status
+status_of (Ok found) = statuses.Done (done_of found)
+status_of (Err (ends.Refused fault)) = statuses.Refused fault
+status_of (Err ends.ReadFault) = statuses.ReadFault
+status_of (Err ends.Memory) = statuses.Memory
+
+-- MODEL is bad; or ANSWER is accepted or refused for the circuit of MODEL. There is no other status.
+abbrev pub JudgesAs : Taking → Option (List ℕ) → Option (List ℕ) → Status → Type 0
+JudgesAs Of model answer status =
+    SaysBadModel Of model status
+    ⊎ ((end : Result Accepted AnswerEnd) × (status ≡ status_of end)
+    × Of model (λ text. Of answer (λ claimed. OfModel text (λ c. DecidesEnd c claimed end))))
+
+-- what is so of the texts that the shelf tells where `check` ends with this status, and writes this text
+abbrev pub GivesCheck : Option (List ℕ) → Option (List ℕ) → Status → List ℕ → Type 0
+GivesCheck model answer status text = JudgesAs OfSomeText model answer status × (text ≡ text_of status)
+
+-- the status that both texts decide, where they are told
+abbrev pub DecidesCheck : Option (List ℕ) → Option (List ℕ) → Status → Type 0
+DecidesCheck model answer status = JudgesAs OfText model answer status

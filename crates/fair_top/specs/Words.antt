@@ -1,0 +1,47 @@
+-- The words of the command line, by what `clap` makes of them. The first word is the program's own name.
+use Rattle.std.specs.Prelude.{◌≡◌, ◌≤◌, ℕ, Bool, false, List, map, codes, Some, unwrap_or, option_map, String, string_bytes, true}
+use Rattle.std.specs.Str.{bytes_eq}
+use Rattle.std.specs.Str.Parse.{IsNumeral, digits_value, without_leading_plus}
+use Rattle.std.specs.declared.alloc.Global.{Global}
+use Rattle.clap.specs.Walk.{Rule, Row, first_of}
+use Rattle.clap.specs.Simple.{new_rule}
+use Rattle.clap.specs.declared.builder.action.ArgAction.TheVariants.{SetTrue}
+use Rattle.clap.specs.declared.builder.value_parser.ValueParser.TheVariants.{Unsigned}
+
+abbrev pub bytes_of : List (String Global) → List (List ℕ)
+bytes_of words = map string_bytes words
+
+-- What a command takes.
+
+-- a value that a command wants
+abbrev pub wanted : List ℕ → Rule
+wanted name = record (new_rule name) { required = true }
+
+-- a number, from the low one to the high one, that a command wants
+abbrev pub wanted_number : List ℕ → ℕ → ℕ → Rule
+wanted_number name low high = record (wanted name) { parser = Some (Unsigned low high) }
+
+-- an option without a value
+abbrev pub flag : List ℕ → Rule
+flag name = record (new_rule name) { long = Some name; action = Some SetTrue }
+
+-- What it is given.
+
+-- this text is given under the name; an empty text is one, too
+abbrev pub IsGiven : List Row → List ℕ → List ℕ → Type 0
+IsGiven rows name text = first_of name rows ≡ Some text
+
+-- the text is this number in decimal, from the low one to the high one; a plus sign and zeros may stand in front
+pub record IsNumberIn (low high : ℕ) (text : List ℕ) (n : ℕ) : Type 0 where
+  pub numeral : IsNumeral 10 (without_leading_plus text)
+  pub value : digits_value 10 (without_leading_plus text) ≡ n
+  pub least : low ≤ n
+  pub most : n ≤ high
+
+-- this number, from the low one to the high one, is given under the name
+abbrev pub IsNumberGiven : List Row → List ℕ → ℕ → ℕ → ℕ → Type 0
+IsNumberGiven rows name low high n = (text : List ℕ) × IsGiven rows name text × IsNumberIn low high text n
+
+-- the flag is on, for which `clap` gives the text `true`
+abbrev pub flag_in : List Row → List ℕ → Bool
+flag_in rows name = unwrap_or (option_map (λ text. bytes_eq text (codes "true")) (first_of name rows)) false
