@@ -1,4 +1,4 @@
--- Small entries, for the worked rows.
+-- Scaffolding of the worked rows: small entries.
 use Rattle.std.specs.Prelude.{ℕ, true, false, List, [], ◌∷◌}
 use Rattle.aig_semantics.specs.Circuits.{Circuit}
 use Rattle.aig_semantics.specs.Examples.{one_latch}

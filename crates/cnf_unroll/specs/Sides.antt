@@ -1,4 +1,4 @@
--- The sides of walls, as a map keeps them.
+-- Scaffolding of inner functions. The sides of walls, as a map keeps them.
 use Rattle.std.specs.Prelude.{ℕ, Option}
 use Rattle.std.specs.Ordering.{nat_cmp}
 use Rattle.std.specs.BTreeMap.{get}
