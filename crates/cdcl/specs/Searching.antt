@@ -8,13 +8,7 @@ use Rattle.cdcl_trail.specs.Trails.{Step, value_of, literals_of, level, level_of
 use Rattle.cdcl_trail.specs.Propagation.{is_true, is_complete, IsReasonedTrail}
 use Rattle.cnf.specs.Clauses.{clause_numbered}
 use Rattle.cdcl_learn.specs.declared.learning.Learned.{Learned}
-
--- the variables of the literals are among these
-abbrev pub is_over : List ℕ → List Lit → Bool
-is_over vars lits = list_all (λ a. list_any (nat_eq a.var) vars) lits
-
-abbrev pub are_over : List ℕ → List (List Lit) → Bool
-are_over vars clauses = list_all (is_over vars) clauses
+pub use Rattle.cdcl.specs.Variables.{is_over, are_over}
 
 -- the variable is that of a literal of the clause
 abbrev pub has_variable : List Lit → ℕ → Bool

@@ -10,7 +10,7 @@ use Rattle.edge.specs.declared.solve_end.SolveEnd.TheVariants.{Spent as SpentEnd
 use Rattle.proof_semantics.specs.Clauses.{negation, has_literal, is_part, clauses_value, cube_value, values_of, IsImplied, is_subsumed, has_opposites}
 use Rattle.proof_semantics.specs.Proofs.{start, clause_at, judge_all, Refutes}
 use Rattle.proof_semantics.specs.declared.literals.Lit.{Lit}
-use Rattle.cdcl.specs.Searching.{is_over, are_over}
+use Rattle.cdcl.specs.Variables.{is_over, are_over}
 use Rattle.cdcl.specs.declared.solving.Answer.{Answer}
 use Rattle.cdcl.specs.declared.solving.Answer.TheVariants.{Sat, Unsat}
 
