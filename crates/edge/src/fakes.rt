@@ -8,9 +8,9 @@ use std::fs::{Metadata, OpenFile, OpenOptions};
 use std::io::{self, Read, Seek, SeekFrom, Write};
 use std::rt::Files;
 
-// The answer to what is not asked.
-fn unsupported<T>() -> io::Result<T> {
-    Err(io::Error::from(io::ErrorKind::Unsupported))
+// The error of what is not asked.
+fn refusal() -> io::Error {
+    io::Error::from(io::ErrorKind::Unsupported)
 }
 
 /// Files in memory by two names. No read of them gives more than three bytes. A move in `stream` fails.
@@ -31,7 +31,7 @@ pub(crate) struct FakeDir;
 
 impl Read for FakeDir {
     fn read(&mut self, _buf: &mut [u8]) -> io::Result<usize> {
-        unsupported()
+        Err(refusal())
     }
 }
 
@@ -52,36 +52,36 @@ impl Seek for FakeFile {
                 self.at = from as usize;
                 Ok(from)
             }
-            _ => unsupported(),
+            _ => Err(refusal()),
         }
     }
 }
 
 impl Write for FakeFile {
     fn write(&mut self, _buf: &[u8]) -> io::Result<usize> {
-        unsupported()
+        Err(refusal())
     }
 
     fn flush(&mut self) -> io::Result<()> {
-        unsupported()
+        Err(refusal())
     }
 }
 
 impl OpenFile for FakeFile {
     fn metadata(&self) -> io::Result<Metadata> {
-        unsupported()
+        Err(refusal())
     }
 
     fn set_len(&self, _size: u64) -> io::Result<()> {
-        unsupported()
+        Err(refusal())
     }
 
     fn sync_all(&self) -> io::Result<()> {
-        unsupported()
+        Err(refusal())
     }
 
     fn sync_data(&self) -> io::Result<()> {
-        unsupported()
+        Err(refusal())
     }
 }
 
@@ -107,39 +107,39 @@ impl Files for FakeFiles {
     }
 
     fn open_dir(&self, _path: &str) -> io::Result<FakeDir> {
-        unsupported()
+        Err(refusal())
     }
 
     fn metadata(&self, _path: &str) -> io::Result<Metadata> {
-        unsupported()
+        Err(refusal())
     }
 
     fn symlink_metadata(&self, _path: &str) -> io::Result<Metadata> {
-        unsupported()
+        Err(refusal())
     }
 
     fn copy(&self, _from: &str, _to: &str) -> io::Result<u64> {
-        unsupported()
+        Err(refusal())
     }
 
     fn rename(&self, _from: &str, _to: &str) -> io::Result<()> {
-        unsupported()
+        Err(refusal())
     }
 
     fn remove_file(&self, _path: &str) -> io::Result<()> {
-        unsupported()
+        Err(refusal())
     }
 
     fn create_dir(&self, _path: &str) -> io::Result<()> {
-        unsupported()
+        Err(refusal())
     }
 
     fn remove_dir(&self, _path: &str) -> io::Result<()> {
-        unsupported()
+        Err(refusal())
     }
 
     fn remove_dir_all<B: Allocator>(&self, _alloc: B, _path: &str) -> io::Result<()> {
-        unsupported()
+        Err(refusal())
     }
 }
 
@@ -153,20 +153,20 @@ pub(crate) struct FakePrint {
 
 impl Print for FakePrint {
     fn print<D: Display + Drop>(&self, _value: D) -> io::Result<()> {
-        unsupported()
+        Err(refusal())
     }
 
     fn println<D: Display + Drop>(&self, _value: D) -> io::Result<()> {
-        unsupported()
+        Err(refusal())
     }
 
     fn write_all(&self, _bytes: &[u8]) -> io::Result<()> {
-        unsupported()
+        Err(refusal())
     }
 
     fn write_some(&self, bytes: &[u8]) -> io::Result<usize> {
         if self.most == 100 {
-            return unsupported();
+            return Err(refusal());
         }
         let count = bytes.len().min(self.most);
         self.taken.set(self.taken.get().saturating_add(count));

@@ -1,4 +1,10 @@
 //! A checker of proofs in LRAT by unit propagation: what it accepts is implied.
+//!
+//! - `Checker::new`: a checker of the given clauses, before the first line
+//! - `Checker::restart`: back to the first given clauses, with more behind them
+//! - `Checker::given`: how many clauses were given
+//! - `Checker::step`: judges a line, which adds a clause or deletes some
+//! - `Checker::proved_empty`: whether an empty clause was given or added
 #![tactic(auto)]
 
 mod arena;
