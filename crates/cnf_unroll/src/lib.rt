@@ -1,4 +1,18 @@
-//! Circuits, obligations and skeletons as lists of clauses.
+//! Circuits, obligations and skeletons as lists of clauses, which a solver decides and a proof refutes.
+//!
+//! | Call | Gives |
+//! |---|---|
+//! | `step_cnf` | the clauses of one block: a position, its constraints and its successor |
+//! | `step_under_uses` | the same with the clauses of used entries, and the next free number |
+//! | `shared` | what the obligations of an entry share, and the next free number |
+//! | `broken` | the literals by which the successor breaks a clause |
+//! | `obligation` | the obligation of a clause: `shared`, and `broken` as unit clauses |
+//! | `skeleton_cnf` | a block for each literal of a property, and the used entries over all of them |
+//! | `decode` | the position and the successor that an assignment gives to a block |
+//! | `blocks_are_situations`, `obligations_tell`, `skeleton_clauses_tell` | nothing; their contracts are the laws |
+//!
+//! Variables are numbered from 1. Each error is want of memory, and comes alone where a result could not be held, which
+//! is so too of numbers from 2^63 on.
 #![tactic(auto)]
 
 mod blocks;
@@ -19,3 +33,4 @@ pub use laws::{blocks_are_situations, obligations_tell, skeleton_clauses_tell};
 pub use obligations::{Begun, broken, obligation, shared, step_under_uses};
 pub use skeletons::skeleton_cnf;
 pub use used::{ClauseSet, Used};
+
