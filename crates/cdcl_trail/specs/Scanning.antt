@@ -1,4 +1,4 @@
--- What one scan of a clause and one pass over the clauses find.
+-- Scaffolding of inner functions. What one scan of a clause and one pass over the clauses find.
 use Rattle.std.specs.Prelude.{◌≡◌, ℕ, ◌+◌, ◌<◌, Bool, true, List, [], ◌∷◌, drop, Option, None, Some, if◌then◌else◌}
 use Rattle.std.specs.List.{list_any}
 use Rattle.proof_semantics.specs.Clauses.{bool_eq, lit_eq}
