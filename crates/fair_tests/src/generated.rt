@@ -2,7 +2,7 @@
 
 ghost use Rattle.std.specs.Prelude.{◌≤◌};
 
-use crate::tests::{Outcome, TWO_FROM_0, USAGE, check, run_words};
+use crate::tests::{Outcome, TWO_FROM_0, USAGE, ends_so, run_words};
 use fair_top::{Done, Status};
 use std::alloc::Global;
 use std::sync::Wait;
@@ -59,34 +59,60 @@ fn run_gen<R: Threads + Wait + Sync>(
     run_words(rt, alloc, words, b"", "", most, &[], writes)
 }
 
+/// Whether both forms of this model are written.
+fn are_written<R: Threads + Wait + Sync>(
+    rt: &R,
+    alloc: Global,
+    kind: &str,
+    seed: &str,
+    size: &str,
+    ascii: &str,
+    binary: &[u8],
+) -> Result<bool, Fail> {
+    let words = ["fairlive", "gen", kind, seed, size];
+    let packed = ["fairlive", "gen", kind, seed, size, "--binary"];
+    Ok(
+        ends_so(rt, alloc, &words, b"", "", ascii.as_bytes(), 0)?
+            && ends_so(rt, alloc, &packed, b"", "", binary, 0)?,
+    )
+}
+
 /// The texts of both forms, at once and at one byte a call.
 #[test]
 fn models_of_gen(rt: HostRuntime) -> Result<(), Fail> {
-    for (kind, seed, size, ascii, binary) in MODELS {
-        for (words, text) in [
-            (
-                ["fairlive", "gen", kind, seed, size].as_slice(),
-                ascii.as_bytes(),
-            ),
-            (&["fairlive", "gen", kind, seed, size, "--binary"], binary),
-        ] {
-            for most in [1000, 1] {
-                let ran = run_gen(&rt, rt.alloc(), words, most, &[])?;
-                assert_eq!(rt; ran.text.as_slice(), text);
-                assert_eq!(rt; ran.status, Status::Done(Done::Printed));
-                assert_eq!(rt; ran.status.number(), 0);
-            }
-        }
+    for (kind, seed, size, ascii, binary) in &MODELS {
+        assert!(rt;
+            are_written(&rt, rt.alloc(), kind, seed, size, ascii, binary)?,
+            "{ascii}"
+        );
     }
+    let ran = run_gen(
+        &rt,
+        rt.alloc(),
+        &["fairlive", "gen", "ring", "0", "2"],
+        7,
+        &[],
+    )?;
+    assert_eq!(rt; ran.status, Status::Done(Done::Printed));
     Ok(())
 }
 
 /// The ring is checked in both forms: its latches are 10, then 01, then 10 again.
 #[test]
 fn answers_of_a_ring(rt: HostRuntime) -> Result<(), Fail> {
+    let words = ["fairlive", "check", "m", "a"];
     for model in [RING.as_bytes(), RING_IN_BINARY] {
-        let ran = check(&rt, rt.alloc(), model, "1\nj0\n10\n\n\n.\n", 1000, &[], &[])?;
-        assert_eq!(rt; ran.text.as_slice(), TWO_FROM_0.as_bytes());
+        assert!(rt;
+            ends_so(
+                &rt,
+                rt.alloc(),
+                &words,
+                model,
+                "1\nj0\n10\n\n\n.\n",
+                TWO_FROM_0.as_bytes(),
+                0
+            )?
+        );
     }
     Ok(())
 }
@@ -97,20 +123,37 @@ fn in_ascii(alloc: Global, text: &[u8]) -> Result<Vec<u8>, Fail> {
     Ok(aiger_ascii::write(alloc, &model)?)
 }
 
+/// Whether both forms of a drawn model are so long, and stand for one model.
+fn are_one_model<R: Threads + Wait + Sync>(
+    rt: &R,
+    alloc: Global,
+    seed: &str,
+    size: &str,
+    ascii: usize,
+    binary: usize,
+) -> Result<bool, Fail> {
+    let words = ["fairlive", "gen", "scramble", seed, size];
+    let plain = run_gen(rt, alloc, &words, 1000, &[])?;
+    let words = ["fairlive", "gen", "scramble", seed, size, "--binary"];
+    let packed = run_gen(rt, alloc, &words, 1000, &[])?;
+    let read = in_ascii(alloc, packed.text.as_slice())?;
+    Ok(
+        plain.status.number() == 0
+            && packed.status.number() == 0
+            && plain.text.len() == ascii
+            && packed.text.len() == binary
+            && read.as_slice() == plain.text.as_slice(),
+    )
+}
+
 /// Both forms stand for one model, also of the greatest seed and size.
 #[test]
 fn forms_of_a_scramble(rt: HostRuntime) -> Result<(), Fail> {
     for (seed, size, ascii, binary) in [("7", "2", 77, 49), ("4294967295", "256", 8849, 3282)] {
-        let words = ["fairlive", "gen", "scramble", seed, size];
-        let plain = run_gen(&rt, rt.alloc(), &words, 1000, &[])?;
-        let words = ["fairlive", "gen", "scramble", seed, size, "--binary"];
-        let packed = run_gen(&rt, rt.alloc(), &words, 1000, &[])?;
-        assert_eq!(rt; plain.status.number(), 0);
-        assert_eq!(rt; packed.status.number(), 0);
-        assert_eq!(rt; plain.text.len(), ascii);
-        assert_eq!(rt; packed.text.len(), binary);
-        let read = in_ascii(rt.alloc(), packed.text.as_slice())?;
-        assert_eq!(rt; read.as_slice(), plain.text.as_slice());
+        assert!(rt;
+            are_one_model(&rt, rt.alloc(), seed, size, ascii, binary)?,
+            "{seed} {size}"
+        );
     }
     Ok(())
 }
@@ -138,9 +181,7 @@ fn words_that_gen_refuses(rt: HostRuntime) -> Result<(), Fail> {
         &["fairlive", "gen", "ring", "0", "2", "--help"],
         &["fairlive", "gen", "ring", "0", "2", "--", "--binary"],
     ] {
-        let ran = run_gen(&rt, rt.alloc(), words, 1000, &[])?;
-        assert_eq!(rt; ran.text.as_slice(), USAGE.as_bytes());
-        assert_eq!(rt; ran.status.number(), 64);
+        assert!(rt; ends_so(&rt, rt.alloc(), words, b"", "", USAGE.as_bytes(), 64)?);
     }
     Ok(())
 }
@@ -166,30 +207,40 @@ fn words_that_gen_takes(rt: HostRuntime) -> Result<(), Fail> {
             RING_IN_BINARY,
         ),
     ] {
-        let ran = run_gen(&rt, rt.alloc(), words, 1000, &[])?;
-        assert_eq!(rt; ran.text.as_slice(), text);
-        assert_eq!(rt; ran.status.number(), 0);
+        assert!(rt; ends_so(&rt, rt.alloc(), words, b"", "", text, 0)?);
     }
     Ok(())
+}
+
+/// How a run of `gen` for the ring ends whose k-th write fails: its number, how long its text is, and whether that is
+/// the front of the ring's.
+fn cut_ring<R: Threads + Wait + Sync>(
+    rt: &R,
+    alloc: Global,
+    most: u64,
+    k: u64,
+) -> Result<(u8, usize, bool), Fail>
+    requires { 1 ≤ most }
+{
+    let words = ["fairlive", "gen", "ring", "0", "2"];
+    let ran = run_gen(rt, alloc, &words, most, &[k])?;
+    Ok((
+        ran.status.number(),
+        ran.text.len(),
+        RING.as_bytes().starts_with(ran.text.as_slice()),
+    ))
 }
 
 /// Each write failing in turn leaves a part of the text. Beside the bytes a call, how many calls a run makes.
 #[test]
 fn failing_writes_of_gen(rt: HostRuntime) -> Result<(), Fail> {
-    let words = ["fairlive", "gen", "ring", "0", "2"];
+    let whole = RING.len();
     for (most, writes) in [(1, 36), (5, 8), (1000, 1)] {
         for k in 1..45 {
-            let ran = run_gen(&rt, rt.alloc(), &words, most, &[k])?;
-            assert_eq!(rt;
-                ran.status.number(),
-                if k <= writes { 5 } else { 0 },
-                "write {k}"
-            );
-            assert!(rt;
-                RING.as_bytes().starts_with(ran.text.as_slice()),
-                "write {k}"
-            );
-            assert_eq!(rt; ran.text.len() < RING.len(), k <= writes, "write {k}");
+            let (number, len, front) = cut_ring(&rt, rt.alloc(), most, k)?;
+            assert_eq!(rt; number, if k <= writes { 5 } else { 0 }, "write {k}");
+            assert!(rt; front, "write {k}");
+            assert_eq!(rt; len < whole, k <= writes, "write {k}");
         }
     }
     Ok(())

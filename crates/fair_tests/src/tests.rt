@@ -236,17 +236,51 @@ pub(crate) fn run_words<R: Threads + Wait + Sync>(
     })
 }
 
+/// Whether a run of these words over these texts writes this text and ends with this number, at once and at one byte a
+/// call alike.
+pub(crate) fn ends_so<R: Threads + Wait + Sync>(
+    rt: &R,
+    alloc: Global,
+    words: &[&str],
+    model: &[u8],
+    answer: &str,
+    text: &[u8],
+    number: u8,
+) -> Result<bool, Fail> {
+    let whole = run_words(rt, alloc, words, model, answer, 1000, &[], &[])?;
+    let pieces = run_words(rt, alloc, words, model, answer, 1, &[], &[])?;
+    Ok(
+        whole.text.as_slice() == text
+            && whole.status.number() == number
+            && pieces.text.as_slice() == text
+            && pieces.status == whole.status,
+    )
+}
+
 /// The rows, at once and at one byte a call.
 #[test]
 fn answers_of_check(rt: HostRuntime) -> Result<(), Fail> {
-    for (model, answer, text, number) in ROWS {
-        let whole = check(&rt, rt.alloc(), model.as_bytes(), answer, 1000, &[], &[])?;
-        assert_eq!(rt; whole.text.as_slice(), text.as_bytes(), "{model}{answer}");
-        assert_eq!(rt; whole.status.number(), number, "{model}{answer}");
-        let pieces = check(&rt, rt.alloc(), model.as_bytes(), answer, 1, &[], &[])?;
-        assert_eq!(rt; pieces.text.as_slice(), text.as_bytes(), "{model}{answer}");
-        assert_eq!(rt; pieces.status, whole.status, "{model}{answer}");
+    let words = ["fairlive", "check", "m", "a"];
+    for (model, answer, text, number) in &ROWS {
+        assert!(rt;
+            ends_so(
+                &rt,
+                rt.alloc(),
+                &words,
+                model.as_bytes(),
+                answer,
+                text.as_bytes(),
+                *number
+            )?,
+            "{model}{answer}"
+        );
     }
+    Ok(())
+}
+
+/// The status of an accepted answer tells the lasso.
+#[test]
+fn status_of_a_lasso(rt: HostRuntime) -> Result<(), Fail> {
     let toggled = check(
         &rt,
         rt.alloc(),
@@ -265,36 +299,51 @@ fn answers_of_check(rt: HostRuntime) -> Result<(), Fail> {
     Ok(())
 }
 
-/// Binary models, some of them with a fault in or behind their gates.
+// Binary models, some of them with a fault in or behind their gates, and what `check` writes.
+const BINARY_ROWS: [(&[u8], &str, u8); 5] = [
+    (
+        b"aig 3 1 1 0 1 0 0 1 0\n6\n1\n4\n\x02\x02l0 t\nc\nany",
+        "refused no fair loop\n",
+        1,
+    ),
+    (
+        b"aig 3 1 1 0 1 0 0 1 0\n6\n1\n4\n\x02\x02l0 t\ncany",
+        "refused no fair loop\n",
+        1,
+    ),
+    (
+        b"aig 3 1 1 0 1 0 0 1 0\n6\n1\n4\n\x02\x02l1 t\nl0 t\nc\nany",
+        "model refused symbol 30\n",
+        3,
+    ),
+    (
+        b"aig 3 1 1 0 1 0 0 1 0\n6\n1\n4\n\x02\x05l0 t\nc\nany",
+        "model refused range 29\n",
+        3,
+    ),
+    (
+        b"aig 3 1 1 0 1 0 0 1 0\n6\n1\n4\n\x82",
+        "model refused truncated 29\n",
+        3,
+    ),
+];
+
 #[test]
 fn binary_models(rt: HostRuntime) -> Result<(), Fail> {
-    let rows = [
-        (
-            b"aig 3 1 1 0 1 0 0 1 0\n6\n1\n4\n\x02\x02l0 t\nc\nany".as_slice(),
-            "refused no fair loop\n",
-        ),
-        (
-            b"aig 3 1 1 0 1 0 0 1 0\n6\n1\n4\n\x02\x02l0 t\ncany",
-            "refused no fair loop\n",
-        ),
-        (
-            b"aig 3 1 1 0 1 0 0 1 0\n6\n1\n4\n\x02\x02l1 t\nl0 t\nc\nany",
-            "model refused symbol 30\n",
-        ),
-        (
-            b"aig 3 1 1 0 1 0 0 1 0\n6\n1\n4\n\x02\x05l0 t\nc\nany",
-            "model refused range 29\n",
-        ),
-        (
-            b"aig 3 1 1 0 1 0 0 1 0\n6\n1\n4\n\x82",
-            "model refused truncated 29\n",
-        ),
-    ];
-    for (model, text) in rows {
-        let whole = check(&rt, rt.alloc(), model, "1\nj0\n0\n0\n.\n", 1000, &[], &[])?;
-        assert_eq!(rt; whole.text.as_slice(), text.as_bytes());
-        let pieces = check(&rt, rt.alloc(), model, "1\nj0\n0\n0\n.\n", 1, &[], &[])?;
-        assert_eq!(rt; pieces.text.as_slice(), text.as_bytes());
+    let words = ["fairlive", "check", "m", "a"];
+    for (model, text, number) in &BINARY_ROWS {
+        assert!(rt;
+            ends_so(
+                &rt,
+                rt.alloc(),
+                &words,
+                model,
+                "1\nj0\n0\n0\n.\n",
+                text.as_bytes(),
+                *number
+            )?,
+            "{text}"
+        );
     }
     Ok(())
 }
@@ -336,58 +385,55 @@ fn answers_alone(rt: HostRuntime) -> Result<(), Fail> {
     Ok(())
 }
 
+/// How a run of `check` over a model and a good answer of the toggle ends: its number, how long its text is, and whether
+/// that is the front of the text of an accepted answer.
+fn cut_run<R: Threads + Wait + Sync>(
+    rt: &R,
+    alloc: Global,
+    model: &[u8],
+    most: u64,
+    reads: &[u64],
+    writes: &[u64],
+) -> Result<(u8, usize, bool), Fail>
+    requires { 1 ≤ most }
+{
+    let ran = check(rt, alloc, model, TWO_POSITIONS, most, reads, writes)?;
+    Ok((
+        ran.status.number(),
+        ran.text.len(),
+        TWO_FROM_0.as_bytes().starts_with(ran.text.as_slice()),
+    ))
+}
+
 /// Each read failing in turn ends the run at once and without a text, and no read comes after the last one that is
 /// owed; each write failing in turn leaves a part of the text. Beside the bytes a call, how many calls a run makes.
 #[test]
 fn failing_calls(rt: HostRuntime) -> Result<(), Fail> {
-    let text = TWO_FROM_0.as_bytes();
+    let model = TOGGLE.as_bytes();
+    let whole = TWO_FROM_0.len();
     for (most, reads, writes) in [(1, 43, 37), (5, 11, 8), (1000, 4, 1)] {
         for k in 1..60 {
-            let read = check(
-                &rt,
-                rt.alloc(),
-                TOGGLE.as_bytes(),
-                TWO_POSITIONS,
-                most,
-                &[k],
-                &[],
-            )?;
-            assert_eq!(rt;
-                read.status.number(),
-                if k <= reads { 4 } else { 0 },
-                "read {k}"
-            );
-            assert_eq!(rt; read.text.is_empty(), k <= reads, "read {k}");
-            let written = check(
-                &rt,
-                rt.alloc(),
-                TOGGLE.as_bytes(),
-                TWO_POSITIONS,
-                most,
-                &[],
-                &[k],
-            )?;
-            assert_eq!(rt;
-                written.status.number(),
-                if k <= writes { 5 } else { 0 },
-                "write {k}"
-            );
-            assert!(rt; text.starts_with(written.text.as_slice()), "write {k}");
-            assert_eq!(rt; written.text.len() < text.len(), k <= writes, "write {k}");
+            let (number, len, _) = cut_run(&rt, rt.alloc(), model, most, &[k], &[])?;
+            assert_eq!(rt; number, if k <= reads { 4 } else { 0 }, "read {k}");
+            assert_eq!(rt; len == 0, k <= reads, "read {k}");
+            let (number, len, front) = cut_run(&rt, rt.alloc(), model, most, &[], &[k])?;
+            assert_eq!(rt; number, if k <= writes { 5 } else { 0 }, "write {k}");
+            assert!(rt; front, "write {k}");
+            assert_eq!(rt; len < whole, k <= writes, "write {k}");
         }
     }
     for k in 1..20 {
-        let bad = check(&rt, rt.alloc(), b"aag\n", TWO_POSITIONS, 1000, &[k], &[])?;
-        assert_eq!(rt; bad.status.number(), if k <= 2 { 4 } else { 3 }, "read {k}");
+        let (number, _, _) = cut_run(&rt, rt.alloc(), b"aag\n", 1000, &[k], &[])?;
+        assert_eq!(rt; number, if k <= 2 { 4 } else { 3 }, "read {k}");
     }
     Ok(())
 }
 
-/// Words that are no command, and names that the shelf does not hold.
+/// Words that are no command.
 #[test]
-fn words_and_names(rt: HostRuntime) -> Result<(), Fail> {
+fn words_that_are_no_command(rt: HostRuntime) -> Result<(), Fail> {
     let none: [&str; 0] = [];
-    let lists = [
+    for words in [
         none.as_slice(),
         &["fairlive"],
         &["fairlive", "check"],
@@ -401,82 +447,62 @@ fn words_and_names(rt: HostRuntime) -> Result<(), Fail> {
         &["fairlive", "help"],
         &["fairlive", "--help"],
         &["fairlive", "--version"],
-    ];
-    for words in lists {
-        let ran = run_words(
-            &rt,
-            rt.alloc(),
-            words,
-            TOGGLE.as_bytes(),
-            TWO_POSITIONS,
-            1000,
-            &[],
-            &[],
-        )?;
-        assert_eq!(rt; ran.text.as_slice(), USAGE.as_bytes());
-        assert_eq!(rt; ran.status.number(), 64);
-    }
-    for words in [
-        ["fairlive", "check", "--", "m", "a"].as_slice(),
-        &["fairlive", "check", "m", "--", "a"],
     ] {
-        let ran = run_words(
-            &rt,
-            rt.alloc(),
-            words,
-            TOGGLE.as_bytes(),
-            TWO_POSITIONS,
-            1000,
-            &[],
-            &[],
-        )?;
-        assert_eq!(rt; ran.text.as_slice(), TWO_FROM_0.as_bytes());
+        assert!(rt;
+            ends_so(
+                &rt,
+                rt.alloc(),
+                words,
+                TOGGLE.as_bytes(),
+                TWO_POSITIONS,
+                USAGE.as_bytes(),
+                64
+            )?
+        );
     }
-    let dash = ["fairlive", "check", "m", "-"];
-    let lone = run_words(
-        &rt,
-        rt.alloc(),
-        &dash,
-        TOGGLE.as_bytes(),
-        "",
-        1000,
-        &[],
-        &[],
-    )?;
-    assert_eq!(rt; lone.status.number(), 4);
-    let missing = run_words(
-        &rt,
-        rt.alloc(),
-        &["fairlive", "check", "x", "a"],
-        TOGGLE.as_bytes(),
-        TWO_POSITIONS,
-        1000,
-        &[],
-        &[],
-    )?;
-    assert_eq!(rt; missing.status.number(), 4);
-    assert_eq!(rt; missing.text.len(), 0);
-    let unanswered = run_words(
-        &rt,
-        rt.alloc(),
-        &["fairlive", "check", "m", "x"],
-        TOGGLE.as_bytes(),
-        TWO_POSITIONS,
-        1000,
-        &[],
-        &[],
-    )?;
-    assert_eq!(rt; unanswered.status.number(), 4);
-    let bad = run_words(
-        &rt,
-        rt.alloc(),
-        &["fairlive", "check", "m", "x"],
-        b"aag\n",
-        TWO_POSITIONS,
-        1000,
-        &[],
-        &[],
-    )?;
-    assert_eq!(rt; bad.text.as_slice(), b"model refused header 0\n".as_slice());
+    Ok(())
+}
+
+/// Words that are taken by the customs of the command line, and names that the shelf does not hold.
+#[test]
+fn words_and_names(rt: HostRuntime) -> Result<(), Fail> {
+    for (words, model, text, number) in [
+        (
+            ["fairlive", "check", "--", "m", "a"].as_slice(),
+            TOGGLE,
+            TWO_FROM_0,
+            0,
+        ),
+        (
+            &["fairlive", "check", "m", "--", "a"],
+            TOGGLE,
+            TWO_FROM_0,
+            0,
+        ),
+        (&["fairlive", "check", "m", "-"], TOGGLE, "", 4),
+        (&["fairlive", "check", "x", "a"], TOGGLE, "", 4),
+        (&["fairlive", "check", "m", "x"], TOGGLE, "", 4),
+        (
+            &["fairlive", "check", "m", "x"],
+            "aag\n",
+            "model refused header 0\n",
+            3,
+        ),
+        // An empty word is a name.
+        (&["fairlive", "check", "m", ""], TOGGLE, "", 4),
+    ] {
+        assert!(rt;
+            ends_so(
+                &rt,
+                rt.alloc(),
+                words,
+                model.as_bytes(),
+                TWO_POSITIONS,
+                text.as_bytes(),
+                number
+            )?,
+            "{text}"
+        );
+    }
     Ok(())
 }

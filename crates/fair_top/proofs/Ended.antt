@@ -24,7 +24,8 @@ use Rattle.fair_top.specs.declared.ends.AnswerEnd.TheVariants.{Refused, ReadFaul
 use Rattle.fair_top.specs.Answers.{Numbered, kept_in, end_of, IsAnswer, HasLineFault, OfAnswer, DecidesEnd}
 use Rattle.fair_top.specs.Walks.{OfRefusal}
 use Rattle.unless_memory.specs.Answers.{GivesSome}
-use Rattle.fair_top.specs.Judged.{CheckSays, ReplayDecides, EndsWith}
+use Rattle.fair_top.specs.AnswerEnds.{CheckSays, EndsWith}
+use Rattle.fair_top.specs.Judged.{ReplayDecides}
 use Rattle.fair_top.proofs.OneFault.{one_fault, no_fault, same_answer}
 
 abbrev pub End : Type 0

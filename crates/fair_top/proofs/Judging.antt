@@ -18,7 +18,8 @@ use Rattle.fair_top.specs.ModelGiven.{OfSomeText}
 use Rattle.fair_top.specs.Check.{status_of, JudgesAs, DecidesCheck}
 use Rattle.fair_top.specs.Statuses.{is_read_fault, has_unread}
 use Rattle.fair_top.specs.Headline.{IsSilent, IsAnswered, HoldsModel, ReadsModelFirst}
-use Rattle.fair_top.specs.Judged.{CheckSays, EndsWith, IsModelOf, IsFaultOf, EndsWithoutModel}
+use Rattle.fair_top.specs.Judged.{IsModelOf, IsFaultOf, EndsWithoutModel}
+use Rattle.fair_top.specs.AnswerEnds.{CheckSays, EndsWith}
 
 abbrev pub End : Type 0
 End = Result Accepted AnswerEnd

@@ -1,6 +1,8 @@
--- What the words of the command line may ask for: a line for each command.
-use Rattle.std.specs.Prelude.{ℕ, List, [], ◌∷◌}
+-- What the words of the command line may ask for: a line for each command in every definition.
+use Rattle.std.specs.Prelude.{ℕ, List, [], ◌∷◌, codes}
 use Rattle.fair_top.specs.declared.requests.GenRequest.{GenRequest}
+use Rattle.fair_top.specs.declared.requests.Asked.{Asked as AskedInCode}
+use Rattle.fair_top.specs.declared.requests.Asked.TheVariants as code
 
 pub data Asked : Type 0 where
   -- check the answer under one name against the model under the other
@@ -12,3 +14,12 @@ pub data Asked : Type 0 where
 abbrev pub names_in : Asked → List (List ℕ)
 names_in (Check model answer) = model ∷ answer ∷ []
 names_in (Gen request) = []
+
+-- what a value in the code asks for
+abbrev pub meant : AskedInCode → Asked
+meant (code.Check model answer) = Check model.now answer.now
+meant (code.Gen request) = Gen request
+
+-- what is written where the words are no command
+abbrev pub usage_text : List ℕ
+usage_text = codes "usage: fairlive check MODEL ANSWER\n       fairlive gen KIND SEED SIZE [--binary]\n"

@@ -12,10 +12,9 @@ use Rattle.unless_memory.specs.Answers.{GivesSome}
 use Rattle.fair_top.specs.declared.status.Status.{Status}
 use Rattle.fair_top.specs.declared.status.Status.TheVariants as statuses
 use Rattle.fair_top.specs.ModelTexts.{OfModel}
-use Rattle.fair_top.specs.Asked.{Asked, names_in}
+use Rattle.fair_top.specs.Asked.{Asked, names_in, usage_text}
 use Rattle.fair_top.specs.Commands.{fairlive, Means, Gives, Decides}
 use Rattle.fair_top.specs.Statuses.{is_read_fault}
-use Rattle.fair_top.specs.Texts.{usage_text}
 
 -- What the words ask for.
 

@@ -1,5 +1,5 @@
--- What the parts of a check answer: the model, and the end of the check of an answer.
-use Rattle.std.specs.Prelude.{◌≡◌, ◌⊎◌, ℕ, List, Option, Some, Result, Ok, Err}
+-- Scaffolding of inner functions: what the model and the replay of a stimulus say, from which a check is judged.
+use Rattle.std.specs.Prelude.{◌≡◌, ℕ, List, Option, Some, Result, Ok, Err}
 use Rattle.aig_semantics.specs.Circuits.{Circuit}
 use Rattle.circuit.specs.declared.faults.ModelFault.{ModelFault}
 use Rattle.aiger_grammar.specs.Models.{Model}
@@ -14,8 +14,6 @@ use Rattle.fair_top.specs.declared.ends.AnswerEnd.{AnswerEnd}
 use Rattle.fair_top.specs.declared.ends.AnswerEnd.TheVariants as ends
 use Rattle.fair_top.specs.declared.status.Status.{Status}
 use Rattle.fair_top.specs.declared.status.Status.TheVariants as statuses
-use Rattle.unless_memory.specs.Answers.{GivesSome}
-use Rattle.fair_top.specs.Answers.{DecidesEnd}
 use Rattle.fair_top.specs.ModelTexts.{IsModelText, IsBadModel}
 use Rattle.fair_top.specs.ModelGiven.{OfSomeText}
 
@@ -24,18 +22,6 @@ abbrev pub ReplayDecides : Circuit → ℕ → Stimulus → Result Accepted Answ
 ReplayDecides c n stimulus (Ok (accepted.Lasso property positions from)) = (property ≡ n) × StandsFor c n stimulus positions from
 ReplayDecides c n stimulus (Err (ends.Refused (Replay fault))) = HasReplayFault c n stimulus fault
 ReplayDecides c n stimulus (Err _) = ⊥
-
--- what the end of a check says of the text on the shelf; a failed read says nothing of it
-abbrev pub SaysOfAnswer : Circuit → Option (List ℕ) → Result Accepted AnswerEnd → Type 0
-SaysOfAnswer c told end = (end ≡ Err ends.ReadFault) ⊎ OfSomeText told (λ text. DecidesEnd c text end)
-
--- the same, unless memory is refused
-abbrev pub CheckSays : Circuit → Option (List ℕ) → Result Accepted AnswerEnd → Type 0
-CheckSays c told result = GivesSome (Err ends.Memory) (SaysOfAnswer c told) result
-
--- this end comes, unless memory is refused or a read fails
-abbrev pub EndsWith : Result Accepted AnswerEnd → Result Accepted AnswerEnd → Type 0
-EndsWith result verdict = GivesSome (Err ends.Memory) (λ end. (end ≡ verdict) ⊎ (end ≡ Err ends.ReadFault)) result
 
 -- m is the one model whose text MODEL is
 pub record IsModelOf (told : Option (List ℕ)) (m : Model) : Type 0 where

@@ -12,4 +12,5 @@ pub mod Walks
 pub mod Statuses
 pub mod Texts
 pub mod Headline
+pub mod AnswerEnds
 pub mod Judged

@@ -4,6 +4,7 @@ use Rattle.circuit.specs.declared.faults.ModelFault.{ModelFault}
 use Rattle.circuit.specs.declared.faults.ModelFault.TheVariants.{Header, Number, Range, Undefined, Twice, Cycle, Truncated, Limit, Trailing, Symbol}
 use Rattle.stimulus.specs.declared.ends.ReplayFault.{ReplayFault}
 use Rattle.stimulus.specs.declared.ends.ReplayFault.TheVariants.{Shape, Width, NotInitial, Constraint, NoFairLoop, NoProperty}
+use Rattle.fair_top.specs.Asked.{usage_text}
 use Rattle.fair_top.specs.declared.status.Status.{Status}
 use Rattle.fair_top.specs.declared.status.Status.TheVariants as statuses
 use Rattle.fair_top.specs.declared.status.Done.{Done}
@@ -52,10 +53,6 @@ refusal_text (answers.Replay fault) = replay_text fault
 refusal_text answers.TooLong = codes "refused too long\n"
 refusal_text (answers.Trailing line) = line_with (codes "refused trailing line ") line
 refusal_text answers.UnknownStatus = codes "refused unknown status\n"
-
--- the usage text: a line for each command
-abbrev pub usage_text : List ℕ
-usage_text = codes "usage: fairlive check MODEL ANSWER\n       fairlive gen KIND SEED SIZE [--binary]\n"
 
 abbrev pub done_text : Done → List ℕ
 done_text (Lasso property positions from) =

@@ -7,7 +7,8 @@ ghost use Rattle.edge.specs.Told.{IfTold};
 ghost use Rattle.unless_memory.specs.Answers.{Gives, GivesSome};
 ghost use Rattle.fair_top.specs.Answers.{DecidesEnd};
 ghost use Rattle.fair_top.specs.Statuses.{has_unread};
-ghost use Rattle.fair_top.specs.Judged.{CheckSays, ReplayDecides, EndsWith};
+ghost use Rattle.fair_top.specs.Judged.{ReplayDecides};
+ghost use Rattle.fair_top.specs.AnswerEnds.{CheckSays, EndsWith};
 
 use crate::ends::{Accepted, AnswerEnd, AnswerFault};
 use crate::reading::read_answer;

@@ -4,8 +4,7 @@ ghost use Rattle.std.specs.Prelude.{◌≡◌, ◌⊎◌, List, ℕ, true, false
 ghost use Rattle.edge.specs.Faults.{NoneFell};
 ghost use Rattle.edge.specs.Reads.{KeepsTexts};
 ghost use Rattle.fair_top.specs.Words.{bytes_of};
-ghost use Rattle.fair_top.specs.Asked.{names_in};
-ghost use Rattle.fair_top.specs.Asking.{meant};
+ghost use Rattle.fair_top.specs.Asked.{names_in, meant};
 ghost use Rattle.fair_top.specs.Commands.{Gives, Decides};
 ghost use Rattle.fair_top.specs.Headline.{AsksFor, IsTakenOrUsage, ReadsNothing, Ends, IsSilent, IsVerdict, IsAnswered, FailedOf, ReadFailed, ReadsModelFirst, HasRead};
 ghost use Rattle.fair_top.specs.Statuses.{ends_with, is_read_fault};

@@ -1,4 +1,15 @@
 //! The program: its words, the texts that it reads, its verdict, and what it writes.
+//!
+//! | Call | What it does |
+//! |---|---|
+//! | `run` | does what the words ask for, with a runtime at hand |
+//! | `run_alone` | the same with no other threads; it owes its return, and its clauses are those of `run` |
+//! | `Status::number` | the number with which the program ends |
+//! | `check_answer` | judges one answer against a circuit |
+//! | `answer_laws` | does nothing: its contract is what texts of answers are |
+//!
+//! A command is a line in `specs/Asked.antt`, `specs/Commands.antt`, `src/requests.rt`, `src/words.rt` and
+//! `src/commands.rt`, and files of its own, as `specs/Check.antt` and `src/checking.rt` are.
 #![tactic(auto)]
 
 mod answers;

@@ -9,6 +9,10 @@ pub(crate) enum Asked<'a> {
     Gen(GenRequest),
 }
 
+/// What is written where the words are no command: a line for each command.
+pub(crate) const USAGE: &str =
+    "usage: fairlive check MODEL ANSWER\n       fairlive gen KIND SEED SIZE [--binary]\n";
+
 /// Which generated model is asked for, and in which form.
 #[derive(Clone, Copy, Debug, PartialEq, Eq)]
 pub struct GenRequest {

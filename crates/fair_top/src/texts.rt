@@ -5,15 +5,12 @@ ghost use Rattle.fair_top.specs.Statuses.{ends_silently, ends_with, is_read_faul
 ghost use Rattle.fair_top.specs.Texts.{text_of, line_with, bad_model_text, replay_text, refusal_text, done_text};
 
 use crate::ends::AnswerFault;
+use crate::requests::USAGE;
 use crate::status::{Done, Status};
 use circuit::ModelFault;
 use std::alloc::{AllocError, Global};
 use stimulus::ReplayFault;
 use text_grammar::push_number;
-
-/// What is written where the words are no command: a line for each command.
-const USAGE: &str =
-    "usage: fairlive check MODEL ANSWER\n       fairlive gen KIND SEED SIZE [--binary]\n";
 
 /// A status, and the text that is written with it.
 #[derive(Drop)]

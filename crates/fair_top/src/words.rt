@@ -10,12 +10,12 @@ ghost use Rattle.clap.specs.Faults.{fault_of};
 ghost use Rattle.fair_top.specs.declared.requests.GenKind.{GenKind as KindOf};
 ghost use Rattle.fair_top.specs.declared.requests.GenRequest.{GenRequest as RequestOf};
 ghost use Rattle.fair_top.specs.Words.{bytes_of, flag_in, IsGiven, IsNumberIn, IsNumberGiven};
-ghost use Rattle.fair_top.specs.Asked.{Asked as AskedFor};
+ghost use Rattle.fair_top.specs.Asked.{Asked as AskedFor, meant};
 ghost use Rattle.fair_top.specs.Check.{check_command, MeansCheck};
 ghost use Rattle.fair_top.specs.Gen.{gen_command, name_of_kind, MeansGen};
 ghost use Rattle.fair_top.specs.Commands.{fairlive, Means};
 ghost use Rattle.fair_top.specs.Headline.{AsksFor, IsUsage, IsTakenOrUsage};
-ghost use Rattle.fair_top.specs.Asking.{meant, MetFor};
+ghost use Rattle.fair_top.specs.Asking.{MetFor};
 
 use crate::requests::{Asked, GenKind, GenRequest};
 use crate::status::Status;

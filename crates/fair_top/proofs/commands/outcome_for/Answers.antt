@@ -1,6 +1,6 @@
 use Rattle.std.proofs.Common.{subst}
 use Rattle.fair_top.specs.declared.requests.Asked.{Asked as AskedInCode}
-use Rattle.fair_top.specs.Asking.{meant}
+use Rattle.fair_top.specs.Asked.{meant}
 use Rattle.fair_top.specs.Commands.{Decides}
 use Rattle.fair_top.specs.Statuses.{ends_with}
 use Rattle.fair_top.proofs.Ending.{still_answered}

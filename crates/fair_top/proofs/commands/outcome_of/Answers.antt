@@ -1,5 +1,5 @@
 use Rattle.fair_top.specs.Words.{bytes_of}
-use Rattle.fair_top.specs.Asking.{meant}
+use Rattle.fair_top.specs.Asked.{meant}
 use Rattle.fair_top.specs.Statuses.{ends_with}
 use Rattle.fair_top.proofs.Ending.{exact_for}
 use Rattle.fair_top.proofs.commands.outcome_of.Goals as goal
