@@ -1,6 +1,6 @@
 -- Closed uses of a list can be understood by themselves.
-use Rattle.std.proofs.Common.{◌≡◌, ◌≢◌, ℕ, zero, suc, ◌+◌, ◌<◌, ◌≤◌, ◌⊎◌, List, [], ◌∷◌, length, get_or, refl, sym, ap, subst, ◌∙◌, inl, inr, arith}
-use Rattle.std.specs.List.{All, AllPairs, Any, Contains}
+use Rattle.std.proofs.Common.{◌≡◌, ℕ, zero, suc, ◌<◌, ◌≤◌, ◌⊎◌, List, [], ◌∷◌, length, get_or, refl, ap, subst, ◌∙◌, inl, inr, arith}
+use Rattle.std.specs.List.{All, AllPairs, Contains}
 use Rattle.std.proofs.lemmas.Bool.{cases_eq}
 use Rattle.std.proofs.lemmas.List.Elements.{All-head, All-tail}
 use Rattle.aig_semantics.specs.Circuits.{Circuit}
@@ -9,7 +9,7 @@ use Rattle.fair_semantics.specs.declared.entries.Kind.TheVariants.{Reach, Wall}
 use Rattle.fair_semantics.specs.declared.entries.Use.{Use}
 use Rattle.fair_semantics.specs.Entries.{Entry, entry_at, used_entries, IsSigned, Uses, AreClosed}
 use Rattle.fair_semantics.proofs.Alone.{Uses-each}
-use Rattle.cnf_unroll.specs.Laws.{AreOver, NameKnown, walls_for, walls_with, walls_among, IsReadable, AreReadable, IsPlain, IsUnderstood}
+use Rattle.cnf_unroll.specs.Laws.{AreOver, NameKnown, walls_for, walls_with, walls_among, AreReadable, IsPlain, IsUnderstood}
 
 uses-cases : (u : Use) (rest : List Use) (n : ℕ) → Uses (u ∷ rest) n → (u.entry ≡ n) ⊎ Uses rest n
 uses-cases u rest n (zero, x, below, at, is) = inl (ap (λ w. w.entry) at ∙ is)

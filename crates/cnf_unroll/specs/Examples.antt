@@ -1,5 +1,5 @@
 -- Small entries, for the worked rows.
-use Rattle.std.specs.Prelude.{ℕ, true, false, List, [], ◌∷◌}
+use Rattle.std.specs.Prelude.{List, [], ◌∷◌}
 use Rattle.aig_semantics.specs.Circuits.{Circuit}
 use Rattle.aig_semantics.specs.Examples.{one_latch}
 use Rattle.aig_semantics.specs.declared.parts.Reset.TheVariants.{Zero}

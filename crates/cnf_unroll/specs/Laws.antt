@@ -20,7 +20,7 @@ use Rattle.cnf_unroll.specs.Situations.{situation_in}
 abbrev pub IsSatisfiable : List (List Lit) → Type 0
 IsSatisfiable clauses = (v : ℕ → Bool) × (clauses_value v clauses ≡ true)
 
--- an assignment that makes the clauses of a block true gives its numbers the values of a position at which every
+-- An assignment that makes the clauses of a block true gives its numbers the values of a position at which every
 -- constraint is true, and of its successor
 abbrev pub ModelsAreSituations : Circuit → Type 0
 ModelsAreSituations c =
@@ -104,4 +104,5 @@ ObligationsTell c =
 abbrev pub SkeletonClausesTell : Circuit → Type 0
 SkeletonClausesTell c =
     (us : List Numbered) (j : ℕ) → AreReadable (length c.latches) [] [] us → j < length c.justice
-    → (IsSatisfiable (skeleton_clauses c j us) ↔ ((skeleton : Skeleton) × IsSkeleton c j skeleton × (allow us (places skeleton) ≡ true)))
+    → (IsSatisfiable (skeleton_clauses c j us)
+    ↔ ((skeleton : Skeleton) × IsSkeleton c j skeleton × (allow us (places skeleton) ≡ true)))
