@@ -1,24 +1,22 @@
 -- An assignment that makes the clauses of a block true gives it a position and its successor.
-use Rattle.std.proofs.Common.{◌≡◌, ℕ, zero, suc, ◌+◌, ◌*◌, ◌<◌, ◌≤◌, ◌==◌, ◌⊎◌, ◌↔◌, Bool, true, false, not, cond, ◌&&◌, ◌||◌, List, [], ◌∷◌, ◌++◌, map, length, get_or, refl, sym, ap, subst, ◌∙◌, inl, inr, arith, length-append}
+use Rattle.std.proofs.Common.{◌≡◌, ℕ, zero, suc, ◌+◌, ◌<◌, ◌≤◌, ◌==◌, ◌⊎◌, ◌↔◌, Bool, true, false, not, cond, ◌&&◌, ◌||◌, List, [], ◌∷◌, ◌++◌, map, length, get_or, refl, sym, ap, subst, ◌∙◌, inl, inr, arith}
 use Rattle.std.specs.List.{All, AllByRecursion, Contains, list_all, list_any, flat_map}
-use Rattle.std.proofs.lemmas.Bool.{and_parts, and_from, cases_Bool, cases_lt, eqb-true, eq-eqb, ne_eqb}
+use Rattle.std.proofs.lemmas.Bool.{and_parts, and_from, cases_Bool, cases_lt, eqb-true, eq-eqb}
 use Rattle.std.proofs.lemmas.List.{length-map, get_or-map, get_or_past}
 use Rattle.std.proofs.lemmas.List.Elements.{All-head, All-tail, All-contains, recursion_from_All, All-from_recursion, Contains-append_left, Contains-append_right}
 use Rattle.aig_semantics.specs.declared.parts.Latch.{Latch}
 use Rattle.aig_semantics.specs.declared.parts.Gate.{Gate}
-use Rattle.aig_semantics.specs.declared.parts.Reset.TheVariants.{Zero}
-use Rattle.aig_semantics.specs.declared.traces.Position.{Position}
 use Rattle.aig_semantics.specs.Literals.{variable_of, is_negated, literal_by, variable_in, literal_in}
-use Rattle.aig_semantics.specs.Circuits.{Circuit, IsChecked, defined, used, AreDefined}
+use Rattle.aig_semantics.specs.Circuits.{Circuit, IsChecked, defined}
 use Rattle.aig_semantics.specs.Valuations.{conjunction, MeetsEquations, IsValuation, valuation, values_below}
-use Rattle.aig_semantics.specs.Runs.{literal_at, successor, MeetsConstraints}
+use Rattle.aig_semantics.specs.Runs.{literal_at}
 use Rattle.aig_semantics.proofs.Lists.{All-left, All-right}
 use Rattle.aig_semantics.proofs.Values.{length-values_below, get_or-values_below, given_variables, gate_variables}
 use Rattle.proof_semantics.specs.declared.literals.Lit.{Lit}
-use Rattle.proof_semantics.specs.Clauses.{literal_value, clause_value, clauses_value, negation, bool_eq}
+use Rattle.proof_semantics.specs.Clauses.{literal_value, clauses_value, negation, bool_eq}
 use Rattle.proof_semantics.proofs.LiteralLaws.{literal_value-negation}
 use Rattle.fair_semantics.specs.Skeletons.{IsSituation}
-use Rattle.cnf_unroll.specs.Numbers.{number, next_number, plus, minus, literal_in_block, state_place, successor_place}
+use Rattle.cnf_unroll.specs.Numbers.{number, next_number, minus, literal_in_block, state_place}
 use Rattle.cnf_unroll.specs.Blocks.{gate_clauses, unit_clause, latch_clauses, block_clauses}
 use Rattle.cnf_unroll.specs.Situations.{situation_in}
 use Rattle.cnf_unroll.proofs.Truth.{both, flat_true}

@@ -1,15 +1,14 @@
 -- An assignment for the clauses of blocks, from positions and their successors.
-use Rattle.std.proofs.Common.{◌≡◌, ℕ, zero, suc, ◌+◌, ◌-◌, ◌*◌, ◌<◌, ◌≤◌, ◌==◌, ◌⊎◌, ◌↔◌, Bool, true, false, not, cond, ◌&&◌, ◌||◌, List, [], ◌∷◌, ◌++◌, map, length, get_or, Option, Some, None, unwrap_or, refl, sym, ap, subst, ◌∙◌, inl, inr, arith}
-use Rattle.std.specs.List.{All, AllByRecursion, Contains, list_all, flat_map}
-use Rattle.std.proofs.lemmas.Bool.{and_parts, and_from, cases_lt}
+use Rattle.std.proofs.Common.{◌≡◌, ℕ, ◌+◌, ◌-◌, ◌<◌, ◌≤◌, ◌⊎◌, Bool, true, false, not, ◌&&◌, ◌||◌, List, [], ◌∷◌, ◌++◌, map, length, unwrap_or, refl, sym, ap, ◌∙◌, inl, inr, arith}
+use Rattle.std.specs.List.{AllByRecursion, Contains, flat_map}
+use Rattle.std.proofs.lemmas.Bool.{and_from, cases_lt}
 use Rattle.std.proofs.lemmas.List.{length-map, get_or-map, ext_get_or}
 use Rattle.std.proofs.lemmas.List.Elements.{recursion_from_All}
 use Rattle.aig_semantics.specs.declared.parts.Latch.{Latch}
 use Rattle.aig_semantics.specs.declared.parts.Gate.{Gate}
-use Rattle.aig_semantics.specs.declared.traces.Position.{Position}
-use Rattle.aig_semantics.specs.Literals.{variable_of, literal_by, variable_in, literal_in}
+use Rattle.aig_semantics.specs.Literals.{variable_of, variable_in}
 use Rattle.aig_semantics.specs.Circuits.{Circuit, IsChecked, defined}
-use Rattle.aig_semantics.specs.Valuations.{conjunction, IsValuation, valuation, value_beside}
+use Rattle.aig_semantics.specs.Valuations.{conjunction, IsValuation, value_beside}
 use Rattle.aig_semantics.specs.Runs.{literal_at, valuation_at, successor}
 use Rattle.aig_semantics.proofs.Lists.{AllDiffer-left, AllDiffer-right, value_beside-at}
 use Rattle.aig_semantics.proofs.Values.{given_variables, gate_variables}
@@ -18,7 +17,7 @@ use Rattle.proof_semantics.specs.Clauses.{literal_value, clauses_value, negation
 use Rattle.proof_semantics.proofs.LiteralLaws.{literal_value-negation}
 use Rattle.fair_semantics.specs.declared.skeletons.Situation.{Situation}
 use Rattle.fair_semantics.specs.Skeletons.{IsSituation}
-use Rattle.cnf_unroll.specs.Numbers.{block_size, number, next_number, plus, minus, literal_in_block, state_place, successor_place}
+use Rattle.cnf_unroll.specs.Numbers.{block_size, number, next_number, minus, literal_in_block, state_place, successor_place}
 use Rattle.cnf_unroll.specs.Blocks.{gate_clauses, unit_clause, latch_clauses, block_clauses}
 use Rattle.cnf_unroll.specs.Situations.{situation_in}
 use Rattle.cnf_unroll.proofs.Truth.{together, flat_true}

@@ -1,5 +1,5 @@
 -- The variables of a circuit are small.
-use Rattle.std.proofs.Common.{◌≡◌, ℕ, ◌+◌, ◌^◌, ◌<◌, ◌≤◌, ◌++◌, length, get_or, map, arith}
+use Rattle.std.proofs.Common.{ℕ, ◌^◌, ◌<◌, ◌≤◌, ◌++◌, map, arith}
 use Rattle.std.specs.List.{All}
 use Rattle.aig_semantics.specs.Circuits.{Circuit, IsChecked, IsWithinLimits}
 use Rattle.aig_semantics.proofs.Lists.{All-left}

@@ -8,3 +8,4 @@ pub mod BlockReading
 pub mod BlockWriting
 pub mod ObligationLaws
 pub mod SkeletonLaws
+pub mod Readable

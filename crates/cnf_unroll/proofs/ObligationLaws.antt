@@ -1,28 +1,27 @@
 -- Where an obligation is satisfiable.
-use Rattle.std.proofs.Common.{◌≡◌, ℕ, zero, suc, ◌+◌, ◌*◌, ◌<◌, ◌≤◌, Bool, true, false, not, ◌&&◌, ◌||◌, List, [], ◌∷◌, ◌++◌, map, length, get_or, refl, sym, ap, subst, ◌∙◌, inl, inr, arith}
+use Rattle.std.proofs.Common.{◌≡◌, ℕ, ◌+◌, ◌<◌, Bool, true, false, not, ◌&&◌, ◌||◌, List, [], ◌∷◌, ◌++◌, map, length, get_or, refl, sym, ap, ◌∙◌, inr, arith}
 use Rattle.std.specs.List.{All, AllByRecursion, Contains, list_all}
 use Rattle.std.proofs.lemmas.Bool.{and_parts, and_from}
 use Rattle.std.proofs.lemmas.List.{length-map}
 use Rattle.aig_semantics.specs.Circuits.{Circuit, IsChecked, defined}
-use Rattle.aig_semantics.specs.Runs.{successor}
 use Rattle.proof_semantics.specs.declared.literals.Lit.{Lit}
 use Rattle.proof_semantics.specs.Clauses.{literal_value, clause_value, clauses_value, values_of, negation}
 use Rattle.proof_semantics.proofs.LiteralLaws.{literal_value-negation}
 use Rattle.fair_semantics.specs.declared.skeletons.Situation.{Situation}
 use Rattle.fair_semantics.specs.Skeletons.{IsSituation}
-use Rattle.fair_semantics.specs.Entries.{Entry, Numbered, sets_of, set_over, lies_on}
+use Rattle.fair_semantics.specs.Entries.{Entry, Numbered, sets_of, lies_on}
 use Rattle.fair_semantics.specs.Allowing.{allow}
 use Rattle.cnf_unroll.specs.Numbers.{block_size, number, next_number, state_place, successor_place, block_places, literal_at_place, clause_at_place, set_at_place}
-use Rattle.cnf_unroll.specs.Blocks.{block_clauses, step_clauses}
-use Rattle.cnf_unroll.specs.Uses.{free_from, named_sides, uses_clauses, after_uses}
+use Rattle.cnf_unroll.specs.Blocks.{step_clauses}
+use Rattle.cnf_unroll.specs.Uses.{free_from, named_sides, uses_clauses}
 use Rattle.cnf_unroll.specs.Obligations.{units, step_with_uses, after_step, shared_clauses, broken_literals, obligation_clauses}
 use Rattle.cnf_unroll.specs.Situations.{situation_in}
-use Rattle.cnf_unroll.specs.Laws.{IsSatisfiable, AreOver, IsUnderstood, BreaksClause, walls_among, NameKnown}
+use Rattle.cnf_unroll.specs.Laws.{IsSatisfiable, AreOver, IsUnderstood, BreaksClause, walls_among}
 use Rattle.cnf_unroll.proofs.Truth.{both, together, clause_there, set_there}
-use Rattle.cnf_unroll.proofs.UseLaws.{states_at, Agrees, names_here, read_uses}
+use Rattle.cnf_unroll.proofs.UseLaws.{states_at, names_here, read_uses}
 use Rattle.cnf_unroll.proofs.UseWriting.{nothing, written}
 use Rattle.cnf_unroll.proofs.BlockReading.{HasOneValuation, each, latches_defined, read_in_range, block_read}
-use Rattle.cnf_unroll.proofs.BlockWriting.{Shows, block_value, block_shown, block_true, shown_latches}
+use Rattle.cnf_unroll.proofs.BlockWriting.{block_value, block_shown, block_true, shown_latches}
 
 or_false : (a : Bool) → (a || false) ≡ a
 or_false true = refl

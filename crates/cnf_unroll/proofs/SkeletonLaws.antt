@@ -1,24 +1,21 @@
 -- Where the skeleton clauses are satisfiable.
-use Rattle.std.proofs.Common.{◌≡◌, ℕ, zero, suc, ◌+◌, ◌-◌, ◌*◌, ◌<◌, ◌≤◌, ◌⊎◌, max, Bool, true, false, not, ◌&&◌, ◌||◌, List, [], ◌∷◌, ◌++◌, map, length, get_or, refl, sym, ap, subst, ◌∙◌, inl, inr, arith}
-use Rattle.std.specs.List.{All, AllByRecursion, Contains, list_all, flat_map}
+use Rattle.std.proofs.Common.{◌≡◌, ℕ, zero, suc, ◌+◌, ◌-◌, ◌<◌, ◌≤◌, ◌⊎◌, max, Bool, true, false, ◌||◌, List, [], ◌∷◌, ◌++◌, map, length, get_or, refl, sym, ap, subst, ◌∙◌, inl, inr, arith}
+use Rattle.std.specs.List.{All, AllByRecursion, flat_map}
 use Rattle.std.proofs.lemmas.Bool.{and_parts, and_from, cases_lt}
-use Rattle.std.proofs.lemmas.List.{length-map}
-use Rattle.std.proofs.lemmas.List.Elements.{All-from_recursion, recursion_from_All, All-head, All-tail}
+use Rattle.std.proofs.lemmas.List.Elements.{All-from_recursion, recursion_from_All}
 use Rattle.aig_semantics.specs.Literals.{variable_of}
-use Rattle.aig_semantics.specs.Circuits.{Circuit, IsChecked, fair_literals, used}
-use Rattle.aig_semantics.specs.Runs.{literal_at}
+use Rattle.aig_semantics.specs.Circuits.{Circuit, IsChecked, fair_literals}
 use Rattle.aig_semantics.proofs.Lists.{All-left, All-right}
-use Rattle.proof_semantics.specs.declared.literals.Lit.{Lit}
 use Rattle.proof_semantics.specs.Clauses.{literal_value, clauses_value}
 use Rattle.fair_semantics.specs.declared.skeletons.Situation.{Situation}
 use Rattle.fair_semantics.specs.declared.skeletons.Skeleton.{Skeleton}
 use Rattle.fair_semantics.specs.Skeletons.{IsSituation, IsSkeleton, AreTrueInTurn, states_of, places}
 use Rattle.fair_semantics.specs.Entries.{Numbered}
 use Rattle.fair_semantics.specs.Allowing.{allow}
-use Rattle.cnf_unroll.specs.Numbers.{block_size, literal_in_block, state_place, successor_place, block_places}
-use Rattle.cnf_unroll.specs.Blocks.{block_clauses, unit_clause}
+use Rattle.cnf_unroll.specs.Numbers.{block_size, literal_in_block, state_place, successor_place}
+use Rattle.cnf_unroll.specs.Blocks.{block_clauses}
 use Rattle.cnf_unroll.specs.Uses.{free_from, uses_clauses}
-use Rattle.cnf_unroll.specs.Obligations.{blocks_clauses, blocks_places, literals_clauses, block_count, after_blocks, skeleton_clauses}
+use Rattle.cnf_unroll.specs.Obligations.{blocks_clauses, blocks_places, literals_clauses, after_blocks, skeleton_clauses}
 use Rattle.cnf_unroll.specs.Situations.{situation_in}
 use Rattle.cnf_unroll.specs.Laws.{IsSatisfiable, AreReadable}
 use Rattle.cnf_unroll.proofs.Truth.{both, together}

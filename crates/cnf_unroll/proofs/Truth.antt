@@ -1,8 +1,8 @@
 -- Clauses that are true together, and clauses at a place.
-use Rattle.std.proofs.Common.{◌≡◌, ℕ, zero, suc, ◌+◌, ◌<◌, Bool, true, false, not, ◌&&◌, ◌||◌, List, [], ◌∷◌, ◌++◌, map, length, get_or, refl, sym, ap, ◌∙◌, arith}
-use Rattle.std.specs.List.{All, list_all, list_any, flat_map}
+use Rattle.std.proofs.Common.{◌≡◌, ℕ, zero, suc, ◌<◌, Bool, true, false, not, ◌&&◌, ◌||◌, List, [], ◌∷◌, ◌++◌, map, length, get_or, refl, sym, ap, ◌∙◌, arith}
+use Rattle.std.specs.List.{All, list_all, flat_map}
 use Rattle.std.proofs.lemmas.Bool.{and_parts, and_from}
-use Rattle.std.proofs.lemmas.List.Folds.{list_all-append, list_any-append}
+use Rattle.std.proofs.lemmas.List.Folds.{list_all-append}
 use Rattle.std.proofs.lemmas.List.Elements.{All-head, All-tail}
 use Rattle.proof_semantics.specs.declared.literals.Lit.{Lit}
 use Rattle.proof_semantics.specs.Clauses.{literal_value, clause_value, clauses_value, values_of, negation, bool_eq}

@@ -1,14 +1,12 @@
 -- The clauses of used entries over places: reading and writing them.
-use Rattle.std.proofs.Common.{◌≡◌, ◌≢◌, ℕ, zero, suc, ◌+◌, ◌<◌, ◌==◌, Bool, true, false, not, ◌&&◌, ◌||◌, List, [], ◌∷◌, ◌++◌, map, length, get_or, Option, Some, None, refl, sym, ap, subst, ◌∙◌, add-zero, inl, inr, arith, length-append}
-use Rattle.std.specs.List.{All, AllByRecursion, Contains, list_all, list_any, flat_map}
+use Rattle.std.proofs.Common.{◌≡◌, ◌≢◌, ℕ, zero, suc, ◌<◌, ◌==◌, Bool, true, false, not, ◌&&◌, ◌||◌, List, [], ◌∷◌, map, length, get_or, Option, Some, refl, sym, ap, subst, ◌∙◌, inl, inr, arith}
+use Rattle.std.specs.List.{All, AllByRecursion, Contains, list_all}
 use Rattle.std.proofs.lemmas.Bool.{and_parts, and_from, cases_Bool, eqb-true, eqb-false, ne_eqb}
 use Rattle.std.proofs.lemmas.Option.{same_Some}
-use Rattle.std.proofs.lemmas.List.{length-map}
 use Rattle.std.proofs.lemmas.List.Folds.{list_all-append}
 use Rattle.std.proofs.lemmas.List.Elements.{All-head, All-tail}
 use Rattle.std.proofs.Math.Bool.{and-true}
-use Rattle.proof_semantics.specs.declared.literals.Lit.{Lit}
-use Rattle.proof_semantics.specs.Clauses.{literal_value, clause_value, clauses_value, values_of, bool_eq}
+use Rattle.proof_semantics.specs.Clauses.{literal_value, clauses_value, values_of, bool_eq}
 use Rattle.proof_semantics.proofs.LiteralLaws.{bool_eq-same, bool_eq-true}
 use Rattle.fair_semantics.specs.declared.entries.Kind.{Kind}
 use Rattle.fair_semantics.specs.declared.entries.Kind.TheVariants.{Reach, Wall}
@@ -18,10 +16,10 @@ use Rattle.fair_semantics.specs.declared.entries.Use.{Use}
 use Rattle.fair_semantics.specs.Entries.{Entry, Numbered, lies_on, set_over, with_set, sets_after, IsSigned}
 use Rattle.fair_semantics.specs.Allowing.{all_on, allows_by, all_allow}
 use Rattle.cnf_unroll.specs.Numbers.{set_at_place}
-use Rattle.cnf_unroll.specs.Uses.{Numbering, named_literal, named_sides, reach_clauses, wall_clauses, use_clauses, after_use, uses_clauses, after_uses, with_side, after_marks}
-use Rattle.cnf_unroll.specs.Laws.{AreOver, NameKnown, walls_for, walls_with, walls_among, IsReadable, AreReadable}
-use Rattle.cnf_unroll.proofs.Truth.{both, together, flat_true, set_there}
-use Rattle.cnf_unroll.proofs.Walls.{IsSideOf, wall_read, wall_true, HasFrom, has-split, marks_over, after_marks-is}
+use Rattle.cnf_unroll.specs.Uses.{Numbering, named_literal, named_sides, use_clauses, after_use, uses_clauses, after_uses, with_side}
+use Rattle.cnf_unroll.specs.Laws.{AreOver, NameKnown, walls_for, walls_with, walls_among, AreReadable}
+use Rattle.cnf_unroll.proofs.Truth.{both, flat_true, set_there}
+use Rattle.cnf_unroll.proofs.Walls.{wall_read}
 
 abbrev pub State : Type 0
 State = List Bool

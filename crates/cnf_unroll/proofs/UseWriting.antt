@@ -1,20 +1,18 @@
 -- An assignment for the clauses of used entries, from states that they allow.
-use Rattle.std.proofs.Common.{◌≡◌, ℕ, zero, suc, ◌+◌, ◌-◌, ◌<◌, ◌≤◌, ◌⊎◌, Bool, true, false, not, ◌&&◌, ◌||◌, List, [], ◌∷◌, ◌++◌, map, length, get_or, Option, Some, None, refl, sym, ap, subst, ◌∙◌, add-zero, inl, inr, arith, length-append}
-use Rattle.std.specs.List.{All, AllByRecursion, Contains, list_all, flat_map}
+use Rattle.std.proofs.Common.{◌≡◌, ℕ, suc, ◌+◌, ◌-◌, ◌<◌, ◌≤◌, ◌⊎◌, Bool, true, false, ◌&&◌, ◌||◌, List, [], ◌∷◌, ◌++◌, map, length, get_or, Some, None, refl, sym, ap, subst, ◌∙◌, add-zero, inl, inr, arith}
+use Rattle.std.specs.List.{AllByRecursion, Contains, list_all}
 use Rattle.std.proofs.lemmas.Bool.{and_parts, and_from, cases_Bool, cases_lt}
-use Rattle.proof_semantics.specs.declared.literals.Lit.{Lit}
 use Rattle.proof_semantics.specs.Clauses.{literal_value, clauses_value, values_of}
 use Rattle.fair_semantics.specs.declared.entries.Kind.{Kind}
 use Rattle.fair_semantics.specs.declared.entries.Kind.TheVariants.{Reach, Wall}
-use Rattle.fair_semantics.specs.declared.entries.Use.{Use}
-use Rattle.fair_semantics.specs.Entries.{Entry, Numbered, lies_on, set_over, with_set, sets_after, sets_of}
+use Rattle.fair_semantics.specs.Entries.{Entry, Numbered, lies_on, set_over, with_set, sets_after}
 use Rattle.fair_semantics.specs.Allowing.{all_on, allows_by, all_allow, allow}
 use Rattle.cnf_unroll.specs.Numbers.{set_at_place}
-use Rattle.cnf_unroll.specs.Uses.{Numbering, no_sides, free_from, named_sides, use_clauses, after_use, uses_clauses, after_uses, after_marks}
+use Rattle.cnf_unroll.specs.Uses.{Numbering, no_sides, free_from, named_sides, use_clauses, after_use, uses_clauses, after_uses}
 use Rattle.cnf_unroll.specs.Laws.{AreOver, NameKnown, walls_for, walls_with, walls_among, AreReadable}
 use Rattle.cnf_unroll.proofs.Truth.{together, flat_true, set_there}
 use Rattle.cnf_unroll.proofs.Walls.{IsSideOf, wall_true, HasFrom, has-split, marks_over, after_marks-is}
-use Rattle.cnf_unroll.proofs.UseLaws.{State, states_at, Agrees, names_here, all_zip, all_map, first_kept, more_reach, more_wall, all_on_to, unnamed}
+use Rattle.cnf_unroll.proofs.UseLaws.{State, states_at, Agrees, names_here, all_zip, all_map, first_kept, more_reach, more_wall, all_on_to}
 
 -- ---- the values of the numbers of used entries: of a wall its side, and its marks
 

@@ -1,14 +1,14 @@
 -- The clauses of one wall.
-use Rattle.std.proofs.Common.{◌≡◌, ℕ, zero, suc, ◌+◌, ◌<◌, Bool, true, false, not, ◌&&◌, ◌||◌, List, [], ◌∷◌, ◌++◌, map, length, refl, sym, ap, subst, ◌∙◌, add-zero, arith, length-append}
+use Rattle.std.proofs.Common.{◌≡◌, ℕ, suc, ◌+◌, ◌<◌, Bool, true, false, not, ◌&&◌, ◌||◌, List, [], ◌∷◌, ◌++◌, map, length, refl, sym, ap, subst, ◌∙◌, add-zero, arith, length-append}
 use Rattle.std.specs.List.{All, AllByRecursion, list_all, list_any}
 use Rattle.std.proofs.lemmas.Bool.{and_parts, and_from}
-use Rattle.std.proofs.lemmas.List.Folds.{list_all-append, list_any-append}
+use Rattle.std.proofs.lemmas.List.Folds.{list_any-append}
 use Rattle.std.proofs.lemmas.List.{length-map}
 use Rattle.std.proofs.lemmas.List.Elements.{All-head, All-tail}
 use Rattle.proof_semantics.specs.declared.literals.Lit.{Lit}
 use Rattle.proof_semantics.specs.Clauses.{literal_value, clause_value, clauses_value, values_of, negation}
 use Rattle.proof_semantics.proofs.LiteralLaws.{literal_value-negation}
-use Rattle.cnf_unroll.specs.Numbers.{plus, minus, clause_at_place}
+use Rattle.cnf_unroll.specs.Numbers.{minus, clause_at_place}
 use Rattle.cnf_unroll.specs.Uses.{denials, marked, wall_at, marks, closing, wall_over, wall_clauses, after_marks}
 use Rattle.cnf_unroll.specs.Laws.{AreOver}
 use Rattle.cnf_unroll.proofs.Truth.{both, together, clause_there, negations_value}

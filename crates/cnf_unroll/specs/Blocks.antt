@@ -1,13 +1,13 @@
 -- The clauses of a block: they hold exactly where the block's numbers have the values of a position at which every
 -- constraint is true, and of its successor. The clauses of gates are those of Tseitin (1968).
-use Rattle.std.specs.Prelude.{ℕ, zero, suc, ◌+◌, List, [], ◌∷◌, ◌++◌, map}
+use Rattle.std.specs.Prelude.{ℕ, List, [], ◌∷◌, ◌++◌, map}
 use Rattle.std.specs.List.{flat_map}
 use Rattle.aig_semantics.specs.declared.parts.Latch.{Latch}
 use Rattle.aig_semantics.specs.declared.parts.Gate.{Gate}
 use Rattle.aig_semantics.specs.Circuits.{Circuit}
 use Rattle.proof_semantics.specs.Clauses.{negation}
 use Rattle.proof_semantics.specs.declared.literals.Lit.{Lit}
-use Rattle.cnf_unroll.specs.Numbers.{block_size, number, next_number, plus, minus, literal_in_block}
+use Rattle.cnf_unroll.specs.Numbers.{number, next_number, plus, minus, literal_in_block}
 
 -- a gate is the conjunction of its right sides
 abbrev pub gate_clauses : ℕ → Gate → List (List Lit)

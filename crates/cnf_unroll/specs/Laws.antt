@@ -10,7 +10,7 @@ use Rattle.fair_semantics.specs.declared.entries.Use.{Use}
 use Rattle.fair_semantics.specs.declared.skeletons.Situation.{Situation}
 use Rattle.fair_semantics.specs.declared.skeletons.Skeleton.{Skeleton}
 use Rattle.fair_semantics.specs.States.{IsStep}
-use Rattle.fair_semantics.specs.Entries.{Entry, Numbered, sets_of, set_over, IsSigned}
+use Rattle.fair_semantics.specs.Entries.{Entry, Numbered, entry_at, used_entries, sets_of, set_over, IsSigned, AreClosed}
 use Rattle.fair_semantics.specs.Allowing.{allow}
 use Rattle.fair_semantics.specs.Skeletons.{IsSituation, IsSkeleton, places}
 use Rattle.cnf_unroll.specs.Blocks.{block_clauses}
@@ -20,7 +20,7 @@ use Rattle.cnf_unroll.specs.Situations.{situation_in}
 abbrev pub IsSatisfiable : List (List Lit) → Type 0
 IsSatisfiable clauses = (v : ℕ → Bool) × (clauses_value v clauses ≡ true)
 
--- an assignment that makes the clauses of a block true gives its numbers the values of a position at which every
+-- An assignment that makes the clauses of a block true gives its numbers the values of a position at which every
 -- constraint is true, and of its successor
 abbrev pub ModelsAreSituations : Circuit → Type 0
 ModelsAreSituations c =
@@ -72,6 +72,19 @@ pub record IsUnderstood (c : Circuit) (us : List Numbered) (e : Entry) : Type 0 
   pub over : AreOver (length c.latches) e.clauses
   pub named : NameKnown (walls_among [] us) e.uses
 
+-- an entry of a list whose clauses are over n latches, and which names sides of walls alone, a reach entry none
+pub record IsPlain (n : ℕ) (entries : List Entry) (e : Entry) : Type 0 where
+  pub over : AreOver n e.clauses
+  pub walls : All (λ u. IsSigned u → (entry_at entries u.entry).kind ≡ Wall) e.uses
+  pub reach : e.kind ≡ Reach → All (λ u. IsSigned u → ⊥) e.uses
+
+-- In a list of such entries closed uses, and an entry with them, can be understood by themselves.
+abbrev pub ClosedUsesAreUnderstood : Circuit → Type 0
+ClosedUsesAreUnderstood c =
+    (before : List Entry) (e : Entry)
+    → All (IsPlain (length c.latches) before) before → AreClosed before e.uses → AreOver (length c.latches) e.clauses
+    → IsUnderstood c (used_entries before e.uses) e
+
 -- a step that the uses allow, from the entry's set to a state that breaks its clause i
 pub record BreaksClause (c : Circuit) (us : List Numbered) (e : Entry) (i : ℕ) : Type 0 where
   pub from : List Bool
@@ -91,4 +104,5 @@ ObligationsTell c =
 abbrev pub SkeletonClausesTell : Circuit → Type 0
 SkeletonClausesTell c =
     (us : List Numbered) (j : ℕ) → AreReadable (length c.latches) [] [] us → j < length c.justice
-    → (IsSatisfiable (skeleton_clauses c j us) ↔ ((skeleton : Skeleton) × IsSkeleton c j skeleton × (allow us (places skeleton) ≡ true)))
+    → (IsSatisfiable (skeleton_clauses c j us)
+    ↔ ((skeleton : Skeleton) × IsSkeleton c j skeleton × (allow us (places skeleton) ≡ true)))

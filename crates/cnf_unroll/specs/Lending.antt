@@ -1,6 +1,6 @@
 -- Used entries as code lends them.
 use Rattle.std.specs.Prelude.{List, map}
-use Rattle.fair_semantics.specs.Entries.{Entry, Numbered}
+use Rattle.fair_semantics.specs.Entries.{Numbered}
 use Rattle.cnf_unroll.specs.declared.used.Used.{Used}
 
 -- the entry that is lent, and entries in their order

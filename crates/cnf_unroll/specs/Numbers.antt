@@ -1,7 +1,7 @@
 -- The numbers that stand in clauses for the variables of a circuit. Moments of a run stand side by side as blocks, of
 -- 2 * max + 2 numbers each: a block with the base b has the number b + 1 + v for variable v, and the number
 -- b + max + 2 + v for the next value of the latch with variable v. The first block has the base 0.
-use Rattle.std.specs.Prelude.{ℕ, ◌+◌, ◌*◌, Bool, true, false, not, List, [], ◌∷◌, ◌++◌, map, slice_index_or}
+use Rattle.std.specs.Prelude.{ℕ, ◌+◌, ◌*◌, true, false, not, List, [], ◌∷◌, map, slice_index_or}
 use Rattle.aig_semantics.specs.Literals.{variable_of, is_negated}
 use Rattle.aig_semantics.specs.Circuits.{Circuit}
 use Rattle.proof_semantics.specs.declared.literals.Lit.{Lit}

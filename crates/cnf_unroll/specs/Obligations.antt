@@ -5,7 +5,7 @@ use Rattle.proof_semantics.specs.Clauses.{negation}
 use Rattle.proof_semantics.specs.declared.literals.Lit.{Lit}
 use Rattle.fair_semantics.specs.declared.entries.Use.{Use}
 use Rattle.fair_semantics.specs.Entries.{Numbered}
-use Rattle.cnf_unroll.specs.Numbers.{block_size, state_place, successor_place, block_places, literal_in_block, literal_at_place, set_at_place}
+use Rattle.cnf_unroll.specs.Numbers.{block_size, state_place, successor_place, block_places, literal_at_place, set_at_place}
 use Rattle.cnf_unroll.specs.Blocks.{block_clauses, step_clauses, unit_clause}
 use Rattle.cnf_unroll.specs.Uses.{Numbering, free_from, named_sides, uses_clauses, after_uses}
 

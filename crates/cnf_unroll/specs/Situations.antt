@@ -1,5 +1,5 @@
 -- What an assignment makes of the numbers of a block: a position and its successor.
-use Rattle.std.specs.Prelude.{ℕ, ◌*◌, Bool, List, map}
+use Rattle.std.specs.Prelude.{ℕ, ◌*◌, Bool, map}
 use Rattle.aig_semantics.specs.Circuits.{Circuit}
 use Rattle.fair_semantics.specs.declared.skeletons.Situation.{Situation}
 use Rattle.cnf_unroll.specs.Numbers.{block_size, number, state_place, successor_place}

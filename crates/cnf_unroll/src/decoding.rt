@@ -1,6 +1,6 @@
 //! The position and the successor that an assignment gives to a block. The main call is `decode`.
 
-ghost use Rattle.std.specs.Prelude.{◌≡◌, ◌+◌, ◌*◌, ◌^◌, ◌<◌, ◌≤◌, map, length, All, OnOk, OnErr, IfOk};
+ghost use Rattle.std.specs.Prelude.{◌≡◌, ◌^◌, ◌<◌, map, All, IfOk};
 ghost use Rattle.proof_semantics.specs.Clauses.{values_of};
 ghost use Rattle.cnf_unroll.specs.Numbers.{number};
 ghost use Rattle.cnf_unroll.specs.Situations.{situation_in, situation_of_block};

@@ -1,6 +1,6 @@
 //! What the clauses say. Each call does nothing; its contract is the law.
 
-ghost use Rattle.cnf_unroll.specs.Laws.{ModelsAreSituations, SituationsAreModels, ObligationsTell, SkeletonClausesTell};
+ghost use Rattle.cnf_unroll.specs.Laws.{ModelsAreSituations, SituationsAreModels, ObligationsTell, SkeletonClausesTell, ClosedUsesAreUnderstood};
 
 use circuit::{Circuit, one_valuation};
 
@@ -29,4 +29,12 @@ pub fn skeleton_clauses_tell(c: &Circuit)
 {
     let _greatest = c.max();
     one_valuation(c);
+}
+
+/// Closed uses of a list can be understood by themselves: what the laws on obligations and skeleton clauses ask of the
+/// used entries is so.
+pub fn closed_uses_are_understood(c: &Circuit)
+    ensures { ClosedUsesAreUnderstood c.now }
+{
+    let _greatest = c.max();
 }

@@ -9,7 +9,7 @@
 //! | `obligation` | the obligation of a clause: `shared`, and `broken` as unit clauses |
 //! | `skeleton_cnf` | a block for each literal of a property, and the used entries over all of them |
 //! | `decode` | the position and the successor that an assignment gives to a block |
-//! | `blocks_are_situations`, `obligations_tell`, `skeleton_clauses_tell` | nothing; their contracts are the laws |
+//! | `blocks_are_situations`, `obligations_tell`, `skeleton_clauses_tell`, `closed_uses_are_understood` | nothing; their contracts are the laws |
 //!
 //! Variables are numbered from 1. Each error is want of memory, and comes alone where a result could not be held, which
 //! is so too of numbers from 2^63 on.
@@ -29,8 +29,12 @@ pub mod worked_rows;
 pub use blocks::step_cnf;
 pub use decoding::decode;
 pub use fair_semantics::{Kind, Side, Situation, Use};
-pub use laws::{blocks_are_situations, obligations_tell, skeleton_clauses_tell};
+pub use laws::{
+    blocks_are_situations, closed_uses_are_understood, obligations_tell, skeleton_clauses_tell,
+};
 pub use obligations::{Begun, broken, obligation, shared, step_under_uses};
 pub use skeletons::skeleton_cnf;
 pub use used::{ClauseSet, Used};
 
+#[cfg(test)]
+mod tests;

@@ -1,6 +1,6 @@
 //! The numbers of variables, and clauses of literals over them.
 
-ghost use Rattle.std.specs.Prelude.{◌≡◌, ◌+◌, ◌^◌, ◌<◌, ◌≤◌, [], ◌∷◌, ◌++◌, map, OnOk, OnErr, IfOk};
+ghost use Rattle.std.specs.Prelude.{◌≡◌, ◌+◌, ◌^◌, ◌<◌, [], ◌∷◌, ◌++◌, map, OnOk, IfOk};
 ghost use Rattle.cnf_unroll.specs.Numbers.{plus, minus, literal_in_block, literal_at_place, clause_at_place, set_at_place, state_place, successor_place};
 
 use circuit::Circuit;

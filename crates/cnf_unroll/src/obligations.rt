@@ -1,10 +1,10 @@
 //! Obligations of entries. The main call is `obligation`; `shared` and `broken` are its two parts.
 
-ghost use Rattle.std.specs.Prelude.{◌≡◌, ◌+◌, ◌^◌, ◌<◌, ◌≤◌, [], ◌∷◌, ◌++◌, map, length, slice_index_or, OnOk, OnErr, IfOk};
+ghost use Rattle.std.specs.Prelude.{◌≡◌, ◌+◌, ◌^◌, ◌<◌, [], ◌++◌, map, length, OnOk, IfOk};
 ghost use Rattle.proof_semantics.specs.Clauses.{negation};
-ghost use Rattle.cnf_unroll.specs.Numbers.{block_places, successor_place, literal_at_place};
+ghost use Rattle.cnf_unroll.specs.Numbers.{block_places, literal_at_place};
 ghost use Rattle.cnf_unroll.specs.Obligations.{units, step_with_uses, after_step, shared_clauses, broken_literals, obligation_clauses};
-ghost use Rattle.cnf_unroll.specs.Sides.{side_in, counted};
+ghost use Rattle.cnf_unroll.specs.Sides.{counted};
 ghost use Rattle.cnf_unroll.specs.Lending.{lent_all};
 
 use crate::blocks::push_block;

@@ -1,6 +1,6 @@
 //! The sides of the walls that were used so far. The main type is `Sides`.
 
-ghost use Rattle.std.specs.Prelude.{◌≡◌, OnOk, [], ◌∷◌, ◌++◌};
+ghost use Rattle.std.specs.Prelude.{◌≡◌, OnOk};
 ghost use Rattle.cnf_unroll.specs.Uses.{no_sides, with_side};
 ghost use Rattle.cnf_unroll.specs.Sides.{side_in};
 

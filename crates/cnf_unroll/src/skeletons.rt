@@ -1,6 +1,6 @@
 //! Skeletons as clauses. The main call is `skeleton_cnf`.
 
-ghost use Rattle.std.specs.Prelude.{◌≡◌, ◌+◌, ◌*◌, ◌^◌, ◌<◌, ◌≤◌, [], ◌∷◌, ◌++◌, map, length, OnOk, OnErr, IfOk};
+ghost use Rattle.std.specs.Prelude.{◌≡◌, ◌+◌, ◌^◌, ◌<◌, ◌++◌, length, OnOk, IfOk};
 ghost use Rattle.aig_semantics.specs.Circuits.{fair_literals};
 ghost use Rattle.cnf_unroll.specs.Obligations.{blocks_clauses, blocks_places, literals_clauses, after_blocks, skeleton_clauses};
 ghost use Rattle.cnf_unroll.specs.Lending.{lent_all};

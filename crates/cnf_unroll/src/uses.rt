@@ -1,6 +1,6 @@
 //! The clauses of used entries over places. The main call is `push_uses`.
 
-ghost use Rattle.std.specs.Prelude.{◌≡◌, ◌+◌, ◌^◌, ◌<◌, ◌≤◌, [], ◌∷◌, ◌++◌, map, length, OnOk, OnErr, IfOk};
+ghost use Rattle.std.specs.Prelude.{◌≡◌, ◌+◌, [], ◌∷◌, ◌++◌, map, length, OnOk, IfOk};
 ghost use Rattle.proof_semantics.specs.Clauses.{negation};
 ghost use Rattle.cnf_unroll.specs.Numbers.{minus, clause_at_place};
 ghost use Rattle.cnf_unroll.specs.Uses.{denials, marked, wall_at, marks, closing, wall_over, after_marks, wall_clauses, reach_clauses, named_literal, named_sides, use_clauses, after_use, uses_clauses, after_uses, free_from};

@@ -1,4 +1,4 @@
-use Rattle.std.proofs.Common.{◌≡◌, ◌^◌, ◌<◌, subst, sym}
+use Rattle.std.proofs.Common.{◌^◌, ◌<◌, subst, sym}
 use Rattle.std.specs.List.{All}
 use Rattle.cnf_unroll.proofs.Bounds.{gates_bound, latches_bound}
 use Rattle.cnf_unroll.proofs.blocks.push_block.Goals as goal
