@@ -1,10 +1,5 @@
-<<<<<<< HEAD
 -- Scaffolding of the worked rows: small entries.
-use Rattle.std.specs.Prelude.{ℕ, true, false, List, [], ◌∷◌}
-=======
--- Small entries, for the worked rows.
 use Rattle.std.specs.Prelude.{List, [], ◌∷◌}
->>>>>>> c86dfffeb0dc517531fcb9188da78a97816723c9
 use Rattle.aig_semantics.specs.Circuits.{Circuit}
 use Rattle.aig_semantics.specs.Examples.{one_latch}
 use Rattle.aig_semantics.specs.declared.parts.Reset.TheVariants.{Zero}
