@@ -67,8 +67,16 @@ fn lists_and_cubes(rt: HostRuntime) -> Result<(), Fail> {
     let copy = cube.clone()?;
     assert_eq!(rt; copy.len(), 2);
     assert!(rt; cube.negation()? == clause(rt.alloc(), &[-4, 2])?);
-    assert_eq!(rt; crosses(&cube).len(), 2);
-    let proof: Proof = Items::new(rt.alloc());
-    assert!(rt; crosses(&proof).is_empty());
     Ok(())
+}
+
+// What workers hand to each other.
+fn is_shared<T: Send + Sync>() -> bool {
+    true
+}
+
+#[test]
+fn shared_by_workers(rt: HostRuntime) {
+    assert!(rt; is_shared::<Clause>() && is_shared::<Db>());
+    assert!(rt; is_shared::<Cube>() && is_shared::<Proof>());
 }
