@@ -9,7 +9,10 @@
 //! | `obligation` | the obligation of a clause: `shared`, and `broken` as unit clauses |
 //! | `skeleton_cnf` | a block for each literal of a property, and the used entries over all of them |
 //! | `decode` | the position and the successor that an assignment gives to a block |
-//! | `blocks_are_situations`, `obligations_tell`, `skeleton_clauses_tell`, `closed_uses_are_understood` | nothing; their contracts are the laws |
+//! | `blocks_are_situations` | nothing: the law that a block's assignments are positions with their successors |
+//! | `obligations_tell` | nothing: the law of obligations |
+//! | `skeleton_clauses_tell` | nothing: the law of skeleton clauses |
+//! | `closed_uses_are_understood` | nothing: what these two laws ask of the used entries is so of closed uses |
 //!
 //! Variables are numbered from 1. Each error is want of memory, and comes alone where a result could not be held, which
 //! is so too of numbers from 2^63 on.

@@ -65,3 +65,34 @@ fn obligation_of_a_wall(rt: HostRuntime) -> Result<(), Fail> {
     }
     Ok(())
 }
+
+// The skeleton clauses of the property, with the wall between the latch's values.
+fn skeleton_text(alloc: Global, c: &Circuit, set: &ClauseSet) -> Result<String, AllocError> {
+    if c.property_count() == 0 {
+        return Ok(String::new(alloc));
+    }
+    let used = Used {
+        number: 0,
+        kind: Kind::Wall,
+        set,
+        uses: &[],
+    };
+    let db = skeleton_cnf(alloc, c, 0, &[used])?;
+    written(alloc, &db)
+}
+
+#[test]
+fn skeleton_beside_a_wall(rt: HostRuntime) -> Result<(), Fail> {
+    let c = rises(rt.alloc())?;
+    let set = latch_is(rt.alloc(), true)?;
+    let text = skeleton_text(rt.alloc(), &c, &set)?;
+    assert_eq!(rt;
+        text.as_str(),
+        "-1 0 -4 -1 0 4 1 0 -2 0 -5 2 0 -6 -2 0 5 6 0 -5 4 0 -7 -4 0 5 7 0 "
+    );
+    let model = [false, false, true, false, true];
+    let situation = decode(rt.alloc(), &c, &model, 0)?;
+    assert_eq!(rt; situation.position.latches.as_slice(), [true].as_slice());
+    assert_eq!(rt; situation.successor.as_slice(), [true].as_slice());
+    Ok(())
+}
