@@ -1,8 +1,8 @@
 #!/usr/bin/env python3
 """Models that are cut off anywhere, and models that would make a careless reader crash, recurse deeply, wait or take
-memory: ./fairlive must answer each as stated, within 60 seconds and 1 GB of address space. A short text must be answered
-within 20 MB, which is less than the latches or gates take that its header may announce; but for inputs, which have no
-bytes in the binary form."""
+memory: ./fairlive must answer each as stated, within 60 seconds and 1 GB of address space; the longest texts and the
+most inputs that there may be, within 4 GB. A short text must be answered within 20 MB, which is less than the latches
+or gates take that its header may announce; but for inputs, which have no bytes in the binary form."""
 import os
 import subprocess
 import sys
@@ -13,10 +13,10 @@ TOP = os.path.dirname(os.path.dirname(os.path.abspath(__file__)))
 GATES = 1_000_000
 GREATEST = 4_294_967_295
 # the greatest variable that a model may have, and the most bytes
-VARIABLES = 1_048_576
-LENGTH = 67_108_864
+VARIABLES = 16_777_216
+LENGTH = 1_073_741_824
 # address space, in units of 1,024 bytes
-MEMORY, LITTLE = 1_000_000, 20_000
+MUCH, MEMORY, LITTLE = 4_000_000, 1_000_000, 20_000
 READ = "refused unknown status\n"
 
 
@@ -39,9 +39,8 @@ def cycle():
 ASCII = [
     ("a chain of gates", chain(), READ),
     ("a cycle of gates", cycle(), "model refused cycle "),
-    ("many short lines", f"aag {VARIABLES} 0 0 {GREATEST} 0\n" + "0\n" * 20_000_000, "model refused truncated 40000029\n"),
+    ("many short lines", f"aag {VARIABLES} 0 0 {GREATEST} 0\n" + "0\n" * 20_000_000, "model refused truncated 40000030\n"),
     ("many symbols", "aag 1 1 0 0 0\n2\n" + "i0 a\n" * 1_000_000, READ),
-    ("a text that is too long", "aag 0 0 0 0 0\nc\n" + "x" * LENGTH, f"model refused limit {LENGTH}\n"),
 ]
 
 
@@ -66,12 +65,18 @@ LONG = 60_000_000
 
 BINARY = [
     ("a million binary gates", binary_gates(), READ),
-    ("as many inputs as there may be", f"aig {VARIABLES} {VARIABLES} 0 0 0\n", READ),
     ("a long delta that is cut off", ONE_GATE + b"\x80" * LONG, f"model refused truncated {14 + LONG}\n"),
     ("a long delta that ends in 0", ONE_GATE + b"\x80" * LONG + b"\0", "model refused number 14\n"),
     ("a long delta that is too great", ONE_GATE + b"\x80" * LONG + b"\1", "model refused number 14\n"),
     ("many binary symbols", "aig 1 1 0 0 0\n" + "i0 a\n" * 1_000_000, READ),
-    ("a binary text that is too long", "aig 0 0 0 0 0\nc\n" + "x" * LENGTH, f"model refused limit {LENGTH}\n"),
+]
+
+# at their limits and past them; the last number is how long the text is made, by bytes of 0 at its end
+GREAT = [
+    ("as many inputs as there may be", f"aig {VARIABLES} {VARIABLES} 0 0 0\n", READ, 0),
+    ("a text as long as it may be", "aag 0 0 0 0 0\nc\n", READ, LENGTH),
+    ("a text that is too long", "aag 0 0 0 0 0\nc\n", f"model refused limit {LENGTH}\n", LENGTH + 1),
+    ("a binary text that is too long", "aig 0 0 0 0 0\nc\n", f"model refused limit {LENGTH}\n", LENGTH + 1),
 ]
 
 
@@ -170,8 +175,8 @@ def check_endless(folder, answer):
     os.mkfifo(pipe)
     threading.Thread(target=pour, args=(pipe, b"aig 1 1 0 0 0\nc"), daemon=True).start()
     wanted = f"model refused limit {LENGTH}\n"
-    binary = check("an endless binary model", pipe, answer, MEMORY, wanted)
-    return check("an endless model", "/dev/zero", answer, MEMORY, wanted) and binary
+    binary = check("an endless binary model", pipe, answer, MUCH, wanted)
+    return check("an endless model", "/dev/zero", answer, MUCH, wanted) and binary
 
 
 def main():
@@ -183,10 +188,12 @@ def main():
             file.write("2\n")
         good = True
         short = SHORT + [case for sections in SECTIONS for case in prefixes(*sections)]
-        cases = [(LITTLE, case) for case in short] + [(MEMORY, case) for case in ASCII + BINARY]
-        for memory, (name, text, wanted) in cases:
+        cases = [(LITTLE, (*case, 0)) for case in short] + [(MEMORY, (*case, 0)) for case in ASCII + BINARY]
+        cases += [(MUCH, case) for case in GREAT]
+        for memory, (name, text, wanted, length) in cases:
             with open(model, "wb") as file:
                 file.write(text if isinstance(text, bytes) else text.encode())
+                file.truncate(max(length, file.tell()))
             good = check(name, model, answer, memory, wanted) and good
         good = check_endless(folder, answer) and good
     if good:

@@ -1,15 +1,13 @@
 -- A circuit whose gates have ranks has one valuation for each list of latches and of inputs.
-use Rattle.std.proofs.Common.{◌≡◌, ◌≢◌, ℕ, zero, suc, ◌+◌, ◌<◌, ◌≤◌, ◌==◌, ◌⊎◌, Bool, true, false, cond, List, [], ◌∷◌, ◌++◌, map, length, get_or, take, drop, Option, Some, None, unwrap_or, refl, sym, ap, ◌∙◌, subst, inl, inr, arith, length-append}
+use Rattle.std.proofs.Common.{◌≡◌, ℕ, zero, suc, ◌+◌, ◌<◌, ◌≤◌, ◌==◌, ◌⊎◌, Bool, false, List, [], ◌∷◌, ◌++◌, map, length, get_or, take, drop, Option, Some, None, unwrap_or, refl, sym, ap, ◌∙◌, inl, inr, arith, length-append}
 use Rattle.std.specs.List.{All, Contains, find}
-use Rattle.std.proofs.lemmas.Bool.{eqb-true, eqb-false, cases_Bool, cases_lt}
+use Rattle.std.proofs.lemmas.Bool.{eqb-true, eqb-false, cases_lt}
 use Rattle.std.proofs.lemmas.List.{map-append, length-map, get_or-map, ext_get_or, get_or_push, get_or_append_left, length_push, get_or_past, take_at, drop_at}
-use Rattle.std.proofs.lemmas.List.Elements.{Contains-append_cases, Contains-append_left, Contains-append_right, Contains-get_or, All-get_or, All-contains}
-use Rattle.std.proofs.lemmas.Option.{same_Some, none-some}
-use Rattle.aig_semantics.specs.declared.parts.Latch.{Latch}
+use Rattle.std.proofs.lemmas.List.Elements.{Contains-append_cases, Contains-append_left, Contains-append_right, All-contains}
 use Rattle.aig_semantics.specs.declared.parts.Gate.{Gate}
 use Rattle.aig_semantics.specs.Literals.{variable_of, variable_in}
 use Rattle.aig_semantics.specs.Circuits.{Circuit, defined}
-use Rattle.aig_semantics.specs.Valuations.{IsValuation, MeetsEquations, gate_value, value_beside, given_value, conjunction, value_through, values_below, valuation}
+use Rattle.aig_semantics.specs.Valuations.{IsValuation, MeetsEquations, given_value, conjunction, value_through, values_below, valuation}
 use Rattle.aig_semantics.proofs.Lists.{AllDiffer, AllDiffer-left, AllDiffer-right, AllDiffer-across, value_beside-some, value_beside-none, value_beside-there, value_beside-at, find-some, find-none, find-at}
 
 -- each gate's rank is above those of the variables that it reads, and none is above the number of gates

@@ -1,5 +1,5 @@
 -- Variables, literals, and what a list of values makes of them (AIGER 1.9; Biere, Heljanko, Wieringa, 2011).
-use Rattle.std.specs.Prelude.{ℕ, ◌/◌, ◌%◌, ◌==◌, Bool, true, false, not, List, slice_index_or, if◌then◌else◌}
+use Rattle.std.specs.Prelude.{ℕ, ◌/◌, ◌%◌, ◌==◌, Bool, false, not, List, slice_index_or, if◌then◌else◌}
 
 -- variable v has the literals 2v and 2v + 1
 abbrev pub variable_of : ℕ → ℕ

@@ -1,8 +1,7 @@
 -- Positions, successors and runs, with constraints, resets, justice and fairness as in AIGER 1.9 (Biere, Heljanko,
 -- Wieringa, 2011); a fair lasso as in Liveness Checking as Safety Checking (Biere, Artho, Schuppan, 2002).
-use Rattle.std.specs.Prelude.{◌≡◌, ℕ, ◌-◌, ◌<◌, Bool, true, false, List, [], ◌∷◌, map, length, drop, Option, Some, slice_get, IsTrue}
+use Rattle.std.specs.Prelude.{◌≡◌, ℕ, ◌-◌, ◌<◌, Bool, true, false, not, List, [], ◌∷◌, map, length, drop, Some, slice_get, IsTrue}
 use Rattle.std.specs.List.{All, Any, AllZip}
-use Rattle.aig_semantics.specs.declared.parts.Latch.{Latch}
 use Rattle.aig_semantics.specs.declared.parts.Reset.{Reset}
 use Rattle.aig_semantics.specs.declared.parts.Reset.TheVariants.{Zero, One, Free}
 use Rattle.aig_semantics.specs.declared.traces.Position.{Position}
@@ -14,6 +13,10 @@ use Rattle.aig_semantics.specs.Valuations.{valuation}
 pub record IsPosition (c : Circuit) (p : Position) : Type 0 where
   pub latches : length p.latches ≡ length c.latches
   pub inputs : length p.inputs ≡ length c.inputs
+
+-- the position with these values
+abbrev pub position_of : List Bool → List Bool → Position
+position_of latches inputs = record { latches = latches; inputs = inputs }
 
 abbrev pub valuation_at : Circuit → Position → List Bool
 valuation_at c p = valuation c p.latches p.inputs
@@ -46,6 +49,12 @@ abbrev pub AgreesWith : Reset → Bool → Type 0
 AgreesWith Zero value = value ≡ false
 AgreesWith One value = value ≡ true
 AgreesWith Free value = Unit {0}
+
+-- the same as a test
+abbrev pub agrees_with : Reset → Bool → Bool
+agrees_with Zero value = not value
+agrees_with One value = value
+agrees_with Free value = true
 
 -- one value for each latch, which it may begin with
 abbrev pub IsInitial : Circuit → List Bool → Type 0

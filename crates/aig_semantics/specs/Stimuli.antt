@@ -1,18 +1,22 @@
 -- Stimuli, after the witnesses of AIGER 1.9 (Biere, Heljanko, Wieringa, 2011), and the runs that they give. Which of its
 -- lassos a stimulus stands for is a rule of this program.
-use Rattle.std.specs.Prelude.{◌≡◌, ℕ, ◌≤◌, ◌<◌, ◌⊎◌, Bool, List, [], ◌∷◌, length, take}
+use Rattle.std.specs.Prelude.{◌≡◌, ℕ, ◌≤◌, Bool, List, [], ◌∷◌, length, take}
 use Rattle.std.specs.List.{All}
 use Rattle.aig_semantics.specs.declared.traces.Position.{Position}
 use Rattle.aig_semantics.specs.declared.traces.Stimulus.{Stimulus}
 use Rattle.aig_semantics.specs.declared.traces.Lasso.{Lasso}
 use Rattle.aig_semantics.specs.Circuits.{Circuit}
-use Rattle.aig_semantics.specs.Runs.{successor, IsFairLasso}
+use Rattle.aig_semantics.specs.Runs.{position_of, successor, IsFairLasso}
 
 -- the first position has these latches, and each later one the successor of the one before
 unfoldable pub simulated : Circuit → List Bool → List (List Bool) → List Position
 simulated c latches [] = []
-simulated c latches (now ∷ later) =
-    let p : Position = record { latches = latches; inputs = now } in p ∷ simulated c (successor c p) later
+simulated c latches (now ∷ later) = position_of latches now ∷ simulated c (successor c (position_of latches now)) later
+
+-- the state that follows the last of these positions
+unfoldable pub state_after : Circuit → List Bool → List (List Bool) → List Bool
+state_after c latches [] = latches
+state_after c latches (now ∷ later) = state_after c (successor c (position_of latches now)) later
 
 -- a stimulus with a value for each latch, and for each input at each position
 pub record FitsCircuit (c : Circuit) (stimulus : Stimulus) : Type 0 where

@@ -1,7 +1,7 @@
 //! The limits of this program on circuits and their texts, for definitions and code alike.
 
 /// The greatest variable that a circuit may have.
-pub const MAX_VARIABLE: u64 = 1_048_576;
+pub const MAX_VARIABLE: u64 = 16_777_216;
 
 /// The greatest number of literals of one justice property and of all fairness literals together.
 pub const MAX_PROPERTY_LITERALS: u64 = 256;
@@ -10,4 +10,4 @@ pub const MAX_PROPERTY_LITERALS: u64 = 256;
 pub const MAX_NUMBER: u64 = 4_294_967_295;
 
 /// The greatest length of a model's text, in bytes.
-pub const MAX_MODEL_BYTES: u64 = 67_108_864;
+pub const MAX_MODEL_BYTES: u64 = 1_073_741_824;

@@ -11,6 +11,23 @@ pub enum Reset {
     Free,
 }
 
+impl Reset {
+    ghost use Rattle.std.specs.Prelude.{◌≡◌, ◌↔◌, IsTrue};
+    ghost use Rattle.aig_semantics.specs.Runs.{AgreesWith, agrees_with};
+
+    /// Whether a latch with this reset may begin with the value.
+    pub fn agrees_with(self, value: bool) -> bool
+        ensures test { result ≡ agrees_with self value }
+        ensures exactly { IsTrue result ↔ AgreesWith self value }
+    {
+        match self {
+            Reset::Zero => !value,
+            Reset::One => value,
+            Reset::Free => true,
+        }
+    }
+}
+
 /// A latch: its variable, from 1 to the circuit's greatest; the literal that gives its next value; its reset.
 #[derive(Clone, Copy, Debug, PartialEq, Eq)]
 pub struct Latch {

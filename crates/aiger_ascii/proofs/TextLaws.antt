@@ -21,7 +21,8 @@ use Rattle.aiger_grammar.specs.Names.{counts_of, names_at, AreNames}
 use Rattle.aiger_grammar.specs.Reading.{◌>>=◌, lines_at}
 use Rattle.aiger_grammar.specs.Headers.{heading_at, defined_count, ascii_heading_at}
 use Rattle.aiger_grammar.specs.Sections.{input_at, latch_at, gate_at, parts_of, ascii_sections_at}
-use Rattle.aiger_grammar.specs.AsciiTexts.{IsAsciiTextOf, model_of, with_names, ascii_at}
+use Rattle.aiger_grammar.specs.BothForms.{model_of, with_names}
+use Rattle.aiger_grammar.specs.AsciiTexts.{IsAsciiTextOf, ascii_at}
 use Rattle.aiger_grammar.proofs.NamesLaws.{reads_names}
 use Rattle.aiger_sections.proofs.ReaderLaws.{Reads, Then, bind_ok, then_reads, map_reads}
 use Rattle.aiger_sections.proofs.FieldLaws.{IsVariable}

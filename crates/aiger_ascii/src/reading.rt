@@ -1,36 +1,40 @@
 //! ASCII texts of models, read from the left. The main call is `read`.
-ghost use Rattle.std.specs.Prelude.{◌≡◌, ◌⊎◌, Ok, Err, IfOk, nat_le};
+ghost use Rattle.std.specs.Prelude.{◌≡◌, Ok, Err, IfOk, nat_le};
+ghost use Rattle.unless_memory.specs.Answers.{Gives, GivesSome};
 ghost use Rattle.circuit.specs.declared.faults.ModelFault.{ModelFault as FaultOf};
 ghost use Rattle.aiger_grammar.specs.Models.{Model as ModelOf};
-ghost use Rattle.aiger_grammar.specs.Reading.{Gives};
+ghost use Rattle.aiger_grammar.specs.Answered.{GivesRead};
 ghost use Rattle.aiger_grammar.specs.Headers.{ascii_heading_at, defined_count};
 ghost use Rattle.aiger_grammar.specs.Sections.{ascii_sections_at};
-ghost use Rattle.aiger_grammar.specs.AsciiTexts.{IsAsciiTextOf, HasAsciiFault, SameFault, ascii_at};
-ghost use Rattle.aiger_grammar.specs.Names.{counts_of};
+ghost use Rattle.aiger_grammar.specs.BothForms.{SameFault};
+ghost use Rattle.aiger_grammar.specs.AsciiTexts.{IsAsciiTextOf, HasAsciiFault, ascii_at};
 ghost use Rattle.aiger_sections.specs.Answers.{IsAnswer};
 
-use aig_semantics::{MAX_MODEL_BYTES, MAX_VARIABLE};
-use aiger_grammar::{Counts, Heading, Names};
+use aig_semantics::MAX_MODEL_BYTES;
+use aiger_grammar::{Heading, Names};
 use aiger_names::{Model, read_last_names};
-use aiger_sections::{GateLine, InputLine, LatchLine, read_heading, read_lines, read_properties};
+use aiger_sections::{
+    GateLine, InputLine, LatchLine, counts, is_too_long, read_heading, read_lines, read_properties,
+    within_limit,
+};
 use circuit::{ModelEnd, ModelFault, Parts, check_circuit};
 use std::alloc::Global;
 
 /// The model of an ASCII text, or the first fault with its place. Places are counted in bytes from 0; those of
-/// `Undefined`, `Twice` and `Cycle` are variables. A text of more than 67,108,864 bytes is `Limit` at 67,108,864. Then
-/// come the header's faults (`Header` at 0, `Truncated`, and `Limit` at 0 for a greatest variable above 1,048,576), then
-/// those of the sections and names in the order of the file (`Number`, `Range`, `Truncated`, `Limit` at the size line of
-/// a property that has more than 256 literals with fairness, `Trailing`, `Symbol`), then `Twice`, then `Undefined`, then
-/// `Cycle`. Takes memory for what was read, whatever the header says; the work is in proportion to the text and to the
-/// greatest variable.
+/// `Undefined`, `Twice` and `Cycle` are variables. A text of more than 1,073,741,824 bytes is `Limit` at 1,073,741,824.
+/// Then come the header's faults (`Header` at 0, `Truncated`, and `Limit` at 0 for a greatest variable above
+/// 16,777,216), then those of the sections and names in the order of the file (`Number`, `Range`, `Truncated`, `Limit`
+/// at the size line of a property that has more than 256 literals with fairness, `Trailing`, `Symbol`), then `Twice`,
+/// then `Undefined`, then `Cycle`. Takes memory for what was read, whatever the header says; the work is in proportion
+/// to the text and to the greatest variable.
 pub fn read(alloc: Global, bytes: &[u8]) -> Result<Model, ModelEnd>
     ensures found { IfOk result (λ m. IsAsciiTextOf m bytes.now) }
     ensures every { (m : ModelOf) → IsAsciiTextOf m bytes.now
-        → (result ≡ Ok m) ⊎ (result ≡ Err ModelEnd.Memory) }
+        → Gives (Err ModelEnd.Memory) (Ok m) result }
     ensures fault { (fault : FaultOf) → result ≡ Err (ModelEnd.Fault fault) → HasAsciiFault bytes.now fault }
     ensures first { (fault : FaultOf) → HasAsciiFault bytes.now fault
-        → ((said : FaultOf) × (result ≡ Err (ModelEnd.Fault said)) × SameFault said fault)
-        ⊎ (result ≡ Err ModelEnd.Memory) }
+        → GivesSome (Err ModelEnd.Memory)
+        (λ answer. (said : FaultOf) × (answer ≡ Err (ModelEnd.Fault said)) × SameFault said fault) result }
 {
     read_checked(alloc, bytes)
 }
@@ -48,12 +52,12 @@ fn read_checked(alloc: Global, bytes: &[u8]) -> Result<Model, ModelEnd>
 // What the text says, before it is checked.
 #[tactic(auto, unfolding(aiger_grammar::specs::AsciiTexts::ascii_at))]
 fn read_parts(alloc: Global, bytes: &[u8]) -> Result<(Parts, Names), ModelEnd>
-    ensures { Gives (λ x. x) result (ascii_at bytes.now) }
+    ensures { GivesRead (λ x. x) result (ascii_at bytes.now) }
 {
-    let total = bytes.len() as u64;
-    if total > MAX_MODEL_BYTES {
+    if is_too_long(bytes) {
         return Err(ModelEnd::Fault(ModelFault::Limit(MAX_MODEL_BYTES)));
     }
+    let total = bytes.len() as u64;
     let (heading, body) = read_first_line(total, bytes)?;
     let (parts, rest) = read_sections(alloc, heading, total, body)?;
     let names = read_last_names(alloc, bytes.len(), rest, &counts(heading))?;
@@ -63,16 +67,10 @@ fn read_parts(alloc: Global, bytes: &[u8]) -> Result<(Parts, Names), ModelEnd>
 // The header, within its limits, and the bytes behind it.
 #[tactic(auto, unfolding(aiger_grammar::specs::Headers::ascii_heading_at))]
 fn read_first_line(total: u64, bytes: &[u8]) -> Result<(Heading, &[u8]), ModelEnd>
-    ensures { Gives (λ x. (x.0, x.1.now)) result (ascii_heading_at total bytes.now) }
+    ensures { GivesRead (λ x. (x.0, x.1.now)) result (ascii_heading_at total bytes.now) }
 {
     let (heading, body) = read_heading(b'a', total, bytes)?;
-    if !has_room(heading) {
-        return Err(ModelEnd::Fault(ModelFault::Header(0)));
-    }
-    if heading.max > MAX_VARIABLE {
-        return Err(ModelEnd::Fault(ModelFault::Limit(0)));
-    }
-    Ok((heading, body))
+    within_limit(has_room(heading), heading, body)
 }
 
 // Whether the greatest variable leaves room for inputs, latches and gates.
@@ -84,21 +82,6 @@ fn has_room(heading: Heading) -> bool
         && heading.gates <= heading.max - heading.inputs - heading.latches
 }
 
-// How many elements a symbol may name.
-fn counts(heading: Heading) -> Counts
-    ensures { result ≡ counts_of heading }
-{
-    Counts {
-        i: heading.inputs,
-        l: heading.latches,
-        o: heading.outputs,
-        b: heading.bad,
-        c: heading.constraints,
-        j: heading.justice,
-        f: heading.fairness,
-    }
-}
-
 // The sections behind a header, and the bytes behind them.
 #[tactic(auto, unfolding(aiger_grammar::specs::Sections::ascii_sections_at))]
 fn read_sections(
@@ -107,7 +90,7 @@ fn read_sections(
     total: u64,
     bytes: &[u8],
 ) -> Result<(Parts, &[u8]), ModelEnd>
-    ensures { Gives (λ x. (x.0, x.1.now)) result (ascii_sections_at heading total bytes.now) }
+    ensures { GivesRead (λ x. (x.0, x.1.now)) result (ascii_sections_at heading total bytes.now) }
 {
     let max = heading.max;
     let (inputs, rest) = read_lines(alloc, &InputLine { max }, heading.inputs, total, bytes)?;

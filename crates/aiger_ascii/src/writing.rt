@@ -6,13 +6,14 @@ ghost use Rattle.aiger_grammar.specs.AsciiTexts.{IsAsciiTextOf};
 ghost use Rattle.aiger_grammar.specs.Spelling.{input_line, latch_line, gate_line, ascii_text, HasAsciiForm};
 
 use aig_semantics::{Gate, Latch, MAX_MODEL_BYTES, MAX_VARIABLE};
-use aiger_names::{Model, push_header, push_names, push_next, push_properties};
+use aiger_names::{Model, push_names, push_next, push_properties};
+use aiger_sections::push_header;
 use std::alloc::{AllocError, Global};
 use text_grammar::push_number;
 
 /// The ASCII text of a model: zeros at the end of the header's last four numbers are left out, a reset of 0 is left
 /// out, and all lines stand in the model's order. It stands for the model, so where it is no longer than what is read,
-/// 67,108,864 bytes, it is read as the model again. The error is want of memory.
+/// 1,073,741,824 bytes, it is read as the model again. The error is want of memory.
 pub fn write(alloc: Global, model: &Model) -> Result<Vec<u8>, AllocError>
     ensures text { IfOk result (λ text. text.items ≡ ascii_text model.now) }
     ensures stands { IfOk result (λ text. HasAsciiForm model.now text.items) }
@@ -29,7 +30,8 @@ pub fn write(alloc: Global, model: &Model) -> Result<Vec<u8>, AllocError>
 
 // The lines of the inputs and of the latches.
 fn push_definitions(out: &mut Vec<u8>, model: &Model) -> Result<(), AllocError>
-    ensures { OnOk result (out.new.items ≡ out.old.items ++ flat_map input_line model.now.circuit.inputs ++ flat_map latch_line model.now.circuit.latches) }
+    ensures { OnOk result (out.new.items ≡ out.old.items
+        ++ flat_map input_line model.now.circuit.inputs ++ flat_map latch_line model.now.circuit.latches) }
 {
     let circuit = model.circuit();
     push_inputs(out, circuit.inputs())?;

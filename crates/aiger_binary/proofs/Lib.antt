@@ -4,3 +4,4 @@ mod Written
 pub mod GroupLoop
 pub mod DifferenceLaws
 pub mod TextLaws
+mod OrderOfTexts

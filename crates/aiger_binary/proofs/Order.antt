@@ -1,22 +1,13 @@
 -- A model is ordered where it is so section by section.
-use Rattle.std.proofs.Common.{◌≡◌, ℕ, zero, suc, ◌+◌, ◌<◌, List, [], ◌∷◌, ◌++◌, map, length, get_or, refl, sym, ap, ◌∙◌, arith, length-append, map-id}
-use Rattle.std.specs.List.{range_with_len}
+use Rattle.std.proofs.Common.{◌≡◌, ℕ, suc, ◌+◌, ◌<◌, List, [], ◌∷◌, ◌++◌, map, length, get_or, refl, sym, ap, ◌∙◌, arith, length-append, map-id}
+use Rattle.std.specs.List.{All, range_with_len}
 use Rattle.std.proofs.lemmas.List.{length-map, get_or-map, get_or_append_left, get_or-append-add}
 use Rattle.std.proofs.lemmas.List.FromFn.{length-range_with_len, get_or-range_with_len}
 use Rattle.aig_semantics.specs.Circuits.{defined}
+use Rattle.aiger_grammar.proofs.Ranges.{range_append}
 use Rattle.aiger_grammar.specs.Models.{Model}
-use Rattle.aiger_grammar.specs.Ordered.{IsOrdered}
+use Rattle.aiger_grammar.specs.Ordered.{IsDescending, IsOrdered}
 use Rattle.aiger_binary.specs.Numbered.{AreNumbered, IsInOrder}
-
-range_append : (a m k : ℕ) → range_with_len a m ++ range_with_len (a + m) k ≡ range_with_len a (m + k)
-range_append a zero k =
-    let e : a + 0 ≡ a = omega arith in
-    let f : k ≡ 0 + k = omega arith in
-    ap (λ b. range_with_len b k) e ∙ ap (range_with_len a) f
-range_append a (suc m) k =
-    let e : a + suc m ≡ a + 1 + m = omega arith in
-    let f : suc (m + k) ≡ suc m + k = omega arith in
-    ap (λ xs. a ∷ xs) (ap (λ b. range_with_len (a + 1) m ++ range_with_len b k) e ∙ range_append (a + 1) m k) ∙ ap (range_with_len a) f
 
 -- numbered elements have the variables of a range
 pub numbered_range : {X : Type 0} (var : X → ℕ) (first : ℕ) (xs : List X) → AreNumbered var first xs → map var xs ≡ range_with_len first (length xs)
@@ -27,17 +18,18 @@ numbered_range var first (x ∷ xs) n =
     let tail : AreNumbered var (first + 1) xs = λ k d below. n (suc k) d (omega (arith, below)) ∙ (let e : first + suc k ≡ first + 1 + k = omega arith in e) in
     ap (λ v. v ∷ map var xs) (head ∙ same) ∙ ap (λ vs. first ∷ vs) (numbered_range var (first + 1) xs tail)
 
-pub to_ordered : (m : Model) → IsInOrder m → IsOrdered m
-to_ordered m o =
+pub ordered_by : (m : Model) → m.circuit.max ≡ length m.circuit.inputs + length m.circuit.latches + length m.circuit.gates
+    → m.circuit.inputs ≡ range_with_len 1 (length m.circuit.inputs)
+    → map (λ latch. latch.var) m.circuit.latches ≡ range_with_len (1 + length m.circuit.inputs) (length m.circuit.latches)
+    → map (λ gate. gate.var) m.circuit.gates ≡ range_with_len (1 + length m.circuit.inputs + length m.circuit.latches) (length m.circuit.gates)
+    → All IsDescending m.circuit.gates → IsOrdered m
+ordered_by m count first second third descending =
     let c = m.circuit in
     let latches = map (λ latch. latch.var) c.latches in
     let gates = map (λ gate. gate.var) c.gates in
     let i = length c.inputs in
     let l = length c.latches in
     let a = length c.gates in
-    let first : c.inputs ≡ range_with_len 1 i = sym (map-id c.inputs) ∙ numbered_range (λ v. v) 1 c.inputs o.inputs in
-    let second : latches ≡ range_with_len (1 + i) l = numbered_range (λ latch. latch.var) (1 + i) c.latches o.latches in
-    let third : gates ≡ range_with_len (1 + i + l) a = numbered_range (λ gate. gate.var) (1 + i + l) c.gates o.gates in
     let e : 1 + i + l ≡ 1 + (i + l) = omega arith in
     record {
       numbered =
@@ -46,9 +38,17 @@ to_ordered m o =
           ∙ ap (λ vs. vs ++ gates) (range_append 1 i l)
           ∙ ap (λ vs. range_with_len 1 (i + l) ++ vs) (third ∙ ap (λ b. range_with_len b a) e)
           ∙ range_append 1 (i + l) a
-          ∙ ap (range_with_len 1) (sym o.count);
-      descending = o.descending;
+          ∙ ap (range_with_len 1) (sym count);
+      descending = descending;
     }
+
+pub to_ordered : (m : Model) → IsInOrder m → IsOrdered m
+to_ordered m o =
+    let c = m.circuit in
+    let i = length c.inputs in
+    ordered_by m o.count (sym (map-id c.inputs) ∙ numbered_range (λ v. v) 1 c.inputs o.inputs)
+    (numbered_range (λ latch. latch.var) (1 + i) c.latches o.latches)
+    (numbered_range (λ gate. gate.var) (1 + i + length c.latches) c.gates o.gates) o.descending
 
 pub from_ordered : (m : Model) → IsOrdered m → IsInOrder m
 from_ordered m o =

@@ -4,6 +4,7 @@ use Rattle.std.specs.Prelude.{codes}
 use Rattle.std.specs.List.{AllByRecursion}
 use Rattle.std.proofs.lemmas.Bool.{eqb-true, eq-eqb, leb-true, le-leb, ltb-false, le-ltb}
 use Rattle.std.proofs.lemmas.List.{length-map}
+use Rattle.std.proofs.lemmas.List.FromFn.{length-range_with_len}
 use Rattle.std.proofs.lemmas.List.Elements.{recursion_from_All}
 use Rattle.aig_semantics.specs.declared.limits.TheConstants.{MAX_NUMBER, MAX_VARIABLE, MAX_MODEL_BYTES}
 use Rattle.aig_semantics.specs.declared.parts.Latch.{Latch}
@@ -22,8 +23,9 @@ use Rattle.aiger_grammar.specs.Reading.{◌>>=◌, many}
 use Rattle.aiger_grammar.specs.Headers.{heading_at, defined_count}
 use Rattle.aiger_grammar.specs.Sections.{next_at, parts_of}
 use Rattle.aiger_grammar.specs.Deltas.{IsDelta, difference_at}
-use Rattle.aiger_grammar.specs.AsciiTexts.{model_of, with_names}
-use Rattle.aiger_grammar.specs.BinaryTexts.{variables_from, NumberedLatch, NumberedGate, IsBinaryTextOf, binary_heading_at, numbered_gate_at, latch_literal, gate_variable, binary_sections_at, binary_at}
+use Rattle.aiger_grammar.specs.BothForms.{model_of, with_names}
+use Rattle.aiger_grammar.specs.BinaryTexts.{NumberedLatch, NumberedGate, IsBinaryTextOf, binary_heading_at, numbered_gate_at, latch_literal, gate_variable, binary_sections_at, binary_at}
+use Rattle.std.specs.List.{range_with_len}
 use Rattle.aiger_grammar.proofs.NamesLaws.{reads_names}
 use Rattle.aiger_sections.proofs.ReaderLaws.{Reads, Then, bind_ok, then_reads, map_reads, said}
 use Rattle.aiger_sections.proofs.FieldLaws.{IsVariable}
@@ -120,21 +122,17 @@ gate_reads v total = said (gate_read v total) (gate_there v) (gate_back v)
 
 -- ---- numbered lines, and the ranges of their numbers
 
-pub variables_more : (v n : ℕ) → variables_from v n ++ (v + n) ∷ [] ≡ variables_from v (suc n)
+pub variables_more : (v n : ℕ) → range_with_len v n ++ (v + n) ∷ [] ≡ range_with_len v (suc n)
 variables_more v zero = ap (λ u. u ∷ []) (let e : v + 0 ≡ v = omega arith in e)
-variables_more v (suc n) = ap (λ us. v ∷ us) (ap (λ u. variables_from (v + 1) n ++ u ∷ []) (let e : v + suc n ≡ v + 1 + n = omega arith in e) ∙ variables_more (v + 1) n)
+variables_more v (suc n) = ap (λ us. v ∷ us) (ap (λ u. range_with_len (v + 1) n ++ u ∷ []) (let e : v + suc n ≡ v + 1 + n = omega arith in e) ∙ variables_more (v + 1) n)
 
-pub one_variable_more : (vs : List ℕ) (k : ℕ) → vs ≡ variables_from 1 k → vs ++ (k + 1) ∷ [] ≡ variables_from 1 (k + 1)
+pub one_variable_more : (vs : List ℕ) (k : ℕ) → vs ≡ range_with_len 1 k → vs ++ (k + 1) ∷ [] ≡ range_with_len 1 (k + 1)
 one_variable_more vs k e =
     let a : k + 1 ≡ 1 + k = omega arith in
     let b : suc k ≡ k + 1 = omega arith in
-    ap (λ us. us ++ (k + 1) ∷ []) e ∙ ap (λ u. variables_from 1 k ++ u ∷ []) a ∙ variables_more 1 k ∙ ap (variables_from 1) b
+    ap (λ us. us ++ (k + 1) ∷ []) e ∙ ap (λ u. range_with_len 1 k ++ u ∷ []) a ∙ variables_more 1 k ∙ ap (range_with_len 1) b
 
-length_variables : (v n : ℕ) → length (variables_from v n) ≡ n
-length_variables v zero = refl
-length_variables v (suc n) = ap suc (length_variables (v + 1) n)
-
-variables_fit : (max v n : ℕ) → 1 ≤ v → v + n ≤ max + 1 → AllByRecursion (IsVariable max) (variables_from v n)
+variables_fit : (max v n : ℕ) → 1 ≤ v → v + n ≤ max + 1 → AllByRecursion (IsVariable max) (range_with_len v n)
 variables_fit max v zero low high = tt
 variables_fit max v (suc n) low high = ((low, omega arith), variables_fit max (v + 1) n (omega arith) (omega arith))
 
@@ -169,7 +167,7 @@ gates_join : (j max k : ℕ) (xs : List Gate) (bytes rest : List ℕ) → max �
 gates_join j max k [] bytes rest few low s = s
 gates_join j max k (x ∷ xs) bytes rest few low s =
     let below : x.rhs0 < 2 * (j + 1 + k) = s.1.below in
-    let most : max ≤ 1048576 = few in
+    let most : max ≤ MAX_VARIABLE = few in
     (s.0, (s.1, (omega arith, omega arith)), gates_join j max (k + 1) xs s.0 rest few (omega arith) s.2)
 
 -- ---- the sections
@@ -183,21 +181,21 @@ Gates h xs bytes rest = (length xs ≡ h.gates) × GateLines (h.inputs + h.latch
 abbrev SectionsRead : Heading → Parts → List ℕ → List ℕ → Type 0
 SectionsRead h =
     Then (Latches h) (λ latches. Then (PropertyLines h) (λ properties parts bytes rest.
-    (gates : List Gate) × Gates h gates bytes rest × (parts_of h.max (variables_from 1 h.inputs) latches properties gates ≡ parts)))
+    (gates : List Gate) × Gates h gates bytes rest × (parts_of h.max (range_with_len 1 h.inputs) latches properties gates ≡ parts)))
 
 sections_read : (h : Heading) (total : ℕ) → Reads (binary_sections_at h total) (SectionsRead h)
 unfolding binary_sections_at
 sections_read h total =
     then_reads _ _ (many_reads (λ k. next_at (latch_literal h k) h.max total) 0 h.latches (λ k. next_reads (h.inputs + 1 + k) h.max total (omega arith))) (λ latches.
     then_reads _ _ (properties_reads h total) (λ properties.
-    map_reads (many (λ k. numbered_gate_at (gate_variable h k) total) 0 h.gates) (parts_of h.max (variables_from 1 h.inputs) latches properties)
+    map_reads (many (λ k. numbered_gate_at (gate_variable h k) total) 0 h.gates) (parts_of h.max (range_with_len 1 h.inputs) latches properties)
     (many_reads (λ k. numbered_gate_at (gate_variable h k) total) 0 h.gates (λ k. gate_reads (gate_variable h k) total))))
 
 -- all lines of the sections
 pub record BinarySections (parts : Parts) (bytes rest : List ℕ) : Type 0 where
   pub at_outputs : List ℕ
   pub at_gates : List ℕ
-  pub inputs : parts.inputs ≡ variables_from 1 (length parts.inputs)
+  pub inputs : parts.inputs ≡ range_with_len 1 (length parts.inputs)
   pub latches : LatchLines (length parts.inputs) parts.max 0 parts.latches bytes at_outputs
   pub properties : PropertyLines (heading_of parts) (properties_of parts) at_outputs at_gates
   pub gates : GateLines (length parts.inputs + length parts.latches) 0 parts.gates at_gates rest
@@ -207,18 +205,18 @@ sections_there h parts bytes rest s =
     let p = s.3 in
     let g = p.3 in
     let q = p.2 in
-    let made = parts_of h.max (variables_from 1 h.inputs) s.0 p.0 g.0 in
+    let made = parts_of h.max (range_with_len 1 h.inputs) s.0 p.0 g.0 in
     let sizes : length (map length p.0.justice) ≡ length p.0.justice = length-map p.0.justice length in
     let same : h ≡ heading_of made =
-    same_heading h (length (variables_from 1 h.inputs)) (length s.0) (length p.0.outputs) (length g.0) (length p.0.bad) (length p.0.constraints) (length p.0.justice) (length p.0.fairness)
-    (length_variables 1 h.inputs) s.2.0 q.outputs.0 g.1.0 q.bad.0 q.constraints.0 (sym sizes ∙ q.sizes.0) q.fairness.0
+    same_heading h (length (range_with_len 1 h.inputs)) (length s.0) (length p.0.outputs) (length g.0) (length p.0.bad) (length p.0.constraints) (length p.0.justice) (length p.0.fairness)
+    (length-range_with_len 1 h.inputs) s.2.0 q.outputs.0 g.1.0 q.bad.0 q.constraints.0 (sym sizes ∙ q.sizes.0) q.fairness.0
     in
     subst (λ x. (h ≡ heading_of x) × BinarySections x bytes rest) g.2 (
       same,
       record {
         at_outputs = s.1;
         at_gates = p.1;
-        inputs = ap (variables_from 1) (sym (length_variables 1 h.inputs));
+        inputs = ap (range_with_len 1) (sym (length-range_with_len 1 h.inputs));
         latches = subst (λ x. LatchLines x.inputs x.max 0 s.0 bytes s.1) same s.2.1;
         properties = subst (λ x. PropertyLines x p.0 s.1 p.1) same q;
         gates = subst (λ x. GateLines (x.inputs + x.latches) 0 g.0 p.1 rest) same g.1.1;

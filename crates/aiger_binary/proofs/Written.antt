@@ -1,9 +1,9 @@
 -- The binary text of an ordered model stands for it.
-use Rattle.std.proofs.Common.{◌≡◌, ℕ, zero, suc, ◌+◌, ◌-◌, ◌*◌, ◌<◌, ◌≤◌, List, [], ◌∷◌, ◌++◌, map, length, get_or, map-id, Option, Some, None, refl, sym, ap, subst, ◌∙◌, append_assoc, arith}
+use Rattle.std.proofs.Common.{◌≡◌, ℕ, suc, ◌+◌, ◌-◌, ◌*◌, ◌<◌, ◌≤◌, List, [], ◌∷◌, ◌++◌, map, length, get_or, map-id, Option, Some, None, refl, sym, subst, ◌∙◌, append_assoc, arith}
 use Rattle.std.specs.Prelude.{codes}
 use Rattle.std.specs.List.{All, AllByRecursion, flat_map, range_with_len}
 use Rattle.std.proofs.lemmas.List.Elements.{recursion_from_All, All-map}
-use Rattle.aig_semantics.specs.declared.limits.TheConstants.{MAX_NUMBER}
+use Rattle.aig_semantics.specs.declared.limits.TheConstants.{MAX_NUMBER, MAX_VARIABLE}
 use Rattle.aig_semantics.specs.declared.parts.Latch.{Latch}
 use Rattle.aig_semantics.specs.declared.parts.Gate.{Gate}
 use Rattle.circuit.proofs.Counting.{All-joined}
@@ -11,14 +11,13 @@ use Rattle.aiger_grammar.specs.Models.{heading_of}
 use Rattle.aiger_grammar.specs.Lines.{NumberedLines, CommentAtEnd, HeaderLine}
 use Rattle.aiger_grammar.specs.Texts.{header_numbers}
 use Rattle.aiger_grammar.specs.Deltas.{IsDelta, delta_text}
-use Rattle.aiger_grammar.specs.BinaryTexts.{variables_from, NumberedLatch, NumberedGate}
-use Rattle.aiger_grammar.specs.Ordered.{IsDescending}
+use Rattle.aiger_grammar.specs.BinaryTexts.{NumberedLatch, NumberedGate}
+use Rattle.aiger_grammar.specs.Ordered.{IsDescending, WritesBinary}
 use Rattle.aiger_grammar.specs.Spelling.{header_text, number_lines, next_line, gate_deltas, symbol_line, comment_text, binary_text}
 use Rattle.aiger_grammar.proofs.DeltaLaws.{delta_stands}
 use Rattle.aiger_grammar.proofs.LineSpelling.{numbers_stand, LatchIsLow, next_stands}
 use Rattle.aiger_grammar.proofs.SpellingLaws.{shown_of, header_stands, fitting, symbols_stand}
 use Rattle.aiger_binary.specs.Numbered.{AreNumbered}
-use Rattle.aiger_binary.specs.Forms.{WritesBinary}
 use Rattle.aiger_binary.proofs.Order.{numbered_range, from_ordered}
 
 -- lines of which each stands where it is written, with the variable that its number wants
@@ -34,12 +33,8 @@ numbered_stand Line text P var base k (x ∷ xs) rest each all num =
           (λ i d below. num (suc i) d (omega (arith, below)) ∙ (let e : base + (k + suc i) ≡ base + (k + 1 + i) = omega arith in e)),
     )
 
-variables_range : (v n : ℕ) → variables_from v n ≡ range_with_len v n
-variables_range v zero = refl
-variables_range v (suc n) = ap (λ vs. v ∷ vs) (variables_range (v + 1) n)
-
-inputs_from : (inputs : List ℕ) → AreNumbered (λ v. v) 1 inputs → inputs ≡ variables_from 1 (length inputs)
-inputs_from inputs n = sym (map-id inputs) ∙ numbered_range (λ v. v) 1 inputs n ∙ sym (variables_range 1 (length inputs))
+inputs_from : (inputs : List ℕ) → AreNumbered (λ v. v) 1 inputs → inputs ≡ range_with_len 1 (length inputs)
+inputs_from inputs n = sym (map-id inputs) ∙ numbered_range (λ v. v) 1 inputs n
 
 -- a gate within the limits that descends
 record GateIsWritable (gate : Gate) : Type 0 where
@@ -67,16 +62,16 @@ comment_written : (comment : Option (List ℕ)) → CommentAtEnd comment (commen
 comment_written None = refl
 comment_written (Some text) = refl
 
-low_literals : (max : ℕ) (literals : List ℕ) → max ≤ 1048576 → All (λ n. n ≤ 2 * max + 1) literals → All (λ n. n ≤ MAX_NUMBER) literals
+low_literals : (max : ℕ) (literals : List ℕ) → max ≤ MAX_VARIABLE → All (λ n. n ≤ 2 * max + 1) literals → All (λ n. n ≤ MAX_NUMBER) literals
 low_literals max literals m all = λ k d below. let h : _ ≤ 2 * max + 1 = all k d below in omega arith
 
-low_latches : (max : ℕ) (latches : List Latch) → max ≤ 1048576 → All (λ latch. (1 ≤ latch.var) × (latch.var ≤ max)) latches → All (λ latch. latch.next ≤ 2 * max + 1) latches → All LatchIsLow latches
+low_latches : (max : ℕ) (latches : List Latch) → max ≤ MAX_VARIABLE → All (λ latch. (1 ≤ latch.var) × (latch.var ≤ max)) latches → All (λ latch. latch.next ≤ 2 * max + 1) latches → All LatchIsLow latches
 low_latches max latches m vars nexts = λ k d below.
     let v = (vars k d below).1 in
     let n = nexts k d below in
     record { var = omega (arith, m, v); next = omega (arith, m, n) }
 
-low_gates : (max : ℕ) (gates : List Gate) → max ≤ 1048576 → All (λ gate. (1 ≤ gate.var) × (gate.var ≤ max)) gates → All IsDescending gates → All GateIsWritable gates
+low_gates : (max : ℕ) (gates : List Gate) → max ≤ MAX_VARIABLE → All (λ gate. (1 ≤ gate.var) × (gate.var ≤ max)) gates → All IsDescending gates → All GateIsWritable gates
 low_gates max gates m vars descending = λ k d below.
     let v = (vars k d below).1 in
     record { low = omega (arith, m, v); descends = descending k d below }
@@ -92,7 +87,7 @@ writes_binary m is ordered =
     let c = m.circuit in
     let fit = fitting m is in
     let order = from_ordered m ordered in
-    let max : c.max ≤ 1048576 = is.limits.max in
+    let max : c.max ≤ MAX_VARIABLE = is.limits.max in
     let at_comment = comment_text m.names.comment in
     let at_symbols = flat_map symbol_line m.names.symbols ++ at_comment in
     let at_gates = flat_map gate_deltas c.gates ++ at_symbols in

@@ -1,4 +1,4 @@
--- The groups of a delta as the reader sums them.
+-- The groups of a delta as the reader sums them (scaffolding).
 use Rattle.std.specs.Prelude.{ℕ, ◌+◌, ◌*◌, ◌%◌, not, ◌&&◌, [], ◌∷◌, Ok, Err, nat_le, nat_lt, ◌==◌, if◌then◌else◌}
 use Rattle.aig_semantics.specs.declared.limits.TheConstants.{MAX_NUMBER}
 use Rattle.circuit.specs.declared.faults.ModelFault.TheVariants.{Number, Truncated}

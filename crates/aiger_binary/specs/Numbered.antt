@@ -1,4 +1,4 @@
--- Elements whose variables are numbered one after the other.
+-- Elements whose variables are numbered one after the other, as loops see them (scaffolding).
 use Rattle.std.specs.Prelude.{◌≡◌, ℕ, ◌+◌, ◌<◌, List, length, slice_index_or}
 use Rattle.std.specs.List.{All}
 use Rattle.aiger_grammar.specs.Models.{Model}

@@ -1,6 +1,6 @@
 //! Gates of a binary text, read from their deltas. The main call is `read_gate`.
 ghost use Rattle.std.specs.Prelude.{◌≡◌, ◌==◌, ◌&&◌, not, ◌≤◌, ◌*◌};
-ghost use Rattle.aiger_grammar.specs.Reading.{Gives};
+ghost use Rattle.aiger_grammar.specs.Answered.{GivesRead};
 ghost use Rattle.aiger_grammar.specs.Deltas.{delta_at, difference_at};
 ghost use Rattle.aiger_binary.specs.Groups.{summed_at, next_unit};
 ghost use Rattle.aiger_grammar.specs.BinaryTexts.{numbered_gate_at};
@@ -14,7 +14,7 @@ use circuit::{ModelEnd, ModelFault};
 #[tactic(auto, unfolding(aiger_grammar::specs::BinaryTexts::numbered_gate_at))]
 pub fn read_gate(v: u64, total: u64, bytes: &[u8]) -> Result<(Gate, &[u8]), ModelEnd>
     requires { v ≤ MAX_VARIABLE }
-    ensures { Gives (λ x. (x.0, x.1.now)) result (numbered_gate_at v total bytes.now) }
+    ensures { GivesRead (λ x. (x.0, x.1.now)) result (numbered_gate_at v total bytes.now) }
 {
     let literal = 2 * v;
     let (first, rest) = difference(1, literal, total, bytes)?;
@@ -28,7 +28,7 @@ pub fn read_gate(v: u64, total: u64, bytes: &[u8]) -> Result<(Gate, &[u8]), Mode
 // A delta from `least` to `greatest`.
 #[tactic(auto, unfolding(aiger_grammar::specs::Deltas::difference_at))]
 fn difference(least: u64, greatest: u64, total: u64, bytes: &[u8]) -> Result<(u64, &[u8]), ModelEnd>
-    ensures { Gives (λ x. (x.0, x.1.now)) result (difference_at least greatest total bytes.now) }
+    ensures { GivesRead (λ x. (x.0, x.1.now)) result (difference_at least greatest total bytes.now) }
 {
     let (n, rest) = delta(total, bytes)?;
     if n < least || n > greatest {
@@ -39,14 +39,14 @@ fn difference(least: u64, greatest: u64, total: u64, bytes: &[u8]) -> Result<(u6
 
 // The delta at the front, and the bytes behind it.
 fn delta(total: u64, bytes: &[u8]) -> Result<(u64, &[u8]), ModelEnd>
-    ensures { Gives (λ x. (x.0, x.1.now)) result (delta_at total bytes.now) }
+    ensures { GivesRead (λ x. (x.0, x.1.now)) result (delta_at total bytes.now) }
 {
     groups(place(total, bytes), total, bytes)
 }
 
 // The same, where the delta begins at the place `first`.
 fn groups(first: u64, total: u64, bytes: &[u8]) -> Result<(u64, &[u8]), ModelEnd>
-    ensures { Gives (λ x. (x.0, x.1.now)) result (summed_at first total 1 0 bytes.now) }
+    ensures { GivesRead (λ x. (x.0, x.1.now)) result (summed_at first total 1 0 bytes.now) }
 {
     let mut unit = 1;
     let mut so_far = 0;

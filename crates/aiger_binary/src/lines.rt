@@ -1,6 +1,6 @@
 //! The numbered lines of a binary text: of a latch and of a gate, each a `Line`.
 ghost use Rattle.std.specs.Prelude.{◌≡◌, ◌+◌, ◌≤◌};
-ghost use Rattle.aiger_grammar.specs.Reading.{Gives};
+ghost use Rattle.aiger_grammar.specs.Answered.{GivesRead};
 ghost use Rattle.aiger_grammar.specs.Sections.{next_at};
 ghost use Rattle.aiger_grammar.specs.BinaryTexts.{latch_literal, gate_variable, numbered_gate_at};
 

@@ -2,7 +2,8 @@
 
 ghost use Rattle.std.specs.Prelude.{◌≡◌, ◌↔◌, ◌+◌, ◌*◌, ◌<◌, ◌≤◌, ◌^◌, IsTrue, length};
 ghost use Rattle.std.specs.List.{All};
-ghost use Rattle.aiger_grammar.specs.Ordered.{IsDescending, IsOrdered};
+ghost use Rattle.aiger_grammar.specs.Models.{IsModel};
+ghost use Rattle.aiger_grammar.specs.Ordered.{IsDescending, IsOrdered, HasBinaryText};
 ghost use Rattle.aiger_binary.specs.Numbered.{AreNumbered, IsInOrder};
 
 use aig_semantics::{Gate, Latch};
@@ -12,13 +13,15 @@ use aiger_names::Model;
 /// have the variables from 1 on in their order, and each gate's literal is above its first right side, which is not
 /// below the second. Takes no memory.
 pub fn is_ordered(model: &Model) -> bool
-    ensures { IsTrue result ↔ IsOrdered model.now }
+    ensures ordered { IsTrue result ↔ IsOrdered model.now }
+    ensures text { IsTrue result ↔ HasBinaryText model.now }
 {
     is_in_order(model)
 }
 
 fn is_in_order(model: &Model) -> bool
-    ensures { IsTrue result ↔ IsInOrder model.now }
+    ensures order { IsTrue result ↔ IsInOrder model.now }
+    ensures model { IsModel model.now }
 {
     let circuit = model.circuit();
     let inputs = circuit.inputs().len() as u64;

@@ -1,38 +1,43 @@
 //! Binary texts of models, read from the left. The main call is `read`.
-ghost use Rattle.std.specs.Prelude.{◌≡◌, ◌⊎◌, ◌==◌, ◌≤◌, Ok, Err, IfOk};
+ghost use Rattle.std.specs.Prelude.{◌≡◌, ◌==◌, ◌≤◌, Ok, Err, IfOk};
+ghost use Rattle.unless_memory.specs.Answers.{Gives, GivesSome};
 ghost use Rattle.circuit.specs.declared.faults.ModelFault.{ModelFault as FaultOf};
 ghost use Rattle.aiger_grammar.specs.Models.{Model as ModelOf};
-ghost use Rattle.aiger_grammar.specs.Reading.{Gives};
+ghost use Rattle.aiger_grammar.specs.Answered.{GivesRead};
 ghost use Rattle.aiger_grammar.specs.Headers.{defined_count};
-ghost use Rattle.aiger_grammar.specs.AsciiTexts.{SameFault};
-ghost use Rattle.aiger_grammar.specs.Names.{counts_of};
-ghost use Rattle.aiger_grammar.specs.BinaryTexts.{IsBinaryTextOf, HasBinaryFault, binary_heading_at, binary_sections_at, binary_at, variables_from};
+ghost use Rattle.aiger_grammar.specs.BothForms.{SameFault};
+ghost use Rattle.aiger_grammar.specs.BinaryTexts.{IsBinaryTextOf, HasBinaryFault, binary_heading_at, binary_sections_at, binary_at};
+ghost use Rattle.std.specs.List.{range_with_len};
+ghost use Rattle.aiger_grammar.specs.Ordered.{IsOrdered};
 ghost use Rattle.aiger_sections.specs.Answers.{IsAnswer};
 
 use crate::lines::{NumberedGateLine, NumberedLatchLine};
 use aig_semantics::{MAX_MODEL_BYTES, MAX_VARIABLE};
-use aiger_grammar::{Counts, Heading, Names};
+use aiger_grammar::{Heading, Names};
 use aiger_names::{Model, read_last_names};
-use aiger_sections::{read_heading, read_lines, read_properties};
+use aiger_sections::{
+    counts, is_too_long, read_heading, read_lines, read_properties, within_limit,
+};
 use circuit::{ModelEnd, ModelFault, Parts, check_circuit};
 use items::Items;
 use std::alloc::{AllocError, Global};
 
 /// The model of a binary text, or the first fault with its place. Places are counted in bytes from 0; those of
-/// `Undefined`, `Twice` and `Cycle` are variables. A text of more than 67,108,864 bytes is `Limit` at 67,108,864. Then
-/// come the header's faults (`Header` at 0, `Truncated`, and `Limit` at 0 for a greatest variable above 1,048,576), then
-/// those of the sections and names in the order of the file (`Number`, `Range`, `Truncated`, `Limit` at the size line of
-/// a property that has more than 256 literals with fairness, `Trailing`, `Symbol`), then `Twice`, then `Undefined`, then
-/// `Cycle`. Takes memory for what was read and for the inputs, of which there are at most 1,048,576; the work is in
-/// proportion to the text and to the greatest variable.
+/// `Undefined`, `Twice` and `Cycle` are variables. A text of more than 1,073,741,824 bytes is `Limit` at 1,073,741,824.
+/// Then come the header's faults (`Header` at 0, `Truncated`, and `Limit` at 0 for a greatest variable above
+/// 16,777,216), then those of the sections and names in the order of the file (`Number`, `Range`, `Truncated`, `Limit`
+/// at the size line of a property that has more than 256 literals with fairness, `Trailing`, `Symbol`), then `Twice`,
+/// then `Undefined`, then `Cycle`. Takes memory for what was read and for the inputs, of which there are at most
+/// 16,777,216; the work is in proportion to the text and to the greatest variable.
 pub fn read(alloc: Global, bytes: &[u8]) -> Result<Model, ModelEnd>
     ensures found { IfOk result (λ m. IsBinaryTextOf m bytes.now) }
+    ensures ordered { IfOk result (λ m. IsOrdered m) }
     ensures every { (m : ModelOf) → IsBinaryTextOf m bytes.now
-        → (result ≡ Ok m) ⊎ (result ≡ Err ModelEnd.Memory) }
+        → Gives (Err ModelEnd.Memory) (Ok m) result }
     ensures fault { (fault : FaultOf) → result ≡ Err (ModelEnd.Fault fault) → HasBinaryFault bytes.now fault }
     ensures first { (fault : FaultOf) → HasBinaryFault bytes.now fault
-        → ((said : FaultOf) × (result ≡ Err (ModelEnd.Fault said)) × SameFault said fault)
-        ⊎ (result ≡ Err ModelEnd.Memory) }
+        → GivesSome (Err ModelEnd.Memory)
+        (λ answer. (said : FaultOf) × (answer ≡ Err (ModelEnd.Fault said)) × SameFault said fault) result }
 {
     read_checked(alloc, bytes)
 }
@@ -50,12 +55,12 @@ fn read_checked(alloc: Global, bytes: &[u8]) -> Result<Model, ModelEnd>
 // What the text says, before it is checked.
 #[tactic(auto, unfolding(aiger_grammar::specs::BinaryTexts::binary_at))]
 fn read_parts(alloc: Global, bytes: &[u8]) -> Result<(Parts, Names), ModelEnd>
-    ensures { Gives (λ x. x) result (binary_at bytes.now) }
+    ensures { GivesRead (λ x. x) result (binary_at bytes.now) }
 {
-    let total = bytes.len() as u64;
-    if total > MAX_MODEL_BYTES {
+    if is_too_long(bytes) {
         return Err(ModelEnd::Fault(ModelFault::Limit(MAX_MODEL_BYTES)));
     }
+    let total = bytes.len() as u64;
     let (heading, body) = read_first_line(total, bytes)?;
     let (parts, rest) = read_sections(alloc, heading, total, body)?;
     let names = read_last_names(alloc, bytes.len(), rest, &counts(heading))?;
@@ -65,18 +70,12 @@ fn read_parts(alloc: Global, bytes: &[u8]) -> Result<(Parts, Names), ModelEnd>
 // The header, within its limits, and the bytes behind it.
 #[tactic(auto, unfolding(aiger_grammar::specs::BinaryTexts::binary_heading_at))]
 fn read_first_line(total: u64, bytes: &[u8]) -> Result<(Heading, &[u8]), ModelEnd>
-    ensures read { Gives (λ x. (x.0, x.1.now)) result (binary_heading_at total bytes.now) }
+    ensures read { GivesRead (λ x. (x.0, x.1.now)) result (binary_heading_at total bytes.now) }
     ensures low { IfOk result (λ x. x.0.max ≤ MAX_VARIABLE) }
     ensures whole { IfOk result (λ x. defined_count x.0 ≡ x.0.max) }
 {
     let (heading, body) = read_heading(b'i', total, bytes)?;
-    if !is_whole(heading) {
-        return Err(ModelEnd::Fault(ModelFault::Header(0)));
-    }
-    if heading.max > MAX_VARIABLE {
-        return Err(ModelEnd::Fault(ModelFault::Limit(0)));
-    }
-    Ok((heading, body))
+    within_limit(is_whole(heading), heading, body)
 }
 
 // Whether the greatest variable is the number of inputs, latches and gates together.
@@ -86,21 +85,6 @@ fn is_whole(heading: Heading) -> bool
     heading.inputs <= heading.max
         && heading.latches <= heading.max - heading.inputs
         && heading.gates == heading.max - heading.inputs - heading.latches
-}
-
-// How many elements a symbol may name.
-fn counts(heading: Heading) -> Counts
-    ensures { result ≡ counts_of heading }
-{
-    Counts {
-        i: heading.inputs,
-        l: heading.latches,
-        o: heading.outputs,
-        b: heading.bad,
-        c: heading.constraints,
-        j: heading.justice,
-        f: heading.fairness,
-    }
 }
 
 // The sections behind a header, and the bytes behind them.
@@ -113,7 +97,7 @@ fn read_sections(
 ) -> Result<(Parts, &[u8]), ModelEnd>
     requires low { heading.max ≤ MAX_VARIABLE }
     requires whole { defined_count heading ≡ heading.max }
-    ensures { Gives (λ x. (x.0, x.1.now)) result (binary_sections_at heading total bytes.now) }
+    ensures { GivesRead (λ x. (x.0, x.1.now)) result (binary_sections_at heading total bytes.now) }
 {
     let latch = NumberedLatchLine { heading };
     let (latches, rest) = read_lines(alloc, &latch, heading.latches, total, bytes)?;
@@ -137,7 +121,7 @@ fn read_sections(
 // The variables from 1 on.
 fn variables(alloc: Global, count: u64) -> Result<Items<u64>, AllocError>
     requires { count ≤ MAX_VARIABLE }
-    ensures { IfOk result (λ variables. variables ≡ variables_from 1 count) }
+    ensures { IfOk result (λ variables. variables ≡ range_with_len 1 count) }
 {
     let mut variables = Items::new(alloc);
     for k in 0..count {

@@ -42,7 +42,7 @@ const FAULTS: [(usize, usize, &[u8], ModelFault); 38] = [
     (4, 1, b"4", ModelFault::Header(0)),
     (4, 1, b"2", ModelFault::Header(0)),
     (1, 1, b"a", ModelFault::Header(0)),
-    (4, 3, b"1048578 1048576", ModelFault::Limit(0)),
+    (4, 3, b"16777218 16777216", ModelFault::Limit(0)),
     (22, 1, b"8", ModelFault::Range(22)),
     (22, 1, b"06", ModelFault::Number(22)),
     (23, 1, b" 2\n", ModelFault::Range(24)),

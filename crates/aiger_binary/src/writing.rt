@@ -4,17 +4,17 @@ ghost use Rattle.std.specs.Prelude.{◌≡◌, ◌++◌, ◌≤◌, IfOk, OnOk, 
 ghost use Rattle.std.specs.List.{All, flat_map};
 ghost use Rattle.aiger_grammar.specs.Ordered.{IsDescending, IsOrdered};
 ghost use Rattle.aiger_grammar.specs.Spelling.{next_line, gate_deltas, binary_text};
-ghost use Rattle.aiger_grammar.specs.BinaryTexts.{IsBinaryTextOf};
-ghost use Rattle.aiger_binary.specs.Forms.{HasBinaryForm};
+ghost use Rattle.aiger_grammar.specs.BinaryTexts.{IsBinaryTextOf, HasBinaryForm};
 
 use crate::deltas::push_delta;
 use aig_semantics::{Gate, Latch, MAX_MODEL_BYTES, MAX_VARIABLE};
-use aiger_names::{Model, push_header, push_names, push_next, push_properties};
+use aiger_names::{Model, push_names, push_next, push_properties};
+use aiger_sections::push_header;
 use std::alloc::{AllocError, Global};
 
 /// The binary text of a model that is ordered, as `is_ordered` tells: zeros at the end of the header's last four numbers
 /// are left out, a reset of 0 is left out, and everything stands in the model's order. It stands for the model, so where
-/// it is no longer than what is read, 67,108,864 bytes, it is read as the model again. The error is want of memory.
+/// it is no longer than what is read, 1,073,741,824 bytes, it is read as the model again. The error is want of memory.
 pub fn write(alloc: Global, model: &Model) -> Result<Vec<u8>, AllocError>
     requires { IsOrdered model.now }
     ensures text { IfOk result (λ text. text.items ≡ binary_text model.now) }

@@ -4,3 +4,4 @@ pub mod LineSpelling
 pub mod Room
 pub mod SpellingLaws
 pub mod DeltaLaws
+pub mod Ranges

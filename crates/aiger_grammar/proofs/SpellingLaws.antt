@@ -7,15 +7,19 @@ use Rattle.aig_semantics.specs.declared.limits.TheConstants.{MAX_NUMBER, MAX_VAR
 use Rattle.aig_semantics.specs.declared.parts.Latch.{Latch}
 use Rattle.aig_semantics.specs.declared.parts.Gate.{Gate}
 use Rattle.circuit.specs.declared.parts.Parts.{Parts}
-use Rattle.circuit.specs.Sections.{IsFitting}
+use Rattle.circuit.specs.Fitting.{IsFitting}
 use Rattle.circuit.proofs.Counting.{All-joined}
 use Rattle.circuit.proofs.Ranges.{IsFitting-from}
 use Rattle.aiger_grammar.specs.declared.names.TheConstants.{INPUT, LATCH, OUTPUT, BAD, CONSTRAINT, JUSTICE, FAIRNESS}
 use Rattle.aiger_grammar.specs.Models.{Model, IsModel, NamesElement, heading_of}
 use Rattle.aiger_grammar.specs.Lines.{LinesOf, InputLine, LatchLine, GateLine, SymbolLine, CommentAtEnd, Numbers, HeaderLine}
 use Rattle.aiger_grammar.specs.Texts.{header_numbers}
-use Rattle.aiger_grammar.specs.Names.{FittingLine, count_of, counts_of}
-use Rattle.aiger_grammar.specs.Spelling.{without_zeros, before, spaced, shown_numbers, header_text, number_lines, input_line, latch_line, gate_line, symbol_line, comment_text, ascii_text, WritesNames, WritesAscii}
+use Rattle.text_grammar.specs.Pieces.{Lacks}
+use Rattle.aiger_grammar.specs.declared.names.Symbol.{Symbol}
+use Rattle.aiger_grammar.specs.declared.names.Names.{Names}
+use Rattle.aiger_grammar.specs.declared.names.Counts.{Counts}
+use Rattle.aiger_grammar.specs.Names.{Fits, FittingLine, AreNames, count_of, counts_of}
+use Rattle.aiger_grammar.specs.Spelling.{without_zeros, before, spaced, shown_numbers, header_text, number_lines, input_line, latch_line, gate_line, symbol_line, comment_text, names_text, AreWritable, ascii_text, WritesNames, WritesAscii}
 use Rattle.aiger_grammar.proofs.LineSpelling.{all_stand, numbers_stand, input_stands, LatchIsLow, latch_stands, GateIsLow, gate_stands, SymbolIsWritable, symbol_stands, symbol_line_stands, spaced_stand, IsZero, zeros_split}
 use Rattle.aiger_grammar.proofs.Room.{has_room}
 
@@ -23,8 +27,8 @@ comment_stands : (comment : Option (List ℕ)) → CommentAtEnd comment (comment
 comment_stands None = refl
 comment_stands (Some text) = refl
 
-pub writes_names : WritesNames
-writes_names counts names w = record {
+pub names_stand : (counts : Counts) (names : Names) → AreWritable counts names → AreNames counts names (names_text names)
+names_stand counts names w = record {
   at_comment = comment_text names.comment;
   symbols =
       all_stand (FittingLine counts) symbol_line (SymbolIsWritable counts) names.symbols (comment_text names.comment) (symbol_stands counts)
@@ -32,6 +36,28 @@ writes_names counts names w = record {
   comment = comment_stands names.comment;
   no_digit = w.no_digit;
 }
+
+-- symbols that stand anywhere can be written
+symbols_writable : (counts : Counts) (symbols : List Symbol) (bytes rest : List ℕ) → LinesOf (FittingLine counts) symbols bytes rest
+    → AllByRecursion (Fits counts) symbols × AllByRecursion (λ symbol. symbol.index ≤ MAX_NUMBER) symbols × AllByRecursion (λ symbol. Lacks symbol.name 10) symbols
+symbols_writable counts [] bytes rest s = (tt, tt, tt)
+symbols_writable counts (x ∷ symbols) bytes rest s =
+    let line = s.1.1 in
+    let others = symbols_writable counts symbols s.0 rest s.2 in
+    ((s.1.0, others.0), (line.3.small, others.1), (line.4.first, others.2))
+
+names_writable : (counts : Counts) (names : Names) (bytes : List ℕ) → AreNames counts names bytes → AreWritable counts names
+names_writable counts names bytes s =
+    let all = symbols_writable counts names.symbols bytes s.at_comment s.symbols in
+    record {
+      fitting = All-from_recursion (Fits counts) names.symbols all.0;
+      numbers = All-from_recursion (λ symbol. symbol.index ≤ MAX_NUMBER) names.symbols all.1;
+      one_line = All-from_recursion (λ symbol. Lacks symbol.name 10) names.symbols all.2;
+      no_digit = s.no_digit;
+    }
+
+pub writes_names : WritesNames
+writes_names counts names = (λ s. names_writable counts names (names_text names) s, λ w. names_stand counts names w)
 
 -- ---- the header
 
@@ -129,23 +155,23 @@ fitting m is = IsFitting-from (sections_of m) (record {
 abbrev Literals : ℕ → List ℕ → Type 0
 Literals max literals = All (λ n. n ≤ 2 * max + 1) literals
 
-low_literals : (max : ℕ) (literals : List ℕ) → max ≤ 1048576 → Literals max literals → All (λ n. n ≤ MAX_NUMBER) literals
+low_literals : (max : ℕ) (literals : List ℕ) → max ≤ MAX_VARIABLE → Literals max literals → All (λ n. n ≤ MAX_NUMBER) literals
 low_literals max literals m all = λ k d below. let h : _ ≤ 2 * max + 1 = all k d below in omega arith
 
-low_latches : (max : ℕ) (latches : List Latch) → max ≤ 1048576 → All (λ latch. (1 ≤ latch.var) × (latch.var ≤ max)) latches → All (λ latch. latch.next ≤ 2 * max + 1) latches → All LatchIsLow latches
+low_latches : (max : ℕ) (latches : List Latch) → max ≤ MAX_VARIABLE → All (λ latch. (1 ≤ latch.var) × (latch.var ≤ max)) latches → All (λ latch. latch.next ≤ 2 * max + 1) latches → All LatchIsLow latches
 low_latches max latches m vars nexts = λ k d below.
     let v = (vars k d below).1 in
     let n = nexts k d below in
     record { var = omega (arith, m, v); next = omega (arith, m, n) }
 
-low_gates : (max : ℕ) (gates : List Gate) → max ≤ 1048576 → All (λ gate. (1 ≤ gate.var) × (gate.var ≤ max)) gates
+low_gates : (max : ℕ) (gates : List Gate) → max ≤ MAX_VARIABLE → All (λ gate. (1 ≤ gate.var) × (gate.var ≤ max)) gates
     → All (λ gate. (gate.rhs0 ≤ 2 * max + 1) × (gate.rhs1 ≤ 2 * max + 1)) gates → All GateIsLow gates
 low_gates max gates m vars sides = λ k d below.
     let v = (vars k d below).1 in
     let s = sides k d below in
     record { var = omega (arith, m, v); rhs0 = omega (arith, m, s.0); rhs1 = omega (arith, m, s.1) }
 
-low_inputs : (max : ℕ) (inputs : List ℕ) → max ≤ 1048576 → All (λ v. (1 ≤ v) × (v ≤ max)) inputs → All (λ v. 2 * v ≤ MAX_NUMBER) inputs
+low_inputs : (max : ℕ) (inputs : List ℕ) → max ≤ MAX_VARIABLE → All (λ v. (1 ≤ v) × (v ≤ max)) inputs → All (λ v. 2 * v ≤ MAX_NUMBER) inputs
 low_inputs max inputs m vars = λ k d below. let v = (vars k d below).1 in omega (arith, m, v)
 
 low_sizes : (justice : List (List ℕ)) (fairness : ℕ) → All (λ property. length property + fairness ≤ 256) justice → All (λ n. n ≤ MAX_NUMBER) (map length justice)
@@ -180,7 +206,7 @@ pub writes_ascii : WritesAscii
 writes_ascii m is =
     let c = m.circuit in
     let fit = fitting m is in
-    let max : c.max ≤ 1048576 = is.limits.max in
+    let max : c.max ≤ MAX_VARIABLE = is.limits.max in
     let at_comment = comment_text m.names.comment in
     let at_symbols = flat_map symbol_line m.names.symbols ++ at_comment in
     let at_gates = flat_map gate_line c.gates ++ at_symbols in

@@ -1,29 +1,22 @@
 -- Which bytes are a binary text of which model (AIGER 1.9; Biere, Heljanko, Wieringa, 2011), and which fault they have
 -- where they are one of none. The faults, their order and their places are this program's.
-use Rattle.std.specs.Prelude.{◌≡◌, ◌⊎◌, ℕ, zero, suc, ◌+◌, ◌-◌, ◌*◌, ◌≤◌, ◌<◌, List, [], ◌∷◌, length, map, codes, Result, Ok, Err, nat_le, nat_lt, ◌==◌, if◌then◌else◌}
-use Rattle.std.specs.List.{flat_map}
-use Rattle.aig_semantics.specs.declared.limits.TheConstants.{MAX_VARIABLE, MAX_MODEL_BYTES}
+use Rattle.std.specs.Prelude.{◌≡◌, ◌⊎◌, ℕ, ◌+◌, ◌-◌, ◌*◌, ◌≤◌, ◌<◌, List, length, map, codes, Result, Ok, ◌==◌}
+use Rattle.std.specs.List.{flat_map, range_with_len}
+use Rattle.aig_semantics.specs.declared.limits.TheConstants.{MAX_MODEL_BYTES}
 use Rattle.aig_semantics.specs.declared.parts.Latch.{Latch}
 use Rattle.aig_semantics.specs.declared.parts.Gate.{Gate}
 use Rattle.circuit.specs.declared.parts.Parts.{Parts}
 use Rattle.circuit.specs.declared.faults.ModelFault.{ModelFault}
-use Rattle.circuit.specs.declared.faults.ModelFault.TheVariants.{Header, Limit}
 use Rattle.aiger_grammar.specs.declared.names.Names.{Names}
 use Rattle.aiger_grammar.specs.declared.sections.Heading.{Heading}
 use Rattle.aiger_grammar.specs.Models.{Model, IsModel}
 use Rattle.aiger_grammar.specs.Lines.{LinesOf, NumberedLines, EndsLine, LatchEnd, SymbolLine, CommentAtEnd, HeaderLine}
 use Rattle.aiger_grammar.specs.Texts.{header_numbers}
-use Rattle.aiger_grammar.specs.Names.{counts_of, names_at}
 use Rattle.aiger_grammar.specs.Reading.{Reader, ◌>>=◌, many}
-use Rattle.aiger_grammar.specs.Headers.{heading_at, defined_count}
+use Rattle.aiger_grammar.specs.Headers.{heading_at, within_limit, defined_count}
 use Rattle.aiger_grammar.specs.Sections.{next_at, properties_at, parts_of}
 use Rattle.aiger_grammar.specs.Deltas.{IsDelta, difference_at}
-use Rattle.aiger_grammar.specs.AsciiTexts.{with_names, IsFirstFault, SameFault}
-
--- as many variables from the first on, in their order
-abbrev pub variables_from : ℕ → ℕ → List ℕ
-variables_from v zero = []
-variables_from v (suc n) = v ∷ variables_from (v + 1) n
+use Rattle.aiger_grammar.specs.BothForms.{text_at, IsFirstFault, SameFault}
 
 -- a latch with this variable: its next literal and its reset
 abbrev pub NumberedLatch : ℕ → Latch → List ℕ → List ℕ → Type 0
@@ -40,7 +33,7 @@ pub record NumberedGate (v : ℕ) (gate : Gate) (bytes rest : List ℕ) : Type 0
 
 -- The variables are numbered: inputs first, then latches, then gates, and there are no others.
 pub record IsNumbered (m : Model) : Type 0 where
-  pub inputs : m.circuit.inputs ≡ variables_from 1 (length m.circuit.inputs)
+  pub inputs : m.circuit.inputs ≡ range_with_len 1 (length m.circuit.inputs)
   pub all : length m.circuit.inputs + length m.circuit.latches + length m.circuit.gates ≡ m.circuit.max
 
 -- A binary text, whose header shows this many numbers. Each name with at_ is what the text has from that section on.
@@ -58,14 +51,17 @@ pub record IsBinaryText (shown : ℕ) (m : Model) (bytes : List ℕ) : Type 0 wh
   pub model : IsModel m
   pub numbered : IsNumbered m
   pub header : HeaderLine (codes "aig") (header_numbers m) shown bytes at_latches
-  pub latches : NumberedLines (λ k. NumberedLatch (length m.circuit.inputs + 1 + k)) 0 m.circuit.latches at_latches at_outputs
+  pub latches :
+      NumberedLines (λ k. NumberedLatch (length m.circuit.inputs + 1 + k)) 0 m.circuit.latches at_latches at_outputs
   pub outputs : LinesOf EndsLine m.outputs at_outputs at_bad
   pub bad : LinesOf EndsLine m.bad at_bad at_constraints
   pub constraints : LinesOf EndsLine m.circuit.constraints at_constraints at_sizes
   pub sizes : LinesOf EndsLine (map length m.circuit.justice) at_sizes at_justice
   pub justice : LinesOf EndsLine (flat_map (λ property. property) m.circuit.justice) at_justice at_fairness
   pub fairness : LinesOf EndsLine m.circuit.fairness at_fairness at_gates
-  pub gates : NumberedLines (λ k. NumberedGate (length m.circuit.inputs + length m.circuit.latches + 1 + k)) 0 m.circuit.gates at_gates at_symbols
+  pub gates :
+      NumberedLines (λ k. NumberedGate (length m.circuit.inputs + length m.circuit.latches + 1 + k)) 0
+      m.circuit.gates at_gates at_symbols
   pub symbols : LinesOf SymbolLine m.names.symbols at_symbols at_comment
   pub comment : CommentAtEnd m.names.comment at_comment
 
@@ -75,13 +71,17 @@ pub record IsBinaryTextOf (m : Model) (bytes : List ℕ) : Type 0 where
   pub shown : ℕ
   pub text : IsBinaryText shown m bytes
 
+-- the bytes are a binary text of the model, whatever zeros its header shows and however long they are
+abbrev pub HasBinaryForm : Model → List ℕ → Type 0
+HasBinaryForm m bytes = (shown : ℕ) × IsBinaryText shown m bytes
+
 -- ---- the same, read from the left
 
 -- A binary header: the greatest variable is the number of inputs, latches and gates together, and is within its limit.
 unfoldable pub binary_heading_at : ℕ → Reader Heading
 binary_heading_at total bytes =
     heading_at (codes "aig") total bytes >>= λ h body.
-    if defined_count h == h.max then (if nat_le h.max MAX_VARIABLE then Ok (h, body) else Err (Limit 0)) else Err (Header 0)
+    within_limit (defined_count h == h.max) h body
 
 -- the right sides of the gate with variable v, as differences
 unfoldable pub numbered_gate_at : ℕ → ℕ → Reader Gate
@@ -103,16 +103,11 @@ binary_sections_at h total bytes =
     many (λ k. next_at (latch_literal h k) h.max total) 0 h.latches bytes >>= λ latches at_outputs.
     properties_at h total at_outputs >>= λ properties at_gates.
     many (λ k. numbered_gate_at (gate_variable h k) total) 0 h.gates at_gates >>= λ gates rest.
-    Ok (parts_of h.max (variables_from 1 h.inputs) latches properties gates, rest)
+    Ok (parts_of h.max (range_with_len 1 h.inputs) latches properties gates, rest)
 
--- The text read from the left to its end: its sections and names, or the first fault that one comes to. A text that is
--- too long is not read.
+-- the text read from the left to its end
 unfoldable pub binary_at : List ℕ → Result (Parts × Names) ModelFault
-binary_at bytes =
-    if nat_lt MAX_MODEL_BYTES (length bytes) then Err (Limit MAX_MODEL_BYTES)
-    else (binary_heading_at (length bytes) bytes >>= λ h body.
-    binary_sections_at h (length bytes) body >>= λ parts rest.
-    with_names parts (names_at (counts_of h) (length bytes) rest))
+binary_at bytes = text_at binary_heading_at binary_sections_at bytes
 
 abbrev pub HasBinaryFault : List ℕ → ModelFault → Type 0
 HasBinaryFault bytes fault = IsFirstFault (binary_at bytes) fault
@@ -125,12 +120,16 @@ BinaryHasOneModel = (m n : Model) (bytes : List ℕ) → IsBinaryTextOf m bytes 
 
 -- what stands for a model has no fault
 abbrev pub BinaryHasNoFault : Type 0
-BinaryHasNoFault = (m : Model) (bytes : List ℕ) (fault : ModelFault) → IsBinaryTextOf m bytes → HasBinaryFault bytes fault → ⊥
+BinaryHasNoFault =
+    (m : Model) (bytes : List ℕ) (fault : ModelFault) → IsBinaryTextOf m bytes → HasBinaryFault bytes fault → ⊥
 
 -- any bytes stand for a model, or have a fault
 abbrev pub IsBinaryOrFaulty : Type 0
-IsBinaryOrFaulty = (bytes : List ℕ) → ((m : Model) × IsBinaryTextOf m bytes) ⊎ ((fault : ModelFault) × HasBinaryFault bytes fault)
+IsBinaryOrFaulty =
+    (bytes : List ℕ) → ((m : Model) × IsBinaryTextOf m bytes) ⊎ ((fault : ModelFault) × HasBinaryFault bytes fault)
 
 -- a text has one fault at most
 abbrev pub BinaryHasOneFault : Type 0
-BinaryHasOneFault = (bytes : List ℕ) (first second : ModelFault) → HasBinaryFault bytes first → HasBinaryFault bytes second → SameFault first second
+BinaryHasOneFault =
+    (bytes : List ℕ) (first second : ModelFault) → HasBinaryFault bytes first → HasBinaryFault bytes second
+    → SameFault first second

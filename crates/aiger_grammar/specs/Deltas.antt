@@ -51,11 +51,13 @@ delta_text n = groups_text 4 n
 
 -- what is read is the number that stands there
 abbrev pub ReadsDeltas : Type 0
-ReadsDeltas = (total n : ℕ) (bytes rest : List ℕ) → (delta_at total bytes ≡ Ok (n, rest)) ↔ ((n ≤ MAX_NUMBER) × IsDelta n bytes rest)
+ReadsDeltas =
+    (total n : ℕ) (bytes rest : List ℕ) → (delta_at total bytes ≡ Ok (n, rest)) ↔ ((n ≤ MAX_NUMBER) × IsDelta n bytes rest)
 
 -- one number at most stands at the front of bytes, and what follows it is told
 abbrev pub HasOneDelta : Type 0
-HasOneDelta = (m n : ℕ) (bytes rest more : List ℕ) → IsDelta m bytes rest → IsDelta n bytes more → (m ≡ n) × (rest ≡ more)
+HasOneDelta =
+    (m n : ℕ) (bytes rest more : List ℕ) → IsDelta m bytes rest → IsDelta n bytes more → (m ≡ n) × (rest ≡ more)
 
 -- each number has one spelling
 abbrev pub HasOneSpelling : Type 0

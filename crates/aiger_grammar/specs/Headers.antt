@@ -1,6 +1,6 @@
 -- The first line of a model's text (AIGER 1.9; Biere, Heljanko, Wieringa, 2011), read from the left: a word, five
 -- numbers, and up to four more. The faults, their order and their places are this program's.
-use Rattle.std.specs.Prelude.{ℕ, ◌+◌, List, [], ◌∷◌, Result, Ok, Err, nat_le, codes, ◌==◌, if◌then◌else◌}
+use Rattle.std.specs.Prelude.{ℕ, Bool, ◌+◌, List, [], ◌∷◌, Result, Ok, Err, nat_le, codes, ◌==◌, if◌then◌else◌}
 use Rattle.aig_semantics.specs.declared.limits.TheConstants.{MAX_VARIABLE}
 use Rattle.circuit.specs.declared.faults.ModelFault.{ModelFault}
 use Rattle.circuit.specs.declared.faults.ModelFault.TheVariants.{Header, Number, Limit}
@@ -55,8 +55,13 @@ heading_at word total bytes = as_header (first_line_at word total bytes)
 abbrev pub defined_count : Heading → ℕ
 defined_count h = h.inputs + h.latches + h.gates
 
+-- A header that fits or does not, where its greatest variable is within its limit.
+abbrev pub within_limit : Bool → Heading → List ℕ → Result (Heading × List ℕ) ModelFault
+within_limit fits h body =
+    if fits then (if nat_le h.max MAX_VARIABLE then Ok (h, body) else Err (Limit 0)) else Err (Header 0)
+
 -- An ASCII header: the greatest variable leaves room for inputs, latches and gates, and is within its limit.
 unfoldable pub ascii_heading_at : ℕ → Reader Heading
 ascii_heading_at total bytes =
     heading_at (codes "aag") total bytes >>= λ h body.
-    if nat_le (defined_count h) h.max then (if nat_le h.max MAX_VARIABLE then Ok (h, body) else Err (Limit 0)) else Err (Header 0)
+    within_limit (nat_le (defined_count h) h.max) h body

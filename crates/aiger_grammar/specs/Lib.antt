@@ -3,10 +3,12 @@ pub mod Lines
 pub mod Texts
 pub mod Names
 pub mod Reading
+pub mod Answered
 pub mod Headers
 pub mod Sections
+pub mod BothForms
 pub mod AsciiTexts
 pub mod Spelling
 pub mod Deltas
-pub mod Ordered
 pub mod BinaryTexts
+pub mod Ordered

@@ -89,7 +89,8 @@ has_byte (byte ∷ bytes) = true
 unfoldable pub named_at : Counts → ℕ → ℕ → Option (List ℕ × List ℕ) → Option (Symbol × List ℕ)
 named_at counts letter index None = None
 named_at counts letter index (Some name) =
-    if nat_lt index (count_of counts letter) && has_byte name.0 then Some (record { letter = letter; index = index; name = name.0 }, name.1) else None
+    if nat_lt index (count_of counts letter) && has_byte name.0
+    then Some (record { letter = letter; index = index; name = name.0 }, name.1) else None
 
 -- a symbol by its letter and index, and what stands behind these
 unfoldable pub spaced_at : Counts → ℕ → ℕ → List ℕ → Option (Symbol × List ℕ)
@@ -140,8 +141,12 @@ names_at counts total bytes = and_comment (symbols_at (length bytes) counts tota
 
 -- the names that are read are those that stand there
 abbrev pub ReadsNames : Type 0
-ReadsNames = (counts : Counts) (total : ℕ) (names : Names) (bytes : List ℕ) → (names_at counts total bytes ≡ Ok names) ↔ AreNames counts names bytes
+ReadsNames =
+    (counts : Counts) (total : ℕ) (names : Names) (bytes : List ℕ)
+    → (names_at counts total bytes ≡ Ok names) ↔ AreNames counts names bytes
 
 -- the fault that is read is the first one
 abbrev pub ReadsFirstFault : Type 0
-ReadsFirstFault = (counts : Counts) (total : ℕ) (fault : ModelFault) (bytes : List ℕ) → (names_at counts total bytes ≡ Err fault) ↔ HasNamesFault counts total bytes fault
+ReadsFirstFault =
+    (counts : Counts) (total : ℕ) (fault : ModelFault) (bytes : List ℕ)
+    → (names_at counts total bytes ≡ Err fault) ↔ HasNamesFault counts total bytes fault

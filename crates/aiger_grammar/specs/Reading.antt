@@ -1,7 +1,7 @@
 -- Reading the text of a model (AIGER 1.9; Biere, Heljanko, Wieringa, 2011) from the left: a reader gives a value and
 -- the bytes behind it, or the first fault with its place. The faults, their order and their places are this program's.
 -- A place is how many bytes of the whole text, of which there are total, stand in front.
-use Rattle.std.specs.Prelude.{◌≡◌, ℕ, zero, suc, ◌+◌, ◌-◌, Bool, not, ◌&&◌, ◌||◌, List, [], ◌∷◌, length, Option, Some, None, Result, Ok, Err, nat_le, nat_lt, ◌==◌, if◌then◌else◌}
+use Rattle.std.specs.Prelude.{ℕ, zero, suc, ◌+◌, ◌-◌, Bool, not, ◌&&◌, ◌||◌, List, [], ◌∷◌, length, Option, Some, None, Result, Ok, Err, nat_le, nat_lt, ◌==◌, if◌then◌else◌}
 use Rattle.aig_semantics.specs.declared.limits.TheConstants.{MAX_NUMBER, MAX_PROPERTY_LITERALS}
 use Rattle.aig_semantics.specs.Literals.{variable_of, is_negated}
 use Rattle.text_grammar.specs.Numerals.{number_at}
@@ -83,11 +83,7 @@ field_at test stop total bytes =
     byte_at stop total after >>= λ _ rest.
     Ok (n, rest)
 
--- What a call answered, seen by view, is what reading gives, unless memory ran out.
-abbrev pub Fails : {Y : Type 0} → ModelEnd → Result Y ModelFault → Type 0
-Fails ends.Memory read = Unit {0}
-Fails (ends.Fault fault) read = read ≡ Err fault
-
-abbrev pub Gives : {X Y : Type 0} → (X → Y) → Result X ModelEnd → Result Y ModelFault → Type 0
-Gives view (Ok x) read = read ≡ Ok (view x)
-Gives view (Err e) read = Fails e read
+-- what a call answers where this is read
+abbrev pub answer_of : {A : Type 0} → Result A ModelFault → Result A ModelEnd
+answer_of (Ok x) = Ok x
+answer_of (Err fault) = Err (ends.Fault fault)

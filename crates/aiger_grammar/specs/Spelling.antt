@@ -1,6 +1,6 @@
 -- The one text in which a model is written: zeros at the end of the header's last four numbers are left out, a reset of
 -- 0 is left out, and everything stands in the model's order (AIGER 1.9; Biere, Heljanko, Wieringa, 2011).
-use Rattle.std.specs.Prelude.{◌≡◌, ℕ, ◌-◌, ◌*◌, ◌≤◌, ◌==◌, List, [], ◌∷◌, ◌++◌, length, map, Option, Some, None, IfSome, decimal, codes, false, if◌then◌else◌}
+use Rattle.std.specs.Prelude.{◌≡◌, ◌↔◌, ℕ, ◌-◌, ◌*◌, ◌≤◌, ◌==◌, List, [], ◌∷◌, ◌++◌, length, map, Option, Some, None, IfSome, decimal, codes, false, if◌then◌else◌}
 use Rattle.std.specs.List.{All, flat_map}
 use Rattle.aig_semantics.specs.declared.limits.TheConstants.{MAX_NUMBER}
 use Rattle.aig_semantics.specs.declared.parts.Latch.{Latch}
@@ -134,9 +134,9 @@ HasAsciiForm m bytes = (shown : ℕ) × IsAsciiText shown m bytes
 
 -- ---- laws
 
--- names that can be written stand in their text
+-- the text of names stands for them exactly where they can be written
 abbrev pub WritesNames : Type 0
-WritesNames = (counts : Counts) (names : Names) → AreWritable counts names → AreNames counts names (names_text names)
+WritesNames = (counts : Counts) (names : Names) → AreNames counts names (names_text names) ↔ AreWritable counts names
 
 -- the text of a model stands for it, also where it is too long to be read
 abbrev pub WritesAscii : Type 0

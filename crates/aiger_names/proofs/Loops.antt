@@ -7,7 +7,7 @@ use Rattle.circuit.specs.declared.faults.ModelEnd.TheVariants as ends
 use Rattle.aiger_grammar.specs.declared.names.Symbol.{Symbol}
 use Rattle.aiger_grammar.specs.declared.names.Counts.{Counts}
 use Rattle.aiger_grammar.specs.Names.{ends_symbols, symbol_at, symbols_at, fault_at, in_front, and_others}
-use Rattle.aiger_grammar.specs.Reading.{Fails}
+use Rattle.aiger_grammar.specs.Answered.{FailsAs}
 use Rattle.aiger_names.specs.Steps.{or_fault, symbol_or_fault}
 
 abbrev Read : Type 0
@@ -70,8 +70,8 @@ goes_on counts total bytes front rest count i symbol behind lt ends read so_far 
     ∙ so_far
 
 pub ends_so : (e : ModelEnd) (counts : Counts) (total : ℕ) (bytes : List ℕ) (front : List Symbol) (rest : List ℕ) (count i : ℕ) → i < count
-    → ends_symbols rest ≡ false → Fails e (symbol_or_fault counts total rest)
-    → Goes counts total bytes front rest count i → Fails e (symbols_at count counts total bytes)
+    → ends_symbols rest ≡ false → FailsAs e (symbol_or_fault counts total rest)
+    → Goes counts total bytes front rest count i → FailsAs e (symbols_at count counts total bytes)
 ends_so ends.Memory counts total bytes front rest count i lt on failed so_far = tt
 ends_so (ends.Fault fault) counts total bytes front rest count i lt on failed so_far =
     let k : count - i ≡ suc (count - (i + 1)) = omega arith in

@@ -1,4 +1,4 @@
--- What a `Model` is seen as, and what it keeps.
+-- What a `Model` is seen as, and what it keeps (scaffolding).
 use Rattle.aiger_grammar.specs.Models.{Model, IsModel}
 use Rattle.aiger_names.specs.declared.models.Model.TheInside.{Inside}
 use Rattle.aiger_names.specs.Kept.{joined}

@@ -1,4 +1,4 @@
--- The steps of reading symbols.
+-- The steps of reading symbols (scaffolding).
 use Rattle.std.specs.Prelude.{ℕ, List, Option, Some, None, Result, Ok, Err}
 use Rattle.circuit.specs.declared.faults.ModelFault.{ModelFault}
 use Rattle.aiger_grammar.specs.declared.names.Symbol.{Symbol}

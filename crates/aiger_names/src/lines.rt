@@ -6,7 +6,7 @@ ghost use Rattle.std.specs.List.{flat_map};
 use std::alloc::AllocError;
 
 /// How a value is written.
-pub trait Line<X> {
+pub trait WriteLine<X> {
     ghost use Rattle.std.specs.Prelude.{ℕ, List};
 
     /// The bytes of a value.
@@ -18,7 +18,7 @@ pub trait Line<X> {
 }
 
 /// Writes the values at the end, one behind the other. The error is want of memory.
-pub fn push_lines<X, L: Line<X>>(
+pub fn push_lines<X, L: WriteLine<X>>(
     out: &mut Vec<u8>,
     line: &L,
     values: &[X],

@@ -88,7 +88,7 @@ impl Model {
             gates: circuit.gates().len() as u64,
             bad: self.bad.len() as u64,
             constraints: circuit.constraints().len() as u64,
-            justice: circuit.properties() as u64,
+            justice: circuit.property_count() as u64,
             fairness: circuit.fairness().len() as u64,
         }
     }

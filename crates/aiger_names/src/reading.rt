@@ -1,11 +1,12 @@
 //! Symbols and the comment, read. The main call is `read_names`.
 
-ghost use Rattle.std.specs.Prelude.{◌≡◌, ◌≤◌, ◌⊎◌, length, drop, IfOk, option_map, Ok, Err};
-ghost use Rattle.circuit.specs.Faults.{AnswersExactlyWhere};
+ghost use Rattle.std.specs.Prelude.{◌≡◌, ◌≤◌, length, drop, IfOk, option_map, Ok, Err};
+ghost use Rattle.unless_memory.specs.Answers.{Gives, GivesExactlyWhere};
 ghost use Rattle.aiger_grammar.specs.declared.names.Names.{Names as NamesOf};
 ghost use Rattle.aiger_grammar.specs.Names.{count_of, is_letter, ends_symbols, line_at, symbol_at, symbols_at, comment_at, names_at, fault_at, AreNames, HasNamesFault};
 ghost use Rattle.text_grammar.specs.Numerals.{begins_with_digit};
-ghost use Rattle.aiger_grammar.specs.Reading.{Gives};
+ghost use Rattle.aiger_grammar.specs.Reading.{answer_of};
+ghost use Rattle.aiger_grammar.specs.Answered.{GivesRead};
 ghost use Rattle.aiger_names.specs.Steps.{symbol_from, symbol_or_fault};
 
 use aig_semantics::MAX_NUMBER;
@@ -31,10 +32,11 @@ pub fn read_names(
 
     ensures found { IfOk result (λ names. AreNames counts.now names (drop from bytes.now)) }
     ensures every { (names : NamesOf) → AreNames counts.now names (drop from bytes.now)
-        → (result ≡ Ok names) ⊎ (result ≡ Err ModelEnd.Memory) }
-    ensures fault { (fault : ModelFault)
-        → AnswersExactlyWhere result fault (HasNamesFault counts.now (length bytes.now) (drop from bytes.now) fault) }
-    ensures exact { Gives (λ names. names) result (names_at counts.now (length bytes.now) (drop from bytes.now)) }
+        → Gives (Err ModelEnd.Memory) (Ok names) result }
+    ensures fault { (fault : ModelFault) → GivesExactlyWhere (Err ModelEnd.Memory) (Err (ModelEnd.Fault fault))
+        (HasNamesFault counts.now (length bytes.now) (drop from bytes.now) fault) result }
+    ensures exact { Gives (Err ModelEnd.Memory)
+        (answer_of (names_at counts.now (length bytes.now) (drop from bytes.now))) result }
 {
     let (_, names) = bytes.split_at(from as usize);
     read_last_names(alloc, bytes.len(), names, counts)
@@ -48,7 +50,7 @@ pub fn read_last_names(
     bytes: &[u8],
     counts: &Counts,
 ) -> Result<Names, ModelEnd>
-    ensures { Gives (λ names. names) result (names_at counts.now total bytes.now) }
+    ensures { GivesRead (λ names. names) result (names_at counts.now total bytes.now) }
 {
     let (symbols, rest) = read_symbols(alloc, total, bytes, counts)?;
     let comment = comment_of(alloc, rest)?;
@@ -72,7 +74,7 @@ fn read_symbols<'a>(
     bytes: &'a [u8],
     counts: &Counts,
 ) -> Result<(Items<Symbol>, &'a [u8]), ModelEnd>
-    ensures { Gives (λ x. (x.0, x.1.now)) result (symbols_at (length bytes.now) counts.now total bytes.now) }
+    ensures { GivesRead (λ x. (x.0, x.1.now)) result (symbols_at (length bytes.now) counts.now total bytes.now) }
 {
     let mut symbols = Items::new(alloc);
     let mut rest = bytes;
@@ -113,7 +115,7 @@ fn symbol_of<'a>(
     bytes: &'a [u8],
     counts: &Counts,
 ) -> Result<(Symbol, &'a [u8]), ModelEnd>
-    ensures { Gives (λ x. (x.0, x.1.now)) result (symbol_or_fault counts.now total bytes.now) }
+    ensures { GivesRead (λ x. (x.0, x.1.now)) result (symbol_or_fault counts.now total bytes.now) }
 {
     match cut_symbol(bytes, counts) {
         Some((letter, index, name, rest)) => {

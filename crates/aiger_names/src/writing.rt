@@ -1,16 +1,16 @@
-//! The parts of a text that both forms of a model share, written: the header, a latch's next literal and reset, the
-//! sections of literals, the names. The errors are want of memory.
+//! The parts of a text that both forms of a model share, written: a latch's next literal and reset, the sections of
+//! literals, the names. The errors are want of memory.
 
-ghost use Rattle.std.specs.Prelude.{◌≡◌, ◌++◌, ◌∷◌, [], ℕ, IfOk, OnOk, ◌≤◌, decimal, length, map};
+ghost use Rattle.std.specs.Prelude.{◌≡◌, ◌↔◌, ◌++◌, ◌∷◌, IfOk, OnOk, ◌≤◌, length, map};
 ghost use Rattle.std.specs.List.{flat_map};
 ghost use Rattle.aiger_grammar.specs.declared.names.Counts.{Counts};
 ghost use Rattle.aiger_grammar.specs.Names.{AreNames};
-ghost use Rattle.aiger_grammar.specs.Spelling.{number_line, number_lines, next_line, reset_text, symbol_line, comment_text, names_text, without_zeros, spaced, header_text, justice_text, properties_text, AreWritable};
+ghost use Rattle.aiger_grammar.specs.Spelling.{number_line, number_lines, next_line, reset_text, symbol_line, comment_text, names_text, justice_text, properties_text, AreWritable};
 
-use crate::lines::{Line, push_lines};
+use crate::lines::{WriteLine, push_lines};
 use crate::models::Model;
 use aig_semantics::{Latch, MAX_VARIABLE, Reset};
-use aiger_grammar::{Heading, Names, Symbol};
+use aiger_grammar::{Names, Symbol};
 use circuit::Circuit;
 use items::Items;
 use std::alloc::{AllocError, Global};
@@ -20,7 +20,7 @@ use text_grammar::push_number;
 #[derive(Clone, Copy)]
 struct NumberLine;
 
-impl Line<u64> for NumberLine {
+impl WriteLine<u64> for NumberLine {
     ghost text = { λ _ n. number_line n };
 
     fn push(&self, out: &mut Vec<u8>, value: &u64) -> Result<(), AllocError> {
@@ -30,25 +30,11 @@ impl Line<u64> for NumberLine {
     }
 }
 
-// A space and a number.
-#[derive(Clone, Copy)]
-struct SpacedNumber;
-
-impl Line<u64> for SpacedNumber {
-    ghost text = { λ _ n. 32 ∷ decimal n };
-
-    fn push(&self, out: &mut Vec<u8>, value: &u64) -> Result<(), AllocError> {
-        out.push(b' ')?;
-        push_number(out, *value)?;
-        Ok(())
-    }
-}
-
 // A symbol's line.
 #[derive(Clone, Copy)]
 struct SymbolLine;
 
-impl Line<Symbol> for SymbolLine {
+impl WriteLine<Symbol> for SymbolLine {
     ghost text = { λ _ symbol. symbol_line symbol };
 
     fn push(&self, out: &mut Vec<u8>, value: &Symbol) -> Result<(), AllocError> {
@@ -66,46 +52,6 @@ fn push_numbers(out: &mut Vec<u8>, numbers: &[u64]) -> Result<(), AllocError>
     ensures { OnOk result (out.new.items ≡ out.old.items ++ number_lines numbers.now) }
 {
     push_lines(out, &NumberLine, numbers)
-}
-
-/// Writes a header at the end: the word, and the numbers without zeros at the end of the last four.
-pub fn push_header(out: &mut Vec<u8>, word: &str, heading: &Heading) -> Result<(), AllocError>
-    ensures { OnOk result (out.new.items ≡ out.old.items ++ header_text word.now heading.now) }
-{
-    let first = [
-        heading.max,
-        heading.inputs,
-        heading.latches,
-        heading.outputs,
-        heading.gates,
-    ];
-    let last = [
-        heading.bad,
-        heading.constraints,
-        heading.justice,
-        heading.fairness,
-    ];
-    out.extend_from_slice(word.as_bytes())?;
-    push_lines(out, &SpacedNumber, &first)?;
-    push_lines(out, &SpacedNumber, &last[..shown_count(heading)])?;
-    out.push(b'\n')?;
-    Ok(())
-}
-
-// How many of the last four numbers are shown.
-fn shown_count(heading: &Heading) -> usize
-    ensures { result ≡ length (without_zeros (heading.now.bad ∷ heading.now.constraints ∷ heading.now.justice ∷ heading.now.fairness ∷ [])) }
-{
-    if heading.fairness != 0 {
-        return 4;
-    }
-    if heading.justice != 0 {
-        return 3;
-    }
-    if heading.constraints != 0 {
-        return 2;
-    }
-    if heading.bad != 0 { 1 } else { 0 }
 }
 
 /// Writes a latch's next literal at the end, and its reset unless that is 0, and a line feed.
@@ -158,16 +104,17 @@ fn push_justice(out: &mut Vec<u8>, circuit: &Circuit) -> Result<(), AllocError>
 fn push_sizes(out: &mut Vec<u8>, circuit: &Circuit) -> Result<(), AllocError>
     ensures { OnOk result (out.new.items ≡ out.old.items ++ number_lines (map length circuit.now.justice)) }
 {
-    for j in 0..circuit.properties() {
+    for j in 0..circuit.property_count() {
         NumberLine.push(out, &(circuit.property(j).len() as u64))?;
     }
     Ok(())
 }
 
 fn push_property_literals(out: &mut Vec<u8>, circuit: &Circuit) -> Result<(), AllocError>
-    ensures { OnOk result (out.new.items ≡ out.old.items ++ number_lines (flat_map (λ property. property) circuit.now.justice)) }
+    ensures { OnOk result (out.new.items
+        ≡ out.old.items ++ number_lines (flat_map (λ property. property) circuit.now.justice)) }
 {
-    for j in 0..circuit.properties() {
+    for j in 0..circuit.property_count() {
         push_numbers(out, circuit.property(j))?;
     }
     Ok(())
@@ -191,12 +138,14 @@ fn push_comment(out: &mut Vec<u8>, comment: &Option<Items<u8>>) -> Result<(), Al
     out.extend_from_slice(text.as_slice())
 }
 
-/// The text of symbols and comment, in their order. Where each symbol is one of an element that is there, with an index
-/// of at most 4,294,967,295 and a name without a line feed, and the comment does not begin with a digit, this text
-/// stands for these names, so they are read again.
+/// The text of symbols and comment, in their order. It stands for these names, so that they are read again, exactly
+/// where they can be written: each symbol is one of an element that is there, with an index of at most 4,294,967,295 and
+/// a name of at least one byte and no line feed, and the comment does not begin with a digit. The names of a `Model` can
+/// be written. The error is want of memory.
 pub fn write_names(alloc: Global, names: &Names) -> Result<Vec<u8>, AllocError>
     ensures text { IfOk result (λ text. text.items ≡ names_text names.now) }
-    ensures stands { IfOk result (λ text. (counts : Counts) → AreWritable counts names.now → AreNames counts names.now text.items) }
+    ensures stands { IfOk result (λ text. (counts : Counts)
+        → AreNames counts names.now text.items ↔ AreWritable counts names.now) }
 {
     let mut out = Vec::new(alloc);
     push_names(&mut out, names)?;

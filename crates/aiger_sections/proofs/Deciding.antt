@@ -16,7 +16,7 @@ use Rattle.circuit.proofs.Counting.{count, Contains-from_count, count-from_Conta
 use Rattle.circuit.proofs.Ranges.{used-in_range}
 use Rattle.aig_semantics.proofs.Lists.{All-left}
 use Rattle.std.proofs.lemmas.List.{append_assoc, get_or_default}
-use Rattle.aiger_grammar.specs.AsciiTexts.{HasPartsFault}
+use Rattle.aiger_grammar.specs.BothForms.{HasPartsFault}
 
 abbrev Decided : Type 0 → Type 0
 Decided P = P ⊎ (P → ⊥)

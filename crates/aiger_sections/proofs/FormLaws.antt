@@ -8,8 +8,8 @@ use Rattle.circuit.specs.declared.faults.ModelEnd.TheVariants.{Memory, Fault}
 use Rattle.circuit.specs.Sections.{circuit_of, used_by, AreInRange}
 use Rattle.aiger_grammar.specs.declared.names.Names.{Names}
 use Rattle.aiger_grammar.specs.Models.{Model, IsModel}
-use Rattle.aiger_grammar.specs.Reading.{Fails}
-use Rattle.aiger_grammar.specs.AsciiTexts.{HasPartsFault, IsFirstFault, SameFault, model_of}
+use Rattle.aiger_grammar.specs.Answered.{FailsAs}
+use Rattle.aiger_grammar.specs.BothForms.{HasPartsFault, IsFirstFault, SameFault, model_of}
 use Rattle.aiger_sections.specs.Answers.{IsAnswer}
 use Rattle.aiger_sections.proofs.ReaderLaws.{same_ok}
 use Rattle.aiger_sections.proofs.PartsLaws.{checked_has_none, one_parts_fault, all_defined, others_defined}
@@ -49,7 +49,7 @@ module _ (Text : Model → List ℕ → Type 0) (read : List ℕ → Result (Par
 
   -- ---- the answers of a reader
 
-  pub unread : (bytes : List ℕ) (end : ModelEnd) → Fails end (read bytes) → IsAnswer Text (FaultBy read) bytes (Err end)
+  pub unread : (bytes : List ℕ) (end : ModelEnd) → FailsAs end (read bytes) → IsAnswer Text (FaultBy read) bytes (Err end)
   unread bytes Memory fails = tt
   unread bytes (Fault fault) fails = subst (λ r. IsFirstFault r fault) (sym fails) refl
 

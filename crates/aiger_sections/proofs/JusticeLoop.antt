@@ -4,7 +4,7 @@ use Rattle.std.proofs.lemmas.List.{drop_more, drop_all}
 use Rattle.circuit.specs.declared.faults.ModelFault.{ModelFault}
 use Rattle.circuit.specs.declared.faults.ModelEnd.{ModelEnd}
 use Rattle.circuit.specs.declared.faults.ModelEnd.TheVariants as ends
-use Rattle.aiger_grammar.specs.Reading.{Fails}
+use Rattle.aiger_grammar.specs.Answered.{FailsAs}
 use Rattle.aiger_grammar.specs.Sections.{literals_at, justice_at}
 use Rattle.aiger_sections.proofs.LoopLaws.{with_front, regroup, nothing_more}
 
@@ -19,7 +19,7 @@ property_read max total front sizes i d bytes property after all lt h so_far =
     sym one ∙ so_far
 
 pub property_fails : (e : ModelEnd) (max total : ℕ) (front : List (List ℕ)) (sizes : List ℕ) (i d : ℕ) (bytes : List ℕ) (all : Result (List (List ℕ) × List ℕ) ModelFault) → i < length sizes
-    → Fails e (literals_at max total (get_or sizes i d) bytes) → with_front front (justice_at max total (drop i sizes) bytes) ≡ all → Fails e all
+    → FailsAs e (literals_at max total (get_or sizes i d) bytes) → with_front front (justice_at max total (drop i sizes) bytes) ≡ all → FailsAs e all
 unfolding justice_at
 property_fails ends.Memory max total front sizes i d bytes all lt h so_far = tt
 property_fails (ends.Fault f) max total front sizes i d bytes all lt h so_far =

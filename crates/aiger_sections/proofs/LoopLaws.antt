@@ -4,7 +4,8 @@ use Rattle.std.proofs.lemmas.List.{append-nil}
 use Rattle.circuit.specs.declared.faults.ModelFault.{ModelFault}
 use Rattle.circuit.specs.declared.faults.ModelEnd.{ModelEnd}
 use Rattle.circuit.specs.declared.faults.ModelEnd.TheVariants as ends
-use Rattle.aiger_grammar.specs.Reading.{Reader, ◌>>=◌, many, Fails}
+use Rattle.aiger_grammar.specs.Answered.{FailsAs}
+use Rattle.aiger_grammar.specs.Reading.{Reader, ◌>>=◌, many}
 
 abbrev pub with_front : {A : Type 0} → List A → Result (List A × List ℕ) ModelFault → Result (List A × List ℕ) ModelFault
 with_front front read = read >>= λ xs rest. Ok (front ++ xs, rest)
@@ -24,8 +25,8 @@ goes_on read front count i bytes x after total lt h so_far =
     let one : with_front front (many read i (count - i) bytes) ≡ with_front (front ++ x ∷ []) (many read (i + 1) (count - (i + 1)) after) = rw (k, h) (regroup front x (many read (i + 1) (count - (i + 1)) after)) in
     sym one ∙ so_far
 
-pub ends_so : {A : Type 0} (e : ModelEnd) (read : ℕ → Reader A) (front : List A) (count i : ℕ) (bytes : List ℕ) (total : Result (List A × List ℕ) ModelFault) → i < count → Fails e (read i bytes)
-    → with_front front (many read i (count - i) bytes) ≡ total → Fails e total
+pub ends_so : {A : Type 0} (e : ModelEnd) (read : ℕ → Reader A) (front : List A) (count i : ℕ) (bytes : List ℕ) (total : Result (List A × List ℕ) ModelFault) → i < count → FailsAs e (read i bytes)
+    → with_front front (many read i (count - i) bytes) ≡ total → FailsAs e total
 unfolding many
 ends_so ends.Memory read front count i bytes total lt h so_far = tt
 ends_so (ends.Fault f) read front count i bytes total lt h so_far =

@@ -10,11 +10,12 @@ use Rattle.circuit.specs.declared.parts.Parts.{Parts}
 use Rattle.circuit.specs.declared.faults.ModelFault.{ModelFault}
 use Rattle.circuit.specs.declared.faults.ModelFault.TheVariants.{Header, Number, Range, Undefined, Twice, Cycle, Truncated, Limit, Trailing, Symbol}
 use Rattle.circuit.specs.declared.faults.ModelEnd.{ModelEnd}
-use Rattle.circuit.specs.declared.faults.ModelEnd.TheVariants.{Fault}
+use Rattle.circuit.specs.declared.faults.ModelEnd.TheVariants.{Fault, Memory}
 use Rattle.circuit.specs.Sections.{circuit_of, used_by}
-use Rattle.circuit.specs.Faults.{IsTwice, IsFirstTwice, IsUndefined, IsFirstUndefined, IsOnlyOnCycle, AnswersExactlyWhere, AnswersCycleExactlyWhere, AnswersNoOther}
+use Rattle.circuit.specs.Faults.{IsTwice, IsFirstTwice, IsUndefined, IsFirstUndefined, IsOnlyOnCycle, AnswersNoOther}
+use Rattle.unless_memory.specs.Answers.{GivesExactlyWhere, GivesOneExactlyWhere}
 use Rattle.circuit.proofs.Verdicts.{first-is_one, once-not_twice, defined-not_undefined}
-use Rattle.aiger_grammar.specs.AsciiTexts.{HasPartsFault, SameFault}
+use Rattle.aiger_grammar.specs.BothForms.{HasPartsFault, SameFault}
 
 -- a model that is checked has no fault
 pub checked_has_none : (parts : Parts) (fault : ModelFault) → IsChecked (circuit_of parts) → AreDefined (circuit_of parts) (used_by parts) → HasPartsFault parts fault → ⊥
@@ -57,8 +58,9 @@ one_parts_fault parts first (Symbol at) s t = absurd t
 
 -- what the check of a circuit answers is the fault
 pub fault_of_check : {T : Type 0} (parts : Parts) (fault : ModelFault) (result : Result T ModelEnd) → result ≡ Err (Fault fault)
-    → ((v : ℕ) → AnswersExactlyWhere result (Twice v) (IsFirstTwice parts v)) → ((v : ℕ) → AnswersExactlyWhere result (Undefined v) (IsFirstUndefined parts v))
-    → AnswersCycleExactlyWhere result (IsOnlyOnCycle parts) → AnswersNoOther result → HasPartsFault parts fault
+    → ((v : ℕ) → GivesExactlyWhere (Err Memory) (Err (Fault (Twice v))) (IsFirstTwice parts v) result)
+    → ((v : ℕ) → GivesExactlyWhere (Err Memory) (Err (Fault (Undefined v))) (IsFirstUndefined parts v) result)
+    → GivesOneExactlyWhere (Err Memory) (λ v. Err (Fault (Cycle v))) (IsOnlyOnCycle parts) result → AnswersNoOther result → HasPartsFault parts fault
 fault_of_check parts (Twice v) result e twice undefined cycle other = (twice v).only e
 fault_of_check parts (Undefined v) result e twice undefined cycle other = (undefined v).only e
 fault_of_check parts (Cycle v) result e twice undefined cycle other = cycle.only v e

@@ -73,7 +73,7 @@ pub range_from : (parts : Parts) → Fitting parts → Counted parts → AreInRa
 range_from parts f c =
     let V = IsVariable parts.max in
     let L = IsLiteral parts.max in
-    let low : parts.max ≤ 1048576 = c.max in
+    let low : parts.max ≤ MAX_VARIABLE = c.max in
     let room : length parts.inputs + length parts.latches + length parts.gates ≤ parts.max = c.room in
     AreInRange-from parts (record {
       max = c.max;

@@ -18,7 +18,7 @@ use Rattle.aiger_grammar.specs.Models.{Model, IsModel, NamesElement}
 use Rattle.aiger_grammar.specs.Lines.{LinesOf, SymbolLine, Numbers}
 use Rattle.aiger_grammar.specs.Names.{Fits, FittingLine, AreNames, counts_of}
 use Rattle.aiger_grammar.specs.Headers.{defined_count}
-use Rattle.aiger_grammar.specs.AsciiTexts.{model_of, with_names}
+use Rattle.aiger_grammar.specs.BothForms.{model_of, with_names}
 use Rattle.aiger_sections.proofs.ReaderLaws.{same_ok}
 use Rattle.aiger_sections.proofs.FieldLaws.{IsVariable}
 use Rattle.aiger_sections.proofs.LineLaws.{LatchFits, GateFits}

@@ -1,6 +1,7 @@
 //! Numbers and bytes of a model's text. The main call is `field`, a number that passes a test and the byte behind it.
 ghost use Rattle.std.specs.Prelude.{◌≡◌};
-ghost use Rattle.aiger_grammar.specs.Reading.{Gives, place, unfit, byte_at, numeral_at, passes, test_fault, value_at, field_at};
+ghost use Rattle.aiger_grammar.specs.Answered.{GivesRead};
+ghost use Rattle.aiger_grammar.specs.Reading.{place, unfit, byte_at, numeral_at, passes, test_fault, value_at, field_at};
 
 use aig_semantics::{MAX_NUMBER, MAX_PROPERTY_LITERALS};
 use aiger_grammar::Test;
@@ -53,7 +54,7 @@ fn test_fault(test: Test, at: u64) -> ModelFault
 /// is no number are `Number`, the end of the text `Truncated`.
 #[tactic(auto, unfolding(aiger_grammar::specs::Reading::numeral_at))]
 pub fn number(total: u64, bytes: &[u8]) -> Result<(u64, &[u8]), ModelEnd>
-    ensures { Gives (λ x. (x.0, x.1.now)) result (numeral_at total bytes.now) }
+    ensures { GivesRead (λ x. (x.0, x.1.now)) result (numeral_at total bytes.now) }
 {
     match read_number(bytes, MAX_NUMBER) {
         Some((n, rest)) => Ok((n, rest)),
@@ -64,7 +65,7 @@ pub fn number(total: u64, bytes: &[u8]) -> Result<(u64, &[u8]), ModelEnd>
 /// What stands behind this byte. Another byte is `Number` at it, the end of the text `Truncated`.
 #[tactic(auto, unfolding(aiger_grammar::specs::Reading::byte_at))]
 pub fn behind(byte: u8, total: u64, bytes: &[u8]) -> Result<&[u8], ModelEnd>
-    ensures { Gives (λ rest. (tt, rest.now)) result (byte_at byte total bytes.now) }
+    ensures { GivesRead (λ rest. (tt, rest.now)) result (byte_at byte total bytes.now) }
 {
     match bytes {
         [b, rest @ ..] if *b == byte => Ok(rest),
@@ -76,7 +77,7 @@ pub fn behind(byte: u8, total: u64, bytes: &[u8]) -> Result<&[u8], ModelEnd>
 /// `Limit` where it is a size.
 #[tactic(auto, unfolding(aiger_grammar::specs::Reading::value_at))]
 pub fn value(test: Test, total: u64, bytes: &[u8]) -> Result<(u64, &[u8]), ModelEnd>
-    ensures { Gives (λ x. (x.0, x.1.now)) result (value_at test total bytes.now) }
+    ensures { GivesRead (λ x. (x.0, x.1.now)) result (value_at test total bytes.now) }
 {
     let (n, rest) = number(total, bytes)?;
     if !passes(test, n) {
@@ -88,7 +89,7 @@ pub fn value(test: Test, total: u64, bytes: &[u8]) -> Result<(u64, &[u8]), Model
 /// The number at the front, which passes the test, and the bytes behind the byte that ends it.
 #[tactic(auto, unfolding(aiger_grammar::specs::Reading::field_at))]
 pub fn field(test: Test, stop: u8, total: u64, bytes: &[u8]) -> Result<(u64, &[u8]), ModelEnd>
-    ensures { Gives (λ x. (x.0, x.1.now)) result (field_at test stop total bytes.now) }
+    ensures { GivesRead (λ x. (x.0, x.1.now)) result (field_at test stop total bytes.now) }
 {
     let (n, after) = value(test, total, bytes)?;
     let rest = behind(stop, total, after)?;

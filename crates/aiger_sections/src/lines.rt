@@ -1,6 +1,7 @@
 //! The lines of a section: how one is read, and a section of them. The main call is `read_lines`.
 ghost use Rattle.std.specs.Prelude.{◌≡◌, ◌<◌, ℕ};
-ghost use Rattle.aiger_grammar.specs.Reading.{Gives, many};
+ghost use Rattle.aiger_grammar.specs.Answered.{GivesRead};
+ghost use Rattle.aiger_grammar.specs.Reading.{many};
 
 use circuit::ModelEnd;
 use items::Items;
@@ -19,7 +20,7 @@ pub trait Line<X> {
     /// text of `total` bytes. Only a number that the line can have is asked for.
     fn read<'a>(&self, number: u64, total: u64, bytes: &'a [u8]) -> Result<(X, &'a [u8]), ModelEnd>
         requires { within self.now number }
-        ensures { Gives (λ x. (x.0, x.1.now)) result (item_at self.now number total bytes.now) };
+        ensures { GivesRead (λ x. (x.0, x.1.now)) result (item_at self.now number total bytes.now) };
 }
 
 /// What `count` lines stand for, and the bytes behind them. Takes memory for what was read, whatever the count.
@@ -31,7 +32,7 @@ pub fn read_lines<'a, X: Drop, L: Line<X>>(
     bytes: &'a [u8],
 ) -> Result<(Items<X>, &'a [u8]), ModelEnd>
     requires { (k : ℕ) → k < count → L.within line.now k }
-    ensures { Gives (λ x. (x.0, x.1.now)) result (many (λ k. L.item_at line.now k total) 0 count bytes.now) }
+    ensures { GivesRead (λ x. (x.0, x.1.now)) result (many (λ k. L.item_at line.now k total) 0 count bytes.now) }
 {
     let mut values = Items::new(alloc);
     let mut rest = bytes;

@@ -1,6 +1,6 @@
 //! The sections of literals. The main call is `read_properties`.
 ghost use Rattle.std.specs.Prelude.{◌≡◌};
-ghost use Rattle.aiger_grammar.specs.Reading.{Gives};
+ghost use Rattle.aiger_grammar.specs.Answered.{GivesRead};
 ghost use Rattle.aiger_grammar.specs.Sections.{literals_at, sizes_at, justice_at, properties_at};
 
 use crate::lines::read_lines;
@@ -18,7 +18,7 @@ pub fn read_properties(
     total: u64,
     bytes: &[u8],
 ) -> Result<(Properties, &[u8]), ModelEnd>
-    ensures { Gives (λ x. (x.0, x.1.now)) result (properties_at heading total bytes.now) }
+    ensures { GivesRead (λ x. (x.0, x.1.now)) result (properties_at heading total bytes.now) }
 {
     let max = heading.max;
     let (outputs, rest) = literals(alloc, max, total, heading.outputs, bytes)?;
@@ -45,7 +45,7 @@ fn literals(
     count: u64,
     bytes: &[u8],
 ) -> Result<(Items<u64>, &[u8]), ModelEnd>
-    ensures { Gives (λ x. (x.0, x.1.now)) result (literals_at max total count bytes.now) }
+    ensures { GivesRead (λ x. (x.0, x.1.now)) result (literals_at max total count bytes.now) }
 {
     read_lines(alloc, &LiteralLine { max }, count, total, bytes)
 }
@@ -57,7 +57,7 @@ fn sizes(
     total: u64,
     bytes: &[u8],
 ) -> Result<(Items<u64>, &[u8]), ModelEnd>
-    ensures { Gives (λ x. (x.0, x.1.now)) result (sizes_at heading total bytes.now) }
+    ensures { GivesRead (λ x. (x.0, x.1.now)) result (sizes_at heading total bytes.now) }
 {
     let line = SizeLine {
         fairness: heading.fairness,
@@ -73,7 +73,7 @@ fn justice<'a>(
     sizes: &[u64],
     bytes: &'a [u8],
 ) -> Result<(Items<Items<u64>>, &'a [u8]), ModelEnd>
-    ensures { Gives (λ x. (x.0, x.1.now)) result (justice_at max total sizes.now bytes.now) }
+    ensures { GivesRead (λ x. (x.0, x.1.now)) result (justice_at max total sizes.now bytes.now) }
 {
     let mut properties = Items::new(alloc);
     let mut rest = bytes;

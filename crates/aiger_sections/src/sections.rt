@@ -1,6 +1,6 @@
 //! The lines of each section: of an input, a latch, a literal, a size and a gate, each a `Line`.
 ghost use Rattle.std.specs.Prelude.{◌≡◌, ◌/◌};
-ghost use Rattle.aiger_grammar.specs.Reading.{Gives};
+ghost use Rattle.aiger_grammar.specs.Answered.{GivesRead};
 ghost use Rattle.aiger_grammar.specs.Sections.{input_at, reset_of, reset_at, next_at, latch_at, literal_at, size_at, gate_at};
 
 use crate::fields::{field, unfit, value};
@@ -138,7 +138,7 @@ pub fn read_next(
     total: u64,
     bytes: &[u8],
 ) -> Result<(Latch, &[u8]), ModelEnd>
-    ensures { Gives (λ x. (x.0, x.1.now)) result (next_at literal max total bytes.now) }
+    ensures { GivesRead (λ x. (x.0, x.1.now)) result (next_at literal max total bytes.now) }
 {
     let (next, after) = value(Test::Literal(max), total, bytes)?;
     let (reset, rest) = reset(literal, total, after)?;
@@ -153,7 +153,7 @@ pub fn read_next(
 // The end of a latch's line: a line feed, or a space and the reset.
 #[tactic(auto, unfolding(aiger_grammar::specs::Sections::reset_at))]
 fn reset(literal: u64, total: u64, bytes: &[u8]) -> Result<(Reset, &[u8]), ModelEnd>
-    ensures { Gives (λ x. (x.0, x.1.now)) result (reset_at literal total bytes.now) }
+    ensures { GivesRead (λ x. (x.0, x.1.now)) result (reset_at literal total bytes.now) }
 {
     match bytes {
         [b'\n', rest @ ..] => Ok((Reset::Zero, rest)),

@@ -8,7 +8,8 @@ use Rattle.proof_semantics.specs.Clauses.{lit_eq, has_literal}
 use Rattle.proof_semantics.specs.declared.literals.Lit.{Lit}
 use Rattle.proof_semantics.proofs.LiteralLaws.{lit_eq-true, lit_eq-same}
 use Rattle.cdcl_trail.specs.Trails.{Step, opened_by, literals_of, step_of, value_of, level, level_of, up_to_level, up_to_variable}
-use Rattle.cdcl_trail.specs.Propagation.{is_false, is_falsified, is_unit_for, is_unit, is_complete, clause_numbered, IsForced, HaveReasons}
+use Rattle.cdcl_trail.specs.Propagation.{is_false, is_falsified, is_unit_for, is_unit, is_complete, IsForced, HaveReasons}
+use Rattle.cnf.specs.Clauses.{clause_numbered}
 use Rattle.cdcl_trail.proofs.TrailLaws.{either, not-false, or_both}
 use Rattle.cdcl_trail.proofs.ScanLaws.{all_has, any_gives, untrue, no_value}
 use Rattle.cdcl_learn.specs.Learning.{is_assumed}

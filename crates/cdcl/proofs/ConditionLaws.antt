@@ -3,11 +3,10 @@ use Rattle.std.proofs.Common.{◌≡◌, ℕ, suc, ◌<◌, ◌^◌, Bool, true,
 use Rattle.std.specs.Prelude.{nat_lt, ◌↔◌}
 use Rattle.std.specs.List.{list_all}
 use Rattle.std.proofs.lemmas.Bool.{false≢true, and_parts, and_from, or_cases, leb-true, le-leb}
-use Rattle.proof_semantics.specs.Lines.{IsSize}
+use Rattle.proof_semantics.specs.Lines.{IsSize, AreSized}
 use Rattle.proof_semantics.specs.declared.literals.Lit.{Lit}
 use Rattle.proof_semantics.proofs.LiteralLaws.{lit_eq-true}
 use Rattle.cdcl_trail.proofs.PrefixLaws.{all_from}
-use Rattle.cdcl.specs.Entries.{AreSized}
 
 size_from : (a : Lit) → (nat_lt 0 a.var && nat_lt a.var (2 ^ 63)) ≡ true → IsSize a.var
 size_from a e = let parts = and_parts (nat_lt 0 a.var) (nat_lt a.var (2 ^ 63)) e in (leb-true 1 a.var parts.0, below a.var parts.1)

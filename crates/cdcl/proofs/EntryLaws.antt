@@ -10,9 +10,10 @@ use Rattle.proof_semantics.specs.Clauses.{negation, clause_value, clauses_value,
 use Rattle.proof_semantics.specs.Propagation.{hints_fault}
 use Rattle.proof_semantics.specs.declared.literals.Lit.{Lit}
 use Rattle.proof_semantics.proofs.Soundness.{conflict_implies}
-use Rattle.cdcl_trail.specs.Propagation.{clause_numbered}
+use Rattle.cnf.specs.Clauses.{clause_numbered}
 use Rattle.cdcl_trail.proofs.TrailLaws.{either}
-use Rattle.cdcl.specs.Entries.{Entries, with_added, with_learned, added_in, learned_in, added_of, learned_of, AreSized, AreExplained, IsLog}
+use Rattle.cdcl.specs.Entries.{Entries, with_added, with_learned, added_in, learned_in, added_of, learned_of, AreExplained, IsLog}
+use Rattle.proof_semantics.specs.Lines.{AreSized}
 
 -- One more clause.
 

@@ -5,7 +5,7 @@ use Rattle.std.specs.Prelude.{nat_eq}
 use Rattle.std.specs.List.{list_any}
 use Rattle.std.proofs.lemmas.List.Folds.{list_any-append}
 use Rattle.std.proofs.lemmas.Bool.{false≢true, and_parts, and_from, or_cases, or_left, or_right}
-use Rattle.proof_semantics.specs.Clauses.{lit_eq, negation, has_literal, is_part, is_subsumed, is_tautology}
+use Rattle.proof_semantics.specs.Clauses.{lit_eq, negation, has_literal, is_part, is_subsumed, has_opposites}
 use Rattle.proof_semantics.specs.declared.literals.Lit.{Lit}
 use Rattle.proof_semantics.proofs.LiteralLaws.{lit_eq-true, lit_eq-same, same_lit}
 use Rattle.cdcl_trail.proofs.TrailLaws.{either}
@@ -130,7 +130,7 @@ opposite_none (b ∷ c) whole a none has =
       ]
     ]
 
-only_one : (c : List Lit) (v : ℕ) (positive : Bool) → is_tautology c ≡ false → Has c (lit v positive) → (a : Lit) → Has c a → a.var ≡ v → a ≡ lit v positive
+only_one : (c : List Lit) (v : ℕ) (positive : Bool) → has_opposites c ≡ false → Has c (lit v positive) → (a : Lit) → Has c a → a.var ≡ v → a ≡ lit v positive
 only_one c v positive none has a is same = pick a.positive positive refl refl
   where
     differs : a.positive ≡ not positive → a ≡ lit v positive
@@ -143,7 +143,7 @@ only_one c v positive none has a is same = pick a.positive positive refl refl
     pick false true e f = differs (e ∙ ap not (sym f))
     pick false false e f = same_lit a (lit v positive) same (e ∙ sym f)
 
-falls_from : (held : List (List Lit)) (c : List Lit) (vars : List ℕ) (part : List Lit) → is_subsumed held c ≡ false → is_tautology c ≡ false → IsBuilt c vars part
+falls_from : (held : List (List Lit)) (c : List Lit) (vars : List ℕ) (part : List Lit) → is_subsumed held c ≡ false → has_opposites c ≡ false → IsBuilt c vars part
     → room_from (held ++ c ∷ []) vars part < room_from held vars part
 falls_from held c [] part new apart built =
     subst (λ b. cond b 0 1 < cond (is_subsumed held part) 0 1) (sym (subsumed_more held c part))
@@ -176,7 +176,7 @@ over_has vars (b ∷ c) a all has =
     ]
 
 -- A clause that is new leaves room for less.
-pub room_falls : (vars : List ℕ) (held : List (List Lit)) (c : List Lit) → is_subsumed held c ≡ false → is_tautology c ≡ false → is_over vars c ≡ true
+pub room_falls : (vars : List ℕ) (held : List (List Lit)) (c : List Lit) → is_subsumed held c ≡ false → has_opposites c ≡ false → is_over vars c ≡ true
     → room vars (held ++ c ∷ []) < room vars held
 room_falls vars held c new apart over =
     falls_from held c vars [] new apart (record {

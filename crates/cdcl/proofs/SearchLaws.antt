@@ -6,7 +6,7 @@ use Rattle.std.specs.Option.{option_map}
 use Rattle.std.proofs.lemmas.List.{take_all, take_more}
 use Rattle.std.proofs.lemmas.Bool.{false≢true, and_parts, and_from, or_cases, or_left, or_right, cond-true, cond-false}
 use Rattle.std.proofs.lemmas.Option.{none-some, same_Some, slice_get_read}
-use Rattle.proof_semantics.specs.Clauses.{bool_eq, lit_eq, negation, has_literal, literal_value, clauses_value, cube_value, values_of, is_tautology}
+use Rattle.proof_semantics.specs.Clauses.{bool_eq, lit_eq, negation, has_literal, literal_value, clauses_value, cube_value, values_of, has_opposites}
 use Rattle.proof_semantics.specs.declared.literals.Lit.{Lit}
 use Rattle.proof_semantics.proofs.LiteralLaws.{lit_eq-true, lit_eq-same, bool_eq-true, bool_eq-same, same_lit, has_literal-push, clause_value-has}
 use Rattle.cdcl_trail.specs.Trails.{Step, assumed, literals_of, step_of, value_of, once}
@@ -298,7 +298,7 @@ pub over_propagated : (vars : List ℕ) (clauses : List (List Lit)) (steps later
 over_propagated vars clauses steps later p all first =
     ap (λ xs. is_over vars (literals_of xs)) p.behind ∙ over_append vars steps p.added first (over_forced vars clauses steps p.added all p.reasons)
 
-pub falsified_no_tautology : (steps : List Step) (clause : List Lit) → is_falsified steps clause ≡ true → is_tautology clause ≡ false
+pub falsified_no_tautology : (steps : List Step) (clause : List Lit) → is_falsified steps clause ≡ true → has_opposites clause ≡ false
 falsified_no_tautology steps clause all = untrue _ (λ e.
     let found = any_gives (λ a. has_literal clause (negation a)) clause e in
     one_value (value_of steps found.0.var) (not found.0.positive) (all_has (is_false steps) clause found.0 all found.1) (all_has (is_false steps) clause (negation found.0) all found.2))
@@ -331,7 +331,7 @@ valued_some : (steps : List Step) (v : ℕ) (o : Option Step) → step_of steps 
 valued_some steps v None is e = absurd (false≢true e)
 valued_some steps v (Some x) is e = (x, is)
 
-consistent_true : (assumptions : List Lit) (steps : List Step) (d : Lit) (x : Step) → is_tautology assumptions ≡ false → Has assumptions d → Has assumptions x.literal
+consistent_true : (assumptions : List Lit) (steps : List Step) (d : Lit) (x : Step) → has_opposites assumptions ≡ false → Has assumptions d → Has assumptions x.literal
     → step_of steps d.var ≡ Some x → x.literal.var ≡ d.var → is_true steps d ≡ true
 consistent_true assumptions steps d x consistent has has_x is same =
     ap (λ o. is_value (option_map (λ (s : Step). s.literal.positive) o) d.positive) is
@@ -348,7 +348,7 @@ consistent_true assumptions steps d x consistent has has_x is same =
     other_sign false true e = refl
     other_sign false false e = absurd (false≢true (sym e))
 
-pub assumed_already : (assumptions : List Lit) (steps : List Step) (i : ℕ) (value : Option Bool) (some : Bool) → i < length assumptions → is_tautology assumptions ≡ false
+pub assumed_already : (assumptions : List Lit) (steps : List Step) (i : ℕ) (value : Option Bool) (some : Bool) → i < length assumptions → has_opposites assumptions ≡ false
     → value ≡ value_of steps (get_or assumptions i no_literal).var → some ≡ is_some value → some ≡ true
     → AssumesSoFar assumptions (take i assumptions) steps → AssumesSoFar assumptions (take (i + 1) assumptions) steps
 assumed_already assumptions steps i value some below consistent told is_some_told has_value so_far =

@@ -10,7 +10,7 @@ use Rattle.std.proofs.lemmas.List.Elements.{All-from_recursion}
 use Rattle.std.proofs.lemmas.Option.{none-some, same_Some, slice_get_within, slice_get-get_or, get_or_from_slice_get}
 use Rattle.proof_semantics.specs.Clauses.{negation, has_literal, is_part, cube_value}
 use Rattle.proof_semantics.specs.Propagation.{open_literals, only_literal, with_clause, with_unit, conflict_fault, hints_fault}
-use Rattle.proof_semantics.specs.Lines.{IsSize, HasSizes, text_of}
+use Rattle.proof_semantics.specs.Lines.{IsSize, HasSizes, text_of, AreSized}
 use Rattle.proof_semantics.specs.Proofs.{ProofState, is_empty, numbered, start, clause_at, with_addition, ids_of, ok_without_fault, judge_line, judge, judge_next, judge_all}
 use Rattle.proof_semantics.specs.declared.literals.Lit.{Lit}
 use Rattle.proof_semantics.specs.declared.faults.LratFault.{LratFault}
@@ -18,9 +18,9 @@ use Rattle.proof_semantics.specs.declared.faults.LratFault.TheVariants.{IdOrder,
 use Rattle.proof_semantics.proofs.LineLaws.{reads_spelled}
 use Rattle.proof_semantics.proofs.LiteralLaws.{lit_eq-same, negation_twice, cube_value-has}
 use Rattle.proof_semantics.proofs.Soundness.{hints_refute}
-use Rattle.cdcl_trail.specs.Propagation.{clause_numbered}
+use Rattle.cnf.specs.Clauses.{clause_numbered}
 use Rattle.cdcl_trail.proofs.TrailLaws.{either}
-use Rattle.cdcl.specs.Entries.{Entries, with_added, added_in, added_of, AreSized, IsLog}
+use Rattle.cdcl.specs.Entries.{Entries, with_added, added_in, added_of, IsLog}
 use Rattle.cdcl.specs.Solving.{IsRefusal}
 use Rattle.cdcl.specs.Writing.{Written, id_of, hint_of, line_with, next_written, count_added, AreBefore, is_needed, IsClosed, IsWritten, Proves}
 use Rattle.cdcl.proofs.EntryLaws.{added_push, get_push, number_at-place, numbered_true}

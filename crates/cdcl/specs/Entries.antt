@@ -1,10 +1,10 @@
--- The clauses that a solver holds, in the order in which they came, each with the hints that it was learned by.
+-- Scaffolding of inner functions. The clauses that a solver holds, in the order in which they came, each with the hints that it was learned by.
 use Rattle.std.specs.Prelude.{◌≡◌, ℕ, Bool, true, List, [], ◌∷◌, length, take, map, Option, Some, None, slice_get, slice_index_or}
 use Rattle.proof_semantics.specs.Clauses.{negation, has_literal, clauses_value}
 use Rattle.proof_semantics.specs.Propagation.{hints_fault}
-use Rattle.proof_semantics.specs.Lines.{IsSize}
+use Rattle.proof_semantics.specs.Lines.{AreSized}
 use Rattle.proof_semantics.specs.declared.literals.Lit.{Lit}
-use Rattle.cdcl_trail.specs.Propagation.{clause_numbered}
+use Rattle.cnf.specs.Clauses.{clause_numbered}
 
 -- the clauses, and beside each the hints of its proof line; none where it was added
 pub record Entries : Type 0 where
@@ -36,10 +36,6 @@ added_of entries = added_in entries.sources entries.clauses
 
 abbrev pub learned_of : Entries → List (List Lit)
 learned_of entries = learned_in entries.sources entries.clauses
-
--- each literal's variable is from 1 to 2 ^ 63 - 1
-abbrev pub AreSized : List Lit → Type 0
-AreSized lits = (a : Lit) → has_literal lits a ≡ true → IsSize a.var
 
 -- each clause with hints follows along them from those before it
 abbrev pub AreExplained : List (List Lit) → List (Option (List ℕ)) → Type 0

@@ -1,3 +1,4 @@
+pub mod Variables
 pub mod Solving
 pub mod Entries
 pub mod Searching

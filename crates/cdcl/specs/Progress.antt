@@ -1,7 +1,7 @@
--- How far a search has come from where it began.
+-- Scaffolding of inner functions. How far a search has come from where it began.
 use Rattle.std.specs.Prelude.{◌≡◌, ℕ, ◌+◌, ◌-◌, ◌≤◌, true, false, List, [], ◌∷◌, ◌++◌, length}
 use Rattle.edge.specs.Units.{Spendings}
-use Rattle.proof_semantics.specs.Clauses.{is_subsumed, is_tautology}
+use Rattle.proof_semantics.specs.Clauses.{is_subsumed, has_opposites}
 use Rattle.proof_semantics.specs.declared.literals.Lit.{Lit}
 use Rattle.cdcl.specs.Entries.{Entries, IsLog, added_of, learned_of}
 use Rattle.cdcl.specs.Room.{room}
@@ -28,7 +28,7 @@ pub record IsSearched (assumptions : List Lit) (start now : Entries) (earlier la
 abbrev pub AreApart : List (List Lit) → List (List Lit) → Type 0
 AreApart before [] = Unit {0}
 AreApart before (clause ∷ more) =
-    (is_tautology clause ≡ false) × (is_subsumed before clause ≡ false) × AreApart (before ++ clause ∷ []) more
+    (has_opposites clause ≡ false) × (is_subsumed before clause ≡ false) × AreApart (before ++ clause ∷ []) more
 
 -- What a solver keeps.
 pub record IsKept (entries : Entries) : Type 0 where

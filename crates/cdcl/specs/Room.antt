@@ -1,4 +1,4 @@
--- How many clauses a solver can still learn.
+-- Scaffolding of inner functions. How many clauses a solver can still learn.
 use Rattle.std.specs.Prelude.{ℕ, ◌+◌, Bool, true, false, List, [], ◌∷◌, ◌++◌, map, if◌then◌else◌}
 use Rattle.proof_semantics.specs.Clauses.{is_subsumed}
 use Rattle.proof_semantics.specs.declared.literals.Lit.{Lit}

@@ -1,19 +1,14 @@
--- What a search for values that satisfy clauses finds, and where it stands.
+-- Scaffolding of inner functions. What a search for values that satisfy clauses finds, and where it stands.
 use Rattle.std.specs.Prelude.{◌≡◌, ◌≢◌, ℕ, ◌+◌, ◌<◌, ◌≤◌, Bool, true, false, List, [], ◌∷◌, ◌++◌, Option, None, Some, map, slice_get, nat_eq, ◌⊎◌}
 use Rattle.std.specs.List.{list_any, list_all}
-use Rattle.proof_semantics.specs.Clauses.{negation, literal_value, values_of, has_literal, is_subsumed, is_tautology}
+use Rattle.proof_semantics.specs.Clauses.{negation, literal_value, values_of, has_literal, is_subsumed, has_opposites}
 use Rattle.proof_semantics.specs.Propagation.{hints_fault}
 use Rattle.proof_semantics.specs.declared.literals.Lit.{Lit}
 use Rattle.cdcl_trail.specs.Trails.{Step, value_of, literals_of, level, level_of, up_to_level}
-use Rattle.cdcl_trail.specs.Propagation.{is_true, is_complete, clause_numbered, IsReasonedTrail}
+use Rattle.cdcl_trail.specs.Propagation.{is_true, is_complete, IsReasonedTrail}
+use Rattle.cnf.specs.Clauses.{clause_numbered}
 use Rattle.cdcl_learn.specs.declared.learning.Learned.{Learned}
-
--- the variables of the literals are among these
-abbrev pub is_over : List ℕ → List Lit → Bool
-is_over vars lits = list_all (λ a. list_any (nat_eq a.var) vars) lits
-
-abbrev pub are_over : List ℕ → List (List Lit) → Bool
-are_over vars clauses = list_all (is_over vars) clauses
+pub use Rattle.cdcl.specs.Variables.{is_over, are_over}
 
 -- the variable is that of a literal of the clause
 abbrev pub has_variable : List Lit → ℕ → Bool
@@ -55,7 +50,7 @@ IsHinted clauses learned = hints_fault (clause_numbered clauses) (map negation l
 pub record IsNewClause (clauses : List (List Lit)) (lits : List Lit) (learned : Learned) : Type 0 where
   pub hinted : IsHinted clauses learned
   pub not_subsumed : is_subsumed clauses learned.clause ≡ false
-  pub no_tautology : is_tautology learned.clause ≡ false
+  pub no_tautology : has_opposites learned.clause ≡ false
   pub not_empty : learned.clause ≢ []
   pub over : (vars : List ℕ) → are_over vars clauses ≡ true → is_over vars lits ≡ true → is_over vars learned.clause ≡ true
 

@@ -7,10 +7,10 @@ use Rattle.edge.specs.Units.{Spendings}
 use Rattle.edge.specs.declared.metering.Counted.TheVariants.{Conflicts}
 use Rattle.edge.specs.declared.solve_end.SolveEnd.{SolveEnd}
 use Rattle.edge.specs.declared.solve_end.SolveEnd.TheVariants.{Spent as SpentEnd, Memory}
-use Rattle.proof_semantics.specs.Clauses.{negation, has_literal, is_part, clauses_value, cube_value, values_of, IsImplied, is_subsumed, is_tautology}
+use Rattle.proof_semantics.specs.Clauses.{negation, has_literal, is_part, clauses_value, cube_value, values_of, IsImplied, is_subsumed, has_opposites}
 use Rattle.proof_semantics.specs.Proofs.{start, clause_at, judge_all, Refutes}
 use Rattle.proof_semantics.specs.declared.literals.Lit.{Lit}
-use Rattle.cdcl.specs.Searching.{is_over, are_over}
+use Rattle.cdcl.specs.Variables.{is_over, are_over}
 use Rattle.cdcl.specs.declared.solving.Answer.{Answer}
 use Rattle.cdcl.specs.declared.solving.Answer.TheVariants.{Sat, Unsat}
 
@@ -18,10 +18,6 @@ use Rattle.cdcl.specs.declared.solving.Answer.TheVariants.{Sat, Unsat}
 pub record Solving : Type 0 where
   pub added : List (List Lit)
   pub learned : List (List Lit)
-
--- some literal of the list is the negation of another
-abbrev pub has_opposites : List Lit → Bool
-has_opposites lits = list_any (λ a. has_literal lits (negation a)) lits
 
 -- The assignment makes every clause and each assumption true.
 pub record IsModel (added : List (List Lit)) (assumptions : List Lit) (v : ℕ → Bool) : Type 0 where
@@ -53,7 +49,7 @@ IsAnswer added assumptions (Unsat core lines) = IsRefusal added assumptions core
 -- or learned before is a part of it. So the empty clause, which propagation alone gives, is never learned.
 pub record IsLearned (added before : List (List Lit)) (clause : List Lit) : Type 0 where
   pub implied : IsImplied added clause
-  pub no_tautology : is_tautology clause ≡ false
+  pub no_tautology : has_opposites clause ≡ false
   pub not_empty : clause ≢ []
   pub new : is_subsumed (added ++ before) clause ≡ false
 

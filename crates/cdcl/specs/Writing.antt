@@ -1,4 +1,4 @@
--- How a proof is written: the added clauses have the ids from 1 on, in the order of adding, and each learned clause that
+-- Scaffolding of inner functions. How a proof is written: the added clauses have the ids from 1 on, in the order of adding, and each learned clause that
 -- is needed has an id above all those before it. The form of the lines is that of LRAT (Cruz-Filipe, Heule, Hunt,
 -- Kaufmann, Schneider-Kamp, 2017).
 use Rattle.std.specs.Prelude.{◌≡◌, ℕ, ◌+◌, ◌<◌, ◌≤◌, Bool, true, false, List, [], ◌∷◌, ◌++◌, length, take, map, Option, Some, None, Ok, slice_get, nat_le, nat_eq, ◌⊎◌}
@@ -7,7 +7,7 @@ use Rattle.std.specs.Option.{unwrap_or}
 use Rattle.proof_semantics.specs.Lines.{Line, addition, text_of}
 use Rattle.proof_semantics.specs.Proofs.{ProofState, start, clause_at, judge_all}
 use Rattle.proof_semantics.specs.declared.literals.Lit.{Lit}
-use Rattle.cdcl_trail.specs.Propagation.{clause_numbered}
+use Rattle.cnf.specs.Clauses.{clause_numbered}
 use Rattle.cdcl.specs.Entries.{Entries, added_in, added_of}
 
 -- The id of each clause by its number, where it has one, with 0 in front; the lines; how many added clauses have their

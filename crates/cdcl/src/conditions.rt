@@ -1,9 +1,8 @@
 //! Tests of what a solver asks of literals.
 ghost use Rattle.std.specs.Prelude.{◌≡◌, ◌^◌, ◌&&◌, ◌↔◌, IsTrue, nat_lt};
 ghost use Rattle.std.specs.List.{list_all};
-ghost use Rattle.proof_semantics.specs.Clauses.{has_literal};
-ghost use Rattle.cdcl.specs.Entries.{AreSized};
-ghost use Rattle.cdcl.specs.Solving.{has_opposites};
+ghost use Rattle.proof_semantics.specs.Clauses.{has_literal, has_opposites};
+ghost use Rattle.proof_semantics.specs.Lines.{AreSized};
 
 use cnf::Lit;
 

@@ -20,6 +20,3 @@ mod writing;
 pub use conditions::{are_sized, has_opposites};
 pub use solver::Solver;
 pub use solving::Answer;
-
-#[cfg(test)]
-mod tests;

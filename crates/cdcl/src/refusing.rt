@@ -1,9 +1,10 @@
 //! The refusal of assumptions: a core and a proof. The main call is `refusal`.
 ghost use Rattle.std.specs.Prelude.{◌≡◌, ℕ, List, IfOk, map};
 ghost use Rattle.cdcl.specs.Searching.{IsHinted, NegatesOnly};
-ghost use Rattle.proof_semantics.specs.Clauses.{negation};
-ghost use Rattle.cdcl.specs.Entries.{AreSized, IsLog, added_of};
-ghost use Rattle.cdcl.specs.Solving.{IsAnswer, has_opposites};
+ghost use Rattle.proof_semantics.specs.Clauses.{negation, has_opposites};
+ghost use Rattle.cdcl.specs.Entries.{IsLog, added_of};
+ghost use Rattle.proof_semantics.specs.Lines.{AreSized};
+ghost use Rattle.cdcl.specs.Solving.{IsAnswer};
 
 use crate::log::Log;
 use crate::solving::Answer;

@@ -1,10 +1,11 @@
 //! The search for a model or a core. The main call is `search`.
 ghost use Rattle.std.specs.Prelude.{◌≡◌, [], IfOk, IfErr, false};
-ghost use Rattle.proof_semantics.specs.Clauses.{is_tautology};
-ghost use Rattle.cdcl.specs.Entries.{AreSized, IsLog, added_of};
+ghost use Rattle.proof_semantics.specs.Clauses.{has_opposites};
+ghost use Rattle.cdcl.specs.Entries.{IsLog, added_of};
+ghost use Rattle.proof_semantics.specs.Lines.{AreSized};
 ghost use Rattle.cdcl.specs.Progress.{IsSearched};
 ghost use Rattle.cdcl.specs.Searching.{AssumesAll};
-ghost use Rattle.cdcl.specs.Solving.{IsAnswer, IsEnd, has_opposites};
+ghost use Rattle.cdcl.specs.Solving.{IsAnswer, IsEnd};
 
 use crate::choosing::choose;
 use crate::log::Log;
@@ -66,7 +67,7 @@ pub(crate) fn search(
 // Assumes each of the literals that has no value yet.
 fn assume_all(trail: &mut Trail, assumptions: &[Lit]) -> Result<(), AllocError>
     requires empty { trail.old.steps ≡ [] }
-    requires consistent { is_tautology assumptions.now ≡ false }
+    requires consistent { has_opposites assumptions.now ≡ false }
     ensures { IfOk result (λ _. AssumesAll assumptions.now trail.new.steps) }
 {
     for literal in assumptions {

@@ -1,7 +1,8 @@
 //! The solver. The main type is `Solver`.
 ghost use Rattle.std.specs.Prelude.{◌≡◌, ◌-◌, [], ◌∷◌, ◌++◌, IfOk, IfErr, OnOk, OnErr, length, false};
-ghost use Rattle.cdcl.specs.Entries.{AreSized};
-ghost use Rattle.cdcl.specs.Solving.{IsAnswer, IsBounded, IsEnd, Learns, has_opposites, with_conflicts};
+ghost use Rattle.proof_semantics.specs.Lines.{AreSized};
+ghost use Rattle.cdcl.specs.Solving.{IsAnswer, IsBounded, IsEnd, Learns, with_conflicts};
+ghost use Rattle.proof_semantics.specs.Clauses.{has_opposites};
 
 use crate::log::Log;
 use crate::order::Order;

@@ -2,10 +2,10 @@
 ghost use Rattle.std.specs.Prelude.{◌≡◌, ◌+◌, ◌<◌, ◌≤◌, ◌^◌, ℕ, IfOk, OnOk, None, Some, IsTrue, true, [], ◌∷◌, ◌++◌, length, take, map, slice_get};
 ghost use Rattle.std.specs.List.{list_all};
 ghost use Rattle.proof_semantics.specs.Clauses.{negation};
-ghost use Rattle.proof_semantics.specs.Lines.{text_of};
+ghost use Rattle.proof_semantics.specs.Lines.{text_of, AreSized};
 ghost use Rattle.proof_semantics.specs.Propagation.{hints_fault};
-ghost use Rattle.cdcl_trail.specs.Propagation.{clause_numbered};
-ghost use Rattle.cdcl.specs.Entries.{Entries, AreExplained, AreSized, IsLog, added_of};
+ghost use Rattle.cnf.specs.Clauses.{clause_numbered};
+ghost use Rattle.cdcl.specs.Entries.{Entries, AreExplained, IsLog, added_of};
 ghost use Rattle.cdcl.specs.Writing.{count_added, is_needed, line_with, next_written, Proves};
 
 use crate::log::Log;

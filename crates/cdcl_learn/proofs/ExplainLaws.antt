@@ -8,7 +8,8 @@ use Rattle.proof_semantics.specs.Propagation.{open_literals, only_literal, with_
 use Rattle.proof_semantics.specs.declared.literals.Lit.{Lit}
 use Rattle.proof_semantics.proofs.LiteralLaws.{lit_eq-true, lit_eq-same, has_literal-push, negation_twice}
 use Rattle.cdcl_trail.specs.Trails.{Step, value_of}
-use Rattle.cdcl_trail.specs.Propagation.{is_true, is_false, clause_numbered}
+use Rattle.cdcl_trail.specs.Propagation.{is_true, is_false}
+use Rattle.cnf.specs.Clauses.{clause_numbered}
 use Rattle.cdcl_trail.proofs.TrailLaws.{either}
 use Rattle.cdcl_trail.proofs.ScanLaws.{one_value, untrue}
 use Rattle.cdcl_learn.specs.Walking.{Explains}

@@ -10,7 +10,8 @@ use Rattle.proof_semantics.specs.Propagation.{hints_fault}
 use Rattle.proof_semantics.specs.declared.literals.Lit.{Lit}
 use Rattle.proof_semantics.proofs.LiteralLaws.{lit_eq-true, lit_eq-same, negation_twice, bool_eq-same}
 use Rattle.cdcl_trail.specs.Trails.{Step, literals_of, reasons_in}
-use Rattle.cdcl_trail.specs.Propagation.{is_value, is_true, is_false, is_unit_for, clause_numbered, IsConflict}
+use Rattle.cdcl_trail.specs.Propagation.{is_value, is_true, is_false, is_unit_for, IsConflict}
+use Rattle.cnf.specs.Clauses.{clause_numbered}
 use Rattle.cdcl_learn.proofs.FreshLaws.{IsFreshTrail, fresh_at}
 use Rattle.cdcl_trail.proofs.TrailLaws.{either}
 use Rattle.cdcl_trail.proofs.ScanLaws.{all_has, untrue}

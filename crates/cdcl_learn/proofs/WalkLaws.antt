@@ -12,7 +12,8 @@ use Rattle.proof_semantics.specs.Clauses.{lit_eq, negation, has_literal, is_part
 use Rattle.proof_semantics.specs.declared.literals.Lit.{Lit}
 use Rattle.proof_semantics.proofs.LiteralLaws.{lit_eq-true, lit_eq-same, bool_eq-same}
 use Rattle.cdcl_trail.specs.Trails.{Step, step, opened_by, literals_of, reasons_in, step_of, value_of, level, up_to_level, lower_steps}
-use Rattle.cdcl_trail.specs.Propagation.{is_value, is_true, is_false, is_falsified, is_unit_for, is_unit, is_complete, clause_numbered, IsConflict}
+use Rattle.cdcl_trail.specs.Propagation.{is_value, is_true, is_false, is_falsified, is_unit_for, is_unit, is_complete, IsConflict}
+use Rattle.cnf.specs.Clauses.{clause_numbered}
 use Rattle.cdcl_learn.proofs.FreshLaws.{IsFresh, AreFresh, IsFreshTrail, fresh_at}
 use Rattle.cdcl_trail.proofs.TrailLaws.{either, not-true, or_neither, or_both}
 use Rattle.cdcl_trail.proofs.ScanLaws.{all_has, any_gives, any_has, untrue, unvalued_test}

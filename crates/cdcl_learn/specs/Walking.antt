@@ -1,4 +1,4 @@
--- The way back over a trail, from its last literal to the one that opened the last level.
+-- Scaffolding of inner functions. The way back over a trail, from its last literal to the one that opened the last level.
 use Rattle.std.specs.Prelude.{◌≡◌, ℕ, suc, ◌<◌, true, false, not, ◌&&◌, ◌||◌, List, length, take, drop, Option, Some, None, is_some, slice_get, map, ◌⊎◌}
 use Rattle.std.specs.List.{list_all}
 use Rattle.proof_semantics.specs.Clauses.{lit_eq, negation, has_literal}
@@ -6,7 +6,8 @@ use Rattle.proof_semantics.specs.Propagation.{hints_fault}
 use Rattle.proof_semantics.specs.declared.literals.Lit.{Lit}
 use Rattle.cdcl_trail.specs.Trails.{Step, lower_steps}
 use Rattle.cdcl_learn.specs.Learning.{is_assumed}
-use Rattle.cdcl_trail.specs.Propagation.{is_true, is_false, is_falsified, is_unit, clause_numbered}
+use Rattle.cdcl_trail.specs.Propagation.{is_true, is_false, is_falsified, is_unit}
+use Rattle.cnf.specs.Clauses.{clause_numbered}
 
 -- the last literal that was assumed stands at this place
 pub record IsLastAssumed (reasons : List (Option ℕ)) (place : ℕ) : Type 0 where

@@ -4,7 +4,8 @@ ghost use Rattle.std.specs.List.{list_any};
 ghost use Rattle.proof_semantics.specs.Clauses.{negation, is_subsumed};
 ghost use Rattle.proof_semantics.specs.Propagation.{hints_fault};
 ghost use Rattle.cdcl_trail.specs.Trails.{level, lower_steps};
-ghost use Rattle.cdcl_trail.specs.Propagation.{clause_numbered, is_complete, is_falsified, is_unit, IsConflict, IsReasonedTrail};
+ghost use Rattle.cdcl_trail.specs.Propagation.{is_complete, is_falsified, is_unit, IsConflict, IsReasonedTrail};
+ghost use Rattle.cnf.specs.Clauses.{clause_numbered};
 ghost use Rattle.cdcl_learn.specs.Walking.{IsLastAssumed, IsLearned};
 
 use crate::resolution::{clause_at, distinct, has_negation, resolve};

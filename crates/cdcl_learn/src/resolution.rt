@@ -3,7 +3,7 @@ ghost use Rattle.std.specs.Prelude.{◌≡◌, ◌||◌, IfOk, IsSome, Some, [],
 ghost use Rattle.std.specs.List.{list_any};
 ghost use Rattle.proof_semantics.specs.Clauses.{has_literal, negation};
 ghost use Rattle.proof_semantics.specs.declared.literals.Lit.{Lit};
-ghost use Rattle.cdcl_trail.specs.Propagation.{clause_numbered};
+ghost use Rattle.cnf.specs.Clauses.{clause_numbered};
 ghost use Rattle.cdcl_learn.specs.Walking.{HasAlso, IsResolvent};
 
 use cnf::{Clause, Lit};

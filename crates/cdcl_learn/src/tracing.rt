@@ -4,7 +4,8 @@ ghost use Rattle.std.specs.Prelude.{◌≡◌, IfOk, IsTrue, None, true, map, re
 ghost use Rattle.proof_semantics.specs.Clauses.{negation, has_literal};
 ghost use Rattle.proof_semantics.specs.Propagation.{hints_fault};
 ghost use Rattle.proof_semantics.specs.declared.literals.Lit.{Lit};
-ghost use Rattle.cdcl_trail.specs.Propagation.{clause_numbered, is_falsified, IsConflict, IsReasonedTrail};
+ghost use Rattle.cdcl_trail.specs.Propagation.{is_falsified, IsConflict, IsReasonedTrail};
+ghost use Rattle.cnf.specs.Clauses.{clause_numbered};
 ghost use Rattle.cdcl_learn.specs.Learning.{is_assumed};
 
 use crate::learning::{Learned, in_order};

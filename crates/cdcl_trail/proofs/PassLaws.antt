@@ -10,7 +10,8 @@ use Rattle.std.proofs.lemmas.Option.{none-some, same_Some}
 use Rattle.proof_semantics.specs.declared.literals.Lit.{Lit}
 use Rattle.proof_semantics.proofs.LiteralLaws.{bool_eq-same}
 use Rattle.cdcl_trail.specs.Trails.{Step, step, opened_by, step_of, value_of, level}
-use Rattle.cdcl_trail.specs.Propagation.{is_value, is_true, is_falsified, is_unit_for, is_complete, clause_numbered, IsConflict, IsForced, AreForced, Propagates}
+use Rattle.cdcl_trail.specs.Propagation.{is_value, is_true, is_falsified, is_unit_for, is_complete, IsConflict, IsForced, AreForced, Propagates}
+use Rattle.cnf.specs.Clauses.{clause_numbered}
 use Rattle.cdcl_trail.specs.Scanning.{standing_from, unsatisfied, PassSays, HasFound}
 use Rattle.cdcl_trail.specs.declared.propagation.Standing.TheVariants.{Settled}
 use Rattle.cdcl_trail.specs.declared.propagation.Pass.{Pass}

@@ -3,6 +3,7 @@ use Rattle.std.specs.Prelude.{◌≡◌, ℕ, ◌-◌, Bool, true, false, not, �
 use Rattle.std.specs.List.{list_any, list_all}
 use Rattle.proof_semantics.specs.Clauses.{bool_eq, lit_eq, has_literal}
 use Rattle.proof_semantics.specs.declared.literals.Lit.{Lit}
+use Rattle.cnf.specs.Clauses.{clause_numbered}
 use Rattle.cdcl_trail.specs.Trails.{Step, value_of}
 
 -- there is a value, and it is this one
@@ -31,10 +32,6 @@ is_unit steps clause = list_any (is_unit_for steps clause) clause
 -- no clause is unit or false
 abbrev pub is_complete : List (List Lit) → List Step → Bool
 is_complete clauses steps = list_all (λ clause. not (is_falsified steps clause || is_unit steps clause)) clauses
-
--- The clause with a number. The first has the number 1.
-abbrev pub clause_numbered : List (List Lit) → ℕ → Option (List Lit)
-clause_numbered clauses number = if number == 0 then None else slice_get clauses (number - 1)
 
 -- The clause with the number is false.
 abbrev pub IsConflict : List (List Lit) → List Step → ℕ → Type 0

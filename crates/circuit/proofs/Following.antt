@@ -13,9 +13,9 @@ use Rattle.aig_semantics.specs.declared.traces.Position.{Position}
 use Rattle.aig_semantics.specs.Literals.{literal_in}
 use Rattle.aig_semantics.specs.Circuits.{Circuit, fair_literals}
 use Rattle.aig_semantics.specs.Valuations.{valuation}
-use Rattle.aig_semantics.specs.Runs.{StartsIn, IsRun, IsInitial, IsInitialRun, AgreesWith, ClosesAt, MeetsFairness, IsFairLasso, successor, literal_at}
-use Rattle.aig_semantics.specs.Stimuli.{simulated}
-use Rattle.circuit.specs.Following.{agrees, all_agree, seen_with, position_of, follows, state_after, seen_after, state_at, IsFollowed}
+use Rattle.aig_semantics.specs.Runs.{position_of, StartsIn, IsRun, IsInitial, IsInitialRun, AgreesWith, agrees_with, ClosesAt, MeetsFairness, IsFairLasso, successor, literal_at}
+use Rattle.aig_semantics.specs.Stimuli.{simulated, state_after}
+use Rattle.circuit.specs.Following.{all_agree, seen_with, follows, seen_after, state_at, IsFollowed}
 
 -- what is left of the inputs gives the answer, the last state and what is seen
 pub record IsOnTheWay (c : Circuit) (start latches : List Bool) (inputs rest : List (List Bool)) (literals : List ℕ) (before seen : List Bool) : Type 0 where
@@ -25,39 +25,39 @@ pub record IsOnTheWay (c : Circuit) (start latches : List Bool) (inputs rest : L
 
 -- ---- initial states
 
-agrees-told : (reset : Reset) (value : Bool) → agrees reset value ≡ true → AgreesWith reset value
-agrees-told Zero false e = refl
-agrees-told Zero true e = absurd (let f : false ≡ true = e in cc)
-agrees-told One false e = absurd (let f : false ≡ true = e in cc)
-agrees-told One true e = refl
-agrees-told Free value e = tt
+agrees_with-told : (reset : Reset) (value : Bool) → agrees_with reset value ≡ true → AgreesWith reset value
+agrees_with-told Zero false e = refl
+agrees_with-told Zero true e = absurd (let f : false ≡ true = e in cc)
+agrees_with-told One false e = absurd (let f : false ≡ true = e in cc)
+agrees_with-told One true e = refl
+agrees_with-told Free value e = tt
 
-agrees-from : (reset : Reset) (value : Bool) → AgreesWith reset value → agrees reset value ≡ true
-agrees-from Zero value e = ap not e
-agrees-from One value e = e
-agrees-from Free value e = refl
+agrees_with-from : (reset : Reset) (value : Bool) → AgreesWith reset value → agrees_with reset value ≡ true
+agrees_with-from Zero value e = ap not e
+agrees_with-from One value e = e
+agrees_with-from Free value e = refl
 
 pub all_agree-told : (latches : List Latch) (values : List Bool) → all_agree latches values ≡ true → AllZip (λ latch value. AgreesWith latch.reset value) latches values
 all_agree-told [] [] e = tt
 all_agree-told [] (b ∷ values) e = let f : false ≡ true = e in cc
 all_agree-told (latch ∷ latches) [] e = let f : false ≡ true = e in cc
 all_agree-told (latch ∷ latches) (b ∷ values) e =
-    let both = and_parts (agrees latch.reset b) (all_agree latches values) e in
-    (agrees-told latch.reset b both.0, all_agree-told latches values both.1)
+    let both = and_parts (agrees_with latch.reset b) (all_agree latches values) e in
+    (agrees_with-told latch.reset b both.0, all_agree-told latches values both.1)
 
 pub all_agree-from : (latches : List Latch) (values : List Bool) → AllZip (λ latch value. AgreesWith latch.reset value) latches values → all_agree latches values ≡ true
 all_agree-from [] [] h = refl
 all_agree-from [] (b ∷ values) h = absurd h
 all_agree-from (latch ∷ latches) [] h = absurd h
 all_agree-from (latch ∷ latches) (b ∷ values) h =
-    and_from (agrees latch.reset b) (all_agree latches values) (agrees-from latch.reset b h.0) (all_agree-from latches values h.1)
+    and_from (agrees_with latch.reset b) (all_agree latches values) (agrees_with-from latch.reset b h.0) (all_agree-from latches values h.1)
 
 pub all_agree-apart : (latches : List Latch) (values : List Bool) → (length latches ≡ length values → ⊥) → false ≡ all_agree latches values
 all_agree-apart [] [] ne = absurd (ne refl)
 all_agree-apart [] (b ∷ values) ne = refl
 all_agree-apart (latch ∷ latches) [] ne = refl
 all_agree-apart (latch ∷ latches) (b ∷ values) ne =
-    sym (and_right (agrees latch.reset b) (all_agree latches values) (sym (all_agree-apart latches values (λ e. ne (ap suc e)))))
+    sym (and_right (agrees_with latch.reset b) (all_agree latches values) (sym (all_agree-apart latches values (λ e. ne (ap suc e)))))
 
 -- ---- what is seen
 

@@ -13,7 +13,8 @@ use Rattle.circuit.proofs.Ranges.{DefinesAll-from, UsesAll-from, used-in_range}
 use Rattle.circuit.specs.declared.parts.Parts.{Parts}
 use Rattle.circuit.specs.declared.marks.Mark.{Mark}
 use Rattle.circuit.specs.declared.marks.Mark.TheVariants.{Nowhere, Once, Twice, Missing}
-use Rattle.circuit.specs.Sections.{circuit_of, used_by, AreInRange, DefinesAll, UsesAll}
+use Rattle.circuit.specs.Sections.{circuit_of, used_by, AreInRange}
+use Rattle.circuit.specs.Fitting.{DefinesAll, UsesAll}
 use Rattle.circuit.specs.Marks.{defined_again, when_used, first_marks, with_definition, with_use, IsFirstMarked}
 use Rattle.circuit.specs.Faults.{IsLeast, IsTwice, IsFirstTwice, IsUndefined, IsOnce, IsFirstUndefined}
 use Rattle.circuit.proofs.Writing.{get_or-replicate_same}

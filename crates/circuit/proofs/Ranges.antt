@@ -5,7 +5,8 @@ use Rattle.std.proofs.lemmas.List.Elements.{All-append, All-map}
 use Rattle.aig_semantics.specs.Circuits.{defined, used}
 use Rattle.aig_semantics.proofs.Lists.{All-left, All-right}
 use Rattle.circuit.specs.declared.parts.Parts.{Parts}
-use Rattle.circuit.specs.Sections.{circuit_of, used_by, AreInRange, DefinesAll, UsesAll, IsFitting}
+use Rattle.circuit.specs.Sections.{circuit_of, used_by, AreInRange}
+use Rattle.circuit.specs.Fitting.{DefinesAll, UsesAll, IsFitting}
 use Rattle.circuit.proofs.Counting.{All-unmap, All-parts, All-joined, All-pair}
 
 module _ (P : ℕ → Type 0) (parts : Parts) where

@@ -10,10 +10,11 @@ use Rattle.circuit.specs.declared.parts.Parts.{Parts}
 use Rattle.circuit.specs.declared.faults.ModelFault.{ModelFault}
 use Rattle.circuit.specs.declared.faults.ModelFault.TheVariants.{Undefined, Twice, Cycle}
 use Rattle.circuit.specs.declared.faults.ModelEnd.{ModelEnd}
-use Rattle.circuit.specs.declared.faults.ModelEnd.TheVariants.{Fault}
+use Rattle.circuit.specs.declared.faults.ModelEnd.TheVariants.{Fault, Memory}
 use Rattle.circuit.specs.Sections.{circuit_of, used_by, AreInRange}
-use Rattle.circuit.specs.Faults.{IsLeast, IsTwice, IsFirstTwice, IsUndefined, IsFirstUndefined, IsOnce, IsDefined, HasFault, IsOnlyOnCycle, AnswersExactlyWhere, AnswersCycleExactlyWhere}
+use Rattle.circuit.specs.Faults.{IsLeast, IsTwice, IsFirstTwice, IsUndefined, IsFirstUndefined, IsOnce, IsDefined, HasFault, IsOnlyOnCycle}
 use Rattle.circuit.specs.Ordering.{IsEvaluationOrder}
+use Rattle.unless_memory.specs.Answers.{GivesExactlyWhere, GivesOneExactlyWhere}
 use Rattle.circuit.proofs.Tables.{gates-apart}
 use Rattle.circuit.proofs.Ranking.{no-cycle}
 use Rattle.circuit.proofs.Counting.{count-differ}
@@ -68,22 +69,22 @@ undefined-is parts (Twice w) v has first = absurd (once-not_twice parts w first.
 undefined-is parts (Undefined w) v has first = ap (λ x. Undefined x) (first-is_one (IsUndefined parts) w v has.first first.first)
 undefined-is parts _ v has first = absurd has
 
-pub refused-twice : (T : Type 0) (parts : Parts) (f : ModelFault) → HasFault parts f → (v : ℕ) → AnswersExactlyWhere {T = T} (Err (Fault f)) (Twice v) (IsFirstTwice parts v)
+pub refused-twice : (T : Type 0) (parts : Parts) (f : ModelFault) → HasFault parts f → (v : ℕ) → GivesExactlyWhere {T = Result T ModelEnd} (Err Memory) (Err (Fault (Twice v))) (IsFirstTwice parts v) (Err (Fault f))
 refused-twice T parts f has v = record {
   only = fault-only T parts f (Twice v) has;
   whenever = λ first. inl (ap (λ x. Err (Fault x)) (twice-is parts f v has first));
 }
 
-pub refused-undefined : (T : Type 0) (parts : Parts) (f : ModelFault) → HasFault parts f → (v : ℕ) → AnswersExactlyWhere {T = T} (Err (Fault f)) (Undefined v) (IsFirstUndefined parts v)
+pub refused-undefined : (T : Type 0) (parts : Parts) (f : ModelFault) → HasFault parts f → (v : ℕ) → GivesExactlyWhere {T = Result T ModelEnd} (Err Memory) (Err (Fault (Undefined v))) (IsFirstUndefined parts v) (Err (Fault f))
 refused-undefined T parts f has v = record {
   only = fault-only T parts f (Undefined v) has;
   whenever = λ first. inl (ap (λ x. Err (Fault x)) (undefined-is parts f v has first));
 }
 
-pub kept-twice : (T : Type 0) (x : T) (parts : Parts) → IsDefined parts → (v : ℕ) → AnswersExactlyWhere {T = T} (Ok x) (Twice v) (IsFirstTwice parts v)
+pub kept-twice : (T : Type 0) (x : T) (parts : Parts) → IsDefined parts → (v : ℕ) → GivesExactlyWhere {T = Result T ModelEnd} (Err Memory) (Err (Fault (Twice v))) (IsFirstTwice parts v) (Ok x)
 kept-twice T x parts sound v = record { only = λ e. cc; whenever = λ first. absurd (once-not_twice parts v sound.once first.holds) }
 
-pub kept-undefined : (T : Type 0) (x : T) (parts : Parts) → IsDefined parts → (v : ℕ) → AnswersExactlyWhere {T = T} (Ok x) (Undefined v) (IsFirstUndefined parts v)
+pub kept-undefined : (T : Type 0) (x : T) (parts : Parts) → IsDefined parts → (v : ℕ) → GivesExactlyWhere {T = Result T ModelEnd} (Err Memory) (Err (Fault (Undefined v))) (IsFirstUndefined parts v) (Ok x)
 kept-undefined T x parts sound v = record { only = λ e. cc; whenever = λ first. absurd (defined-not_undefined parts v sound.defined first.first.holds) }
 
 -- a fault comes only where the model has no meaning
@@ -97,7 +98,7 @@ refused-faulty T parts f has g e = has-no_meaning parts g (fault-only T parts f 
 
 -- ---- cycles
 
-pub refused-cycle : (T : Type 0) (parts : Parts) (f : ModelFault) → HasFault parts f → AnswersCycleExactlyWhere {T = T} (Err (Fault f)) (IsOnlyOnCycle parts)
+pub refused-cycle : (T : Type 0) (parts : Parts) (f : ModelFault) → HasFault parts f → GivesOneExactlyWhere {T = Result T ModelEnd} (Err Memory) (λ v. Err (Fault (Cycle v))) (IsOnlyOnCycle parts) (Err (Fault f))
 refused-cycle T parts f has = record {
   only = λ v e. absurd (fault-only T parts f (Cycle v) has e);
   whenever = λ v on. absurd (has-other parts f has on.defined);
@@ -108,7 +109,7 @@ refused-cycle T parts f has = record {
     has-other parts (Undefined w) has sound = defined-not_undefined parts w sound.defined has.first.holds
     has-other parts _ has sound = absurd has
 
-pub kept-cycle : (T : Type 0) (x : T) (parts : Parts) (order : List Gate) → IsDefined parts → IsEvaluationOrder parts.gates order → AnswersCycleExactlyWhere {T = T} (Ok x) (IsOnlyOnCycle parts)
+pub kept-cycle : (T : Type 0) (x : T) (parts : Parts) (order : List Gate) → IsDefined parts → IsEvaluationOrder parts.gates order → GivesOneExactlyWhere {T = Result T ModelEnd} (Err Memory) (λ v. Err (Fault (Cycle v))) (IsOnlyOnCycle parts) (Ok x)
 kept-cycle T x parts order sound o = record {
   only = λ v e. cc;
   whenever = λ v on. absurd (no-cycle (circuit_of parts) order o (gates-apart parts sound.once) v on.cycle);
@@ -116,16 +117,16 @@ kept-cycle T x parts order sound o = record {
 
 -- a variable on a cycle is answered
 module _ (T : Type 0) (parts : Parts) (w : ℕ) (sound : IsDefined parts) (cycle : IsOnCycle (circuit_of parts) w) where
-  pub cyclic-twice : (v : ℕ) → AnswersExactlyWhere {T = T} (Err (Fault (Cycle w))) (Twice v) (IsFirstTwice parts v)
+  pub cyclic-twice : (v : ℕ) → GivesExactlyWhere {T = Result T ModelEnd} (Err Memory) (Err (Fault (Twice v))) (IsFirstTwice parts v) (Err (Fault (Cycle w)))
   cyclic-twice v = record { only = λ e. cc; whenever = λ first. absurd (once-not_twice parts v sound.once first.holds) }
 
-  pub cyclic-undefined : (v : ℕ) → AnswersExactlyWhere {T = T} (Err (Fault (Cycle w))) (Undefined v) (IsFirstUndefined parts v)
+  pub cyclic-undefined : (v : ℕ) → GivesExactlyWhere {T = Result T ModelEnd} (Err Memory) (Err (Fault (Undefined v))) (IsFirstUndefined parts v) (Err (Fault (Cycle w)))
   cyclic-undefined v = record { only = λ e. cc; whenever = λ first. absurd (defined-not_undefined parts v sound.defined first.first.holds) }
 
   same-cycle : (v : ℕ) → ◌≡◌ {A = Result T ModelEnd} (Err (Fault (Cycle w))) (Err (Fault (Cycle v))) → w ≡ v
   same-cycle v e = cc
 
-  pub cyclic-cycle : AnswersCycleExactlyWhere {T = T} (Err (Fault (Cycle w))) (IsOnlyOnCycle parts)
+  pub cyclic-cycle : GivesOneExactlyWhere {T = Result T ModelEnd} (Err Memory) (λ v. Err (Fault (Cycle v))) (IsOnlyOnCycle parts) (Err (Fault (Cycle w)))
   cyclic-cycle = record {
     only = λ v e. record { defined = sound; cycle = subst (λ u. IsOnCycle (circuit_of parts) u) (same-cycle v e) cycle };
     whenever = λ v on. inl (w, refl);

@@ -1,4 +1,4 @@
--- How a valuation is written into a list, value by value.
+-- How a valuation is written into a list, value by value (scaffolding).
 use Rattle.std.specs.Prelude.{ℕ, Bool, List, [], ◌∷◌, slice_set}
 use Rattle.aig_semantics.specs.declared.parts.Gate.{Gate}
 use Rattle.aig_semantics.specs.Literals.{variable_in}

@@ -1,5 +1,5 @@
 -- What may be wrong with the circuit of a model, and when it is said.
-use Rattle.std.specs.Prelude.{◌≡◌, ◌≢◌, ℕ, ◌≤◌, ◌<◌, ◌==◌, ◌⊎◌, count_by, Result, Ok, Err}
+use Rattle.std.specs.Prelude.{◌≡◌, ◌≢◌, ℕ, ◌≤◌, ◌<◌, ◌==◌, count_by, Result, Ok, Err}
 use Rattle.std.specs.List.{Any, AllPairs, Contains}
 use Rattle.aig_semantics.specs.Literals.{variable_of}
 use Rattle.aig_semantics.specs.Circuits.{defined, AreDefined, IsOnCycle}
@@ -49,21 +49,11 @@ pub record IsOnlyOnCycle (parts : Parts) (v : ℕ) : Type 0 where
   pub defined : IsDefined parts
   pub cycle : IsOnCycle (circuit_of parts) v
 
--- the call answers this fault exactly where the fact holds, want of memory aside
-pub record AnswersExactlyWhere {T : Type 0} (result : Result T ModelEnd) (fault : ModelFault) (P : Type 0) : Type 0 where
-  pub only : result ≡ Err (Fault fault) → P
-  pub whenever : P → (result ≡ Err (Fault fault)) ⊎ (result ≡ Err Memory)
-
 -- the model has this fault in its definitions and uses
 abbrev pub HasFault : Parts → ModelFault → Type 0
 HasFault parts (Twice v) = IsFirstTwice parts v
 HasFault parts (Undefined v) = IsFirstUndefined parts v
 HasFault parts _ = ⊥
-
--- the call answers a cycle only at a variable of which the fact holds, and wherever there is one, want of memory aside
-pub record AnswersCycleExactlyWhere {T : Type 0} (result : Result T ModelEnd) (P : ℕ → Type 0) : Type 0 where
-  pub only : (v : ℕ) → result ≡ Err (Fault (Cycle v)) → P v
-  pub whenever : (v : ℕ) → P v → ((w : ℕ) × (result ≡ Err (Fault (Cycle w)))) ⊎ (result ≡ Err Memory)
 
 -- the call answers no fault but these three
 abbrev pub AnswersNoOther : {T : Type 0} → Result T ModelEnd → Type 0

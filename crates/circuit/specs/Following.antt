@@ -1,26 +1,19 @@
--- How a lasso is gone along: computed forms of what it must meet.
-use Rattle.std.specs.Prelude.{◌≡◌, ℕ, ◌==◌, Bool, true, false, not, ◌&&◌, ◌||◌, List, [], ◌∷◌, length, take, drop, replicate, IsTrue}
+-- How a lasso is gone along, in computed forms of what it must meet (scaffolding).
+use Rattle.std.specs.Prelude.{◌≡◌, ℕ, ◌==◌, Bool, true, false, ◌&&◌, ◌||◌, List, [], ◌∷◌, length, take, drop, replicate, IsTrue}
 use Rattle.std.specs.List.{list_all}
 use Rattle.aig_semantics.specs.declared.parts.Latch.{Latch}
-use Rattle.aig_semantics.specs.declared.parts.Reset.{Reset}
-use Rattle.aig_semantics.specs.declared.parts.Reset.TheVariants.{Zero, One, Free}
-use Rattle.aig_semantics.specs.declared.traces.Position.{Position}
 use Rattle.aig_semantics.specs.Literals.{literal_in}
 use Rattle.aig_semantics.specs.Circuits.{Circuit}
 use Rattle.aig_semantics.specs.Valuations.{valuation}
-use Rattle.aig_semantics.specs.Runs.{successor}
+use Rattle.aig_semantics.specs.Runs.{agrees_with, position_of, successor}
+use Rattle.aig_semantics.specs.Stimuli.{state_after}
 
--- a latch with this reset may begin with the value
-abbrev pub agrees : Reset → Bool → Bool
-agrees Zero value = not value
-agrees One value = value
-agrees Free value = true
-
+-- each value agrees with the reset of its latch, and there is one for each
 abbrev pub all_agree : List Latch → List Bool → Bool
 all_agree [] [] = true
 all_agree [] (b ∷ values) = false
 all_agree (latch ∷ latches) [] = false
-all_agree (latch ∷ latches) (b ∷ values) = agrees latch.reset b && all_agree latches values
+all_agree (latch ∷ latches) (b ∷ values) = agrees_with latch.reset b && all_agree latches values
 
 -- which literals have been seen true, after these values too
 abbrev pub seen_with : List Bool → List ℕ → List Bool → List Bool
@@ -28,20 +21,12 @@ seen_with values [] seen = []
 seen_with values (literal ∷ literals) [] = []
 seen_with values (literal ∷ literals) (b ∷ seen) = (b || literal_in values literal) ∷ seen_with values literals seen
 
-abbrev pub position_of : List Bool → List Bool → Position
-position_of latches inputs = record { latches = latches; inputs = inputs }
-
 -- each list of inputs has a value for each input, and the constraints are true at each position
 unfoldable pub follows : Circuit → List Bool → List (List Bool) → Bool
 follows c latches [] = true
 follows c latches (now ∷ later) =
     (length now == length c.inputs) && list_all (λ literal. literal_in (valuation c latches now) literal) c.constraints
     && follows c (successor c (position_of latches now)) later
-
--- the latches after these inputs
-unfoldable pub state_after : Circuit → List Bool → List (List Bool) → List Bool
-state_after c latches [] = latches
-state_after c latches (now ∷ later) = state_after c (successor c (position_of latches now)) later
 
 -- which literals have been seen true, after these inputs
 unfoldable pub seen_after : Circuit → List Bool → List (List Bool) → List ℕ → List Bool → List Bool

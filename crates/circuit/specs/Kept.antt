@@ -1,4 +1,5 @@
--- What a `Circuit` keeps: a checked circuit, and its gates once more in an order in which they can be evaluated.
+-- What a `Circuit` keeps (scaffolding): a checked circuit, and its gates once more in an order in which they can be
+-- evaluated.
 use Rattle.aig_semantics.specs.Circuits.{Circuit, IsChecked, IsWithinLimits}
 use Rattle.circuit.specs.declared.circuits.Circuit.TheInside.{Inside}
 use Rattle.circuit.specs.Ordering.{IsEvaluationOrder}

@@ -1,4 +1,5 @@
 pub mod Sections
+pub mod Fitting
 pub mod Kept
 pub mod Evaluation
 pub mod Marks

@@ -1,4 +1,4 @@
--- The marks of a model's variables, as its definitions and then its uses are gone through.
+-- The marks of a model's variables, as its definitions and then its uses are gone through (scaffolding).
 use Rattle.std.specs.Prelude.{◌≡◌, ◌≢◌, ℕ, ◌<◌, ◌+◌, List, length, replicate, slice_set, slice_index_or}
 use Rattle.aig_semantics.specs.Literals.{variable_of}
 use Rattle.circuit.specs.declared.marks.Mark.{Mark}

@@ -1,4 +1,4 @@
--- Orders in which gates can be evaluated, and the search for one.
+-- Orders in which gates can be evaluated, and the search for one (scaffolding).
 use Rattle.std.specs.Prelude.{◌≡◌, ◌≢◌, ℕ, suc, ◌+◌, ◌≤◌, ◌<◌, ◌⊎◌, Bool, true, false, List, map, drop, length, slice_index_or, count_by}
 use Rattle.std.specs.List.{All, AllPairs, Contains}
 use Rattle.aig_semantics.specs.declared.parts.Gate.{Gate}

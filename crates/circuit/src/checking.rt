@@ -5,8 +5,9 @@ ghost use Rattle.aig_semantics.specs.Circuits.{IsChecked, IsWithinLimits, AreDef
 ghost use Rattle.circuit.specs.declared.faults.ModelFault.{ModelFault};
 ghost use Rattle.circuit.specs.Sections.{circuit_of, used_by, AreInRange};
 ghost use Rattle.circuit.specs.Marks.{first_marks};
-ghost use Rattle.circuit.specs.Faults.{IsDefined, HasFault, IsFirstTwice, IsFirstUndefined, AnswersExactlyWhere, AnswersCycleExactlyWhere, IsOnlyOnCycle, AnswersNoOther};
+ghost use Rattle.circuit.specs.Faults.{IsDefined, HasFault, IsFirstTwice, IsFirstUndefined, IsOnlyOnCycle, AnswersNoOther};
 ghost use Rattle.circuit.specs.Ordering.{IsEvaluationOrder};
+ghost use Rattle.unless_memory.specs.Answers.{GivesExactlyWhere, GivesOneExactlyWhere};
 
 use crate::circuits::Circuit;
 use crate::faults::{ModelEnd, ModelFault};
@@ -85,9 +86,12 @@ pub fn check_circuit(alloc: Global, parts: &Parts) -> Result<Circuit, ModelEnd>
     ensures faulty { (fault : ModelFault) → result ≡ Err (ModelEnd.Fault fault)
         → IsChecked (circuit_of parts.now) → AreDefined (circuit_of parts.now) (used_by parts.now) → ⊥ }
 
-    ensures twice { (v : ℕ) → AnswersExactlyWhere result (ModelFault.Twice v) (IsFirstTwice parts.now v) }
-    ensures undefined { (v : ℕ) → AnswersExactlyWhere result (ModelFault.Undefined v) (IsFirstUndefined parts.now v) }
-    ensures cycle { AnswersCycleExactlyWhere result (IsOnlyOnCycle parts.now) }
+    ensures twice { (v : ℕ) → GivesExactlyWhere (Err ModelEnd.Memory) (Err (ModelEnd.Fault (ModelFault.Twice v)))
+        (IsFirstTwice parts.now v) result }
+    ensures undefined { (v : ℕ) → GivesExactlyWhere (Err ModelEnd.Memory)
+        (Err (ModelEnd.Fault (ModelFault.Undefined v))) (IsFirstUndefined parts.now v) result }
+    ensures cycle { GivesOneExactlyWhere (Err ModelEnd.Memory) (λ v. Err (ModelEnd.Fault (ModelFault.Cycle v)))
+        (IsOnlyOnCycle parts.now) result }
     ensures no_other { AnswersNoOther result }
 {
     let mut marks = make_marks(alloc, parts.max)?;

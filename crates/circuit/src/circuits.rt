@@ -72,7 +72,7 @@ impl Circuit {
     }
 
     /// How many justice properties there are.
-    pub fn properties(&self) -> usize
+    pub fn property_count(&self) -> usize
         ensures { result ≡ length self.now.justice }
     {
         self.justice.len()

@@ -7,34 +7,24 @@ ghost use Rattle.std.specs.Bool.{OnTrue};
 ghost use Rattle.aig_semantics.specs.Literals.{literal_in};
 ghost use Rattle.aig_semantics.specs.Circuits.{fair_literals};
 ghost use Rattle.aig_semantics.specs.Valuations.{valuation};
-ghost use Rattle.aig_semantics.specs.Runs.{IsInitial, successor};
-ghost use Rattle.aig_semantics.specs.Stimuli.{IsFairLassoOf};
-ghost use Rattle.circuit.specs.Following.{agrees, all_agree, follows, state_after, seen_with, seen_after, position_of, IsFollowed};
+ghost use Rattle.aig_semantics.specs.Runs.{IsInitial, position_of, successor};
+ghost use Rattle.aig_semantics.specs.Stimuli.{state_after, IsFairLassoOf};
+ghost use Rattle.circuit.specs.Following.{all_agree, follows, seen_with, seen_after, IsFollowed};
 
 use crate::circuits::Circuit;
 use crate::evaluating::{eval_into, literal_value, next_into};
-use aig_semantics::{Lasso, Latch, Reset};
+use aig_semantics::{Lasso, Latch};
 use items::Items;
 use std::alloc::{AllocError, Global};
 
-fn may_begin(reset: Reset, value: bool) -> bool
-    ensures { result ≡ agrees reset value }
-{
-    match reset {
-        Reset::Zero => !value,
-        Reset::One => value,
-        Reset::Free => true,
-    }
-}
-
-fn all_may_begin(latches: &[Latch], values: &[bool]) -> bool
+fn all_agree(latches: &[Latch], values: &[bool]) -> bool
     ensures { result ≡ all_agree latches.now values.now }
 {
     if latches.len() != values.len() {
         return false;
     }
     for (k, latch) in latches.iter().enumerate() {
-        if !may_begin(latch.reset, values[k]) {
+        if !latch.reset.agrees_with(values[k]) {
             return false;
         }
     }
@@ -45,7 +35,7 @@ fn all_may_begin(latches: &[Latch], values: &[bool]) -> bool
 pub fn is_initial(c: &Circuit, latches: &[bool]) -> bool
     ensures { IsTrue result ↔ IsInitial c.now latches.now }
 {
-    all_may_begin(c.latches(), latches)
+    all_agree(c.latches(), latches)
 }
 
 fn all_hold(values: &[bool], literals: &[u64]) -> bool
@@ -182,7 +172,7 @@ pub fn is_fair_lasso(alloc: Global, c: &Circuit, j: u32, lasso: &Lasso) -> Resul
     ensures { IfOk result (λ fair. IsTrue fair ↔ IsFairLassoOf c.now j lasso.now) }
 {
     let start = lasso.start.as_slice();
-    if j as usize >= c.properties() {
+    if j as usize >= c.property_count() {
         return Ok(false);
     }
     if lasso.from >= lasso.inputs.len() as u64 {

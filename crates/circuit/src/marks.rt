@@ -4,7 +4,8 @@
 ghost use Rattle.std.specs.Prelude.{◌≡◌, ◌≢◌, ◌<◌, length, fold, All, IfSome, IfNone};
 ghost use Rattle.aig_semantics.specs.Literals.{variable_of};
 ghost use Rattle.aig_semantics.specs.Circuits.{defined};
-ghost use Rattle.circuit.specs.Sections.{circuit_of, used_by, DefinesAll, UsesAll};
+ghost use Rattle.circuit.specs.Sections.{circuit_of, used_by};
+ghost use Rattle.circuit.specs.Fitting.{DefinesAll, UsesAll};
 ghost use Rattle.circuit.specs.Marks.{defined_again, when_used, with_definition, with_use, IsFirstMarked};
 
 use crate::parts::Parts;

@@ -91,7 +91,8 @@ fn are_short_properties(justice: &[Items<u64>], fairness: usize) -> bool
 }
 
 impl Parts {
-    ghost use Rattle.circuit.specs.Sections.{AreInRange, DefinesAll, UsesAll, HasFittingLengths, IsFitting};
+    ghost use Rattle.circuit.specs.Sections.{AreInRange};
+    ghost use Rattle.circuit.specs.Fitting.{DefinesAll, UsesAll, HasFittingLengths, IsFitting};
 
     /// Whether the variables of inputs, latches and gates are from 1 to `max`, the literals at most `2 * max + 1`, and
     /// `max`, the properties and the lengths of the lists within this program's limits.

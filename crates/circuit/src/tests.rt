@@ -3,11 +3,26 @@
 use super::*;
 use items::Items;
 use std::alloc::{AllocError, Global};
+use std::process::Abort;
 use std::test::Fail;
 
-fn gate(var: u64, rhs0: u64, rhs1: u64) -> Gate {
-    Gate { var, rhs0, rhs1 }
-}
+const COUNTER: &[Gate] = &[
+    Gate {
+        var: 5,
+        rhs0: 7,
+        rhs1: 9,
+    },
+    Gate {
+        var: 4,
+        rhs0: 3,
+        rhs1: 5,
+    },
+    Gate {
+        var: 3,
+        rhs0: 2,
+        rhs1: 4,
+    },
+];
 
 /// A model with these inputs, latches and gates, and one property.
 fn model(
@@ -33,12 +48,12 @@ fn model(
     })
 }
 
-/// What the check says of a model in range; nothing where it is out of range.
-fn checked(alloc: Global, parts: &Parts) -> Option<Result<Circuit, ModelEnd>> {
+/// What the check says of a model in range; of one out of range `Header`, which it says of none.
+fn checked(alloc: Global, parts: &Parts) -> Result<Circuit, ModelEnd> {
     if !parts.is_in_range() {
-        return None;
+        return Err(ModelEnd::Fault(ModelFault::Header(0)));
     }
-    Some(check_circuit(alloc, parts))
+    check_circuit(alloc, parts)
 }
 
 /// The counter 00, 10, 01, 11: variable 1 is the low bit, 2 the high one, 5 their exclusive or. The gates stand in
@@ -54,118 +69,254 @@ fn counter(alloc: Global) -> Result<Circuit, Fail> {
         next: 10,
         reset: Reset::Zero,
     };
-    let gates = [gate(5, 7, 9), gate(4, 3, 5), gate(3, 2, 4)];
-    let parts = model(alloc, 5, &[], &[low, high], &gates, &[2, 4])?;
-    match checked(alloc, &parts) {
-        Some(Ok(circuit)) => Ok(circuit),
-        _ => Err(Fail::from("the counter is checked")),
+    let parts = model(alloc, 5, &[], &[low, high], COUNTER, &[2, 4])?;
+    Ok(checked(alloc, &parts)?)
+}
+
+/// Whether the circuit has five variables, and the counter's gates in their order.
+fn has_lists(c: &Circuit) -> bool {
+    c.max() == 5 && c.gates() == COUNTER
+}
+
+/// Whether a circuit without inputs has these values of all variables at a state, and this next state.
+fn steps(
+    alloc: Global,
+    c: &Circuit,
+    state: &[bool],
+    values: &[bool],
+    next: &[bool],
+) -> Result<bool, AllocError> {
+    if state.len() != c.latches().len() || !c.inputs().is_empty() {
+        return Ok(false);
+    }
+    let mut found = vec![in alloc; true; c.max() as usize + 1]?;
+    let mut after = vec![in alloc; true; c.latches().len()]?;
+    eval_into(c, state, &[], &mut found);
+    next_into(c, &found, &mut after);
+    Ok(found.as_slice() == values && after.as_slice() == next)
+}
+
+/// The value of a literal.
+fn value_of(values: &[bool], literal: u64) -> bool {
+    literal_value(values, literal)
+}
+
+/// Whether so many positions without inputs, from the state 00 on, are a fair lasso of the first property that goes
+/// back to `from`.
+fn closes(alloc: Global, c: &Circuit, positions: u64, from: u64) -> Result<bool, AllocError> {
+    let mut inputs = Items::new(alloc);
+    for _ in 0..positions {
+        inputs.push(Items::new(alloc))?;
+    }
+    let start = Items::from_slice(alloc, &[false, false])?;
+    let lasso = Lasso {
+        start,
+        inputs,
+        from,
+    };
+    is_fair_lasso(alloc, c, 0, &lasso)
+}
+
+/// Whether a run of the circuit may begin with this state.
+fn begins(c: &Circuit, state: &[bool]) -> bool {
+    is_initial(c, state)
+}
+
+/// The fault of an end; want of memory as `Header`.
+fn fault_in(end: ModelEnd) -> ModelFault {
+    match end {
+        ModelEnd::Fault(fault) => fault,
+        ModelEnd::Memory => ModelFault::Header(0),
     }
 }
 
-/// The values of all variables of the counter at a state, and the next state.
+/// What the check finds wrong with a model without latches.
+fn fault_of(
+    alloc: Global,
+    max: u64,
+    inputs: &[u64],
+    gates: &[Gate],
+    property: &[u64],
+) -> Result<Option<ModelFault>, AllocError> {
+    let parts = model(alloc, max, inputs, &[], gates, property)?;
+    Ok(checked(alloc, &parts).err().map(fault_in))
+}
+
+// A state of the counter, the values of all variables there, and the next state.
+const STEPS: [(&[bool], &[bool], &[bool]); 4] = [
+    (
+        &[false, false],
+        &[false, false, false, false, true, false],
+        &[true, false],
+    ),
+    (
+        &[true, false],
+        &[false, true, false, false, false, true],
+        &[false, true],
+    ),
+    (
+        &[false, true],
+        &[false, false, true, false, false, true],
+        &[true, true],
+    ),
+    (
+        &[true, true],
+        &[false, true, true, true, false, false],
+        &[false, false],
+    ),
+];
+
+// Literals, and their values where variable 1 is true; a variable past the end is false.
+const LITERALS: [(u64, bool); 6] = [
+    (0, false),
+    (1, true),
+    (2, true),
+    (3, false),
+    (4, false),
+    (5, true),
+];
+
+// States, and whether a run of the counter may begin with them.
+const BEGINNINGS: [(&[bool], bool); 3] = [
+    (&[false, false], true),
+    (&[true, false], false),
+    (&[false], false),
+];
+
+// A number of positions of the counter, and a place: after four positions the counter is back, after three it is not.
+const LASSOS: [(u64, u64, bool); 4] = [(4, 0, true), (3, 0, false), (4, 1, false), (5, 1, true)];
+
+const READS_ITSELF: &[Gate] = &[Gate {
+    var: 1,
+    rhs0: 0,
+    rhs1: 3,
+}];
+
+const LEADS_IN: &[Gate] = &[
+    Gate {
+        var: 2,
+        rhs0: 6,
+        rhs1: 2,
+    },
+    Gate {
+        var: 3,
+        rhs0: 2,
+        rhs1: 8,
+    },
+    Gate {
+        var: 4,
+        rhs0: 7,
+        rhs1: 2,
+    },
+];
+
+const LATER_FIRST: &[Gate] = &[
+    Gate {
+        var: 3,
+        rhs0: 5,
+        rhs1: 2,
+    },
+    Gate {
+        var: 2,
+        rhs0: 3,
+        rhs1: 3,
+    },
+];
+
+// The greatest variable, inputs, gates, the property, and what is found wrong, where a cycle may be said at two variables:
+// cycles come after the other faults.
+const MODELS: [(u64, &[u64], &[Gate], &[u64], [Option<ModelFault>; 2]); 5] = [
+    (
+        1,
+        &[],
+        READS_ITSELF,
+        &[],
+        [Some(ModelFault::Cycle(1)), Some(ModelFault::Cycle(1))],
+    ),
+    (
+        4,
+        &[1],
+        LEADS_IN,
+        &[2],
+        [Some(ModelFault::Cycle(3)), Some(ModelFault::Cycle(4))],
+    ),
+    (
+        4,
+        &[1, 4],
+        LEADS_IN,
+        &[],
+        [Some(ModelFault::Twice(4)), Some(ModelFault::Twice(4))],
+    ),
+    (
+        5,
+        &[1],
+        LEADS_IN,
+        &[10],
+        [
+            Some(ModelFault::Undefined(5)),
+            Some(ModelFault::Undefined(5)),
+        ],
+    ),
+    (3, &[1], LATER_FIRST, &[6], [None, None]),
+];
+
+fn check_steps(rt: &impl Abort, alloc: Global, c: &Circuit) -> Result<(), AllocError> {
+    for (state, values, next) in STEPS {
+        let agree = steps(alloc, c, state, values, next)?;
+        assert!(rt; agree, "of {state:?}");
+    }
+    Ok(())
+}
+
+fn check_literals(rt: &impl Abort) {
+    for (literal, value) in LITERALS {
+        assert!(rt; value_of(&[false, true], literal) == value, "of {literal}");
+    }
+}
+
+fn check_beginnings(rt: &impl Abort, c: &Circuit) {
+    for (state, initial) in BEGINNINGS {
+        assert!(rt; begins(c, state) == initial, "of {state:?}");
+    }
+}
+
+fn check_lassos(rt: &impl Abort, alloc: Global, c: &Circuit) -> Result<(), AllocError> {
+    for (positions, from, fair) in LASSOS {
+        let found = closes(alloc, c, positions, from)?;
+        assert!(rt; found == fair, "of {positions} positions back to {from}");
+    }
+    Ok(())
+}
+
+fn check_counter(rt: &impl Abort, alloc: Global, c: &Circuit) -> Result<(), AllocError> {
+    one_valuation(c);
+    check_beginnings(rt, c);
+    check_steps(rt, alloc, c)?;
+    check_lassos(rt, alloc, c)
+}
+
+fn check_models(rt: &impl Abort, alloc: Global) -> Result<(), AllocError> {
+    for (max, inputs, gates, property, faults) in MODELS {
+        let found = fault_of(alloc, max, inputs, gates, property)?;
+        assert!(rt; found == faults[0] || found == faults[1], "of {gates:?}");
+    }
+    Ok(())
+}
+
+fn check_made(rt: &impl Abort, alloc: Global) -> Result<(), Fail> {
+    let c = counter(alloc)?;
+    assert!(rt; has_lists(&c));
+    check_counter(rt, alloc, &c)?;
+    Ok(())
+}
+
 #[test]
 fn counter_counts(rt: HostRuntime) -> Result<(), Fail> {
-    let alloc = rt.alloc();
-    let c = counter(alloc)?;
-    one_valuation(&c);
-    assert_eq!(rt; c.max(), 5);
-    assert_eq!(rt; c.inputs().len(), 0);
-    assert_eq!(rt; c.latches().len(), 2);
-    assert_eq!(rt;
-        c.gates(),
-        [gate(5, 7, 9), gate(4, 3, 5), gate(3, 2, 4)].as_slice()
-    );
-    let rows = [
-        (
-            [false, false],
-            [false, false, false, false, true, false],
-            [true, false],
-        ),
-        (
-            [true, false],
-            [false, true, false, false, false, true],
-            [false, true],
-        ),
-        (
-            [false, true],
-            [false, false, true, false, false, true],
-            [true, true],
-        ),
-        (
-            [true, true],
-            [false, true, true, true, false, false],
-            [false, false],
-        ),
-    ];
-    for (state, values, next) in rows {
-        let mut found = [true; 6];
-        let mut after = [true; 2];
-        eval_into(&c, &state, &[], &mut found);
-        next_into(&c, &found, &mut after);
-        assert_eq!(rt; found, values);
-        assert_eq!(rt; after, next);
-    }
-    Ok(())
+    check_literals(&rt);
+    check_made(&rt, rt.alloc())
 }
 
-/// Which states of the counter a run may begin with, and the values of a literal and its negation.
 #[test]
-fn counter_begins_at_zero(rt: HostRuntime) -> Result<(), Fail> {
-    let c = counter(rt.alloc())?;
-    assert!(rt; is_initial(&c, &[false, false]));
-    assert!(rt; !is_initial(&c, &[true, false]));
-    assert!(rt; !is_initial(&c, &[false]));
-    assert!(rt; literal_value(&[false, true], 2));
-    assert!(rt; !literal_value(&[false, true], 3));
-    Ok(())
-}
-
-/// After four positions the counter is back, after three it is not.
-#[test]
-fn counter_closes(rt: HostRuntime) -> Result<(), Fail> {
-    let alloc = rt.alloc();
-    let c = counter(alloc)?;
-    for (positions, from, fair) in [(4, 0, true), (3, 0, false), (4, 1, false), (5, 1, true)] {
-        let mut inputs = Items::new(alloc);
-        for _ in 0..positions {
-            inputs.push(Items::new(alloc))?;
-        }
-        let start = Items::from_slice(alloc, &[false, false])?;
-        let lasso = Lasso {
-            start,
-            inputs,
-            from,
-        };
-        assert_eq!(rt; is_fair_lasso(alloc, &c, 0, &lasso)?, fair);
-    }
-    Ok(())
-}
-
-/// Cycles come after the other faults, with a variable that is on one.
-#[test]
-fn cycles_are_found(rt: HostRuntime) -> Result<(), Fail> {
-    let alloc = rt.alloc();
-    let leads_in = [gate(2, 6, 2), gate(3, 2, 8), gate(4, 7, 2)];
-    let rows: [(u64, &[u64], &[Gate], &[u64], &[ModelFault]); 5] = [
-        (1, &[], &[gate(1, 0, 3)], &[], &[ModelFault::Cycle(1)]),
-        (
-            4,
-            &[1],
-            &leads_in,
-            &[2],
-            &[ModelFault::Cycle(3), ModelFault::Cycle(4)],
-        ),
-        (4, &[1, 4], &leads_in, &[], &[ModelFault::Twice(4)]),
-        (5, &[1], &leads_in, &[10], &[ModelFault::Undefined(5)]),
-        (3, &[1], &[gate(3, 5, 2), gate(2, 3, 3)], &[6], &[]),
-    ];
-    for (max, inputs, gates, property, faults) in rows {
-        let parts = model(alloc, max, inputs, &[], gates, property)?;
-        match checked(alloc, &parts) {
-            Some(Ok(_)) => assert!(rt; faults.is_empty()),
-            Some(Err(ModelEnd::Fault(fault))) => assert!(rt; faults.contains(&fault)),
-            _ => return Err(Fail::from("the model is in range")),
-        }
-    }
-    Ok(())
+fn models_are_checked(rt: HostRuntime) -> Result<(), Fail> {
+    Ok(check_models(&rt, rt.alloc())?)
 }

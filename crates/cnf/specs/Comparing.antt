@@ -1,4 +1,4 @@
--- Comparisons of clauses: two are equal where they have the same literals in the same order.
+-- Scaffolding of inner functions. Comparisons of clauses: two are equal where they have the same literals in the same order.
 use Rattle.std.specs.Prelude.{◌≡◌, true, List, ◌++◌}
 use Rattle.std.specs.Bool.{Decides}
 use Rattle.std.specs.Cmp.{IsPartialEquivalence, IsEquivalence, partial_equiv_from_equiv, decided}

@@ -1,6 +1,6 @@
 //! Lists of clauses, numbered from 1. The main type is `Db`.
 ghost use Rattle.std.specs.Prelude.{◌≡◌, ◌+◌, ◌-◌, ◌<◌, ◌≤◌, ◌↔◌, [], ◌∷◌, ◌++◌, IsTrue, IfOk, OnOk, OnErr, IsOk, IfSome, IfNone, ◌⊎◌, length, slice_get, option_copied};
-ghost use Rattle.cnf.specs.Clauses.{HasRoomFor};
+ghost use Rattle.cnf.specs.Clauses.{HasRoomFor, clause_numbered};
 
 use crate::clause::Clause;
 use std::alloc::{AllocError, Global};
@@ -70,8 +70,7 @@ impl Db {
 
     /// The clause with a number. `None` where no clause has it.
     pub fn get(&self, number: u64) -> Option<&Clause>
-        ensures found { 0 < number → option_copied result ≡ slice_get self.now.clauses (number - 1) }
-        ensures zero { number ≡ 0 → result ≡ None }
+        ensures { option_copied result ≡ clause_numbered self.now.clauses number }
     {
         let place = number.checked_sub(1)?;
         self.clauses.as_slice().get(place as usize)

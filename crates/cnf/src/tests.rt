@@ -67,5 +67,8 @@ fn lists_and_cubes(rt: HostRuntime) -> Result<(), Fail> {
     let copy = cube.clone()?;
     assert_eq!(rt; copy.len(), 2);
     assert!(rt; cube.negation()? == clause(rt.alloc(), &[-4, 2])?);
+    assert_eq!(rt; crosses(&cube).len(), 2);
+    let proof: Proof = Items::new(rt.alloc());
+    assert!(rt; crosses(&proof).is_empty());
     Ok(())
 }

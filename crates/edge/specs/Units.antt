@@ -2,7 +2,7 @@
 -- by frames (IC3: Bradley, 2011).
 use Rattle.std.specs.Prelude.{◌≡◌, ◌≢◌, ℕ, ◌-◌, ◌^◌, ◌<◌, ◌≤◌, Bool, true, false, All, List, [], Option, Some, None, nat_lt, if◌then◌else◌}
 use Rattle.std.specs.Option.{ForSome}
-use Rattle.proof_semantics.specs.Clauses.{IsImplied, clause_value, clauses_value, values_of, is_tautology, is_subsumed}
+use Rattle.proof_semantics.specs.Clauses.{IsImplied, clause_value, clauses_value, values_of, has_opposites, is_subsumed}
 use Rattle.proof_semantics.specs.declared.literals.Lit.{Lit}
 
 -- what was spent of each kind, and its limit, where it has one
@@ -23,7 +23,7 @@ IsWithin count limit = ForSome limit (λ most. count ≤ most)
 -- A spent conflict: a clause was learned that the held clauses imply, and that is new beside each of them.
 pub record SpentConflict (held : List (List Lit)) (learned : List Lit) : Type 0 where
   pub implied : IsImplied held learned
-  pub no_tautology : is_tautology learned ≡ false
+  pub no_tautology : has_opposites learned ≡ false
   pub not_subsumed : is_subsumed held learned ≡ false
 
 -- A spent step: a lemma excludes a state that its frame allowed.

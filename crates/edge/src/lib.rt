@@ -4,6 +4,8 @@
 #![tactic(auto)]
 
 mod failures;
+#[cfg(test)]
+mod fakes;
 mod files;
 mod gates;
 mod mem_shelf;

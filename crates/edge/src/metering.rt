@@ -115,25 +115,15 @@ impl Spending {
 /// Counts of conflicts and of steps, each with its limit. None of its calls takes memory.
 #[derive(Debug, Drop)]
 pub struct Meter {
-    conflicts: u64,
-    conflict_limit: Option<u64>,
-    steps: u64,
-    step_limit: Option<u64>,
+    spending: Spending,
 }
 
 impl Model for Meter {
-    ghost use Rattle.edge.specs.Units.{Spendings, IsWithin};
+    ghost use Rattle.edge.specs.Units.{Spendings};
 
     ghost Value = { Spendings };
 
-    ghost view = { λ m. record {
-      conflicts = m.conflicts;
-      conflict_limit = m.conflict_limit;
-      steps = m.steps;
-      step_limit = m.step_limit;
-    } };
-
-    ghost invariant = { λ m. IsWithin m.conflicts m.conflict_limit × IsWithin m.steps m.step_limit };
+    ghost view = { λ m. m.spending };
 }
 
 /// The least number that is no limit.
@@ -150,10 +140,12 @@ impl Meter {
         } }
     {
         Meter {
-            conflicts: 0,
-            conflict_limit: real_limit(conflicts),
-            steps: 0,
-            step_limit: real_limit(steps),
+            spending: Spending {
+                conflicts: 0,
+                conflict_limit: real_limit(conflicts),
+                steps: 0,
+                step_limit: real_limit(steps),
+            },
         }
     }
 
@@ -161,12 +153,7 @@ impl Meter {
     pub fn spending(&self) -> Spending
         ensures { result ≡ self.now }
     {
-        Spending {
-            conflicts: self.conflicts,
-            conflict_limit: self.conflict_limit,
-            steps: self.steps,
-            step_limit: self.step_limit,
-        }
+        self.spending
     }
 
     /// Counts a conflict: `learned` follows from `held`, has no literal beside its negation, and no
@@ -179,7 +166,12 @@ impl Meter {
         ensures counted { OnOk result (self.new ≡ record self.old { conflicts = one_more self.old.conflicts }) }
         ensures kept { OnErr result (self.new ≡ self.old) }
     {
-        count_one(Counted::Conflicts, &mut self.conflicts, self.conflict_limit)
+        let spending = &mut self.spending;
+        count_one(
+            Counted::Conflicts,
+            &mut spending.conflicts,
+            spending.conflict_limit,
+        )
     }
 
     /// Counts a step: `state` meets every clause of `frame`, and not `lemma`. The error comes
@@ -214,7 +206,8 @@ impl Meter {
         ensures counted { OnOk result (self.new ≡ record self.old { steps = one_more self.old.steps }) }
         ensures kept { OnErr result (self.new ≡ self.old) }
     {
-        count_one(Counted::Steps, &mut self.steps, self.step_limit)
+        let spending = &mut self.spending;
+        count_one(Counted::Steps, &mut spending.steps, spending.step_limit)
     }
 }
 

@@ -2,12 +2,14 @@
 ghost use Rattle.std.specs.Prelude.{◌≡◌, IfOk};
 ghost use Rattle.edge.specs.Units.{SpentConflict};
 
+use crate::fakes::{FakeFiles, FakePrint};
 use crate::{
     Counted, FileShelf, FreeGate, Gate, Held, MemShelf, MemSink, Meter, Point, ReadEnd, Shelf,
-    SolveEnd, Spent, StdSink, read_text, write_all,
+    Sink, SolveEnd, Spent, StdSink, read_text, write_all,
 };
 use cnf::{Clause, Db, Lit, holds};
 use std::alloc::{AllocError, Global};
+use std::cell::Cell;
 use std::fs;
 use std::test::Fail;
 
@@ -128,6 +130,85 @@ fn files_are_read_by_their_paths(rt: HostRuntime) -> Result<(), Fail> {
     Ok(())
 }
 
+// What is read of a name from a place: the bytes, or nothing where the read fails.
+fn read_of<'a>(
+    shelf: &mut FileShelf<FakeFiles>,
+    name: &str,
+    from: u64,
+    buf: &'a mut [u8],
+) -> Option<&'a [u8]> {
+    let count = shelf.read_at(name, from, buf).ok()?;
+    buf.get(..count)
+}
+
+// Reads one after another: a name, a place, the room, and what is read. The file `stream` has no place but
+// the one where its last read ended.
+const READS: [(&str, u64, usize, Option<&str>); 14] = [
+    ("model", 0, 2, Some("01")),
+    ("model", 2, 9, Some("234")),
+    ("model", 7, 9, Some("789")),
+    ("model", 1, 1, Some("1")),
+    ("model", 1, 1, Some("1")),
+    ("model", 10, 9, Some("")),
+    ("stream", 0, 4, Some("str")),
+    ("stream", 3, 2, Some("ea")),
+    ("stream", 5, 2, Some("m ")),
+    ("model", 7, 1, Some("7")),
+    // the file was opened anew, and does not move to where it stood
+    ("stream", 7, 2, None),
+    ("stream", 0, 2, Some("st")),
+    ("missing", 0, 2, None),
+    ("model", 4, 2, Some("45")),
+];
+
+#[test]
+fn reads_in_any_order(rt: HostRuntime) -> Result<(), Fail> {
+    let mut shelf = FileShelf::new(rt.alloc(), FakeFiles);
+    for (name, from, room, want) in READS {
+        let mut buf = vec![in rt.alloc(); 0u8; room]?;
+        let read = read_of(&mut shelf, name, from, &mut buf);
+        assert_eq!(rt;
+            read,
+            want.map(|text| text.as_bytes()),
+            "{name} from {from}"
+        );
+    }
+    Ok(())
+}
+
+// How many bytes a call of the output takes at most, how many of seven are taken in one call, and how many of
+// them when all are written; nothing where that fails.
+const WRITES: [(usize, Option<usize>, Option<usize>); 4] = [
+    (3, Some(3), Some(7)),
+    (9, Some(7), Some(7)),
+    (0, None, None),
+    (100, None, None),
+];
+
+#[test]
+fn writes_of_few_bytes(rt: HostRuntime) -> Result<(), Fail> {
+    for (most, one, all) in WRITES {
+        let taken = Cell::new(0);
+        let mut sink = StdSink::new(FakePrint { most, taken });
+        assert_eq!(rt; sink.write(b"written").ok(), one, "by {most}");
+        let print = FakePrint {
+            most,
+            taken: Cell::new(0),
+        };
+        let mut sink = StdSink::new(&print);
+        let written = write_all(&mut sink, b"written")
+            .ok()
+            .map(|_| print.taken.get());
+        assert_eq!(rt; written, all, "by {most}");
+    }
+    Ok(())
+}
+
+// What workers share or keep may go to another thread.
+fn crosses<T: Send>(value: T) -> T {
+    value
+}
+
 fn pass_all<G: Gate>(gate: &G) {
     for at in [Point::Start, Point::Turn, Point::Done] {
         gate.pass(1, at);
@@ -197,7 +278,7 @@ fn a_meter_counts_to_its_limits(rt: HostRuntime) -> Result<(), Fail> {
         (18_446_744_073_709_551_615, 0, None, Some(0), 3, 0),
     ];
     for (conflicts, steps, conflict_limit, step_limit, spent_conflicts, spent_steps) in cases {
-        let mut meter = Meter::new(conflicts, steps);
+        let mut meter = crosses(Meter::new(conflicts, steps));
         for _ in 0..3 {
             if let Err(end) = count_conflict(&mut meter, &held, &learned) {
                 let kind = Counted::Conflicts;

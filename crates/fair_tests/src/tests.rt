@@ -48,7 +48,7 @@ pub(crate) const USAGE: &str =
 pub(crate) const TWO_FROM_0: &str = "accepted lasso j0 positions 2 loop 0\n";
 
 // Models and answers, with the text that must be written and the number that the program must end with.
-const ROWS: [(&str, &str, &str, u8); 53] = [
+const ROWS: [(&str, &str, &str, u8); 54] = [
     (TOGGLE, TWO_POSITIONS, TWO_FROM_0, 0),
     (TOGGLE, "1\nj0\nc hello\nx\n\n\n\n.\n", TWO_FROM_0, 0),
     (
@@ -163,7 +163,13 @@ const ROWS: [(&str, &str, &str, u8); 53] = [
     (ON_STEM, TWO_POSITIONS, "refused no fair loop\n", 1),
     ("", TWO_POSITIONS, "model refused truncated 0\n", 3),
     (CYCLE, TWO_POSITIONS, "model refused cycle 2\n", 3),
-    ("aag 1048577 0 0 0 0\n", "", "model refused limit 0\n", 3),
+    ("aag 16777217 0 0 0 0\n", "", "model refused limit 0\n", 3),
+    (
+        "aag 1048577 0 0 0 0\n",
+        TWO_POSITIONS,
+        "refused property 0\n",
+        1,
+    ),
     ("ai", TWO_POSITIONS, "model refused truncated 2\n", 3),
     ("aix", TWO_POSITIONS, "model refused header 0\n", 3),
     (

@@ -1,14 +1,16 @@
 -- The end of the check of an answer, from what was read and how it replayed.
 use Rattle.std.proofs.Common.{◌≡◌, ◌⊎◌, ℕ, ◌<◌, ◌≤◌, List, Some, map, length, refl, sym, ◌∙◌, ap, subst, inl, inr, arith, Ok, Err}
-use Rattle.std.specs.Prelude.{Option, Result}
+use Rattle.std.specs.Prelude.{Option, Result, IsOk}
+use Rattle.std.proofs.lemmas.Bool.{false≢true}
 use Rattle.edge.specs.Told.{IfTold}
 use Rattle.aig_semantics.specs.Circuits.{Circuit}
 use Rattle.aig_semantics.specs.declared.traces.Stimulus.{Stimulus}
 use Rattle.aig_semantics.specs.declared.traces.Lasso.{Lasso as LassoOf}
 use Rattle.aig_semantics.specs.Stimuli.{HasLasso, StandsFor}
 use Rattle.stimulus.specs.declared.ends.ReplayFault.{ReplayFault}
+use Rattle.stimulus.specs.declared.ends.ReplayEnd.{ReplayEnd}
 use Rattle.stimulus.specs.declared.ends.ReplayEnd.TheVariants as replays
-use Rattle.stimulus.specs.Ends.{FailsUnlessMemory}
+use Rattle.unless_memory.specs.Answers.{Gives, GivesSome}
 use Rattle.stimulus.specs.Faults.{HasReplayFault}
 use Rattle.stimulus.specs.Texts.{row_values}
 use Rattle.stimulus.proofs.TextLemmas.{one_spelled}
@@ -44,14 +46,22 @@ one_lasso c j s k from n place a b =
 same_lasso : (i j k n p q : ℕ) → i ≡ j → k ≡ n → p ≡ q → ◌≡◌ {A = End} (Ok (Lasso i k p)) (Ok (Lasso j n q))
 same_lasso i j k n p q a b d = cc
 
+-- the replay gives this fault, want of memory aside
+abbrev Fails : Result LassoOf ReplayEnd → ReplayFault → Type 0
+Fails r fault = Gives {T = Result LassoOf ReplayEnd} (Err replays.Memory) (Err (replays.Fault fault)) r
+
+-- where a fault is given no lasso is
+pub none_given : (fault : ReplayFault) → GivesSome {T = Result LassoOf ReplayEnd} (Err replays.Memory) IsOk (Err (replays.Fault fault)) → ⊥
+none_given fault h = elim h [ inl given ↦ false≢true given | inr e ↦ cc ]
+
 pub lasso_exact : (c : Circuit) (j : ℕ) (s : Stimulus) (lasso : LassoOf) (k from : ℕ) → StandsFor c j s k from
-    → ((fault : ReplayFault) → HasReplayFault c j s fault → FailsUnlessMemory {T = LassoOf} (Ok lasso) fault)
+    → ((fault : ReplayFault) → HasReplayFault c j s fault → Fails (Ok lasso) fault)
     → (verdict : End) → ReplayDecides c j s verdict → (Ok (Lasso j k from) ≡ verdict) ⊎ (◌≡◌ {A = End} (Ok (Lasso j k from)) (Err Memory))
 lasso_exact c j s lasso k from h every (Ok (Lasso i n place)) d =
     let both = one_lasso c j s k from n place h d.1 in inl (same_lasso j i k n from place (sym d.0) both.0 both.1)
 lasso_exact c j s lasso k from h every (Err (Refused (Replay fault))) d = absurd (not_given lasso fault (every fault d))
   where
-    not_given : (lasso : LassoOf) (fault : ReplayFault) → FailsUnlessMemory {T = LassoOf} (Ok lasso) fault → ⊥
+    not_given : (lasso : LassoOf) (fault : ReplayFault) → Fails (Ok lasso) fault → ⊥
     not_given lasso fault h = elim h [ inl e ↦ cc | inr e ↦ cc ]
 lasso_exact c j s lasso k from h every (Err (Refused (Shape n))) d = absurd d
 lasso_exact c j s lasso k from h every (Err (Refused (NoProperty n))) d = absurd d
@@ -61,11 +71,11 @@ lasso_exact c j s lasso k from h every (Err (Refused UnknownStatus)) d = absurd 
 lasso_exact c j s lasso k from h every (Err ReadFault) d = absurd d
 lasso_exact c j s lasso k from h every (Err Memory) d = absurd d
 
-same_fault : (f g : ReplayFault) → FailsUnlessMemory {T = LassoOf} (Err (replays.Fault f)) g → f ≡ g
+same_fault : (f g : ReplayFault) → Fails (Err (replays.Fault f)) g → f ≡ g
 same_fault f g h = elim h [ inl e ↦ cc | inr e ↦ (let wrong = e in absurd (cc)) ]
 
 pub fault_exact : (c : Circuit) (j : ℕ) (s : Stimulus) (fault : ReplayFault)
-    → ((other : ReplayFault) → HasReplayFault c j s other → FailsUnlessMemory {T = LassoOf} (Err (replays.Fault fault)) other)
+    → ((other : ReplayFault) → HasReplayFault c j s other → Fails (Err (replays.Fault fault)) other)
     → ((k from : ℕ) → HasLasso c j s k from → ⊥)
     → (verdict : End) → ReplayDecides c j s verdict → (Err (Refused (Replay fault)) ≡ verdict) ⊎ (◌≡◌ {A = End} (Err (Refused (Replay fault))) (Err Memory))
 fault_exact c j s fault every none (Ok (Lasso i n place)) d = absurd (none n place d.1.has)

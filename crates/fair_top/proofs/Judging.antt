@@ -3,7 +3,7 @@ use Rattle.std.proofs.Common.{◌≡◌, ◌⊎◌, ℕ, ◌≤◌, Bool, false,
 use Rattle.std.specs.Prelude.{Option, Result}
 use Rattle.aig_semantics.specs.Circuits.{Circuit}
 use Rattle.aiger_grammar.specs.Models.{Model}
-use Rattle.aiger_grammar.specs.AsciiTexts.{SameFault}
+use Rattle.aiger_grammar.specs.BothForms.{SameFault}
 use Rattle.circuit.specs.declared.faults.ModelFault.{ModelFault}
 use Rattle.edge.specs.Faults.{Rose}
 use Rattle.edge.specs.Reads.{Reads}

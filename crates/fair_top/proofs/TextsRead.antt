@@ -8,9 +8,10 @@ use Rattle.std.proofs.lemmas.Slice.Eq.{bytes_eq-Decides}
 use Rattle.edge.specs.Told.{IfTold, MayBe}
 use Rattle.aig_semantics.specs.declared.limits.TheConstants.{MAX_MODEL_BYTES}
 use Rattle.aiger_grammar.specs.Models.{Model}
-use Rattle.aiger_grammar.specs.AsciiTexts.{SameFault}
+use Rattle.aiger_grammar.specs.BothForms.{SameFault}
 use Rattle.std.specs.Str.{bytes_eq}
-use Rattle.aiger_grammar.specs.AsciiTexts.{ascii_at, IsFirstFault}
+use Rattle.aiger_grammar.specs.BothForms.{IsFirstFault}
+use Rattle.aiger_grammar.specs.AsciiTexts.{ascii_at}
 use Rattle.aiger_grammar.specs.BinaryTexts.{binary_at}
 use Rattle.circuit.specs.declared.faults.ModelEnd.{ModelEnd}
 use Rattle.circuit.specs.declared.faults.ModelEnd.TheVariants.{Fault, Memory}

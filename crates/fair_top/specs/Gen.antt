@@ -5,7 +5,7 @@ use Rattle.clap.specs.Simple.{App, new_app, with_rule}
 use Rattle.aig_semantics.specs.declared.limits.TheConstants.{MAX_MODEL_BYTES}
 use Rattle.aiger_grammar.specs.Models.{Model}
 use Rattle.aiger_grammar.specs.Spelling.{ascii_text, HasAsciiForm, binary_text}
-use Rattle.aiger_binary.specs.Forms.{HasBinaryForm}
+use Rattle.aiger_grammar.specs.BinaryTexts.{HasBinaryForm}
 use Rattle.model_gen.specs.Generated.{ring_model, scramble_model}
 use Rattle.fair_top.specs.declared.requests.GenKind.{GenKind}
 use Rattle.fair_top.specs.declared.requests.GenKind.TheVariants.{Ring, Scramble}

@@ -3,7 +3,7 @@ use Rattle.std.specs.Prelude.{◌≡◌, ℕ, List, Option, Some, Result, Ok, Er
 use Rattle.aig_semantics.specs.Circuits.{Circuit}
 use Rattle.circuit.specs.declared.faults.ModelFault.{ModelFault}
 use Rattle.aiger_grammar.specs.Models.{Model}
-use Rattle.aiger_grammar.specs.AsciiTexts.{SameFault}
+use Rattle.aiger_grammar.specs.BothForms.{SameFault}
 use Rattle.fair_top.specs.declared.ends.Accepted.{Accepted}
 use Rattle.fair_top.specs.declared.ends.Accepted.TheVariants as accepted
 use Rattle.aig_semantics.specs.declared.traces.Stimulus.{Stimulus}

@@ -1,4 +1,4 @@
--- Scaffolding of inner functions: a reading of the lines of an answer under way.
+-- Scaffolding of inner functions. A reading of the lines of an answer under way.
 use Rattle.std.specs.Prelude.{◌≡◌, ℕ, ◌+◌, ◌^◌, ◌≤◌, List, length}
 use Rattle.text_grammar.specs.Lines.{lines_of}
 use Rattle.fair_top.specs.declared.lines.Lines.{Lines}

@@ -6,7 +6,7 @@ ghost use Rattle.edge.specs.Reads.{KeepsTexts, Reads};
 ghost use Rattle.edge.specs.Told.{IfTold};
 ghost use Rattle.circuit.specs.declared.faults.ModelFault.{ModelFault as FaultOf};
 ghost use Rattle.aiger_grammar.specs.Models.{Model as ModelOf};
-ghost use Rattle.aiger_grammar.specs.AsciiTexts.{SameFault};
+ghost use Rattle.aiger_grammar.specs.BothForms.{SameFault};
 ghost use Rattle.fair_top.specs.ModelTexts.{is_binary, IsTextIn, HasFaultIn, IsModelText, IsBadModel};
 ghost use Rattle.fair_top.specs.Judged.{IsModelOf, IsFaultOf, EndsWithoutModel};
 ghost use Rattle.fair_top.specs.Statuses.{has_read_fault};

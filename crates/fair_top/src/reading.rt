@@ -128,7 +128,7 @@ fn property_of(circuit: &Circuit, number: u64) -> Option<u32>
 {
     // A circuit is within the limits, so each of its properties has a number of 32 bits.
     let _greatest = circuit.max();
-    if number >= circuit.properties() as u64 {
+    if number >= circuit.property_count() as u64 {
         return None;
     }
     Some(number as u32)

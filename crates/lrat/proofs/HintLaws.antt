@@ -6,7 +6,7 @@ use Rattle.proof_semantics.specs.Propagation.{hints_fault, with_clause, with_uni
 use Rattle.proof_semantics.specs.declared.literals.Lit.{Lit}
 use Rattle.proof_semantics.specs.declared.faults.LratFault.{LratFault}
 use Rattle.lrat.specs.Propagating.{fault_or}
-use Rattle.lrat.proofs.StoreLaws.{drop_first}
+use Rattle.lrat.proofs.ArenaLaws.{drop_first}
 
 -- what the hint of an id and then rest give
 abbrev First : (ℕ → Option (List Lit)) → List Lit → ℕ → (List Lit → Option LratFault) → Option LratFault

@@ -1,4 +1,5 @@
 mod ReadingLaws
+mod ArenaLaws
 mod StoreLaws
 mod HintLaws
 mod CheckerLaws

@@ -1,4 +1,4 @@
--- Ids that ascend.
+-- Scaffolding of inner functions. Ids that ascend.
 use Rattle.std.specs.Prelude.{ℕ, ◌<◌, List, length, slice_index}
 
 -- each id is above those before it

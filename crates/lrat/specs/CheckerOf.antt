@@ -1,4 +1,4 @@
--- What a checker keeps between two lines.
+-- Scaffolding of inner functions. What a checker keeps between two lines.
 use Rattle.std.specs.Prelude.{◌≡◌, []}
 use Rattle.proof_semantics.specs.Proofs.{IsSound}
 use Rattle.lrat.specs.declared.checker.Checker.TheInside.{Inside}

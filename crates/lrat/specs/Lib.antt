@@ -2,6 +2,7 @@ pub mod Reading
 pub mod Marking
 pub mod MarksOf
 pub mod Ascending
+pub mod ArenaOf
 pub mod StoreOf
 pub mod Propagating
 pub mod Judging

@@ -1,4 +1,4 @@
--- Which variables are marked.
+-- Scaffolding of inner functions. Which variables are marked.
 use Rattle.std.specs.Prelude.{ℕ, Bool, Option, None, Some, slice_get, if◌then◌else◌}
 use Rattle.std.specs.Ordering.{nat_cmp}
 use Rattle.std.specs.BTreeSet.{contains}

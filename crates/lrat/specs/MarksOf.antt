@@ -1,4 +1,4 @@
--- The marks of the literals that are assumed.
+-- Scaffolding of inner functions. The marks of the literals that are assumed.
 use Rattle.std.specs.Prelude.{◌≡◌}
 use Rattle.proof_semantics.specs.Clauses.{has_literal}
 use Rattle.proof_semantics.specs.declared.literals.Lit.{Lit}

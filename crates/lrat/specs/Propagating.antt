@@ -1,4 +1,4 @@
--- What a clause has left, and faults in front of what follows.
+-- Scaffolding of inner functions. What a clause has left, and faults in front of what follows.
 use Rattle.std.specs.Prelude.{List, [], ◌∷◌, Option, None, Some, if◌then◌else◌}
 use Rattle.std.specs.List.{list_all}
 use Rattle.proof_semantics.specs.Clauses.{lit_eq}

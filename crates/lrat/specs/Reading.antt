@@ -1,4 +1,4 @@
--- What the reader of a line has read.
+-- Scaffolding of inner functions. What the reader of a line has read.
 use Rattle.std.specs.Prelude.{ℕ, Bool, true, false, List, [], ◌++◌, map, Option, None, Some}
 use Rattle.std.specs.Option.{option_copied}
 use Rattle.std.specs.Borrow.{Bor}

@@ -1,6 +1,6 @@
 //! The checker of a proof, line by line. The main call is `Checker::step`; after a line that is
 //! refused the checker is as before.
-ghost use Rattle.std.specs.Prelude.{◌≡◌, ℕ, ◌↔◌, List, IsTrue, IfOk, OnOk, OnErr, Some};
+ghost use Rattle.std.specs.Prelude.{◌≡◌, ℕ, ◌≤◌, List, ◌++◌, take, length, IsTrue, IfOk, OnOk, OnErr, Some};
 ghost use Rattle.proof_semantics.specs.Clauses.{IsImplied, IsUnsatisfiable};
 ghost use Rattle.proof_semantics.specs.Lines.{addition, line_of};
 ghost use Rattle.proof_semantics.specs.Proofs.{start, judge};
@@ -45,14 +45,34 @@ impl Checker {
     pub fn new(alloc: Global, given: Db) -> Result<Checker, AllocError>
         ensures { IfOk result (λ checker. checker ≡ start given.clauses) }
     {
-        let marks = Marks::new(alloc, small_variables(given.as_slice()))?;
-        let store = Store::new(alloc, given)?;
-        Ok(Checker {
-            store,
-            marks,
+        let mut checker = Checker {
+            store: Store::new(alloc),
+            marks: Marks::new(alloc),
             literals: Vec::new(alloc),
             hints: Vec::new(alloc),
-        })
+        };
+        checker.restart(0, given.as_slice())?;
+        Ok(checker)
+    }
+
+    /// Goes back to before the first line, keeps the first given clauses, so many, and gives more
+    /// behind them: what it leaves is a new checker of those and these. The time that it takes grows
+    /// with `more` and with the clauses that are dropped, not with those that are kept. The error is
+    /// want of memory, and changes nothing.
+    pub fn restart(&mut self, kept: usize, more: &[Clause]) -> Result<(), AllocError>
+        requires { kept ≤ length self.old.given }
+        ensures ok { OnOk result (self.new ≡ start (take kept self.old.given ++ more.now)) }
+        ensures err { OnErr result (self.new ≡ self.old) }
+    {
+        self.marks.widen(small_variables(self.store.count(), more))?;
+        self.store.restart(kept, more)
+    }
+
+    /// How many clauses were given: so many may be kept at a restart. Takes no memory.
+    pub fn given(&self) -> usize
+        ensures { result ≡ length self.now.given }
+    {
+        self.store.given()
     }
 
     /// Tests a line, given without its line feed. `Ok` comes exactly for an accepted line, which
@@ -66,12 +86,10 @@ impl Checker {
         // A clause that is added is true wherever the given clauses are.
         ensures implied { OnOk result ((id : ℕ) (clause hints : List Lit) → line_of line.now ≡ Some (addition id clause hints) → IsImplied self.old.given clause) }
     {
-        let alloc = *self.literals.allocator();
         let kind = read_line(line, &mut self.literals, &mut self.hints)?;
         match kind {
             None => Err(LratEnd::Fault(LratFault::BadLine)),
             Some(Kind::Addition(id)) => add_judged(
-                alloc,
                 &mut self.store,
                 &mut self.marks,
                 id,
@@ -93,11 +111,11 @@ impl Checker {
     }
 }
 
-// How many variables have a place in the tables: those up to the greatest of the given clauses,
-// and at most sixteen for each literal there.
-fn small_variables(clauses: &[Clause]) -> usize {
+// How many variables are to have a place in the table: those up to the greatest of the clauses, and
+// at most sixteen for each literal there and for each of the `held` ones.
+fn small_variables(held: usize, clauses: &[Clause]) -> usize {
     let mut greatest: u64 = 0;
-    let mut count: usize = 0;
+    let mut count = held;
     for clause in clauses {
         count = count.saturating_add(clause.len());
         for literal in clause.as_slice() {

@@ -11,13 +11,11 @@ use crate::faults::LratEnd;
 use crate::marks::Marks;
 use crate::propagation::hints_fault;
 use crate::store::Store;
-use cnf::Clause;
 use proof_semantics::{Lit, LratFault};
-use std::alloc::{AllocError, Global};
+use std::alloc::AllocError;
 
 /// Adds the clause of these literals under this id, if the hints show that it is implied.
 pub(crate) fn add_judged(
-    alloc: Global,
     store: &mut Store,
     marks: &mut Marks,
     id: u64,
@@ -40,8 +38,7 @@ pub(crate) fn add_judged(
     if let Some(fault) = found? {
         return Err(LratEnd::Fault(fault));
     }
-    let clause = Clause::from_slice(alloc, literals)?;
-    store.add(id, clause)?;
+    store.add(id, literals)?;
     Ok(())
 }
 

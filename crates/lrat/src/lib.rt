@@ -1,6 +1,7 @@
 //! A checker of proofs in LRAT by unit propagation: what it accepts is implied.
 #![tactic(auto)]
 
+mod arena;
 mod checker;
 mod faults;
 mod judging;

@@ -1,6 +1,6 @@
 //! Which literals are assumed. The main type is `Marks`; `clear` undoes what was marked, and
 //! touches nothing else.
-ghost use Rattle.std.specs.Prelude.{◌≡◌, ℕ, Bool, ◌+◌, ◌*◌, not, ◌&&◌, ◌||◌, ◌==◌, [], ◌∷◌, ◌++◌, OnOk, OnErr, IfOk};
+ghost use Rattle.std.specs.Prelude.{◌≡◌, ℕ, Bool, ◌+◌, ◌*◌, not, ◌&&◌, ◌||◌, ◌==◌, [], ◌∷◌, ◌++◌, OnOk, OnErr};
 ghost use Rattle.proof_semantics.specs.Clauses.{lit_eq};
 ghost use Rattle.proof_semantics.specs.Propagation.{is_false};
 ghost use Rattle.proof_semantics.specs.declared.literals.Lit.{Lit};
@@ -19,14 +19,26 @@ pub(crate) struct Variables {
 }
 
 impl Variables {
-    /// No variables, with a table for those below `small`.
-    fn new(alloc: Global, small: usize) -> Result<Variables, AllocError>
-        ensures { IfOk result (λ none. (var : ℕ) → is_marked none var ≡ Bool.false) }
+    /// No variables, and no table yet. Takes no memory.
+    fn new(alloc: Global) -> Variables
+        ensures { (var : ℕ) → is_marked result var ≡ Bool.false }
     {
-        Ok(Variables {
-            table: vec![in alloc; false; small]?,
+        Variables {
+            table: Vec::new(alloc),
             beyond: BTreeSet::new(alloc),
-        })
+        }
+    }
+
+    /// Makes the table one of the variables below `small`, where it is shorter, while none is in the
+    /// set. The error is want of memory.
+    fn widen(&mut self, small: usize) -> Result<(), AllocError>
+        requires { (var : ℕ) → is_marked self.old var ≡ Bool.false }
+        ensures { (var : ℕ) → is_marked self.new var ≡ Bool.false }
+    {
+        if self.table.len() < small {
+            self.table.resize(small, false)?;
+        }
+        Ok(())
     }
 
     /// Whether the variable is one of them.
@@ -74,25 +86,36 @@ pub(crate) struct Literals {
 }
 
 impl Literals {
-    /// No literals, with tables for the variables below `small`.
-    fn new(alloc: Global, small: usize) -> Result<Literals, AllocError>
-        ensures { IfOk result (λ none. (a : Lit) → is_set none a ≡ Bool.false) }
+    /// No literals. Takes no memory.
+    fn new(alloc: Global) -> Literals
+        ensures { (a : Lit) → is_set result a ≡ Bool.false }
     {
-        Ok(Literals {
-            positive: Variables::new(alloc, small)?,
-            negative: Variables::new(alloc, small)?,
-        })
+        Literals {
+            positive: Variables::new(alloc),
+            negative: Variables::new(alloc),
+        }
+    }
+
+    /// Makes the tables ones of the variables below `small`, where they are shorter, while no literal
+    /// is in the set. The error is want of memory.
+    fn widen(&mut self, small: usize) -> Result<(), AllocError>
+        requires { (a : Lit) → is_set self.old a ≡ Bool.false }
+        ensures { (a : Lit) → is_set self.new a ≡ Bool.false }
+    {
+        self.positive.widen(small)?;
+        self.negative.widen(small)
     }
 
     /// Whether the literal is one of them.
     fn has(&self, literal: Lit) -> bool
         ensures { result ≡ is_set self.now literal }
     {
-        if literal.positive {
-            self.positive.has(literal.var)
+        let variables = if literal.positive {
+            &self.positive
         } else {
-            self.negative.has(literal.var)
-        }
+            &self.negative
+        };
+        variables.has(literal.var)
     }
 
     /// Makes the literal one of them. The error is want of memory, and changes nothing.
@@ -140,15 +163,23 @@ impl Model for Marks {
 }
 
 impl Marks {
-    /// Nothing is assumed. Literals of the variables below `small` are marked in tables.
-    pub(crate) fn new(alloc: Global, small: usize) -> Result<Marks, AllocError>
-        ensures { IfOk result (λ marks. marks ≡ []) }
+    /// Nothing is assumed. Takes no memory.
+    pub(crate) fn new(alloc: Global) -> Marks
+        ensures { result ≡ [] }
     {
-        let marked = Literals::new(alloc, small)?;
-        Ok(Marks {
+        Marks {
             assumed: Vec::new(alloc),
-            marked,
-        })
+            marked: Literals::new(alloc),
+        }
+    }
+
+    /// From now on marks literals of the variables below `small` in tables. The error is want of
+    /// memory.
+    pub(crate) fn widen(&mut self, small: usize) -> Result<(), AllocError>
+        requires { self.old ≡ [] }
+        ensures { self.new ≡ [] }
+    {
+        self.marked.widen(small)
     }
 
     /// Whether the negation of the literal is assumed.

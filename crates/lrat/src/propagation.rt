@@ -47,7 +47,7 @@ fn follow(store: &Store, marks: &mut Marks, id: u64) -> Result<Option<LratFault>
     let Some(clause) = store.find(id) else {
         return Ok(Some(LratFault::NoClause(id)));
     };
-    match count_open(marks, clause.as_slice()) {
+    match count_open(marks, clause) {
         Left::One(literal) => {
             marks.assume(literal)?;
             Ok(None)
@@ -63,7 +63,7 @@ fn conflict_fault(store: &Store, marks: &Marks, id: u64) -> Option<LratFault>
     let Some(clause) = store.find(id) else {
         return Some(LratFault::NoClause(id));
     };
-    match count_open(marks, clause.as_slice()) {
+    match count_open(marks, clause) {
         Left::Nothing => None,
         _ => Some(LratFault::NoConflict),
     }

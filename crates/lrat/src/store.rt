@@ -1,22 +1,24 @@
 //! The clauses of a proof, found by their ids. The main type is `Store`.
-ghost use Rattle.std.specs.Prelude.{◌≡◌, ◌≢◌, ℕ, Bool, ◌+◌, ◌<◌, ◌≤◌, ◌||◌, [], ◌∷◌, ◌++◌, OnOk, OnErr, IfOk, IfSome, IfNone, length, slice_index, slice_index_or, slice_get, option_copied};
-ghost use Rattle.std.specs.List.{list_any};
+ghost use Rattle.std.specs.Prelude.{◌≡◌, ℕ, ◌+◌, ◌<◌, ◌≤◌, ◌||◌, [], ◌∷◌, ◌++◌, take, OnOk, OnErr, IfOk, IfSome, length, option_copied};
 ghost use Rattle.proof_semantics.specs.Proofs.{start, clause_at, first_missing, with_addition, with_deletion, ids_of, is_empty};
-ghost use Rattle.lrat.specs.Ascending.{Ascend};
+ghost use Rattle.lrat.specs.ArenaOf.{literal_count};
 
-use cnf::{Clause, Db};
+use crate::arena::{Arena, cut, find, give_all, put, reserve};
+use cnf::Clause;
 use proof_semantics::Lit;
 use std::alloc::{AllocError, Global};
 use std::marker::Model;
 
 /// Every clause that was given or added, in the order of its id. Contracts see where the proof
-/// stands. What is deleted is kept, and marked as not held.
+/// stands. What is deleted is kept, with the round in which it was deleted: it is not held in that
+/// round, and each restart begins another one.
 #[derive(Debug, Drop)]
 pub(crate) struct Store {
-    clauses: Vec<Clause>,
-    ids: Vec<u64>,
-    held: Vec<bool>,
+    arena: Arena,
     given: usize,
+    /// How many given clauses stand in front of the first empty one.
+    filled: usize,
+    round: u64,
     finished: bool,
 }
 
@@ -33,33 +35,58 @@ impl Model for Store {
 }
 
 impl Store {
-    /// The given clauses, with the ids from 1 on.
-    pub(crate) fn new(alloc: Global, given: Db) -> Result<Store, AllocError>
-        ensures { IfOk result (λ store. store ≡ start given.clauses) }
+    /// No clauses. Takes no memory.
+    pub(crate) fn new(alloc: Global) -> Store
+        ensures { result ≡ start [] }
     {
-        let clauses = given.into_vec();
-        let count = clauses.as_slice().len();
-        let mut ids = Vec::new(alloc);
-        for place in 0..count {
-            ids.push(place as u64 + 1)?;
+        Store {
+            arena: Arena {
+                literals: Vec::new(alloc),
+                places: Vec::new(alloc),
+            },
+            given: 0,
+            filled: 0,
+            round: 1,
+            finished: false,
         }
-        let held = all_held(alloc, count)?;
-        let finished = has_empty(clauses.as_slice());
-        Ok(Store {
-            clauses,
-            ids,
-            held,
-            given: count,
-            finished,
-        })
+    }
+
+    /// Goes back to the first given clauses, so many, and gives more behind them, with ids from 1
+    /// on. The error is want of memory, and changes nothing.
+    pub(crate) fn restart(&mut self, kept: usize, more: &[Clause]) -> Result<(), AllocError>
+        requires { kept ≤ length self.old.given }
+        ensures ok { OnOk result (self.new ≡ start (take kept self.old.given ++ more.now)) }
+        ensures err { OnErr result (self.new ≡ self.old) }
+    {
+        let count = count_literals(more).ok_or(AllocError)?;
+        let round = self.round.checked_add(1).ok_or(AllocError)?;
+        reserve(&mut self.arena, more.len(), count)?;
+        cut(&mut self.arena, kept);
+        self.filled = give_all(&mut self.arena, self.filled.min(kept), more);
+        self.given = self.arena.places.len();
+        self.round = round;
+        self.finished = self.filled < self.given;
+        Ok(())
+    }
+
+    /// How many clauses were given.
+    pub(crate) fn given(&self) -> usize
+        ensures { result ≡ length self.now.given }
+    {
+        self.given
+    }
+
+    /// How many literals all clauses have.
+    pub(crate) fn count(&self) -> usize {
+        self.arena.literals.len()
     }
 
     /// The greatest id that a clause was given or added under, or 0.
     pub(crate) fn last(&self) -> u64
         ensures { result ≡ self.now.last }
     {
-        match self.ids.as_slice().last() {
-            Some(id) => *id,
+        match self.arena.places.as_slice().last() {
+            Some(place) => place.id,
             None => 0,
         }
     }
@@ -71,15 +98,16 @@ impl Store {
         self.finished
     }
 
-    /// The clause that is held under an id.
-    pub(crate) fn find(&self, id: u64) -> Option<&Clause>
+    /// The literals of the clause that is held under an id.
+    pub(crate) fn find(&self, id: u64) -> Option<&[Lit]>
         ensures { option_copied result ≡ clause_at self.now.held id }
     {
-        let place = place_of(self.ids.as_slice(), id)?;
-        if !self.held[place] {
+        let number = find(self.arena.places.as_slice(), id)?;
+        let place = self.arena.places[number];
+        if place.deleted == self.round {
             return None;
         }
-        clause_of(self.clauses.as_slice(), place)
+        Some(&self.arena.literals[place.start..place.end])
     }
 
     /// The first of the ids under which no clause is held.
@@ -95,19 +123,14 @@ impl Store {
     }
 
     /// Adds a clause. The error is want of memory, and changes nothing.
-    pub(crate) fn add(&mut self, id: u64, clause: Clause) -> Result<(), AllocError>
+    pub(crate) fn add(&mut self, id: u64, clause: &[Lit]) -> Result<(), AllocError>
         requires { self.old.last < id }
-        ensures ok { OnOk result (self.new ≡ with_addition self.old id clause) }
+        ensures ok { OnOk result (self.new ≡ with_addition self.old id clause.now) }
         ensures err { OnErr result (self.new ≡ self.old) }
     {
-        self.clauses.reserve(1)?;
-        self.ids.reserve(1)?;
-        self.held.reserve(1)?;
-        let finished = is_finished_by(self.finished, &clause);
-        self.finished = finished;
-        self.clauses.push_reserved(clause);
-        self.ids.push_reserved(id);
-        self.held.push_reserved(true);
+        reserve(&mut self.arena, 1, clause.len())?;
+        put(&mut self.arena, id, clause);
+        self.finished = is_finished_by(self.finished, clause);
         Ok(())
     }
 
@@ -124,47 +147,26 @@ impl Store {
     fn delete_one(&mut self, id: u64)
         ensures { self.new ≡ with_deletion self.old (id ∷ []) }
     {
-        if let Some(place) = place_of(self.ids.as_slice(), id) {
-            self.held[place] = false;
+        if let Some(number) = find(self.arena.places.as_slice(), id) {
+            self.arena.places[number].deleted = self.round;
         }
     }
 }
 
-// That many marks of clauses that are held.
-fn all_held(alloc: Global, count: usize) -> Result<Vec<bool>, AllocError>
-    ensures count { IfOk result (λ marks. length marks.items ≡ count) }
-    ensures held { IfOk result (λ marks. (k : ℕ) → k < count → slice_index_or marks.items k Bool.true ≡ Bool.true) }
+// How many literals the clauses have. `None` where that is more than a number holds.
+fn count_literals(clauses: &[Clause]) -> Option<usize>
+    ensures { IfSome result (λ count. count ≡ literal_count clauses.now) }
 {
-    vec![in alloc; true; count]
+    let mut count: usize = 0;
+    for clause in clauses {
+        count = count.checked_add(clause.len())?;
+    }
+    Some(count)
 }
 
 // Whether an empty clause was there before, or this one is empty.
-fn is_finished_by(finished: bool, clause: &Clause) -> bool
+fn is_finished_by(finished: bool, clause: &[Lit]) -> bool
     ensures { result ≡ (finished || is_empty clause.now) }
 {
     finished || clause.is_empty()
-}
-
-// Whether one of the clauses is empty.
-fn has_empty(clauses: &[Clause]) -> bool
-    ensures { result ≡ list_any is_empty clauses.now }
-{
-    clauses.iter().any(|clause| clause.is_empty())
-}
-
-// Where an id stands among ids that ascend.
-fn place_of(ids: &[u64], id: u64) -> Option<usize>
-    requires { Ascend ids.now }
-    ensures found { IfSome result (λ place. place < length ids.now) }
-    ensures there { IfSome result (λ place. slice_index ids.now place ≡ id) }
-    ensures none { IfNone result ((k : ℕ) → k < length ids.now → slice_index ids.now k ≢ id) }
-{
-    ids.binary_search(&id).ok()
-}
-
-// The clause at a place.
-fn clause_of(clauses: &[Clause], place: usize) -> Option<&Clause>
-    ensures { option_copied result ≡ slice_get clauses.now place }
-{
-    clauses.get(place)
 }

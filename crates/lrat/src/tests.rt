@@ -131,6 +131,66 @@ fn answer(checker: &mut Checker, line: &str) -> Result<Answer, AllocError> {
     }
 }
 
+// What a worker keeps may go to another thread.
+fn sent<T: Send>(value: T) -> T {
+    value
+}
+
+// Restarts one after another from the clauses (-1), (-4 -2), (4 2) and (1): how many given clauses
+// stay, what is given behind them, a line and its answer, and whether an empty clause was given or
+// added by then.
+const RESTARTS: [(usize, &[&[i64]], &str, Answer, bool); 12] = [
+    (4, &[], "5 0 1 4 0", FINE, true),
+    // what was proved and deleted is undone
+    (4, &[], "5 d 1 4 0", FINE, false),
+    (4, &[], "5 0 1 4 0", FINE, true),
+    // what is not kept is gone, and its ids are free
+    (3, &[], "5 0 1 4 0", Some(LratFault::NoClause(4)), false),
+    (3, &[&[1]], "4 0 1 4 0", ID_ORDER, false),
+    (4, &[&[2], &[-2]], "9 0 5 6 0", FINE, true),
+    (6, &[], "9 0 9 0", Some(LratFault::NoClause(9)), false),
+    // an empty clause that was given stays as long as it is kept
+    (5, &[&[], &[7]], "9 d 6 0", FINE, true),
+    (6, &[], "9 d 7 0", Some(LratFault::NoClause(7)), true),
+    (5, &[], "9 d 0", FINE, false),
+    (
+        0,
+        &[&[9_223_372_036_854_775_807]],
+        "2 0 1 0",
+        NO_CONFLICT,
+        false,
+    ),
+    (
+        1,
+        &[&[-9_223_372_036_854_775_807]],
+        "4611686018427387904 0 1 2 0",
+        FINE,
+        true,
+    ),
+];
+
+// Restarts the checker, where so many clauses were given.
+fn restart(checker: &mut Checker, kept: usize, more: &Db) -> Result<bool, AllocError> {
+    if kept > checker.given() {
+        return Ok(false);
+    }
+    checker.restart(kept, more.as_slice())?;
+    Ok(true)
+}
+
+#[test]
+fn restarts_in_their_order(rt: HostRuntime) -> Result<(), Fail> {
+    let db = given(rt.alloc(), &[&[-1], &[-4, -2], &[4, 2], &[1]])?;
+    let mut checker = sent(Checker::new(rt.alloc(), db)?);
+    for (kept, more, line, wanted, finished) in RESTARTS {
+        let more = given(rt.alloc(), more)?;
+        assert!(rt; restart(&mut checker, kept, &more)?, "before {line}");
+        assert_eq!(rt; answer(&mut checker, line)?, wanted, "of {line}");
+        assert_eq!(rt; checker.proved_empty(), finished, "after {line}");
+    }
+    Ok(())
+}
+
 #[test]
 fn each_line_alone(rt: HostRuntime) -> Result<(), Fail> {
     for (line, wanted) in LINES {

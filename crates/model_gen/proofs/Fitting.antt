@@ -10,6 +10,7 @@ use Rattle.aig_semantics.specs.Circuits.{defined}
 use Rattle.circuit.specs.declared.parts.Parts.{Parts}
 use Rattle.circuit.specs.Sections.{circuit_of, AreInRange}
 use Rattle.circuit.proofs.Ranges.{AreInRange-from}
+use Rattle.aiger_grammar.proofs.Ranges.{range_append}
 use Rattle.aiger_grammar.specs.Ordered.{IsDescending, IsOrdered}
 use Rattle.std.proofs.lemmas.Bool.{ltb-true, ltb-false}
 use Rattle.model_gen.specs.Draws.{draw, state_after}
@@ -33,16 +34,6 @@ map_range f g a c (suc n) each =
     let e : a + 1 + c ≡ a + c + 1 = omega arith in
     ap (λ x. x ∷ map g (map f (range_with_len (a + 1) n))) (each a)
     ∙ ap (λ xs. (a + c) ∷ xs) (map_range f g (a + 1) c n each ∙ ap (λ k. range_with_len k n) e)
-
-range_append : (a m k : ℕ) → range_with_len a m ++ range_with_len (a + m) k ≡ range_with_len a (m + k)
-range_append a zero k =
-    let e : a + 0 ≡ a = omega arith in
-    let f : k ≡ 0 + k = omega arith in
-    ap (λ b. range_with_len b k) e ∙ ap (range_with_len a) f
-range_append a (suc m) k =
-    let e : a + suc m ≡ a + 1 + m = omega arith in
-    let f : suc (m + k) ≡ suc m + k = omega arith in
-    ap (λ xs. a ∷ xs) (ap (λ b. range_with_len (a + 1) m ++ range_with_len b k) e ∙ range_append (a + 1) m k) ∙ ap (range_with_len a) f
 
 -- ---- a ring
 

@@ -61,7 +61,7 @@ fn has(
     fairness: &[u64],
 ) -> bool {
     let circuit = model.circuit();
-    if circuit.properties() != 1 {
+    if circuit.property_count() != 1 {
         return false;
     }
     circuit.latches() == latches

@@ -54,9 +54,9 @@ has_literal lits a = list_any (lit_eq a) lits
 abbrev pub is_part : List Lit → List Lit → Bool
 is_part part whole = list_all (has_literal whole) part
 
--- some literal stands beside its negation
-abbrev pub is_tautology : List Lit → Bool
-is_tautology clause = list_any (λ a. has_literal clause (negation a)) clause
+-- Some literal stands beside its negation: a clause that is true always, a cube that never is.
+abbrev pub has_opposites : List Lit → Bool
+has_opposites lits = list_any (λ a. has_literal lits (negation a)) lits
 
 -- some clause of the list is a part of the clause
 abbrev pub is_subsumed : List (List Lit) → List Lit → Bool

@@ -5,6 +5,7 @@ use Rattle.std.specs.List.{list_all, join_with_byte}
 use Rattle.std.specs.Option.{option_map}
 use Rattle.text_grammar.specs.Numerals.{number_at}
 use Rattle.text_grammar.specs.Pieces.{fields}
+use Rattle.proof_semantics.specs.Clauses.{has_literal}
 use Rattle.proof_semantics.specs.declared.literals.Lit.{Lit}
 
 -- Ids of a deletion are above 0. Hints are signed ids, in the form of literals: 7 or -7.
@@ -28,6 +29,10 @@ text_of line = join_with_byte 32 (fields_of line)
 -- the numbers that may stand in a line, but for their signs
 abbrev pub IsSize : ℕ → Type 0
 IsSize n = (0 < n) × (n < 2 ^ 63)
+
+-- each literal's variable is one of them
+abbrev pub AreSized : List Lit → Type 0
+AreSized lits = (a : Lit) → has_literal lits a ≡ true → IsSize a.var
 
 abbrev pub HasSizes : Line → Type 0
 HasSizes (addition id clause hints) = IsSize id × All (λ a. IsSize a.var) clause × All (λ a. IsSize a.var) hints

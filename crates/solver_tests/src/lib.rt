@@ -12,3 +12,5 @@ mod questions;
 mod session;
 #[cfg(test)]
 mod tests;
+#[cfg(test)]
+mod worked;

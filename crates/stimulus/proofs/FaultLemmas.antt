@@ -1,5 +1,6 @@
 -- The first fault of a stimulus is one alone, and excludes a lasso.
 use Rattle.std.proofs.Common.{◌≡◌, ◌≢◌, ℕ, zero, suc, ◌+◌, ◌<◌, ◌≤◌, inl, inr, Bool, List, [], ◌∷◌, length, take, get_or, slice_get, subst, refl, sym, ap, ◌∙◌, Some, All, Result, Ok, Err, IfOk, arith, add-one}
+use Rattle.std.specs.Prelude.{IsOk}
 use Rattle.std.specs.List.{AllZip}
 use Rattle.std.proofs.lemmas.Bool.{cases_lt}
 use Rattle.std.proofs.lemmas.List.{take-take}
@@ -15,8 +16,9 @@ use Rattle.stimulus.specs.declared.ends.ReplayFault.{ReplayFault}
 use Rattle.stimulus.specs.declared.ends.ReplayFault.TheVariants.{Shape, Width, NotInitial, Constraint, NoFairLoop, NoProperty}
 use Rattle.stimulus.specs.declared.ends.ReplayEnd.{ReplayEnd}
 use Rattle.stimulus.specs.declared.ends.ReplayEnd.TheVariants.{Fault, Memory}
-use Rattle.stimulus.specs.Ends.{IfFault, FailsUnlessMemory}
-use Rattle.stimulus.specs.Faults.{items_of, width_of, IsFirstMisfit, MayBegin, IsFirstWrong, IsFirstForbidden, HasNoLasso, HasReplayFault}
+use Rattle.stimulus.specs.Ends.{IfFault}
+use Rattle.unless_memory.specs.Answers.{Gives, GivesSome, GivesExactlyWhere}
+use Rattle.stimulus.specs.Faults.{items_of, width_of, IsFirstMisfit, AgreesAt, IsFirstWrong, IsFirstForbidden, HasNoLasso, HasReplayFault}
 use Rattle.stimulus.proofs.RunLemmas.{simulated-take}
 use Rattle.stimulus.proofs.TrackLemmas.{can_begin, run_of_lasso}
 
@@ -26,15 +28,15 @@ no_misfit c s zero fits a = a.misfits fits.latches
 no_misfit c s (suc k) fits a = a.misfits (All-get_or (λ values. length values ≡ length c.inputs) s.inputs k [] (omega (arith, a.inside)) fits.inputs)
 
 -- the latches of an initial state may begin with their values
-all_may_begin : (latches : List Latch) (values : List Bool) (n : ℕ) (latch : Latch) (value : Bool) → AllZip (λ latch value. AgreesWith latch.reset value) latches values → slice_get latches n ≡ Some latch → slice_get values n ≡ Some value → AgreesWith latch.reset value
-all_may_begin [] values n latch value h at on = cc
-all_may_begin (l ∷ latches) [] n latch value h at on = absurd h
-all_may_begin (l ∷ latches) (v ∷ values) zero latch value h at on =
+all_agree_at : (latches : List Latch) (values : List Bool) (n : ℕ) (latch : Latch) (value : Bool) → AllZip (λ latch value. AgreesWith latch.reset value) latches values → slice_get latches n ≡ Some latch → slice_get values n ≡ Some value → AgreesWith latch.reset value
+all_agree_at [] values n latch value h at on = cc
+all_agree_at (l ∷ latches) [] n latch value h at on = absurd h
+all_agree_at (l ∷ latches) (v ∷ values) zero latch value h at on =
     subst (λ x. AgreesWith x.reset value) (same_Some l latch at) (subst (λ x. AgreesWith l.reset x) (same_Some v value on) h.0)
-all_may_begin (l ∷ latches) (v ∷ values) (suc n) latch value h at on = all_may_begin latches values n latch value h.1 at on
+all_agree_at (l ∷ latches) (v ∷ values) (suc n) latch value h at on = all_agree_at latches values n latch value h.1 at on
 
 no_wrong : (c : Circuit) (values : List Bool) (latch : ℕ) → IsInitial c values → IsFirstWrong c values latch → ⊥
-no_wrong c values latch initial a = a.wrong (λ l v at on. all_may_begin c.latches values latch l v initial at on)
+no_wrong c values latch initial a = a.wrong (λ l v at on. all_agree_at c.latches values latch l v initial at on)
 
 -- the first of two places is one
 one_misfit : (c : Circuit) (s : Stimulus) (m n : ℕ) → IsFirstMisfit c s m → IsFirstMisfit c s n → m ≡ n
@@ -117,18 +119,32 @@ one_fault c j s NoFairLoop (Constraint position) a b = absurd (not_both c j s po
 one_fault c j s NoFairLoop NoFairLoop a b = refl
 
 -- the laws of replay, by how it ended
-pub replays_every : (r : Result Lasso ReplayEnd) (c : Circuit) (j : ℕ) (s : Stimulus)
+fault_whenever : (r : Result Lasso ReplayEnd) (c : Circuit) (j : ℕ) (s : Stimulus)
     → IfOk r (λ lasso. StandsFor c j s (length lasso.inputs) lasso.from) → IfFault r (HasReplayFault c j s)
-    → (fault : ReplayFault) → HasReplayFault c j s fault → FailsUnlessMemory r fault
-replays_every (Ok lasso) c j s found fault f has = absurd (fault-no_lasso c j s f (length lasso.inputs) lasso.from has found.has)
-replays_every (Err (Fault g)) c j s found fault f has = inl (ap (λ x. Err (Fault x)) (one_fault c j s g f fault has))
-replays_every (Err Memory) c j s found fault f has = inr refl
+    → (fault : ReplayFault) → HasReplayFault c j s fault → Gives {T = Result Lasso ReplayEnd} (Err Memory) (Err (Fault fault)) r
+fault_whenever (Ok lasso) c j s found fault f has = absurd (fault-no_lasso c j s f (length lasso.inputs) lasso.from has found.has)
+fault_whenever (Err (Fault g)) c j s found fault f has = inl (ap (λ x. Err (Fault x)) (one_fault c j s g f fault has))
+fault_whenever (Err Memory) c j s found fault f has = inr refl
 
-pub replays_none : (r : Result Lasso ReplayEnd) (c : Circuit) (j : ℕ) (s : Stimulus) → IfFault r (HasReplayFault c j s)
-    → IfFault r (λ _. (k from : ℕ) → HasLasso c j s k from → ⊥)
-replays_none (Ok lasso) c j s fault = tt
-replays_none (Err (Fault f)) c j s fault = λ k from has. fault-no_lasso c j s f k from fault has
-replays_none (Err Memory) c j s fault = tt
+same_end : (f g : ReplayFault) → ◌≡◌ {A = Result Lasso ReplayEnd} (Err (Fault f)) (Err (Fault g)) → f ≡ g
+same_end f g e = cc
+
+fault_only : (r : Result Lasso ReplayEnd) (c : Circuit) (j : ℕ) (s : Stimulus) → IfFault r (HasReplayFault c j s)
+    → (fault : ReplayFault) → r ≡ Err (Fault fault) → HasReplayFault c j s fault
+fault_only (Ok lasso) c j s fault f e = absurd cc
+fault_only (Err (Fault g)) c j s fault f e = subst (HasReplayFault c j s) (same_end g f e) fault
+fault_only (Err Memory) c j s fault f e = absurd cc
+
+pub replays_fault : (r : Result Lasso ReplayEnd) (c : Circuit) (j : ℕ) (s : Stimulus)
+    → IfOk r (λ lasso. StandsFor c j s (length lasso.inputs) lasso.from) → IfFault r (HasReplayFault c j s)
+    → (fault : ReplayFault) → GivesExactlyWhere {T = Result Lasso ReplayEnd} (Err Memory) (Err (Fault fault)) (HasReplayFault c j s fault) r
+replays_fault r c j s found fault f = record { only = fault_only r c j s fault f; whenever = fault_whenever r c j s found fault f }
+
+pub replays_every : (r : Result Lasso ReplayEnd) (c : Circuit) (j : ℕ) (s : Stimulus) → IfFault r (HasReplayFault c j s)
+    → (k from : ℕ) → HasLasso c j s k from → GivesSome {T = Result Lasso ReplayEnd} (Err Memory) IsOk r
+replays_every (Ok lasso) c j s fault k from has = inl refl
+replays_every (Err (Fault f)) c j s fault k from has = absurd (fault-no_lasso c j s f k from fault has)
+replays_every (Err Memory) c j s fault k from has = inr refl
 
 -- what is found before the positions
 pub first_misfit : (c : Circuit) (s : Stimulus) (k : ℕ) → k < length s.inputs → length s.latches ≡ length c.latches
@@ -140,7 +156,7 @@ first_misfit c s k inside latches before misfits =
     fit zero below = latches
     fit (suc n) below = before n (omega arith)
 
-pub initial_from : (c : Circuit) (values : List Bool) → length values ≡ length c.latches → ((n : ℕ) → n < length c.latches → MayBegin c values n) → IsInitial c values
+pub initial_from : (c : Circuit) (values : List Bool) → length values ≡ length c.latches → ((n : ℕ) → n < length c.latches → AgreesAt c values n) → IsInitial c values
 initial_from c values e may = all_from c.latches values e (λ n l v inside at on. may n inside l v at on)
   where
     all_from : (latches : List Latch) (values : List Bool) → length values ≡ length latches

@@ -7,38 +7,38 @@ use Rattle.std.proofs.lemmas.List.Quantifiers.{Any-push}
 use Rattle.std.proofs.lemmas.List.Elements.{All-head, All-tail, All-cons, All-nil}
 use Rattle.aig_semantics.specs.declared.traces.Position.{Position}
 use Rattle.aig_semantics.specs.Circuits.{Circuit}
-use Rattle.aig_semantics.specs.Runs.{successor, IsRun, MeetsConstraints}
-use Rattle.aig_semantics.specs.Stimuli.{simulated}
-use Rattle.stimulus.specs.Walks.{position_at, state_after, IsEndOf}
+use Rattle.aig_semantics.specs.Runs.{position_of, successor, IsRun, MeetsConstraints}
+use Rattle.aig_semantics.specs.Stimuli.{simulated, state_after}
+use Rattle.stimulus.specs.Walks.{IsEndOf}
 
-pub state_after-push : (c : Circuit) (latches : List Bool) (inputs : List (List Bool)) (now : List Bool) → state_after c latches (inputs ++ now ∷ []) ≡ successor c (position_at (state_after c latches inputs) now)
+pub state_after-push : (c : Circuit) (latches : List Bool) (inputs : List (List Bool)) (now : List Bool) → state_after c latches (inputs ++ now ∷ []) ≡ successor c (position_of (state_after c latches inputs) now)
 unfolding state_after
 state_after-push c latches [] now = refl
-state_after-push c latches (first ∷ inputs) now = state_after-push c (successor c (position_at latches first)) inputs now
+state_after-push c latches (first ∷ inputs) now = state_after-push c (successor c (position_of latches first)) inputs now
 
-pub simulated-push : (c : Circuit) (latches : List Bool) (inputs : List (List Bool)) (now : List Bool) → simulated c latches (inputs ++ now ∷ []) ≡ simulated c latches inputs ++ position_at (state_after c latches inputs) now ∷ []
+pub simulated-push : (c : Circuit) (latches : List Bool) (inputs : List (List Bool)) (now : List Bool) → simulated c latches (inputs ++ now ∷ []) ≡ simulated c latches inputs ++ position_of (state_after c latches inputs) now ∷ []
 unfolding state_after simulated
 simulated-push c latches [] now = refl
-simulated-push c latches (first ∷ inputs) now = ap (λ run. position_at latches first ∷ run) (simulated-push c (successor c (position_at latches first)) inputs now)
+simulated-push c latches (first ∷ inputs) now = ap (λ run. position_of latches first ∷ run) (simulated-push c (successor c (position_of latches first)) inputs now)
 
 pub length-simulated : (c : Circuit) (latches : List Bool) (inputs : List (List Bool)) → length (simulated c latches inputs) ≡ length inputs
 unfolding simulated
 length-simulated c latches [] = refl
-length-simulated c latches (first ∷ inputs) = ap suc (length-simulated c (successor c (position_at latches first)) inputs)
+length-simulated c latches (first ∷ inputs) = ap suc (length-simulated c (successor c (position_of latches first)) inputs)
 
 pub simulated-take : (c : Circuit) (k : ℕ) (latches : List Bool) (inputs : List (List Bool)) → simulated c latches (take k inputs) ≡ take k (simulated c latches inputs)
 unfolding simulated
 simulated-take c zero latches inputs = refl
 simulated-take c (suc k) latches [] = refl
-simulated-take c (suc k) latches (first ∷ inputs) = ap (λ run. position_at latches first ∷ run) (simulated-take c k (successor c (position_at latches first)) inputs)
+simulated-take c (suc k) latches (first ∷ inputs) = ap (λ run. position_of latches first ∷ run) (simulated-take c k (successor c (position_of latches first)) inputs)
 
 -- positions that are simulated are a run where each meets the constraints
 pub IsRun-from_meets : (c : Circuit) (latches : List Bool) (inputs : List (List Bool)) → All (MeetsConstraints c) (simulated c latches inputs) → IsRun c (simulated c latches inputs)
 unfolding simulated
 IsRun-from_meets c latches [] h = tt
-IsRun-from_meets c latches (now ∷ []) h = (All-head (MeetsConstraints c) (position_at latches now) [] h, tt, tt)
+IsRun-from_meets c latches (now ∷ []) h = (All-head (MeetsConstraints c) (position_of latches now) [] h, tt, tt)
 IsRun-from_meets c latches (now ∷ next ∷ inputs) h =
-    let p = position_at latches now in
+    let p = position_of latches now in
     let later = simulated c (successor c p) (next ∷ inputs) in
     (All-head (MeetsConstraints c) p later h, refl, IsRun-from_meets c (successor c p) (next ∷ inputs) (All-tail (MeetsConstraints c) p later h))
 
@@ -50,8 +50,8 @@ IsRun-meets c (p ∷ run) h = All-cons (MeetsConstraints c) p run h.0 (IsRun-mee
 pub last_position : (c : Circuit) (latches : List Bool) (inputs : List (List Bool)) → 0 < length inputs → (last : Position) × (slice_get (simulated c latches inputs) (length (simulated c latches inputs) - 1) ≡ Some last) × (successor c last ≡ state_after c latches inputs)
 unfolding simulated state_after
 last_position c latches [] h = absurd (omega arith)
-last_position c latches (now ∷ []) h = (position_at latches now, refl, refl)
-last_position c latches (now ∷ next ∷ inputs) h = simp unary_clauses (simp unary_clauses at (last_position c (successor c (position_at latches now)) (next ∷ inputs) (omega arith)))
+last_position c latches (now ∷ []) h = (position_of latches now, refl, refl)
+last_position c latches (now ∷ next ∷ inputs) h = simp unary_clauses (simp unary_clauses at (last_position c (successor c (position_of latches now)) (next ∷ inputs) (omega arith)))
 
 -- some element of the list passes: the first, or another
 any_first : {X : Type 0} (P : X → Type 0) (x : X) (xs : List X) → P x → Any P (x ∷ xs)

@@ -3,10 +3,12 @@ use Rattle.std.proofs.Common.{◌≡◌, ℕ, suc, ◌+◌, ◌<◌, ◌≤◌, 
 use Rattle.std.proofs.lemmas.Bool.{false≢true}
 use Rattle.std.proofs.lemmas.List.{map-append, append-nil}
 use Rattle.std.proofs.lemmas.List.Elements.{All-head, All-tail, All-cons, All-nil, All-weaker, All-get_or, filter-append}
+use Rattle.stimulus.specs.declared.ends.ReplayFault.{ReplayFault}
 use Rattle.stimulus.specs.declared.ends.ReplayFault.TheVariants.{Shape}
 use Rattle.stimulus.specs.declared.ends.ReplayEnd.{ReplayEnd}
 use Rattle.stimulus.specs.declared.ends.ReplayEnd.TheVariants.{Fault, Memory}
-use Rattle.stimulus.specs.Ends.{IfFault, GivesUnlessMemory, FailsUnlessMemory}
+use Rattle.stimulus.specs.Ends.{IfFault}
+use Rattle.unless_memory.specs.Answers.{Gives, GivesExactlyWhere}
 use Rattle.aig_semantics.specs.declared.traces.Stimulus.{Stimulus}
 use Rattle.text_grammar.specs.Lines.{lines_of}
 use Rattle.stimulus.specs.Texts.{value_of, is_skipped, row_values, present, kept_lines, IsTextOf, IsStimulusLine, IsFirstBad, LacksLatches, IsShape}
@@ -193,17 +195,40 @@ one_spelled s t e =
 pub one_stimulus : (s t : Stimulus) (bytes : List ℕ) → IsTextOf s bytes → IsTextOf t bytes → s ≡ t
 one_stimulus s t bytes a b = one_spelled s t (sym a ∙ b)
 
--- the two laws of reading, by how it ended
+-- the laws of reading, by how it ended
 pub reads_every : (r : Result Stimulus ReplayEnd) (bytes : List ℕ) → IfOk r (λ s. IsTextOf s bytes)
     → IfFault r (λ fault. (number : ℕ) × (fault ≡ Shape number) × IsShape bytes number)
-    → (s : Stimulus) → IsTextOf s bytes → GivesUnlessMemory r s
+    → (s : Stimulus) → IsTextOf s bytes → Gives {T = Result Stimulus ReplayEnd} (Err Memory) (Ok s) r
 reads_every (Ok t) bytes found fault s text = inl (ap Ok (one_stimulus t s bytes found text))
 reads_every (Err (Fault f)) bytes found fault s text = absurd (shape-no_text s bytes fault.0 fault.2 text)
 reads_every (Err Memory) bytes found fault s text = inr refl
 
+shape_whenever : (r : Result Stimulus ReplayEnd) (bytes : List ℕ) → IfOk r (λ s. IsTextOf s bytes)
+    → IfFault r (λ fault. (number : ℕ) × (fault ≡ Shape number) × IsShape bytes number)
+    → (number : ℕ) → IsShape bytes number → Gives {T = Result Stimulus ReplayEnd} (Err Memory) (Err (Fault (Shape number))) r
+shape_whenever (Ok t) bytes found fault number shape = absurd (shape-no_text t bytes number shape found)
+shape_whenever (Err (Fault f)) bytes found fault number shape = inl (ap (λ x. Err (Fault x)) (fault.1 ∙ ap Shape (one_shape bytes fault.0 number fault.2 shape)))
+shape_whenever (Err Memory) bytes found fault number shape = inr refl
+
+-- the line that a fault names, where the end is this fault
+shape_of : (r : Result Stimulus ReplayEnd) (bytes : List ℕ) → IfFault r (λ fault. (number : ℕ) × (fault ≡ Shape number) × IsShape bytes number)
+    → (fault : ReplayFault) → r ≡ Err (Fault fault) → (number : ℕ) × (fault ≡ Shape number) × IsShape bytes number
+shape_of (Ok t) bytes told fault e = absurd cc
+shape_of (Err (Fault f)) bytes told fault e =
+    let same : f ≡ fault = cc in subst (λ x. (number : ℕ) × (x ≡ Shape number) × IsShape bytes number) same told
+shape_of (Err Memory) bytes told fault e = absurd cc
+
+same_line : (m n : ℕ) → Shape m ≡ Shape n → m ≡ n
+same_line m n e = cc
+
 pub reads_shape : (r : Result Stimulus ReplayEnd) (bytes : List ℕ) → IfOk r (λ s. IsTextOf s bytes)
     → IfFault r (λ fault. (number : ℕ) × (fault ≡ Shape number) × IsShape bytes number)
-    → (number : ℕ) → IsShape bytes number → FailsUnlessMemory r (Shape number)
-reads_shape (Ok t) bytes found fault number shape = absurd (shape-no_text t bytes number shape found)
-reads_shape (Err (Fault f)) bytes found fault number shape = inl (ap (λ x. Err (Fault x)) (fault.1 ∙ ap Shape (one_shape bytes fault.0 number fault.2 shape)))
-reads_shape (Err Memory) bytes found fault number shape = inr refl
+    → (number : ℕ) → GivesExactlyWhere {T = Result Stimulus ReplayEnd} (Err Memory) (Err (Fault (Shape number))) (IsShape bytes number) r
+reads_shape r bytes found fault number = record {
+  only = λ e. let told = shape_of r bytes fault (Shape number) e in subst (IsShape bytes) (sym (same_line number told.0 told.1)) told.2;
+  whenever = shape_whenever r bytes found fault number;
+}
+
+pub reads_no_other : (r : Result Stimulus ReplayEnd) (bytes : List ℕ) → IfFault r (λ fault. (number : ℕ) × (fault ≡ Shape number) × IsShape bytes number)
+    → (fault : ReplayFault) → r ≡ Err (Fault fault) → (number : ℕ) × (fault ≡ Shape number)
+reads_no_other r bytes fault f e = let told = shape_of r bytes fault f e in (told.0, told.1)

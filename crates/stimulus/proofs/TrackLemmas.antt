@@ -9,11 +9,11 @@ use Rattle.std.proofs.lemmas.List.Elements.{All-head, All-tail, All-cons, All-ni
 use Rattle.aig_semantics.specs.declared.traces.Position.{Position}
 use Rattle.aig_semantics.specs.declared.traces.Stimulus.{Stimulus}
 use Rattle.aig_semantics.specs.Circuits.{Circuit, fair_literals}
-use Rattle.aig_semantics.specs.Runs.{successor, literal_at, IsRun, IsInitial, IsInitialRun, MeetsConstraints, IsFairLasso}
-use Rattle.aig_semantics.specs.Stimuli.{simulated, HasLasso, StandsFor}
+use Rattle.aig_semantics.specs.Runs.{position_of, successor, literal_at, IsRun, IsInitial, IsInitialRun, MeetsConstraints, IsFairLasso}
+use Rattle.aig_semantics.specs.Stimuli.{simulated, state_after, HasLasso, StandsFor}
 use Rattle.stimulus.specs.declared.walks.Walk.{Walk}
 use Rattle.stimulus.specs.declared.walks.Watched.{Watched}
-use Rattle.stimulus.specs.Walks.{position_at, state_after, IsEndOf, unmet, watched_after, GoesOn, ClosesFrom}
+use Rattle.stimulus.specs.Walks.{IsEndOf, unmet, watched_after, GoesOn, ClosesFrom}
 use Rattle.stimulus.specs.Places.{packed, place_at}
 use Rattle.stimulus.specs.Faults.{CanBegin, IsFirstForbidden, HasNoLasso}
 use Rattle.stimulus.proofs.PlaceLemmas.{IsPlaceMap, IsPlaceMap-none, IsPlaceMap-push}
@@ -60,16 +60,16 @@ literals-watched_after value number watched = map-map (λ x. x.literal) (watched
 pub length-state_after : (c : Circuit) (latches : List Bool) (inputs : List (List Bool)) → length latches ≡ length c.latches → length (state_after c latches inputs) ≡ length c.latches
 unfolding state_after
 length-state_after c latches [] h = h
-length-state_after c latches (now ∷ inputs) h = length-state_after c (successor c (position_at latches now)) inputs (length-map c.latches (λ latch. literal_at c (position_at latches now) latch.next))
+length-state_after c latches (now ∷ inputs) h = length-state_after c (successor c (position_of latches now)) inputs (length-map c.latches (λ latch. literal_at c (position_of latches now) latch.next))
 
 pub Tracks-push : (c : Circuit) (j : ℕ) (latches : List Bool) (inputs : List (List Bool)) (now : List Bool) (number : ℕ) (old new : Walk)
     → number ≡ length inputs + 1 → length latches ≡ length c.latches → length now ≡ length c.inputs
-    → All (λ literal. IsTrue (literal_at c (position_at old.next now) literal)) c.constraints
+    → All (λ literal. IsTrue (literal_at c (position_of old.next now) literal)) c.constraints
     → GoesOn c now number old new → Tracks c j latches inputs old → Tracks c j latches (inputs ++ now ∷ []) new
 Tracks-push c j latches inputs now number old new is fit_latches fit_inputs meets goes h =
-    let p = position_at old.next now in
+    let p = position_of old.next now in
     let run = simulated c latches inputs in
-    let position : position_at (state_after c latches inputs) now ≡ p = ap (λ state. position_at state now) (sym h.next) in
+    let position : position_of (state_after c latches inputs) now ≡ p = ap (λ state. position_of state now) (sym h.next) in
     let more : simulated c latches (inputs ++ now ∷ []) ≡ run ++ p ∷ [] = simulated-push c latches inputs now ∙ ap (λ q. run ++ q ∷ []) position in
     let allowed : MeetsConstraints c p = record { position = record { latches = ap length h.next ∙ length-state_after c latches inputs fit_latches; inputs = fit_inputs }; constraints = meets } in
     let states : map (λ p. p.latches) run ++ old.next ∷ [] ≡ map (λ p. p.latches) (simulated c latches (inputs ++ now ∷ [])) =
@@ -236,21 +236,21 @@ module _ (c : Circuit) (j : ℕ) (s : Stimulus) (k : ℕ) (now : List Bool) (old
   one_more : take (k + 1) s.inputs ≡ take k s.inputs ++ now ∷ []
   one_more = take_more s.inputs k now inside ∙ ap (λ x. take k s.inputs ++ x ∷ []) (sym at)
 
-  more_run : simulated c s.latches (take (k + 1) s.inputs) ≡ simulated c s.latches (take k s.inputs) ++ position_at old.next now ∷ []
+  more_run : simulated c s.latches (take (k + 1) s.inputs) ≡ simulated c s.latches (take k s.inputs) ++ position_of old.next now ∷ []
   more_run =
       ap (simulated c s.latches) one_more ∙ simulated-push c s.latches (take k s.inputs) now
-      ∙ ap (λ state. simulated c s.latches (take k s.inputs) ++ position_at state now ∷ []) (sym h.tracks.next)
+      ∙ ap (λ state. simulated c s.latches (take k s.inputs) ++ position_of state now ∷ []) (sym h.tracks.next)
 
   -- a position where a constraint is false is the first such, with no lasso before it
-  pub first_forbidden : (All (λ literal. IsTrue (literal_at c (position_at old.next now) literal)) c.constraints → ⊥) → IsFirstForbidden c j s k
+  pub first_forbidden : (All (λ literal. IsTrue (literal_at c (position_of old.next now) literal)) c.constraints → ⊥) → IsFirstForbidden c j s k
   first_forbidden not_met = record {
     inside = inside;
     before = h.tracks.allowed;
-    forbidden = λ met. not_met (last_all (MeetsConstraints c) (simulated c s.latches (take k s.inputs)) (position_at old.next now) (subst (All (MeetsConstraints c)) more_run met)).constraints;
+    forbidden = λ met. not_met (last_all (MeetsConstraints c) (simulated c s.latches (take k s.inputs)) (position_of old.next now) (subst (All (MeetsConstraints c)) more_run met)).constraints;
     none = h.none;
   }
 
-  module _ (meets : All (λ literal. IsTrue (literal_at c (position_at old.next now) literal)) c.constraints) (goes : GoesOn c now (k + 1) old new) where
+  module _ (meets : All (λ literal. IsTrue (literal_at c (position_of old.next now) literal)) c.constraints) (goes : GoesOn c now (k + 1) old new) where
     tracks_more : Tracks c j s.latches (take (k + 1) s.inputs) new
     tracks_more =
         subst (λ inputs. Tracks c j s.latches inputs new) (sym one_more)

@@ -24,15 +24,15 @@ pub record IsFirstMisfit (c : Circuit) (stimulus : Stimulus) (item : ℕ) : Type
   pub before : (n : ℕ) → n < item → length (slice_index_or (items_of stimulus) n []) ≡ width_of c n
   pub misfits : length (slice_index_or (items_of stimulus) item []) ≢ width_of c item
 
--- the latch at this place may begin with its value
-abbrev pub MayBegin : Circuit → List Bool → ℕ → Type 0
-MayBegin c latches n = (latch : Latch) (value : Bool) → slice_get c.latches n ≡ Some latch → slice_get latches n ≡ Some value → AgreesWith latch.reset value
+-- the value at this place agrees with its latch's reset
+abbrev pub AgreesAt : Circuit → List Bool → ℕ → Type 0
+AgreesAt c latches n = (latch : Latch) (value : Bool) → slice_get c.latches n ≡ Some latch → slice_get latches n ≡ Some value → AgreesWith latch.reset value
 
 -- the first latch that may not begin with its value
 pub record IsFirstWrong (c : Circuit) (latches : List Bool) (latch : ℕ) : Type 0 where
   pub inside : latch < length c.latches
-  pub before : (n : ℕ) → n < latch → MayBegin c latches n
-  pub wrong : MayBegin c latches latch → ⊥
+  pub before : (n : ℕ) → n < latch → AgreesAt c latches n
+  pub wrong : AgreesAt c latches latch → ⊥
 
 -- the property is there, and the stimulus fits the circuit and begins with an initial state
 pub record CanBegin (c : Circuit) (j : ℕ) (stimulus : Stimulus) : Type 0 where

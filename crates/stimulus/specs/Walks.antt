@@ -1,25 +1,15 @@
--- A run under way: the state that comes next, and where states and literals were met.
-use Rattle.std.specs.Prelude.{◌≡◌, ◌≢◌, ℕ, ◌-◌, ◌<◌, Bool, List, [], ◌∷◌, drop, map, slice_get, Some, unwrap_or, IsTrue, All, Any, if◌then◌else◌}
-use Rattle.aig_semantics.specs.declared.traces.Position.{Position}
+-- A run under way: the state that comes next, and where states and literals were met (scaffolding).
+use Rattle.std.specs.Prelude.{◌≡◌, ◌≢◌, ℕ, ◌-◌, ◌<◌, Bool, List, drop, map, slice_get, Some, unwrap_or, IsTrue, All, Any, if◌then◌else◌}
 use Rattle.aig_semantics.specs.Circuits.{Circuit}
-use Rattle.aig_semantics.specs.Runs.{successor, literal_at}
+use Rattle.aig_semantics.specs.Runs.{position_of, successor, literal_at}
 use Rattle.stimulus.specs.declared.walks.Walk.{Walk}
 use Rattle.stimulus.specs.declared.walks.Watched.{Watched}
 use Rattle.stimulus.specs.Places.{packed, place_at}
-
--- the state that follows the last of these positions
-unfoldable pub state_after : Circuit → List Bool → List (List Bool) → List Bool
-state_after c latches [] = latches
-state_after c latches (now ∷ later) =
-    let p : Position = record { latches = latches; inputs = now } in state_after c (successor c p) later
 
 -- one more than the last place where the test holds, or 0: the places before it are those from which on it holds somewhere
 pub record IsEndOf {X : Type 0} (test : X → Bool) (xs : List X) (end : ℕ) : Type 0 where
   pub within : (k : ℕ) → k < end → Any (λ x. IsTrue (test x)) (drop k xs)
   pub behind : (k : ℕ) → Any (λ x. IsTrue (test x)) (drop k xs) → k < end
-
-abbrev pub position_at : List Bool → List Bool → Position
-position_at latches inputs = record { latches = latches; inputs = inputs }
 
 -- a literal that was not met yet
 abbrev pub unmet : ℕ → Watched
@@ -33,9 +23,9 @@ watched_after value number w = record { literal = w.literal; end = if value w.li
 pub record GoesOn (c : Circuit) (inputs : List Bool) (number : ℕ) (old new : Walk) : Type 0 where
   pub there : place_at new.places old.key.items ≡ Some (unwrap_or (place_at old.places old.key.items) (number - 1))
   pub others : (key : List ℕ) → key ≢ old.key.items → place_at new.places key ≡ place_at old.places key
-  pub next : new.next ≡ successor c (position_at old.next inputs)
+  pub next : new.next ≡ successor c (position_of old.next inputs)
   pub key : new.key.items ≡ packed new.next
-  pub watched : new.watched.items ≡ map (watched_after (literal_at c (position_at old.next inputs)) number) old.watched.items
+  pub watched : new.watched.items ≡ map (watched_after (literal_at c (position_of old.next inputs)) number) old.watched.items
 
 -- a loop from this place closes and has all that is watched
 pub record LoopsFrom (states : List (List Bool)) (next : List Bool) (watched : List Watched) (from : ℕ) : Type 0 where

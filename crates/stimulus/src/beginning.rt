@@ -1,11 +1,11 @@
 //! What can be wrong with a stimulus before its first position is laid out. The main call is `fault_before`.
-ghost use Rattle.std.specs.Prelude.{◌≡◌, ◌↔◌, IfSome, IfNone, IsTrue, length};
-ghost use Rattle.aig_semantics.specs.Runs.{AgreesWith, IsInitial};
+ghost use Rattle.std.specs.Prelude.{◌≡◌, IfSome, IfNone, length};
+ghost use Rattle.aig_semantics.specs.Runs.{IsInitial};
 ghost use Rattle.aig_semantics.specs.Stimuli.{FitsCircuit};
 ghost use Rattle.stimulus.specs.Faults.{IsFirstMisfit, IsFirstWrong, CanBegin, HasReplayFault};
 
 use crate::ends::ReplayFault;
-use aig_semantics::{Reset, Stimulus};
+use aig_semantics::Stimulus;
 use circuit::Circuit;
 
 /// The first fault that shows before the positions: no such property, a wrong width, or a latch that may not begin
@@ -14,7 +14,7 @@ pub(crate) fn fault_before(c: &Circuit, j: u32, s: &Stimulus) -> Option<ReplayFa
     ensures found { IfSome result (HasReplayFault c.now j s.now) }
     ensures none { IfNone result (CanBegin c.now j s.now) }
 {
-    if j as usize >= c.properties() {
+    if j as usize >= c.property_count() {
         return Some(ReplayFault::NoProperty);
     }
     if let Some(item) = first_misfit(c, s) {
@@ -50,20 +50,9 @@ fn first_wrong(c: &Circuit, latches: &[bool]) -> Option<u64>
     ensures none { IfNone result (IsInitial c.now latches.now) }
 {
     for (i, latch) in c.latches().iter().enumerate() {
-        if !agrees(latch.reset, latches[i]) {
+        if !latch.reset.agrees_with(latches[i]) {
             return Some(i as u64);
         }
     }
     None
-}
-
-// Whether a latch with this reset may begin with the value.
-fn agrees(reset: Reset, value: bool) -> bool
-    ensures { IsTrue result ↔ AgreesWith reset value }
-{
-    match reset {
-        Reset::Zero => !value,
-        Reset::One => value,
-        Reset::Free => true,
-    }
 }

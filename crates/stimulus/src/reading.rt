@@ -1,11 +1,13 @@
 //! The text of a stimulus, read. The main call is `read`.
-ghost use Rattle.std.specs.Prelude.{◌≡◌, ℕ, ◌+◌, ◌≤◌, ◌<◌, Bool, List, [], ◌∷◌, ◌++◌, Some, None, map, length, All, IsSome, IfOk, IfSome, IfNone};
+ghost use Rattle.std.specs.Prelude.{◌≡◌, ℕ, ◌+◌, ◌≤◌, ◌<◌, Bool, List, [], ◌∷◌, ◌++◌, Some, None, Ok, Err, map, length, All, IsSome, IfOk, IfSome, IfNone};
 ghost use Rattle.std.specs.Bool.{OnTrue, OnFalse};
 ghost use Rattle.aig_semantics.specs.declared.traces.Stimulus.{Stimulus};
 ghost use Rattle.text_grammar.specs.Lines.{lines_of};
 ghost use Rattle.stimulus.specs.declared.ends.ReplayFault.TheVariants.{Shape};
 ghost use Rattle.stimulus.specs.Texts.{value_of, row_values, present, is_skipped, kept_lines, IsTextOf, IsStimulusLine, IsFirstBad, IsShape};
-ghost use Rattle.stimulus.specs.Ends.{IfFault, GivesUnlessMemory, FailsUnlessMemory};
+ghost use Rattle.stimulus.specs.Ends.{IfFault};
+ghost use Rattle.stimulus.specs.declared.ends.ReplayFault.{ReplayFault};
+ghost use Rattle.unless_memory.specs.Answers.{Gives, GivesExactlyWhere};
 
 use crate::ends::{ReplayEnd, ReplayFault};
 use aig_semantics::Stimulus;
@@ -19,9 +21,11 @@ use text_grammar::next_line;
 /// of these, numbered from 1, or of the one that is wanted where the text ends without the latches' line.
 pub fn read(alloc: Global, bytes: &[u8]) -> Result<Stimulus, ReplayEnd>
     ensures found { IfOk result (λ s. IsTextOf s bytes.now) }
-    ensures every { (s : Stimulus) → IsTextOf s bytes.now → GivesUnlessMemory result s }
-    ensures fault { IfFault result (λ fault. (number : ℕ) × (fault ≡ Shape number) × IsShape bytes.now number) }
-    ensures shape { (number : ℕ) → IsShape bytes.now number → FailsUnlessMemory result (Shape number) }
+    ensures every { (s : Stimulus) → IsTextOf s bytes.now → Gives (Err ReplayEnd.Memory) (Ok s) result }
+    ensures shape { (number : ℕ) → GivesExactlyWhere (Err ReplayEnd.Memory) (Err (ReplayEnd.Fault (Shape number)))
+        (IsShape bytes.now number) result }
+    ensures no_other { (fault : ReplayFault) → result ≡ Err (ReplayEnd.Fault fault)
+        → (number : ℕ) × (fault ≡ Shape number) }
 {
     read_text(alloc, bytes)
 }

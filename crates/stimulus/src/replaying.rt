@@ -1,12 +1,13 @@
 //! The replay of a stimulus on a circuit. The main call is `replay`.
-ghost use Rattle.std.specs.Prelude.{◌≡◌, ℕ, ◌+◌, ◌<◌, ◌≤◌, List, ◌++◌, None, length, map, take, IfOk, OnOk};
+ghost use Rattle.std.specs.Prelude.{◌≡◌, ℕ, ◌+◌, ◌<◌, ◌≤◌, List, ◌++◌, None, length, map, take, Err, IsOk, IfOk, OnOk};
 ghost use Rattle.aig_semantics.specs.Circuits.{fair_literals};
 ghost use Rattle.aig_semantics.specs.Stimuli.{HasLasso, StandsFor};
 ghost use Rattle.stimulus.specs.declared.ends.ReplayFault.{ReplayFault};
-ghost use Rattle.stimulus.specs.Ends.{IfFault, FailsUnlessMemory};
+ghost use Rattle.stimulus.specs.Ends.{IfFault};
 ghost use Rattle.stimulus.specs.Faults.{HasReplayFault};
 ghost use Rattle.stimulus.specs.Places.{packed, place_at};
 ghost use Rattle.stimulus.specs.Walks.{unmet};
+ghost use Rattle.unless_memory.specs.Answers.{GivesSome, GivesExactlyWhere};
 
 use crate::beginning::fault_before;
 use crate::ends::{ReplayEnd, ReplayFault};
@@ -32,9 +33,9 @@ pub fn replay(alloc: Global, c: &Circuit, j: u32, s: &Stimulus) -> Result<Lasso,
     ensures found { IfOk result (λ lasso. StandsFor c.now j s.now (length lasso.inputs) lasso.from) }
     ensures start { IfOk result (λ lasso. lasso.start ≡ s.now.latches) }
     ensures inputs { IfOk result (λ lasso. lasso.inputs ≡ take (length lasso.inputs) s.now.inputs) }
-    ensures fault { IfFault result (HasReplayFault c.now j s.now) }
-    ensures every { (fault : ReplayFault) → HasReplayFault c.now j s.now fault → FailsUnlessMemory result fault }
-    ensures none { IfFault result (λ _. (k from : ℕ) → HasLasso c.now j s.now k from → ⊥) }
+    ensures every { (k from : ℕ) → HasLasso c.now j s.now k from → GivesSome (Err ReplayEnd.Memory) IsOk result }
+    ensures fault { (fault : ReplayFault) → GivesExactlyWhere (Err ReplayEnd.Memory) (Err (ReplayEnd.Fault fault))
+        (HasReplayFault c.now j s.now fault) result }
 {
     find_lasso(alloc, c, j, s)
 }

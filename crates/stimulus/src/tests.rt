@@ -1,7 +1,7 @@
 //! Values worked out by hand.
 use super::*;
 use aig_semantics::{Latch, Reset};
-use circuit::{Circuit, Parts, check_circuit};
+use circuit::{Circuit, ModelEnd, ModelFault, Parts, check_circuit};
 use items::Items;
 use std::alloc::{AllocError, Global};
 use std::process::Abort;
@@ -29,23 +29,51 @@ const TEXTS: [(&str, Result<(usize, usize), u64>); 18] = [
     ("0\n0c\n", Err(2)),
 ];
 
+/// How many latches and positions the text has, or the number of the line that is none of a stimulus.
+fn size_of(alloc: Global, text: &str) -> Result<(usize, usize), u64> {
+    match read(alloc, text.as_bytes()) {
+        Ok(s) => Ok((s.latches.len(), s.inputs.len())),
+        Err(ReplayEnd::Fault(ReplayFault::Shape(number))) => Err(number),
+        Err(_) => Err(0),
+    }
+}
+
+/// Whether the text is that of a stimulus with these latch values and these inputs at its positions.
+fn is_read_as(
+    alloc: Global,
+    text: &str,
+    latches: &[bool],
+    inputs: &[&[bool]],
+) -> Result<bool, ReplayEnd> {
+    let s = read(alloc, text.as_bytes())?;
+    let mut same = s.latches.as_slice() == latches && s.inputs.len() == inputs.len();
+    for (k, values) in s.inputs.as_slice().iter().enumerate() {
+        same = same && k < inputs.len() && values.as_slice() == inputs[k];
+    }
+    Ok(same)
+}
+
+/// What is written of the stimulus of this text.
+fn written(alloc: Global, j: u32, text: &str) -> Result<Vec<u8>, ReplayEnd> {
+    let s = read(alloc, text.as_bytes())?;
+    Ok(write(alloc, j, &s)?)
+}
+
+const POSITIONS: &[&[bool]] = &[&[true, true, false], &[false, true, false]];
+
 #[test]
 fn texts(rt: HostRuntime) -> Result<(), Fail> {
     for (text, wanted) in TEXTS {
-        let found = match read(rt.alloc(), text.as_bytes()) {
-            Ok(s) => Ok((s.latches.len(), s.inputs.len())),
-            Err(ReplayEnd::Fault(ReplayFault::Shape(number))) => Err(number),
-            Err(_) => Err(0),
-        };
-        assert_eq!(rt; found, wanted, "of {text}");
+        assert_eq!(rt; size_of(rt.alloc(), text), wanted, "of {text}");
     }
-    let s = read(rt.alloc(), b"x1\nc\n110\n11x")?;
-    assert_eq!(rt; s.latches.as_slice(), [false, true].as_slice());
-    for values in s.inputs.as_slice() {
-        assert_eq!(rt; values.as_slice(), [true, true, false].as_slice());
+    for text in ["x1\nc\n110\n01x", "c\n01\n110\nu\n010\n"] {
+        assert!(rt;
+            is_read_as(rt.alloc(), text, &[false, true], POSITIONS)?,
+            "of {text}"
+        );
+        let text = written(rt.alloc(), 20, text)?;
+        assert!(rt; text.as_slice() == b"1\nj20\n01\n110\n010\n.\n".as_slice());
     }
-    let text = write(rt.alloc(), 20, &s)?;
-    assert_eq!(rt; text.as_slice(), b"1\nj20\n01\n110\n110\n.\n".as_slice());
     Ok(())
 }
 
@@ -138,35 +166,89 @@ fn list_of(alloc: Global, value: Option<u64>) -> Result<Items<u64>, AllocError> 
     Ok(list)
 }
 
-fn parts_of(alloc: Global, model: &Model) -> Result<Parts, AllocError> {
+fn latches_of(alloc: Global, latch: Option<(u64, Reset)>) -> Result<Items<Latch>, AllocError> {
     let mut latches = Items::new(alloc);
-    if let Some((next, reset)) = model.latch {
+    if let Some((next, reset)) = latch {
         latches.push(Latch {
             var: 1,
             next,
             reset,
         })?;
     }
+    Ok(latches)
+}
+
+fn properties_of(alloc: Global, literal: u64) -> Result<Items<Items<u64>>, AllocError> {
     let mut justice = Items::new(alloc);
-    justice.push(list_of(alloc, Some(model.property))?)?;
+    justice.push(list_of(alloc, Some(literal))?)?;
+    Ok(justice)
+}
+
+fn parts_of(alloc: Global, model: &Model) -> Result<Parts, AllocError> {
     Ok(Parts {
         max: 2,
         inputs: list_of(alloc, model.input)?,
-        latches,
+        latches: latches_of(alloc, model.latch)?,
         gates: Items::new(alloc),
         outputs: Items::new(alloc),
         bad: Items::new(alloc),
         constraints: list_of(alloc, model.constraint)?,
-        justice,
+        justice: properties_of(alloc, model.property)?,
         fairness: list_of(alloc, model.fairness)?,
     })
 }
 
-fn circuit_of(rt: &impl Abort, alloc: Global, model: &Model) -> Result<Circuit, Fail> {
+/// The circuit of a model in range; of one out of range `Header`, which no check says.
+fn checked(alloc: Global, parts: &Parts) -> Result<Circuit, ModelEnd> {
+    if !parts.is_in_range() {
+        return Err(ModelEnd::Fault(ModelFault::Header(0)));
+    }
+    check_circuit(alloc, parts)
+}
+
+fn circuit_of(alloc: Global, model: &Model) -> Result<Circuit, ModelEnd> {
     let parts = parts_of(alloc, model)?;
-    assert!(rt; parts.is_in_range());
-    assert!(rt; parts.gates.is_empty());
-    Ok(check_circuit(alloc, &parts)?)
+    checked(alloc, &parts)
+}
+
+/// The number of positions and the place of the lasso that replay gives, or what is wrong; `Shape`, which it never
+/// says, where the lasso does not begin as the stimulus does, or memory is refused.
+fn lasso_of(alloc: Global, c: &Circuit, j: u32, s: &Stimulus) -> Result<(usize, u64), ReplayFault> {
+    match replay(alloc, c, j, s) {
+        Ok(lasso) => {
+            if lasso.start.as_slice() == s.latches.as_slice() {
+                return Ok((lasso.inputs.len(), lasso.from));
+            }
+            Err(ReplayFault::Shape(0))
+        }
+        Err(ReplayEnd::Fault(fault)) => Err(fault),
+        Err(ReplayEnd::Memory) => Err(ReplayFault::Shape(0)),
+    }
+}
+
+/// The same for the stimulus of a text.
+fn replayed(
+    alloc: Global,
+    c: &Circuit,
+    j: u32,
+    text: &str,
+) -> Result<Result<(usize, u64), ReplayFault>, ReplayEnd> {
+    let s = read(alloc, text.as_bytes())?;
+    Ok(lasso_of(alloc, c, j, &s))
+}
+
+fn check_replay(
+    rt: &impl Abort,
+    alloc: Global,
+    model: &Model,
+    j: u32,
+    text: &str,
+    wanted: Result<(usize, u64), ReplayFault>,
+) -> Result<(), Fail> {
+    let c = circuit_of(alloc, model)?;
+    let found = replayed(alloc, &c, j, text)?;
+    assert_eq!(rt; found, wanted, "of {text}");
+    Ok(())
 }
 
 // A circuit, a property, a stimulus, and the number of positions of the lasso and the place that it goes back to, or
@@ -207,17 +289,7 @@ const REPLAYS: [(&Model, u32, &str, Result<(usize, u64), ReplayFault>); 30] = [
 #[test]
 fn replays(rt: HostRuntime) -> Result<(), Fail> {
     for (model, j, text, wanted) in REPLAYS {
-        let c = circuit_of(&rt, rt.alloc(), model)?;
-        let s = read(rt.alloc(), text.as_bytes())?;
-        let found = match replay(rt.alloc(), &c, j, &s) {
-            Ok(lasso) => {
-                assert!(rt; lasso.start.as_slice() == s.latches.as_slice(), "of {text}");
-                Ok((lasso.inputs.len(), lasso.from))
-            }
-            Err(ReplayEnd::Fault(fault)) => Err(fault),
-            Err(ReplayEnd::Memory) => Err(ReplayFault::Shape(0)),
-        };
-        assert_eq!(rt; found, wanted, "of {text}");
+        check_replay(&rt, rt.alloc(), model, j, text, wanted)?;
     }
     Ok(())
 }

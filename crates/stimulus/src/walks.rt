@@ -5,9 +5,9 @@ ghost use Rattle.std.specs.Bool.{OnTrue};
 ghost use Rattle.aig_semantics.specs.declared.traces.Position.{Position};
 ghost use Rattle.aig_semantics.specs.Literals.{literal_in};
 ghost use Rattle.aig_semantics.specs.Valuations.{valuation};
-ghost use Rattle.aig_semantics.specs.Runs.{literal_at, successor};
+ghost use Rattle.aig_semantics.specs.Runs.{literal_at, position_of, successor};
 ghost use Rattle.aig_semantics.specs.Circuits.{fair_literals};
-ghost use Rattle.stimulus.specs.Walks.{position_at, watched_after, GoesOn, ClosesFrom};
+ghost use Rattle.stimulus.specs.Walks.{watched_after, GoesOn, ClosesFrom};
 
 use crate::places::{Places, keep_place, packed};
 use circuit::{Circuit, eval_into, literal_value, next_into};
@@ -90,7 +90,7 @@ pub(crate) fn visit(
     requires inputs { length inputs.now ≡ length c.now.inputs }
     requires values { length values.old ≡ c.now.max + 1 }
     requires number { 1 ≤ number }
-    ensures allowed { IfOk result (λ allowed. IsTrue allowed ↔ All (λ literal. IsTrue (literal_at c.now (position_at walk.old.next inputs.now) literal)) c.now.constraints) }
+    ensures allowed { IfOk result (λ allowed. IsTrue allowed ↔ All (λ literal. IsTrue (literal_at c.now (position_of walk.old.next inputs.now) literal)) c.now.constraints) }
     ensures goes { IfOk result (λ allowed. OnTrue allowed (GoesOn c.now inputs.now number walk.old walk.new)) }
 {
     eval_into(c, walk.next.as_slice(), inputs, values);

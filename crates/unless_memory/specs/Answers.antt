@@ -13,3 +13,8 @@ GivesSome memory P result = P result ⊎ (result ≡ memory)
 pub record GivesExactlyWhere {T : Type 0} (memory answer : T) (P : Type 0) (result : T) : Type 0 where
   pub only : result ≡ answer → P
   pub whenever : P → Gives memory answer result
+
+-- the result is one of these answers only where its fact holds, and is one of them wherever one of the facts holds
+pub record GivesOneExactlyWhere {T X : Type 0} (memory : T) (answer : X → T) (P : X → Type 0) (result : T) : Type 0 where
+  pub only : (x : X) → result ≡ answer x → P x
+  pub whenever : (x : X) → P x → GivesSome memory (λ r. (y : X) × (r ≡ answer y)) result

@@ -5,7 +5,7 @@ use Rattle.aig_semantics.specs.declared.limits.TheConstants.{MAX_VARIABLE}
 use Rattle.aiger_grammar.specs.Models.{heading_of}
 use Rattle.aiger_grammar.specs.Spelling.{header_text, next_line, gate_deltas, properties_text, names_text}
 use Rattle.aiger_grammar.proofs.SpellingLaws.{variables_low}
-use Rattle.aiger_binary.specs.Forms.{HasBinaryForm}
+use Rattle.aiger_grammar.specs.BinaryTexts.{HasBinaryForm}
 use Rattle.aiger_binary.proofs.Written.{writes_binary}
 use Rattle.aiger_binary.proofs.writing.write.Goals as goal
 

@@ -3,7 +3,7 @@ use Rattle.std.specs.Prelude.{IfOk}
 use Rattle.aiger_grammar.specs.Models.{Model}
 use Rattle.circuit.specs.declared.faults.ModelEnd.TheVariants.{Fault, Memory}
 use Rattle.circuit.specs.declared.faults.ModelFault.{ModelFault}
-use Rattle.aiger_grammar.specs.AsciiTexts.{SameFault}
+use Rattle.aiger_grammar.specs.BothForms.{SameFault}
 use Rattle.fair_top.specs.ModelTexts.{IsTextIn, HasFaultIn}
 use Rattle.fair_top.proofs.models.read_model.Goals as goal
 

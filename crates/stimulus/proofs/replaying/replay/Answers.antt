@@ -1,8 +1,8 @@
-use Rattle.stimulus.proofs.FaultLemmas.{replays_every, replays_none}
+use Rattle.stimulus.proofs.FaultLemmas.{replays_every, replays_fault}
 use Rattle.stimulus.proofs.replaying.replay.Goals as goal
 
 pub returns-clause-every : goal.returns-clause-every
-returns-clause-every c = replays_every c.find_lasso.result c.args.c.now c.args.j c.args.s.now c.find_lasso.ensures.found c.find_lasso.ensures.fault
+returns-clause-every c = replays_every c.find_lasso.result c.args.c.now c.args.j c.args.s.now c.find_lasso.ensures.fault
 
-pub returns-clause-none : goal.returns-clause-none
-returns-clause-none c = replays_none c.find_lasso.result c.args.c.now c.args.j c.args.s.now c.find_lasso.ensures.fault
+pub returns-clause-fault : goal.returns-clause-fault
+returns-clause-fault c = replays_fault c.find_lasso.result c.args.c.now c.args.j c.args.s.now c.find_lasso.ensures.found c.find_lasso.ensures.fault

@@ -1,16 +1,41 @@
-use Rattle.std.proofs.Common.{ap, ◌∙◌, refl, ◌++◌, ◌∷◌, [], true}
+use Rattle.std.proofs.Common.{ap, sym, ◌∙◌, ◌+◌, ◌++◌, ◌∷◌, [], length, refl, arith}
 use Rattle.proof_semantics.specs.Proofs.{ProofState, with_addition}
-use Rattle.lrat.proofs.StoreLaws.{state_push}
+use Rattle.lrat.specs.ArenaOf.{ids_at}
+use Rattle.lrat.specs.StoreOf.{last_of}
+use Rattle.lrat.specs.declared.arena.Place.{Place}
+use Rattle.lrat.specs.declared.store.Store.TheInside.{Inside}
+use Rattle.lrat.proofs.StoreLaws.{state_push, IsOrderly-push}
 use Rattle.lrat.proofs.store.Store.add.Goals as goal
+
+pub invariant_of-self-2 : goal.invariant_of-self-2
+invariant_of-self-2 c =
+    let s = c.self.inside in
+    let p : Place = record {
+      id = c.args.id;
+      start = length c.reserve.new.arena.literals.items;
+      end = length c.reserve.new.arena.literals.items + length c.args.clause.now;
+      deleted = 0;
+    } in
+    let t : Inside = record { arena = c.put.new.arena; given = s.given; filled = s.filled; round = s.round; finished = c.is_finished_by-self-inside.result } in
+    IsOrderly-push s t p c.args.clause.now c.self.invariant
+    (omega (arith, c.requires, ap (λ (x : ProofState). x.last) c.self.view_is))
+    (c.put.ensures.literals ∙ ap (λ xs. xs ++ c.args.clause.now) c.reserve.ensures.literals)
+    (c.put.ensures.places ∙ ap (λ xs. xs ++ p ∷ []) c.reserve.ensures.places)
+    (ap length c.reserve.ensures.literals) (ap (λ n. n + length c.args.clause.now) (ap length c.reserve.ensures.literals)) refl refl refl refl
 
 pub returns-clause-ok : goal.returns-clause-ok
 returns-clause-ok c =
     let s = c.self.inside in
-    state_push s
-    (record { clauses = c.push_reserved.new.self; ids = c.push_reserved-2.new.self; held = c.push_reserved-3.new.self; given = s.given; finished = c.is_finished_by-finished.result })
-    c.args.id c.args.clause c.self.invariant
-    (c.push_reserved.ensures.items ∙ ap (λ xs. xs ++ c.args.clause ∷ []) c.in_ok-reserve.ensures.items)
-    (c.push_reserved-2.ensures.items ∙ ap (λ xs. xs ++ c.args.id ∷ []) c.in_ok-reserve-2.ensures.items)
-    (c.push_reserved-3.ensures.items ∙ ap (λ xs. xs ++ true ∷ []) c.in_ok-reserve-3.ensures.items)
-    refl c.is_finished_by-finished.ensures
-    ∙ ap (λ (t : ProofState). with_addition t c.args.id c.args.clause) c.self.view_is
+    let p : Place = record {
+      id = c.args.id;
+      start = length c.reserve.new.arena.literals.items;
+      end = length c.reserve.new.arena.literals.items + length c.args.clause.now;
+      deleted = 0;
+    } in
+    let t : Inside = record { arena = c.put.new.arena; given = s.given; filled = s.filled; round = s.round; finished = c.is_finished_by-self-inside.result } in
+    state_push s t p c.args.clause.now c.self.invariant
+    (c.put.ensures.literals ∙ ap (λ xs. xs ++ c.args.clause.now) c.reserve.ensures.literals)
+    (c.put.ensures.places ∙ ap (λ xs. xs ++ p ∷ []) c.reserve.ensures.places)
+    (ap length c.reserve.ensures.literals) (ap (λ n. n + length c.args.clause.now) (ap length c.reserve.ensures.literals))
+    (λ none. absurd (omega (arith, none, c.self.invariant.begun))) refl refl c.is_finished_by-self-inside.ensures
+    ∙ ap (λ (x : ProofState). with_addition x c.args.id c.args.clause.now) c.self.view_is

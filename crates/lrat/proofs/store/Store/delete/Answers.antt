@@ -1,7 +1,8 @@
 use Rattle.std.proofs.Common.{ap}
 use Rattle.std.proofs.Math.ListN.{drop_of_length-le}
 use Rattle.proof_semantics.specs.Proofs.{ids_of}
-use Rattle.lrat.proofs.StoreLaws.{delete_step, delete_end, drop_first}
+use Rattle.lrat.proofs.ArenaLaws.{drop_first}
+use Rattle.lrat.proofs.StoreLaws.{delete_step, delete_end}
 use Rattle.lrat.proofs.store.Store.delete.Goals as goal
 
 pub loop-id-preserved : goal.loop-id-preserved

@@ -1,30 +1,28 @@
-use Rattle.std.proofs.Common.{◌≡◌, subst, sym, ap, ◌∙◌, None, false, true}
-use Rattle.std.specs.Prelude.{option_copied, slice_get}
+use Rattle.std.proofs.Common.{◌≡◌, ◌-◌, None, Some, true, false, ap, sym, subst, ◌∙◌, take, drop}
+use Rattle.std.proofs.lemmas.Bool.{eq-eqb, ne_eqb}
+use Rattle.std.specs.Prelude.{option_copied}
 use Rattle.proof_semantics.specs.Proofs.{ProofState, clause_at}
-use Rattle.lrat.proofs.StoreLaws.{found_absent, found_at}
+use Rattle.lrat.specs.ArenaOf.{clause_in}
+use Rattle.lrat.proofs.StoreLaws.{find_none, find_at}
 use Rattle.lrat.proofs.store.Store.find.Goals as goal
 
-pub returns-in_err-place : goal.returns-in_err-place
-returns-in_err-place c =
-    let s = c.self.inside in
-    subst (λ (t : ProofState). option_copied c.from_residual.result ≡ clause_at t.held c.args.id) c.self.view_is
-    (ap option_copied c.from_residual.ensures
-    ∙ sym (found_absent s.ids.items c.as_slice.result.now s.held.items s.clauses.items c.args.id c.as_slice.ensures.value c.in_err-place.ensures.none))
+pub returns-in_err-number : goal.returns-in_err-number
+returns-in_err-number c =
+    ap option_copied c.from_residual.ensures
+    ∙ sym (ap (λ (x : ProofState). clause_at x.held c.args.id) (sym c.self.view_is)
+    ∙ find_none c.self.inside c.as_slice.result.now c.args.id c.as_slice.ensures.value c.in_err-number.ensures.none)
 
-pub returns-then-not-index : goal.returns-then-not-index
-returns-then-not-index c =
-    let s = c.self.inside in
-    let rules = c.self.invariant in
-    subst (λ (t : ProofState). None ≡ clause_at t.held c.args.id) c.self.view_is
-    (sym (found_at s.ids.items c.as_slice.result.now s.held.items s.clauses.items c.in_ok-place.place c.args.id c.index.result.now false
-    c.as_slice.ensures.value rules.ids rules.flags rules.ascending c.in_ok-place.ensures.found c.in_ok-place.ensures.there c.index.ensures c.if-not-index.true))
+pub returns-then-place-self : goal.returns-then-place-self
+returns-then-place-self c =
+    let p = c.index-place.result.now in
+    sym (ap (λ (x : ProofState). clause_at x.held c.args.id) (sym c.self.view_is)
+    ∙ find_at c.self.inside c.as_slice.result.now c.in_ok-number.number c.args.id p true c.self.invariant c.as_slice.ensures.value
+    c.in_ok-number.ensures.found c.in_ok-number.ensures.there c.index-place.ensures (eq-eqb p.deleted c.self.inside.round c.if-place-self.true))
 
 pub returns : goal.returns
 returns c =
-    let s = c.self.inside in
-    let rules = c.self.invariant in
-    subst (λ (t : ProofState). option_copied c.clause_of.result ≡ clause_at t.held c.args.id) c.self.view_is
-    (c.clause_of.ensures
-    ∙ ap (λ clauses. slice_get clauses c.in_ok-place.place) c.as_slice-2.ensures.value
-    ∙ sym (found_at s.ids.items c.as_slice.result.now s.held.items s.clauses.items c.in_ok-place.place c.args.id c.index.result.now true
-    c.as_slice.ensures.value rules.ids rules.flags rules.ascending c.in_ok-place.ensures.found c.in_ok-place.ensures.there c.index.ensures c.if-not-index.false))
+    let p = c.index-place.result.now in
+    ap (λ ls. Some (clause_in ls p)) c.deref.ensures.value
+    ∙ sym (ap (λ (x : ProofState). clause_at x.held c.args.id) (sym c.self.view_is)
+    ∙ find_at c.self.inside c.as_slice.result.now c.in_ok-number.number c.args.id p false c.self.invariant c.as_slice.ensures.value
+    c.in_ok-number.ensures.found c.in_ok-number.ensures.there c.index-place.ensures (ne_eqb p.deleted c.self.inside.round c.if-place-self.false))

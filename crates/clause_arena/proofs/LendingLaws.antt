@@ -1,0 +1,12 @@
+-- Laws of what stays lent.
+use Rattle.std.proofs.Common.{List, refl, ◌∙◌}
+use Rattle.clause_arena.specs.Lending.{StaysLent}
+
+pub stays_same : {T : Type 0} (elements : List T) → StaysLent elements elements
+stays_same elements place is_ref = (is_ref, refl)
+
+pub stays_longer : {T : Type 0} (a b c : List T) → StaysLent a b → StaysLent b c → StaysLent a c
+stays_longer a b c first later place is_ref =
+    let in_b = first place is_ref in
+    let in_c = later place in_b.0 in
+    (in_c.0, in_c.1 ∙ in_b.1)

@@ -1,0 +1,9 @@
+pub mod Numbers
+pub mod Blocks
+pub mod Uses
+pub mod Obligations
+pub mod Situations
+pub mod Lending
+pub mod Sides
+pub mod Laws
+pub mod Examples

@@ -1,0 +1,7 @@
+pub mod States
+pub mod Entries
+pub mod Allowing
+pub mod Skeletons
+pub mod Validity
+pub mod Laws
+pub mod Examples
