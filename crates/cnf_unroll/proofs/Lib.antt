@@ -1,2 +1,10 @@
 pub mod Bounds
 pub mod BlockSteps
+pub mod Truth
+pub mod Walls
+pub mod UseLaws
+pub mod UseWriting
+pub mod BlockReading
+pub mod BlockWriting
+pub mod ObligationLaws
+pub mod SkeletonLaws
