@@ -1,0 +1,4 @@
+pub mod Proved
+pub mod Listing
+pub mod Judging
+pub mod Faults
