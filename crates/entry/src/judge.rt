@@ -1,17 +1,17 @@
 //! A judge of the proofs of an entry, clause by clause and line by line. The main type is `Judge`.
 
-ghost use Rattle.std.specs.Prelude.{◌≡◌, ◌++◌, [], ◌∷◌, map, OnOk, OnErr, IfOk};
+ghost use Rattle.std.specs.Prelude.{◌≡◌, ◌<◌, ◌++◌, [], ◌∷◌, map, length, OnOk, OnErr, IfOk};
 ghost use Rattle.proof_semantics.specs.Clauses.{negation};
 ghost use Rattle.proof_semantics.specs.Proofs.{start, judge};
 ghost use Rattle.lrat.specs.Judging.{Judges};
 ghost use Rattle.cnf_unroll.specs.Numbers.{successor_place, literal_at_place};
-ghost use Rattle.cnf_unroll.specs.Obligations.{units, shared_clauses, broken_literals};
+ghost use Rattle.cnf_unroll.specs.Obligations.{units, shared_clauses, broken_literals, skeleton_clauses};
 ghost use Rattle.cnf_unroll.specs.Lending.{lent_all};
 ghost use Rattle.entry.specs.Faults.{fault_from};
 
 use circuit::Circuit;
 use cnf::{Clause, ProofLine};
-use cnf_unroll::{ClauseSet, Used, shared};
+use cnf_unroll::{ClauseSet, Used, shared, skeleton_cnf};
 use fair_semantics::Use;
 use lrat::{Checker, LratEnd};
 use proof_semantics::{Lit, LratFault};
@@ -51,6 +51,26 @@ impl Judge {
         let begun = shared(alloc, c, used, own, set)?;
         let count = begun.clauses.len();
         let checker = Checker::new(alloc, begun.clauses)?;
+        Ok(Judge {
+            checker,
+            shared: count,
+        })
+    }
+
+    /// A judge of the proof of a refutation of property `j`, counted from 0, before its first line, `used` being the
+    /// entries that it uses. The error is want of memory.
+    pub fn refutation(
+        alloc: Global,
+        c: &Circuit,
+        j: u32,
+        used: &[Used],
+    ) -> Result<Judge, AllocError>
+        requires { j < length c.now.justice }
+        ensures { IfOk result (λ judge. judge.proof ≡ start (skeleton_clauses c.now j (lent_all used.now))) }
+    {
+        let clauses = skeleton_cnf(alloc, c, j, used)?;
+        let count = clauses.len();
+        let checker = Checker::new(alloc, clauses)?;
         Ok(Judge {
             checker,
             shared: count,
