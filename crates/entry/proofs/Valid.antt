@@ -2,7 +2,7 @@
 use Rattle.std.proofs.Common.{◌≡◌, ℕ, zero, suc, ◌+◌, ◌<◌, ◌≤◌, Bool, true, false, not, ◌&&◌, ◌||◌, List, [], ◌∷◌, ◌++◌, length, get_or, refl, sym, ap, subst, ◌∙◌, inl, inr, ◌⊎◌, arith}
 use Rattle.std.specs.List.{All, list_any, list_all}
 use Rattle.std.proofs.lemmas.Bool.{and_parts, and_from, or_cases, or_left, or_right, true_from_ne_false, false_from_ne_true, true≢false}
-use Rattle.std.proofs.lemmas.List.Elements.{All-head, All-tail}
+use Rattle.std.proofs.lemmas.List.Elements.{All-head, All-tail, All-nil, All-cons, All-append}
 use Rattle.aig_semantics.specs.Circuits.{Circuit}
 use Rattle.aig_semantics.specs.Runs.{IsInitial}
 use Rattle.proof_semantics.specs.declared.literals.Lit.{Lit}
@@ -22,12 +22,13 @@ use Rattle.fair_semantics.specs.Skeletons.{IsSkeleton, places}
 use Rattle.fair_semantics.specs.Validity.{set_behind, NoStepLeaves, IsReachBase, IsValid}
 use Rattle.fair_semantics.specs.Laws.{StandAlone}
 use Rattle.fair_semantics.proofs.Alone.{uses_stand_alone}
+use Rattle.fair_semantics.proofs.Lists.{valid-push}
 use Rattle.fair_semantics.proofs.Certified.{uses_certify}
 use Rattle.fair_semantics.proofs.Initial.{initial-in_cube}
 use Rattle.cnf_unroll.specs.Obligations.{skeleton_clauses}
-use Rattle.cnf_unroll.specs.Laws.{ObligationsTell, SkeletonClausesTell, BreaksClause, IsUnderstood}
+use Rattle.cnf_unroll.specs.Laws.{ObligationsTell, SkeletonClausesTell, BreaksClause, IsUnderstood, AreOver}
 use Rattle.entry.specs.Proved.{IsProved, HasBase, IsGoodRefutation, obligation_of}
-use Rattle.entry.specs.Laws.{IsGoodList, ProvedIsValid, RefutedAllowsNone, RefutedHasNoLasso}
+use Rattle.entry.specs.Laws.{IsGoodList, ProvedIsValid, GoodListsGrow, RefutedAllowsNone, RefutedHasNoLasso}
 use Rattle.entry.proofs.Readable.{uses_readable, own_named, names_walls}
 
 -- ---- sides over a step
@@ -156,3 +157,13 @@ refuted_allows_none c tell entries j uses proof good there refutation skeleton i
 pub refuted_has_no_lasso : (c : Circuit) → SkeletonClausesTell c → RefutedHasNoLasso c
 refuted_has_no_lasso c tell entries j uses proof good there refutation =
     uses_certify c entries uses j good.valid refutation.closed (refuted_allows_none c tell entries j uses proof good there refutation)
+
+pub good_lists_grow : (c : Circuit) → ObligationsTell c → GoodListsGrow c
+good_lists_grow c tell = record {
+  none = record { valid = tt; over = All-nil (λ e. AreOver (length c.latches) e.clauses) };
+  more = λ before e proofs good proved. record {
+    valid = valid-push c [] before e good.valid (proved_is_valid c tell before e proofs good proved);
+    over = All-append (λ f. AreOver (length c.latches) f.clauses) before (e ∷ []) good.over
+        (All-cons (λ f. AreOver (length c.latches) f.clauses) e [] proved.over (All-nil (λ f. AreOver (length c.latches) f.clauses)));
+  };
+}

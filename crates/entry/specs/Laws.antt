@@ -1,5 +1,5 @@
 -- The laws of proved entries and good refutations. What they come to: a certificate leaves no fair lasso.
-use Rattle.std.specs.Prelude.{◌≡◌, ◌↔◌, ℕ, ◌<◌, false, List, length, None}
+use Rattle.std.specs.Prelude.{◌≡◌, ◌↔◌, ℕ, ◌<◌, ◌++◌, false, List, [], ◌∷◌, length, None}
 use Rattle.std.specs.List.{All}
 use Rattle.aig_semantics.specs.declared.traces.Position.{Position}
 use Rattle.aig_semantics.specs.Circuits.{Circuit}
@@ -25,6 +25,12 @@ pub record IsGoodList (c : Circuit) (entries : List Entry) : Type 0 where
 abbrev pub ProvedIsValid : Circuit → Type 0
 ProvedIsValid c =
     (before : List Entry) (e : Entry) (proofs : List (List (List ℕ))) → IsGoodList c before → IsProved c before e proofs → IsValid c before e
+
+-- So lists that begin with none and take one proved entry after the other are good.
+pub record GoodListsGrow (c : Circuit) : Type 0 where
+  pub none : IsGoodList c []
+  pub more : (before : List Entry) (e : Entry) (proofs : List (List (List ℕ))) → IsGoodList c before → IsProved c before e proofs
+      → IsGoodList c (before ++ e ∷ [])
 
 -- Over a good list a good refutation of a property means that the entries that it uses allow no skeleton of it,
 abbrev pub RefutedAllowsNone : Circuit → Type 0

@@ -7,3 +7,4 @@ pub mod Answers
 pub mod Resets
 pub mod Entries
 pub mod Laws
+pub mod Refutations

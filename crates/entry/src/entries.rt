@@ -138,12 +138,11 @@ fn judge_entry(alloc: Global, c: &Circuit, list: &[Listed], e: &Entry) -> Result
 }
 
 /// Judges an entry behind those of the list. `Ok` comes exactly for an entry that is proved behind them. Else the fault is
-/// the first: of its uses in their order, else of its clauses in theirs, else of its proofs. Its clauses are over the
-/// latches, as `clause_from_aiger` gives them, so that `NotLatch` never comes.
+/// the first: of its uses in their order, else of its clauses in theirs, else of its proofs. It is never `NotLatch`: that
+/// the clauses are over the latches is asked where they are made, by `clause_from_aiger`.
 pub fn check_entry(alloc: Global, c: &Circuit, list: &[Listed], e: &Entry) -> Result<(), EntryEnd>
-    requires over { AreOver (length c.now.latches) e.now.set }
-    requires count { length e.now.proofs ≡ length e.now.set }
-    ensures proved { GivesExactlyWhere (Err EntryEnd.Memory) (Ok tt)
+    requires { length e.now.proofs ≡ length e.now.set }
+    ensures proved { AreOver (length c.now.latches) e.now.set → GivesExactlyWhere (Err EntryEnd.Memory) (Ok tt)
         (IsProved c.now (entries_of list.now) (said e.now) e.now.proofs) result }
     ensures fault { Tells result (verdict (first_fault c.now (entries_of list.now) (said e.now) e.now.proofs)) }
 {

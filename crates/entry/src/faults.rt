@@ -21,6 +21,17 @@ pub enum EntryFault {
     Proof(u64, u64, LratFault),
 }
 
+/// What is wrong with a refutation. Proof lines are counted from 0.
+#[derive(Clone, Copy, Debug, PartialEq, Eq, Error)]
+pub enum RefutationFault {
+    /// The first use that may not stand where it does is of the entry with this number.
+    #[error("the use of entry {0} may not stand there")]
+    BadUse(u32),
+    /// The proof has this fault at this line. `Unfinished` carries the number of its lines.
+    #[error("the proof is refused at line {0}: {1}")]
+    Proof(u64, LratFault),
+}
+
 /// Why an entry was not accepted: its first fault, or want of memory.
 #[derive(Clone, Copy, Debug, PartialEq, Eq, Error)]
 pub enum EntryEnd {

@@ -1,6 +1,6 @@
 //! What proved entries and good refutations mean. Each call does nothing; its contract is the law.
 
-ghost use Rattle.entry.specs.Laws.{FaultlessIsProved, FaultlessIsGood, ProvedIsValid, RefutedAllowsNone, RefutedHasNoLasso};
+ghost use Rattle.entry.specs.Laws.{FaultlessIsProved, FaultlessIsGood, ProvedIsValid, GoodListsGrow, RefutedAllowsNone, RefutedHasNoLasso};
 
 use circuit::Circuit;
 use cnf_unroll::{obligations_tell, skeleton_clauses_tell};
@@ -14,6 +14,13 @@ pub fn faultless_is_proved(c: &Circuit)
 /// An entry that is proved behind valid entries is valid.
 pub fn proved_entries_are_valid(c: &Circuit)
     ensures { ProvedIsValid c.now }
+{
+    obligations_tell(c);
+}
+
+/// No entries are good, and with an entry that is proved behind them good entries stay good.
+pub fn good_lists_grow(c: &Circuit)
+    ensures { GoodListsGrow c.now }
 {
     obligations_tell(c);
 }
