@@ -1,0 +1,8 @@
+pub mod Latches
+pub mod Closed
+pub mod Readable
+pub mod Valid
+pub mod ProofFaults
+pub mod Faultless
+pub mod Verdicts
+pub mod Present

@@ -1,0 +1,10 @@
+pub mod Proved
+pub mod Listing
+pub mod Judging
+pub mod Faults
+pub mod Clauses
+pub mod Answers
+pub mod Resets
+pub mod Entries
+pub mod Laws
+pub mod Refutations

@@ -1,0 +1,64 @@
+//! What is wrong with an entry or a refutation. The main types are `EntryFault` and `EntryEnd`.
+
+use proof_semantics::LratFault;
+use std::alloc::{AllocError, AllocFailed};
+use thiserror::Error;
+
+/// What is wrong with an entry. Entries, clauses and proof lines are counted from 0.
+#[derive(Clone, Copy, Debug, PartialEq, Eq, Error)]
+pub enum EntryFault {
+    /// The first use that may not stand where it does is of the entry with this number.
+    #[error("the use of entry {0} may not stand there")]
+    BadUse(u32),
+    /// This literal of the model is no latch's.
+    #[error("literal {0} is no latch's")]
+    NotLatch(u64),
+    /// This clause of a reach entry holds no literal of the initial cube.
+    #[error("clause {0} holds no literal of the initial cube")]
+    Base(u64),
+    /// The proof of this clause has this fault at this line. `Unfinished` carries the number of its lines.
+    #[error("the proof of clause {0} is refused at line {1}: {2}")]
+    Proof(u64, u64, LratFault),
+}
+
+/// What is wrong with a refutation. Proof lines are counted from 0.
+#[derive(Clone, Copy, Debug, PartialEq, Eq, Error)]
+pub enum RefutationFault {
+    /// The first use that may not stand where it does is of the entry with this number.
+    #[error("the use of entry {0} may not stand there")]
+    BadUse(u32),
+    /// The proof has this fault at this line. `Unfinished` carries the number of its lines.
+    #[error("the proof is refused at line {0}: {1}")]
+    Proof(u64, LratFault),
+}
+
+/// Why an entry was not accepted: its first fault, or want of memory.
+#[derive(Clone, Copy, Debug, PartialEq, Eq, Error)]
+pub enum EntryEnd {
+    #[error(transparent)]
+    Fault(EntryFault),
+    #[error("memory was refused")]
+    Memory,
+}
+
+impl From<AllocError> for EntryEnd {
+    ghost use Rattle.std.specs.Prelude.{◌≡◌};
+    ghost use Rattle.entry.specs.declared.faults.EntryEnd.TheVariants.{Memory};
+
+    ghost from_gives = { λ _ end. end ≡ Memory };
+
+    fn from(_error: AllocError) -> EntryEnd {
+        EntryEnd::Memory
+    }
+}
+
+impl<T: Drop> From<AllocFailed<T>> for EntryEnd {
+    ghost use Rattle.std.specs.Prelude.{◌≡◌};
+    ghost use Rattle.entry.specs.declared.faults.EntryEnd.TheVariants.{Memory};
+
+    ghost from_gives = { λ _ end. end ≡ Memory };
+
+    fn from(_error: AllocFailed<T>) -> EntryEnd {
+        EntryEnd::Memory
+    }
+}

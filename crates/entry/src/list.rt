@@ -1,0 +1,41 @@
+//! Entries as a list keeps them, without proofs. The main type is `Listed`.
+
+ghost use Rattle.std.specs.Prelude.{◌≡◌, ◌<◌, length, All, IfOk};
+ghost use Rattle.fair_semantics.specs.Entries.{used_entries};
+ghost use Rattle.cnf_unroll.specs.Lending.{lent_all};
+ghost use Rattle.entry.specs.Listing.{entries_of};
+
+use cnf_unroll::{ClauseSet, Used};
+use fair_semantics::{Kind, Use};
+use items::Items;
+use std::alloc::{AllocError, Global};
+
+/// An entry as a list of entries keeps it: its kind, its clauses over latch numbers, and its uses of entries before it.
+#[derive(Debug, Drop)]
+pub struct Listed {
+    pub kind: Kind,
+    pub set: ClauseSet,
+    pub uses: Items<Use>,
+}
+
+/// The entries that these uses name, each of which is there. The error is want of memory.
+pub fn used<'a>(
+    alloc: Global,
+    list: &'a [Listed],
+    uses: &[Use],
+) -> Result<Items<Used<'a>>, AllocError>
+    requires { All (λ u. u.entry < length list.now) uses.now }
+    ensures { IfOk result (λ us. lent_all us ≡ used_entries (entries_of list.now) uses.now) }
+{
+    let mut found = Items::new(alloc);
+    for u in uses {
+        let entry = &list[u.entry as usize];
+        found.push(Used {
+            number: u.entry,
+            kind: entry.kind,
+            set: &entry.set,
+            uses: entry.uses.as_slice(),
+        })?;
+    }
+    Ok(found)
+}
