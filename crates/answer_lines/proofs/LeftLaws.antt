@@ -1,0 +1,134 @@
+-- The lines of what is left of a text.
+use Rattle.std.proofs.Common.{◌≡◌, ◌≢◌, ℕ, zero, suc, ◌+◌, ◌-◌, ◌≤◌, Bool, true, false, List, [], ◌∷◌, ◌++◌, length, take, drop, refl, ap, sym, subst, ◌∙◌, arith, append_assoc, length-append, length-take}
+use Rattle.std.proofs.lemmas.List.{length-drop, take-append-drop, drop-take, drop_all, get_or_append_left}
+use Rattle.std.proofs.Math.Seq.{take-append-add, get_or-append-add}
+use Rattle.std.specs.Prelude.{IsTrue, IsFalse}
+use Rattle.std.proofs.lemmas.List.Elements.{All-append, All-head}
+use Rattle.std.proofs.lemmas.Grind.{common_steps}
+use Rattle.edge.specs.Reads.{GivesBytes}
+use Rattle.text_grammar.specs.Pieces.{Lacks}
+use Rattle.text_grammar.specs.Lines.{IsLine, lines_of}
+use Rattle.text_grammar.proofs.LineLaws.{last_line}
+use Rattle.answer_lines.specs.LinesOf.{front_of, rest_of}
+use Rattle.answer_lines.specs.Left.{Reading, left_of, given_line, most_bytes, IsTooLong, SameLeft}
+
+-- as much is given and the same is in hand, so the same is left
+pub same_left : (old new : Reading) (text : List ℕ) → SameLeft old new → left_of new text ≡ left_of old text
+same_left old new text same =
+    ap (λ (ahead : List ℕ). ahead ++ drop (new.taken + length ahead) text) same.ahead
+    ∙ ap (λ (taken : ℕ). old.ahead ++ drop (taken + length old.ahead) text) same.taken
+
+drop_drop : (a b : ℕ) (bytes : List ℕ) → drop b (drop a bytes) ≡ drop (a + b) bytes
+drop_drop zero b bytes =
+    let e : b ≡ 0 + b = omega arith in
+    ap (λ (k : ℕ). drop k bytes) e
+drop_drop (suc a) b [] = drop_all b [] (omega arith) ∙ sym (drop_all (suc a + b) [] (omega arith))
+drop_drop (suc a) b (byte ∷ bytes) =
+    let e : suc (a + b) ≡ suc a + b = omega arith in
+    drop_drop a b bytes ∙ ap (λ (k : ℕ). drop k (byte ∷ bytes)) e
+
+lacks_front : (front rest : List ℕ) → Lacks (front ++ rest) 10 → Lacks front 10
+lacks_front front rest lacks = λ k d below. subst (λ (b : ℕ). b ≢ 10) (get_or_append_left front rest d k below) (lacks k d (omega (arith, length-append front rest, below)))
+
+lacks_rest : (front rest : List ℕ) → Lacks (front ++ rest) 10 → Lacks rest 10
+lacks_rest front rest lacks = λ k d below. subst (λ (b : ℕ). b ≢ 10) (get_or-append-add front rest k d) (lacks (length front + k) d (omega (arith, length-append front rest, below)))
+
+-- of a text from a place on, the first n bytes and the others
+rest_next : (text : List ℕ) (place n : ℕ) → take n (drop place text) ++ drop (place + n) text ≡ drop place text
+rest_next text place n =
+    ap (λ (rest : List ℕ). take n (drop place text) ++ rest) (sym (drop_drop place n text)) ∙ take-append-drop n (drop place text)
+
+-- what a read gave is in hand behind what was there
+pub left_next : (text ahead buffer : List ℕ) (place n : ℕ) → length ahead ≤ place → GivesBytes text place n buffer → (ahead ++ take n buffer) ++ drop ((place + n - length (ahead ++ take n buffer)) + length (ahead ++ take n buffer)) text ≡ ahead ++ drop ((place - length ahead) + length ahead) text
+left_next text ahead buffer place n held gives =
+    let size : (place + n - length (ahead ++ take n buffer)) + length (ahead ++ take n buffer) ≡ place + n = omega (arith, held, gives.left, ap length gives.given, length-append {A = ℕ}, length-take {A = ℕ}, length-drop {A = ℕ}) in
+    let before : (place - length ahead) + length ahead ≡ place = omega (arith, held) in
+    ap (λ (k : ℕ). (ahead ++ take n buffer) ++ drop k text) size
+    ∙ append_assoc ahead (take n buffer) (drop (place + n) text)
+    ∙ ap (λ (front : List ℕ). ahead ++ (front ++ drop (place + n) text)) gives.given
+    ∙ ap (λ (rest : List ℕ). ahead ++ rest) (rest_next text place n)
+    ∙ ap (λ (k : ℕ). ahead ++ drop k text) (sym before)
+
+-- a line that the rest of a piece ends
+pub front_line : (front rest : List ℕ) (n : ℕ) → Lacks front 10 → IsLine (take n rest) rest (drop (n + 1) rest) → IsLine (front ++ take n rest) (front ++ rest) (drop (n + 1) rest)
+front_line front rest n lacks line = record {
+  spelled = ap (λ (bytes : List ℕ). front ++ bytes) line.spelled ∙ sym (append_assoc front (take n rest) (10 ∷ drop (n + 1) rest));
+  first = All-append (λ b. b ≢ 10) front (take n rest) lacks line.first;
+}
+
+-- what follows the first bytes of the rest of a piece
+pub rest_behind : (piece : List ℕ) (start end k : ℕ) → k ≤ end - start → drop k (take (end - start) (drop start piece)) ≡ take (end - (start + k)) (drop (start + k) piece)
+rest_behind piece start end k inside =
+    let e : end - start ≡ k + (end - (start + k)) = omega (arith, inside) in
+    ap (λ (j : ℕ). drop k (take j (drop start piece))) e
+    ∙ drop-take k (end - (start + k)) (drop start piece)
+    ∙ ap (take (end - (start + k))) (drop_drop start k piece)
+
+-- the line that was found in the rest of a piece
+pub cut_found : (front line rest piece : List ℕ) (start end n : ℕ) → line ≡ front ++ take n rest → rest ≡ rest_of piece start end → Lacks front 10 → IsLine (take n rest) rest (drop (n + 1) rest) → IsLine line (front ++ rest_of piece start end) (rest_of piece (start + (n + 1)) end)
+cut_found front line rest piece start end n is_line is_rest lacks found =
+    let inside : n + 1 ≤ end - start = omega (arith, ap length found.spelled, ap length is_rest, length-append {A = ℕ}, length-take {A = ℕ}, length-drop {A = ℕ}) in
+    let behind : drop (n + 1) rest ≡ rest_of piece (start + (n + 1)) end = ap (drop (n + 1)) is_rest ∙ rest_behind piece start end (n + 1) inside in
+    subst (λ (bytes : List ℕ). IsLine bytes (front ++ rest_of piece start end) (rest_of piece (start + (n + 1)) end)) (sym is_line)
+    (subst (λ (bytes : List ℕ). IsLine (front ++ take n rest) (front ++ bytes) (rest_of piece (start + (n + 1)) end)) is_rest
+    (subst (λ (bytes : List ℕ). IsLine (front ++ take n rest) (front ++ rest) bytes) behind (front_line front rest n lacks found)))
+
+-- the same as a reader keeps it
+pub read_left : (given : Bool) (line text ahead buffer : List ℕ) (place n : ℕ) → given ≡ false → line ≡ ahead → length ahead ≤ place → GivesBytes text place n buffer → (front_of given line ++ rest_of buffer 0 n) ++ drop ((place + n - length (front_of given line ++ rest_of buffer 0 n)) + length (front_of given line ++ rest_of buffer 0 n)) text ≡ ahead ++ drop ((place - length ahead) + length ahead) text
+read_left given line text ahead buffer place n not_given is_line held gives =
+    let front : front_of given line ≡ ahead = ap (λ (g : Bool). front_of g line) not_given ∙ is_line in
+    let rest : rest_of buffer 0 n ≡ take n buffer = grind (arith, common_steps) in
+    let bytes : front_of given line ++ rest_of buffer 0 n ≡ ahead ++ take n buffer = ap (λ (f : List ℕ). f ++ rest_of buffer 0 n) front ∙ ap (λ (r : List ℕ). ahead ++ r) rest in
+    ap (λ (b : List ℕ). b ++ drop ((place + n - length b) + length b) text) bytes ∙ left_next text ahead buffer place n held gives
+
+-- a line that is in hand is the first of what is left
+pub line_left : (old new : Reading) (text : List ℕ) → IsLine new.line old.ahead new.ahead → new.taken ≡ old.taken + length new.line + 1 → IsLine new.line (left_of old text) (left_of new text)
+line_left old new text line taken =
+    let size : old.taken + length old.ahead ≡ new.taken + length new.ahead = omega (arith, taken, ap length line.spelled, length-append {A = ℕ}) in
+    record {
+      spelled =
+          ap (λ (k : ℕ). old.ahead ++ drop k text) size
+          ∙ ap (λ (bytes : List ℕ). bytes ++ drop (new.taken + length new.ahead) text) line.spelled
+          ∙ append_assoc new.line (10 ∷ new.ahead) (drop (new.taken + length new.ahead) text);
+      first = line.first;
+    }
+
+-- bytes in front of a text that is too long
+front_lacks : (room : ℕ) (ahead rest : List ℕ) → length ahead ≤ room → IsTooLong room (ahead ++ rest) → Lacks ahead 10
+front_lacks room ahead rest within long =
+    let e : room ≡ length ahead + (room - length ahead) = omega (arith, within) in
+    let cut : take room (ahead ++ rest) ≡ ahead ++ take (room - length ahead) rest = ap (λ (k : ℕ). take k (ahead ++ rest)) e ∙ take-append-add ahead rest (room - length ahead) in
+    lacks_front ahead (take (room - length ahead) rest) (subst (λ (bytes : List ℕ). Lacks bytes 10) cut long.unended)
+
+-- a line in hand is not too long
+pub line_within : (old new : Reading) (text : List ℕ) → IsLine new.line old.ahead new.ahead → new.taken ≡ old.taken + length new.line + 1 → new.taken + length new.ahead ≤ most_bytes → IsTooLong (most_bytes - old.taken) (left_of old text) → ⊥
+line_within old new text line taken most long =
+    let room : length old.ahead ≤ most_bytes - old.taken = omega (arith, taken, most, ap length line.spelled, length-append {A = ℕ}) in
+    let lacks = front_lacks (most_bytes - old.taken) old.ahead (drop (old.taken + length old.ahead) text) room long in
+    let behind = lacks_rest new.line (10 ∷ new.ahead) (subst (λ (bytes : List ℕ). Lacks bytes 10) line.spelled lacks) in
+    All-head (λ b. b ≢ 10) 10 new.ahead behind refl
+
+-- the same is left, so the same is too long
+pub same_too_long : (old new : Reading) (text : List ℕ) → new.taken ≡ old.taken → left_of new text ≡ left_of old text → IsTooLong (most_bytes - old.taken) (left_of old text) → IsTooLong (most_bytes - new.taken) (left_of new text)
+same_too_long old new text taken left long =
+    subst (λ (n : ℕ). IsTooLong (most_bytes - n) (left_of new text)) (sym taken)
+    (subst (λ (bytes : List ℕ). IsTooLong (most_bytes - old.taken) bytes) (sym left) long)
+
+-- all that was in hand at the end is given
+pub end_left : (old new : Reading) (text : List ℕ) → left_of old text ≡ old.ahead → new.ahead ≡ [] → new.taken ≡ old.taken + length old.ahead → left_of new text ≡ []
+end_left old new text ended none taken =
+    let size : length (drop (old.taken + length old.ahead) text) ≡ 0 = omega (arith, ap length ended, length-append {A = ℕ}) in
+    let gone : drop (old.taken + length old.ahead) text ≡ [] = grind (arith, common_steps) in
+    let place : new.taken + 0 ≡ old.taken + length old.ahead = omega (arith, taken) in
+    ap (λ (ahead : List ℕ). ahead ++ drop (new.taken + length ahead) text) none
+    ∙ ap (λ (taken : ℕ). drop taken text) place
+    ∙ gone
+
+-- the last line, which no line feed ends, or the text's end
+pub end_lines : (given : Bool) (old new : Reading) (text : List ℕ) → Lacks old.ahead 10 → left_of old text ≡ old.ahead → (IsTrue given → new.line ≡ old.ahead) → (IsTrue given → old.ahead ≢ []) → (IsFalse given → old.ahead ≡ []) → new.ahead ≡ [] → new.taken ≡ old.taken + length old.ahead → lines_of (left_of old text) ≡ given_line given new.line ++ lines_of (left_of new text)
+end_lines true old new text lacks ended line some none ahead taken =
+    ap lines_of ended ∙ last_line old.ahead lacks (some refl)
+    ∙ ap (λ (bytes : List ℕ). bytes ∷ []) (sym (line refl))
+    ∙ ap (λ (bytes : List ℕ). new.line ∷ lines_of bytes) (sym (end_left old new text ended ahead taken))
+end_lines false old new text lacks ended line some none ahead taken =
+    ap lines_of (ended ∙ none refl ∙ sym (end_left old new text ended ahead taken))

@@ -1,0 +1,65 @@
+use Rattle.std.proofs.Common.{rules, ◌≡◌, ◌∙◌, ℕ, Bool, false, List, Some, ap, sym, subst, arith}
+use Rattle.std.specs.Prelude.{IsTrue, IsFalse}
+use Rattle.edge.specs.Reads.{Reads}
+use Rattle.text_grammar.specs.Lines.{lines_of}
+use Rattle.text_grammar.specs.Pieces.{Lacks}
+use Rattle.text_grammar.proofs.LineLaws.{first_line}
+use Rattle.answer_lines.specs.Left.{left_of, SameLeft, has_failed}
+use Rattle.answer_lines.proofs.LeftLaws.{same_left, line_left, line_within, same_too_long, end_lines}
+use Rattle.answer_lines.proofs.ReadLaws.{reads_after}
+use Rattle.answer_lines.proofs.lines.Lines.next.Goals as goal
+
+pub returns-in_err-read_on-clause-reads : goal.returns-in_err-read_on-clause-reads
+returns-in_err-read_on-clause-reads g c =
+    reads_after g.H.Shelf.reads c.args.name.now (has_failed c.from_residual-in_err-read_on.result) c.args.shelf.now c.loop-self.shelf c.read_on.new.shelf c.loop-self.invariant.reads
+    (subst (λ (failed : Bool). Reads g.H.Shelf.reads c.args.name.now failed c.loop-self.shelf c.read_on.new.shelf) (search rules) c.in_err-read_on.ensures.reads)
+
+pub returns-in_err-end_line-clause-reads : goal.returns-in_err-end_line-clause-reads
+returns-in_err-end_line-clause-reads g c =
+    let memory : false ≡ has_failed c.from_residual-in_err-end_line.result = search rules in
+    subst (λ (failed : Bool). Reads g.H.Shelf.reads c.args.name.now failed c.args.shelf.now c.read_on.new.shelf) memory
+    (reads_after g.H.Shelf.reads c.args.name.now false c.args.shelf.now c.loop-self.shelf c.read_on.new.shelf c.loop-self.invariant.reads c.in_ok-read_on.ensures.reads)
+
+pub returns-then-not-branch-2-clause-line : goal.returns-then-not-branch-2-clause-line
+returns-then-not-branch-2-clause-line g c x told =
+    let held : g.H.Shelf.held c.loop-self.shelf c.args.name.now ≡ Some x = c.loop-self.invariant.kept c.args.name.now ∙ told in
+    let none : IsFalse c.in_ok-cut.field-0 = search rules in
+    let ended : IsFalse c.in_ok-read_on.field-0 = search rules in
+    let same : SameLeft c.loop-self.self c.cut.new.self = c.in_ok-cut.ensures.same none in
+    let ahead : c.read_on.new.self.ahead ≡ c.cut.new.self.ahead = c.in_ok-read_on.ensures.same ended in
+    let left : left_of c.read_on.new.self x ≡ left_of c.cut.new.self x = c.in_ok-read_on.ensures.left x held in
+    let lacks : Lacks c.read_on.new.self.ahead 10 = subst (λ (bytes : List ℕ). Lacks bytes 10) (sym (ahead ∙ same.ahead)) (c.in_ok-cut.ensures.none none) in
+    ap lines_of (sym (left ∙ same_left c.loop-self.self c.cut.new.self x same ∙ c.loop-self.invariant.left x told))
+    ∙ end_lines c.in_ok-end_line.field-0 c.read_on.new.self c.end_line.new.self x lacks (left ∙ c.in_ok-read_on.ensures.end ended x held ∙ sym ahead)
+    c.in_ok-end_line.ensures.line c.in_ok-end_line.ensures.some c.in_ok-end_line.ensures.none c.in_ok-end_line.ensures.ahead c.in_ok-end_line.ensures.taken
+
+pub returns-then-not-branch-2-clause-reads : goal.returns-then-not-branch-2-clause-reads
+returns-then-not-branch-2-clause-reads g c =
+    reads_after g.H.Shelf.reads c.args.name.now false c.args.shelf.now c.loop-self.shelf c.read_on.new.shelf c.loop-self.invariant.reads c.in_ok-read_on.ensures.reads
+
+pub loop-self-preserved : goal.loop-self-preserved
+loop-self-preserved g c =
+    let none : IsFalse c.in_ok-cut.field-0 = search rules in
+    let same : SameLeft c.loop-self.self c.cut.new.self = c.in_ok-cut.ensures.same none in
+    record {
+      taken = c.in_ok-read_on.ensures.taken ∙ same.taken ∙ c.loop-self.invariant.taken;
+      left = λ x told.
+          let held : g.H.Shelf.held c.loop-self.shelf c.args.name.now ≡ Some x = c.loop-self.invariant.kept c.args.name.now ∙ told in
+          c.in_ok-read_on.ensures.left x held ∙ same_left c.loop-self.self c.cut.new.self x same ∙ c.loop-self.invariant.left x told;
+      counts = λ name. omega (arith, c.loop-self.invariant.counts name, c.in_ok-read_on.ensures.counts name);
+      kept = λ name. c.in_ok-read_on.ensures.kept name ∙ c.loop-self.invariant.kept name;
+      reads = reads_after g.H.Shelf.reads c.args.name.now false c.args.shelf.now c.loop-self.shelf c.read_on.new.shelf c.loop-self.invariant.reads c.in_ok-read_on.ensures.reads;
+    }
+
+pub returns-clause-line : goal.returns-clause-line
+returns-clause-line g c x told =
+    let found : IsTrue c.in_ok-cut.field-0 = search rules in
+    ap lines_of (sym (c.loop-self.invariant.left x told))
+    ∙ first_line c.cut.new.self.line (left_of c.loop-self.self x) (left_of c.cut.new.self x)
+    (line_left c.loop-self.self c.cut.new.self x (c.in_ok-cut.ensures.found found) (c.in_ok-cut.ensures.taken found))
+
+pub returns-clause-within : goal.returns-clause-within
+returns-clause-within g c x told long =
+    let found : IsTrue c.in_ok-cut.field-0 = search rules in
+    line_within c.loop-self.self c.cut.new.self x (c.in_ok-cut.ensures.found found) (c.in_ok-cut.ensures.taken found) c.in_ok-cut.ensures.most
+    (same_too_long c.args.self.now c.loop-self.self x c.loop-self.invariant.taken (c.loop-self.invariant.left x told) long)

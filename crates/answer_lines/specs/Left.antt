@@ -1,0 +1,54 @@
+-- What is left of a text whose lines are given one by one.
+use Rattle.std.specs.Prelude.{◌≡◌, ℕ, ◌+◌, ◌-◌, ◌^◌, ◌<◌, Bool, true, false, List, [], ◌∷◌, ◌++◌, Option, Result, Ok, Err, length, take, drop}
+use Rattle.edge.specs.Told.{IfTold}
+use Rattle.text_grammar.specs.Pieces.{Lacks}
+use Rattle.answer_lines.specs.declared.ends.LinesEnd.{LinesEnd}
+use Rattle.answer_lines.specs.declared.ends.LinesEnd.TheVariants as ends
+
+-- where the reading of lines stands
+pub record Reading : Type 0 where
+  -- the line that was given last
+  pub line : List ℕ
+  -- how many bytes the given lines have, with their line feeds
+  pub taken : ℕ
+  -- the bytes behind them that are in hand
+  pub ahead : List ℕ
+
+-- before the first line
+abbrev pub at_start : Reading
+at_start = record { line = []; taken = 0; ahead = [] }
+
+-- the bytes of a text that were not given: those in hand, and those that were not read
+abbrev pub left_of : Reading → List ℕ → List ℕ
+left_of reading text = reading.ahead ++ drop (reading.taken + length reading.ahead) text
+
+-- as much is given, and the same is in hand
+pub record SameLeft (old new : Reading) : Type 0 where
+  pub taken : new.taken ≡ old.taken
+  pub ahead : new.ahead ≡ old.ahead
+
+-- as much is given as before, and the same is left of the text, where that is told
+pub record StaysLeft (told : Option (List ℕ)) (old new : Reading) : Type 0 where
+  pub taken : new.taken ≡ old.taken
+  pub left : IfTold told (λ text. left_of new text ≡ left_of old text)
+
+-- the line, where one was given
+abbrev pub given_line : Bool → List ℕ → List (List ℕ)
+given_line true line = line ∷ []
+given_line false line = []
+
+-- how many bytes of a text may be given
+abbrev pub most_bytes : ℕ
+most_bytes = 2 ^ 63 - 1
+
+-- neither a line feed nor the text's end ends the next line within so many bytes
+pub record IsTooLong (room : ℕ) (left : List ℕ) : Type 0 where
+  pub longer : room < length left
+  pub unended : Lacks (take room left) 10
+
+-- the reading of a line ended with a failed read
+abbrev pub has_failed : {T : Type 0} → Result T LinesEnd → Bool
+has_failed (Ok given) = false
+has_failed (Err ends.ReadFault) = true
+has_failed (Err ends.TooLong) = false
+has_failed (Err ends.Memory) = false
