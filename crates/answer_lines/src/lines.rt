@@ -58,7 +58,7 @@ impl Lines {
         })
     }
 
-    /// The line that was given last, without its line feed. Takes no memory.
+    /// The line that was given last, without its line feed; where the last call gave none, any bytes. Takes no memory.
     pub fn line(&self) -> &[u8]
         ensures { result.now ≡ self.now.line }
     {
@@ -79,6 +79,8 @@ impl Lines {
         ensures size { IfOk result (λ given. IsTrue given → self.old.taken + length self.new.line ≤ self.new.taken) }
         ensures most { self.new.taken ≤ most_bytes }
         ensures plain { IfOk result (λ given. IsTrue given → Lacks self.new.line 10) }
+        // Behind a given line no more than the rest of a piece is in hand.
+        ensures hand { IfOk result (λ given. IsTrue given → length self.new.ahead ≤ 4096) }
         // Too long: exactly where no line ends within the bytes that may be given, but for refused memory and failed reads.
         ensures too_long { IsErrOf result LinesEnd.TooLong → IfTold (H.held shelf.old name.now)
             (λ text. IsTooLong (most_bytes - self.old.taken) (left_of self.old text)) }
@@ -105,6 +107,7 @@ impl Lines {
     fn cut(&mut self) -> Result<bool, AllocError>
         ensures found { IfOk result (λ found. IsTrue found → IsLine self.new.line self.old.ahead self.new.ahead) }
         ensures taken { IfOk result (λ found. IsTrue found → self.new.taken ≡ self.old.taken + length self.new.line + 1) }
+        ensures hand { IfOk result (λ found. IsTrue found → length self.new.ahead ≤ 4096) }
         ensures none { IfOk result (λ found. IsFalse found → Lacks self.old.ahead 10) }
         ensures same { IfOk result (λ found. IsFalse found → SameLeft self.old self.new) }
         ensures refused { OnErr result (SameLeft self.old self.new) }
