@@ -119,7 +119,7 @@ fn counts_the_lines(rt: HostRuntime) -> Result<(), Fail> {
     Ok(())
 }
 
-/// The text is four reads of two bytes or one, and one that finds its end.
+/// The text is four reads of at most two bytes, and one that finds its end.
 #[test]
 fn a_failed_read_loses_nothing(rt: HostRuntime) -> Result<(), Fail> {
     let cases = [(1, ""), (2, ""), (3, "one|"), (4, "one|"), (5, "one|")];

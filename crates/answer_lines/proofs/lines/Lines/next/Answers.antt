@@ -4,7 +4,8 @@ use Rattle.edge.specs.Reads.{Reads}
 use Rattle.text_grammar.specs.Lines.{lines_of}
 use Rattle.text_grammar.specs.Pieces.{Lacks}
 use Rattle.text_grammar.proofs.LineLaws.{first_line}
-use Rattle.answer_lines.specs.Left.{left_of, SameLeft, has_failed}
+use Rattle.answer_lines.specs.LinesOf.{SameLeft}
+use Rattle.answer_lines.specs.Left.{left_of, has_failed}
 use Rattle.answer_lines.proofs.LeftLaws.{same_left, line_left, line_within, same_too_long, end_lines}
 use Rattle.answer_lines.proofs.ReadLaws.{reads_after}
 use Rattle.answer_lines.proofs.lines.Lines.next.Goals as goal
