@@ -100,6 +100,8 @@ impl Lines {
         ensures kept { KeepsTexts (H.held shelf.old) (H.held shelf.new) }
         // Nothing is read but this name, and nothing after a failed read, which is answered.
         ensures reads { Reads H.reads name.now (has_failed result) shelf.old shelf.new }
+        // Nothing is read where the line is in hand.
+        ensures in_hand { ¬ (Lacks self.old.ahead 10) → shelf.new ≡ shelf.old }
     {
         while !self.cut()? {
             if !self.read_on(shelf, name)? {

@@ -49,6 +49,8 @@ loop-self-preserved g c =
           c.in_ok-read_on.ensures.left x held ∙ same_left c.loop-self.self c.cut.new.self x same ∙ c.loop-self.invariant.left x told;
       counts = λ name. omega (arith, c.loop-self.invariant.counts name, c.in_ok-read_on.ensures.counts name);
       kept = λ name. c.in_ok-read_on.ensures.kept name ∙ c.loop-self.invariant.kept name;
+      in_hand = λ some. absurd (some (subst (λ (bytes : List ℕ). Lacks bytes 10) (c.loop-self.invariant.same some) (c.in_ok-cut.ensures.none none)));
+      same = λ some. absurd (some (subst (λ (bytes : List ℕ). Lacks bytes 10) (c.loop-self.invariant.same some) (c.in_ok-cut.ensures.none none)));
       reads = reads_after g.H.Shelf.reads c.args.name.now false c.args.shelf.now c.loop-self.shelf c.read_on.new.shelf c.loop-self.invariant.reads c.in_ok-read_on.ensures.reads;
     }
 
