@@ -9,8 +9,8 @@ use Rattle.edge.specs.Reads.{GivesBytes}
 use Rattle.text_grammar.specs.Pieces.{Lacks}
 use Rattle.text_grammar.specs.Lines.{IsLine, lines_of}
 use Rattle.text_grammar.proofs.LineLaws.{last_line}
-use Rattle.answer_lines.specs.LinesOf.{front_of, rest_of}
-use Rattle.answer_lines.specs.Left.{Reading, left_of, given_line, most_bytes, IsTooLong, SameLeft}
+use Rattle.answer_lines.specs.LinesOf.{SameLeft, front_of, rest_of}
+use Rattle.answer_lines.specs.Left.{Reading, left_of, given_line, most_bytes, IsTooLong}
 
 -- as much is given and the same is in hand, so the same is left
 pub same_left : (old new : Reading) (text : List ℕ) → SameLeft old new → left_of new text ≡ left_of old text

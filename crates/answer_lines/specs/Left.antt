@@ -22,11 +22,6 @@ at_start = record { line = []; taken = 0; ahead = [] }
 abbrev pub left_of : Reading → List ℕ → List ℕ
 left_of reading text = reading.ahead ++ drop (reading.taken + length reading.ahead) text
 
--- as much is given, and the same is in hand
-pub record SameLeft (old new : Reading) : Type 0 where
-  pub taken : new.taken ≡ old.taken
-  pub ahead : new.ahead ≡ old.ahead
-
 -- as much is given as before, and the same is left of the text, where that is told
 pub record StaysLeft (told : Option (List ℕ)) (old new : Reading) : Type 0 where
   pub taken : new.taken ≡ old.taken

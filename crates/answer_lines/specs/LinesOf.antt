@@ -1,4 +1,4 @@
--- Scaffolding: what a reader of lines keeps.
+-- Scaffolding: what a reader of lines keeps, for the clauses of inner functions.
 use Rattle.std.specs.Prelude.{◌≡◌, ℕ, ◌-◌, ◌≤◌, Bool, List, [], ◌++◌, length, take, drop, if◌then◌else◌}
 use Rattle.text_grammar.specs.Pieces.{Lacks}
 use Rattle.answer_lines.specs.Left.{Reading, most_bytes}
@@ -31,3 +31,8 @@ pub record IsKept (s : Inside) : Type 0 where
   pub read : length (ahead_of s) ≤ s.place
   pub within : s.place ≤ most_bytes
   pub front : Lacks (front_of s.given s.line.items) 10
+
+-- as much is given, and the same is in hand
+pub record SameLeft (old new : Reading) : Type 0 where
+  pub taken : new.taken ≡ old.taken
+  pub ahead : new.ahead ≡ old.ahead

@@ -10,7 +10,8 @@ pub enum LinesEnd {
     /// A read failed. The shelf has counted it.
     #[error("a read failed")]
     ReadFault,
-    /// Neither a line feed nor the text's end ends the line within the first 9,223,372,036,854,775,807 bytes of the text.
+    /// Neither a line feed nor the text's end ends the line within the first 9,223,372,036,854,775,807 bytes of the
+    /// text.
     #[error("the text is too long")]
     TooLong,
     /// Memory ran out.

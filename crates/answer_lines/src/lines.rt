@@ -1,11 +1,12 @@
 //! The lines of a text, one by one. The main call is `Lines::next`.
-ghost use Rattle.std.specs.Prelude.{◌≡◌, ◌≢◌, ◌↔◌, ℕ, ◌+◌, ◌-◌, ◌<◌, ◌≤◌, [], ◌++◌, length, IfOk, OnErr, IsErrOf, IsTrue, IsFalse, is_err};
+ghost use Rattle.std.specs.Prelude.{◌≡◌, ◌≢◌, ◌↔◌, ◌+◌, ◌-◌, ◌<◌, ◌≤◌, [], ◌++◌, length, IfOk, OnErr, IsErrOf, IsTrue, IsFalse};
 ghost use Rattle.edge.specs.Faults.{Rose, NoneFell};
 ghost use Rattle.edge.specs.Told.{IfTold};
-ghost use Rattle.edge.specs.Reads.{GivesBytes, KeepsTexts, Reads};
+ghost use Rattle.edge.specs.Reads.{KeepsTexts, Reads};
 ghost use Rattle.text_grammar.specs.Lines.{IsLine, lines_of};
 ghost use Rattle.text_grammar.specs.Pieces.{Lacks};
-ghost use Rattle.answer_lines.specs.Left.{at_start, left_of, given_line, most_bytes, IsTooLong, SameLeft, StaysLeft, has_failed};
+ghost use Rattle.answer_lines.specs.Left.{at_start, left_of, given_line, most_bytes, IsTooLong, StaysLeft, has_failed};
+ghost use Rattle.answer_lines.specs.LinesOf.{SameLeft};
 
 use crate::ends::LinesEnd;
 use crate::pieces::{PIECE, add_front, forget, hold, read_piece, zeros};
@@ -58,7 +59,7 @@ impl Lines {
         })
     }
 
-    /// The line that was given last, without its line feed. Takes no memory.
+    /// The line that was given last, without its line feed; where the last call gave none, any bytes. Takes no memory.
     pub fn line(&self) -> &[u8]
         ensures { result.now ≡ self.now.line }
     {
@@ -66,11 +67,13 @@ impl Lines {
     }
 
     /// Reads the next line of the text of a name, and says whether there was one: none means the end of the text. A
-    /// line feed that is missing at the very end of the text is read as there. Reads pieces of at most 4,096 bytes.
+    /// line feed that is missing at the very end of the text is read as there. Reads pieces of at most 4,096 bytes, and
+    /// none where the line is in hand. The shelf and the name are meant to be the same at each call.
     pub fn next<H: Shelf>(&mut self, shelf: &mut H, name: &str) -> Result<bool, LinesEnd>
         // The line and those of what is left now are the lines of what was left.
         ensures line { IfOk result (λ given. IfTold (H.held shelf.old name.now)
-            (λ text. lines_of (left_of self.old text) ≡ given_line given self.new.line ++ lines_of (left_of self.new text))) }
+            (λ text. lines_of (left_of self.old text)
+            ≡ given_line given self.new.line ++ lines_of (left_of self.new text))) }
         // None is given exactly at the end of the text.
         ensures end { IfOk result (λ given. IfTold (H.held shelf.old name.now)
             (λ text. IsFalse given ↔ (left_of self.old text ≡ []))) }
@@ -78,20 +81,27 @@ impl Lines {
         ensures later { IfOk result (λ given. IsTrue given → self.old.taken < self.new.taken) }
         ensures size { IfOk result (λ given. IsTrue given → self.old.taken + length self.new.line ≤ self.new.taken) }
         ensures most { self.new.taken ≤ most_bytes }
+        // No line has a line feed, also where the text is not told.
         ensures plain { IfOk result (λ given. IsTrue given → Lacks self.new.line 10) }
-        // Too long: exactly where no line ends within the bytes that may be given, but for refused memory and failed reads.
+        // Behind a given line no more than the rest of a piece is in hand.
+        ensures hand { IfOk result (λ given. IsTrue given → length self.new.ahead ≤ 4096) }
+        // Too long exactly where no line ends within the bytes that may be given, refused memory and failed reads aside.
         ensures too_long { IsErrOf result LinesEnd.TooLong → IfTold (H.held shelf.old name.now)
             (λ text. IsTooLong (most_bytes - self.old.taken) (left_of self.old text)) }
         ensures within { IfOk result (λ _. IfTold (H.held shelf.old name.now)
             (λ text. ¬ (IsTooLong (most_bytes - self.old.taken) (left_of self.old text)))) }
         // Where no line is given, what is left stays.
         ensures stays { OnErr result (StaysLeft (H.held shelf.old name.now) self.old self.new) }
-        ensures stays_end { IfOk result (λ given. IsFalse given → StaysLeft (H.held shelf.old name.now) self.old self.new) }
-        ensures failed { IsErrOf result LinesEnd.ReadFault → Rose (H.faults shelf.old name.now) (H.faults shelf.new name.now) }
+        ensures stays_end { IfOk result (λ given. IsFalse given
+            → StaysLeft (H.held shelf.old name.now) self.old self.new) }
+        ensures failed { IsErrOf result LinesEnd.ReadFault
+            → Rose (H.faults shelf.old name.now) (H.faults shelf.new name.now) }
         ensures counts { NoneFell (H.faults shelf.old) (H.faults shelf.new) }
         ensures kept { KeepsTexts (H.held shelf.old) (H.held shelf.new) }
         // Nothing is read but this name, and nothing after a failed read, which is answered.
         ensures reads { Reads H.reads name.now (has_failed result) shelf.old shelf.new }
+        // Nothing is read where the line is in hand.
+        ensures in_hand { ¬ (Lacks self.old.ahead 10) → shelf.new ≡ shelf.old }
     {
         while !self.cut()? {
             if !self.read_on(shelf, name)? {
@@ -105,6 +115,7 @@ impl Lines {
     fn cut(&mut self) -> Result<bool, AllocError>
         ensures found { IfOk result (λ found. IsTrue found → IsLine self.new.line self.old.ahead self.new.ahead) }
         ensures taken { IfOk result (λ found. IsTrue found → self.new.taken ≡ self.old.taken + length self.new.line + 1) }
+        ensures hand { IfOk result (λ found. IsTrue found → length self.new.ahead ≤ 4096) }
         ensures none { IfOk result (λ found. IsFalse found → Lacks self.old.ahead 10) }
         ensures same { IfOk result (λ found. IsFalse found → SameLeft self.old self.new) }
         ensures refused { OnErr result (SameLeft self.old self.new) }
@@ -133,7 +144,8 @@ impl Lines {
             (λ text. length self.old.ahead < length (left_of self.old text)) }
         ensures full { IsErrOf result LinesEnd.TooLong → self.old.taken + length self.old.ahead ≡ most_bytes }
         ensures most { self.new.taken + length self.new.ahead ≤ most_bytes }
-        ensures failed { IsErrOf result LinesEnd.ReadFault → Rose (H.faults shelf.old name.now) (H.faults shelf.new name.now) }
+        ensures failed { IsErrOf result LinesEnd.ReadFault
+            → Rose (H.faults shelf.old name.now) (H.faults shelf.new name.now) }
         ensures counts { NoneFell (H.faults shelf.old) (H.faults shelf.new) }
         ensures kept { KeepsTexts (H.held shelf.old) (H.held shelf.new) }
         ensures reads { Reads H.reads name.now (has_failed result) shelf.old shelf.new }

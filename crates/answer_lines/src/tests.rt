@@ -1,7 +1,11 @@
 //! The lines of a table of texts, at several numbers of bytes a call.
 
+ghost use Rattle.std.specs.Prelude.{◌≡◌, length, IfOk};
+ghost use Rattle.edge.specs.Told.{IfTold};
+ghost use Rattle.text_grammar.specs.Lines.{lines_of};
+
 use crate::{Lines, LinesEnd};
-use edge::MemShelf;
+use edge::{MemShelf, Shelf};
 use std::alloc::{AllocError, Global};
 use std::test::Fail;
 
@@ -32,6 +36,18 @@ fn barred(alloc: Global, text: &[u8], most: u64) -> Result<Vec<u8>, LinesEnd> {
     add_lines(&mut lines, &mut shelf, &mut given)?;
     add_lines(&mut lines, &mut shelf, &mut given)?;
     Ok(given)
+}
+
+/// How many lines a text has: what a loop over `next` may count on.
+fn count_lines<H: Shelf>(alloc: Global, shelf: &mut H, name: &str) -> Result<u64, LinesEnd>
+    ensures { IfOk result (λ n. IfTold (H.held shelf.old name.now) (λ text. n ≡ length (lines_of text))) }
+{
+    let mut lines = Lines::new(alloc)?;
+    let mut count = 0;
+    'lines: while lines.next(shelf, name)? {
+        count += 1;
+    }
+    Ok(count)
 }
 
 /// Lines of these lengths, with the byte `end` behind each.
@@ -96,7 +112,14 @@ fn gives_lines_across_pieces(rt: HostRuntime) -> Result<(), Fail> {
     Ok(())
 }
 
-/// The text is four reads of two bytes or one, and one that finds its end.
+#[test]
+fn counts_the_lines(rt: HostRuntime) -> Result<(), Fail> {
+    let mut shelf = shelf(rt.alloc(), b"one\n\nthree", 3, &[])?;
+    assert_eq!(rt; count_lines(rt.alloc(), &mut shelf, "answer")?, 3);
+    Ok(())
+}
+
+/// The text is four reads of at most two bytes, and one that finds its end.
 #[test]
 fn a_failed_read_loses_nothing(rt: HostRuntime) -> Result<(), Fail> {
     let cases = [(1, ""), (2, ""), (3, "one|"), (4, "one|"), (5, "one|")];

@@ -4,7 +4,8 @@ use Rattle.edge.specs.Reads.{Reads}
 use Rattle.text_grammar.specs.Lines.{lines_of}
 use Rattle.text_grammar.specs.Pieces.{Lacks}
 use Rattle.text_grammar.proofs.LineLaws.{first_line}
-use Rattle.answer_lines.specs.Left.{left_of, SameLeft, has_failed}
+use Rattle.answer_lines.specs.LinesOf.{SameLeft}
+use Rattle.answer_lines.specs.Left.{left_of, has_failed}
 use Rattle.answer_lines.proofs.LeftLaws.{same_left, line_left, line_within, same_too_long, end_lines}
 use Rattle.answer_lines.proofs.ReadLaws.{reads_after}
 use Rattle.answer_lines.proofs.lines.Lines.next.Goals as goal
@@ -48,6 +49,8 @@ loop-self-preserved g c =
           c.in_ok-read_on.ensures.left x held ∙ same_left c.loop-self.self c.cut.new.self x same ∙ c.loop-self.invariant.left x told;
       counts = λ name. omega (arith, c.loop-self.invariant.counts name, c.in_ok-read_on.ensures.counts name);
       kept = λ name. c.in_ok-read_on.ensures.kept name ∙ c.loop-self.invariant.kept name;
+      in_hand = λ some. absurd (some (subst (λ (bytes : List ℕ). Lacks bytes 10) (c.loop-self.invariant.same some) (c.in_ok-cut.ensures.none none)));
+      same = λ some. absurd (some (subst (λ (bytes : List ℕ). Lacks bytes 10) (c.loop-self.invariant.same some) (c.in_ok-cut.ensures.none none)));
       reads = reads_after g.H.Shelf.reads c.args.name.now false c.args.shelf.now c.loop-self.shelf c.read_on.new.shelf c.loop-self.invariant.reads c.in_ok-read_on.ensures.reads;
     }
 
