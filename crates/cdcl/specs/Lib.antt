@@ -1,7 +1,10 @@
 pub mod Variables
 pub mod Solving
+pub mod Asking
+pub mod Retiring
 pub mod Entries
 pub mod Searching
+pub mod Finding
 pub mod Room
 pub mod Progress
 pub mod Writing
