@@ -63,7 +63,7 @@ listed_model entries assumptions steps values s each =
     model_from entries (added_of entries) assumptions steps (values_of values) refl s (λ a e. each a (true_stands steps a e))
 
 -- The values that the trail gives.
-assigned_model : (entries : Entries) (added : List (List Lit)) (assumptions : List Lit) (steps : List Step) → added ≡ added_of entries
+pub assigned_model : (entries : Entries) (added : List (List Lit)) (assumptions : List Lit) (steps : List Step) → added ≡ added_of entries
     → Satisfies entries.clauses assumptions steps → IsModel added assumptions (assigned (literals_of steps))
 assigned_model entries added assumptions steps same s = model_from entries added assumptions steps (assigned (literals_of steps)) same s (assigned_true steps)
 

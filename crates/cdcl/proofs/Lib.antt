@@ -10,3 +10,4 @@ pub mod WayLaws
 pub mod ConditionLaws
 pub mod AnswerLaws
 pub mod RetiringLaws
+pub mod UnitLaws

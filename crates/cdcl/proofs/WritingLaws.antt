@@ -243,7 +243,7 @@ id_left ids x n e = ap (λ o. unwrap_or o 0) (get_left ids x n e)
 id_last : (ids : List ℕ) (x n : ℕ) → n ≡ length ids → id_of (ids ++ x ∷ []) n ≡ x
 id_last ids x n e = ap (λ o. unwrap_or o 0) (get_last ids x n e)
 
-number_put : (clauses : List (List Lit)) (n : ℕ) (c : List Lit) → (n ≡ 0 → ⊥) → slice_get clauses (n - 1) ≡ Some c → clause_numbered clauses n ≡ Some c
+pub number_put : (clauses : List (List Lit)) (n : ℕ) (c : List Lit) → (n ≡ 0 → ⊥) → slice_get clauses (n - 1) ≡ Some c → clause_numbered clauses n ≡ Some c
 number_put clauses n c above e = cond-false (eqb n 0) None (slice_get clauses (n - 1)) (eqb_apart n 0 above) ∙ e
 
 number_above : (clauses : List (List Lit)) (n : ℕ) (c : List Lit) → clause_numbered clauses n ≡ Some c → n ≡ 0 → ⊥

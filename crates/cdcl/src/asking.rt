@@ -1,11 +1,11 @@
-//! What a solver answers without values or a proof being written. The main types are `Asked` and
-//! `Assignment`.
+//! What a solver answers without values or a proof being written. The main types are `Asked`,
+//! `Refuted` and `Assignment`.
 ghost use Rattle.std.specs.Prelude.{◌≡◌};
 ghost use Rattle.cdcl.specs.Asking.{assigned};
 ghost use Rattle.cdcl_trail.specs.Trails.{literals_of};
 
 use cdcl_trail::Trail;
-use cnf::{Lit, Var};
+use cnf::{Lit, Proof, Var};
 use std::marker::Model;
 
 /// What a solver answers to a question without a proof.
@@ -15,6 +15,15 @@ pub enum Asked {
     Sat(Assignment),
     /// Assumptions that the added clauses refuse together.
     Unsat(Vec<Lit>),
+}
+
+/// What a solver answers of its clauses and unit clauses behind them.
+#[derive(Debug, Drop)]
+pub enum Refuted {
+    /// An assignment that makes all of them true.
+    Sat(Assignment),
+    /// The lines of a proof that refutes them. The units are numbered after the added clauses.
+    Unsat(Proof),
 }
 
 /// Values of all variables, of which each is read for itself. Contracts see the literals that are

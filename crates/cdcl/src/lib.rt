@@ -11,6 +11,7 @@ mod log;
 mod marking;
 mod order;
 mod refusing;
+mod refuting;
 mod restarts;
 mod retiring;
 mod returning;
@@ -21,7 +22,7 @@ mod spelling;
 mod values;
 mod writing;
 
-pub use asking::{Asked, Assignment};
+pub use asking::{Asked, Assignment, Refuted};
 pub use conditions::{are_sized, has_opposites};
 pub use retiring::retired_clauses_change_nothing;
 pub use solver::Solver;

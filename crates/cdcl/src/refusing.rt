@@ -30,6 +30,7 @@ pub(crate) fn refusal(
     let proof = proof_of(
         alloc,
         log,
+        &[],
         traced.clause.as_slice(),
         traced.hints.as_slice(),
     )?;

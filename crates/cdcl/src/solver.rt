@@ -2,13 +2,15 @@
 ghost use Rattle.std.specs.Prelude.{◌≡◌, ◌-◌, [], ◌∷◌, ◌++◌, IfOk, IfErr, OnOk, OnErr, length, false};
 ghost use Rattle.proof_semantics.specs.Lines.{AreSized};
 ghost use Rattle.cdcl.specs.Asking.{IsAsked};
+ghost use Rattle.cdcl.specs.Refuting.{IsRefuted};
 ghost use Rattle.cdcl.specs.Solving.{IsAnswer, IsBounded, IsEnd, Learns, with_conflicts};
 ghost use Rattle.proof_semantics.specs.Clauses.{has_opposites};
 
 use crate::answering::{search_answer, search_asked};
-use crate::asking::Asked;
+use crate::asking::{Asked, Refuted};
 use crate::log::Log;
 use crate::order::Order;
+use crate::refuting::search_refuted;
 use crate::solving::Answer;
 use cnf::{Clause, Lit};
 use edge::{Meter, SolveEnd};
@@ -100,5 +102,25 @@ impl Solver {
         ensures counted { meter.new ≡ with_conflicts meter.old (length self.new.learned - length self.old.learned) }
     {
         search_asked(alloc, &mut self.log, &mut self.order, assumptions, meter)
+    }
+
+    /// Whether the added clauses, and behind them these literals as unit clauses, have a model; and
+    /// where they have none, a proof that refutes just that list. Two units may be opposites, and
+    /// then the proof is one line.
+    pub fn refute(
+        &mut self,
+        alloc: Global,
+        units: &[Lit],
+        meter: &mut Meter,
+    ) -> Result<Refuted, SolveEnd>
+        requires sizes { AreSized units.now }
+        ensures answer { IfOk result (IsRefuted self.old.added units.now) }
+        ensures end { IfErr result (IsEnd meter.new) }
+        ensures added { self.new.added ≡ self.old.added }
+        ensures learned { Learns self.old.added self.old.learned self.new.learned }
+        ensures bounded { IsBounded self.old units.now self.new.learned }
+        ensures counted { meter.new ≡ with_conflicts meter.old (length self.new.learned - length self.old.learned) }
+    {
+        search_refuted(alloc, &mut self.log, &mut self.order, units, meter)
     }
 }
