@@ -150,7 +150,7 @@ get_more [] ys i c e = absurd (none-some c e)
 get_more (x ∷ xs) ys zero c e = e
 get_more (x ∷ xs) ys (suc i) c e = get_more xs ys i c e
 
-numbered_more : (clauses more : List (List Lit)) (n : ℕ) (c : List Lit) → clause_numbered clauses n ≡ Some c → clause_numbered (clauses ++ more) n ≡ Some c
+pub numbered_more : (clauses more : List (List Lit)) (n : ℕ) (c : List Lit) → clause_numbered clauses n ≡ Some c → clause_numbered (clauses ++ more) n ≡ Some c
 numbered_more clauses more n c e =
     elim (either (eqb n 0)) [
       | inl zeroth ↦ absurd (none-some c (sym (cond-true (eqb n 0) None (slice_get clauses (n - 1)) zeroth) ∙ e))

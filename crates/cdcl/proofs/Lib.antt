@@ -8,3 +8,6 @@ pub mod SearchLaws
 pub mod BackLaws
 pub mod WayLaws
 pub mod ConditionLaws
+pub mod AnswerLaws
+pub mod RetiringLaws
+pub mod UnitLaws

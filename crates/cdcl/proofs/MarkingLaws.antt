@@ -135,7 +135,7 @@ closed_more sources before after number source above below is earlier marked clo
 
 -- hints of a clause are within the marks
 pub hints_within : (sources : List (Option (List ℕ))) (needed : List Bool) (number : ℕ) (source : Option (List ℕ)) (hints : List ℕ) → 0 < number → number ≤ length sources
-    → source ≡ get_or sources (number - 1) source → length needed ≡ length sources + 1 → AreBefore sources → source ≡ Some hints
+    → source ≡ get_or sources (number - 1) source → length sources < length needed → AreBefore sources → source ≡ Some hints
     → list_all (λ n. nat_lt n (length needed)) hints ≡ true
 hints_within sources needed number source hints above below is long earlier same =
     wider hints (number - 1) (length needed) (earlier (number - 1) hints (got sources (number - 1) source (omega (arith, above, below)) is ∙ ap (λ o. Some o) same)) (omega (arith, above, below, long))

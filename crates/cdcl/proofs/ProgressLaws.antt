@@ -5,7 +5,7 @@ use Rattle.std.specs.List.{list_any, list_all}
 use Rattle.std.proofs.lemmas.Bool.{false≢true, and_parts, and_from, or_cases, or_left, or_right}
 use Rattle.std.proofs.lemmas.List.{append-nil, length-append}
 use Rattle.std.proofs.lemmas.List.Folds.{list_any-append}
-use Rattle.proof_semantics.specs.Clauses.{has_literal, literal_value, clause_value, clauses_value, IsImplied, values_of, is_subsumed}
+use Rattle.proof_semantics.specs.Clauses.{has_literal, clause_value, clauses_value, IsImplied, is_subsumed}
 use Rattle.proof_semantics.specs.Lines.{IsSize, AreSized}
 use Rattle.proof_semantics.specs.declared.literals.Lit.{Lit}
 use Rattle.proof_semantics.proofs.LiteralLaws.{lit_eq-true, lit_eq-same}
@@ -16,8 +16,8 @@ use Rattle.cdcl_trail.proofs.TrailLaws.{or_both, or_neither}
 use Rattle.cdcl_trail.proofs.PrefixLaws.{all_from}
 use Rattle.cdcl.specs.Entries.{Entries, with_added, with_learned, added_in, learned_in, added_of, learned_of, IsLog}
 use Rattle.cdcl.specs.Room.{room, variables_of, variables_in}
-use Rattle.cdcl.specs.Searching.{is_over, are_over, IsNewClause, AreTrue}
-use Rattle.cdcl.specs.Solving.{Solving, IsModel, IsLearned, AreLearned, Learns, IsBounded, more_conflicts}
+use Rattle.cdcl.specs.Searching.{is_over, are_over, IsNewClause}
+use Rattle.cdcl.specs.Solving.{Solving, IsLearned, AreLearned, Learns, IsBounded, more_conflicts}
 use Rattle.cdcl.specs.Progress.{growth, IsSearched, AreApart, IsKept}
 use Rattle.cdcl.proofs.EntryLaws.{hinted_implied, learned-IsLog}
 use Rattle.cdcl.proofs.RoomLaws.{room_falls, room_small, over_append, all_over, own_over}
@@ -266,11 +266,3 @@ searched_bounded assumptions solver start now earlier later same_added same_lear
     let over_now = learned_all (is_over vars) now.sources now.clauses (searched.less vars over over_too).over in
     let small = apart_small vars [] (learned_of now) kept_now.apart over_now in
     (over_now, omega (arith, small, room_small [] vars []))
-
--- A model of what is held is one of what was added.
-pub model_of : (assumptions : List Lit) (start now : Entries) (values : List Bool) → added_of now ≡ added_of start → clauses_value (values_of values) now.clauses ≡ true
-    → AreTrue values assumptions → IsModel (added_of start) assumptions (values_of values)
-model_of assumptions start now values same holds each = record {
-  clauses = ap (clauses_value (values_of values)) (sym same) ∙ added_all (clause_value (values_of values)) now.sources now.clauses holds;
-  assumed = all_from (literal_value (values_of values)) assumptions each;
-}

@@ -55,14 +55,13 @@ false_stands steps a e = true_stands steps (negation a) e
 
 -- Values.
 
-pub model_holds : (values : List Bool) (steps : List Step) (clauses : List (List Lit)) → AreTrue values (literals_of steps) → is_satisfied clauses steps ≡ true
-    → clauses_value (values_of values) clauses ≡ true
-model_holds values steps [] each all = refl
-model_holds values steps (clause ∷ clauses) each all =
+pub model_holds : (v : ℕ → Bool) (steps : List Step) (clauses : List (List Lit)) → ((a : Lit) → is_true steps a ≡ true → literal_value v a ≡ true)
+    → is_satisfied clauses steps ≡ true → clauses_value v clauses ≡ true
+model_holds v steps [] each all = refl
+model_holds v steps (clause ∷ clauses) each all =
     let parts = and_parts _ _ all in
     let found = any_gives (is_true steps) clause parts.0 in
-    and_from _ _ (clause_value-has (values_of values) clause found.0 (each found.0 (true_stands steps found.0 found.2)) found.1)
-    (model_holds values steps clauses each parts.1)
+    and_from _ _ (clause_value-has v clause found.0 (each found.0 found.2) found.1) (model_holds v steps clauses each parts.1)
 
 pub model_cube : (values : List Bool) (lits : List Lit) → AreTrue values lits → cube_value (values_of values) lits ≡ true
 model_cube values lits each = all_from (literal_value (values_of values)) lits each

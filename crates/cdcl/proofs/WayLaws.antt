@@ -169,11 +169,10 @@ way_core clauses assumptions clause base now w within traced a has =
     let flat : level w.rest ≡ 0 = omega (arith, within, w.deep, ap level w.begun, level-append w.opened w.rest) in
     w.assumes.only (negation a) (assumed_first w.opened w.rest (negation a) flat (ap (λ xs. is_assumed xs (negation a)) (sym w.begun) ∙ traced a has))
 
--- what makes the literals of the trail true makes the assumptions true
-pub way_true : (clauses : List (List Lit)) (assumptions : List Lit) (base : ℕ) (now : List Step) (values : List Bool) → IsOnWay clauses assumptions base now
-    → AreTrue values (literals_of now) → AreTrue values assumptions
-way_true clauses assumptions base now values w each a has =
-    each a (true_stands now a (ap (λ xs. is_true xs a) w.begun ∙ true_more w.opened w.rest a (w.assumes.true_all a has)))
+-- the assumptions are true on the way
+pub way_assumed : (clauses : List (List Lit)) (assumptions : List Lit) (base : ℕ) (now : List Step) → IsOnWay clauses assumptions base now
+    → (a : Lit) → Has assumptions a → is_true now a ≡ true
+way_assumed clauses assumptions base now w a has = ap (λ xs. is_true xs a) w.begun ∙ true_more w.opened w.rest a (w.assumes.true_all a has)
 
 -- How much is left to do: clauses to learn, and variables to give a value.
 

@@ -243,7 +243,7 @@ id_left ids x n e = ap (λ o. unwrap_or o 0) (get_left ids x n e)
 id_last : (ids : List ℕ) (x n : ℕ) → n ≡ length ids → id_of (ids ++ x ∷ []) n ≡ x
 id_last ids x n e = ap (λ o. unwrap_or o 0) (get_last ids x n e)
 
-number_put : (clauses : List (List Lit)) (n : ℕ) (c : List Lit) → (n ≡ 0 → ⊥) → slice_get clauses (n - 1) ≡ Some c → clause_numbered clauses n ≡ Some c
+pub number_put : (clauses : List (List Lit)) (n : ℕ) (c : List Lit) → (n ≡ 0 → ⊥) → slice_get clauses (n - 1) ≡ Some c → clause_numbered clauses n ≡ Some c
 number_put clauses n c above e = cond-false (eqb n 0) None (slice_get clauses (n - 1)) (eqb_apart n 0 above) ∙ e
 
 number_above : (clauses : List (List Lit)) (n : ℕ) (c : List Lit) → clause_numbered clauses n ≡ Some c → n ≡ 0 → ⊥
@@ -532,7 +532,7 @@ code_proves entries needed place w last seen c hints lines same below past few s
 
 -- The refusal.
 
-part_negations : (assumptions clause : List Lit) → ((a : Lit) → has_literal clause a ≡ true → has_literal assumptions (negation a) ≡ true) → is_part (map negation clause) assumptions ≡ true
+pub part_negations : (assumptions clause : List Lit) → ((a : Lit) → has_literal clause a ≡ true → has_literal assumptions (negation a) ≡ true) → is_part (map negation clause) assumptions ≡ true
 part_negations assumptions [] each = refl
 part_negations assumptions (a ∷ clause) each =
     and_from _ _ (each a (or_left _ _ (lit_eq-same a))) (part_negations assumptions clause (λ b has. each b (or_right _ _ has)))
@@ -544,7 +544,7 @@ negations_twice (a ∷ clause) = ap (λ b. b ∷ map negation (map negation clau
 pub core_sized : (assumptions clause : List Lit) → AreSized assumptions → ((a : Lit) → has_literal clause a ≡ true → has_literal assumptions (negation a) ≡ true) → AreSized clause
 core_sized assumptions clause sized each a has = sized (negation a) (each a has)
 
-core_holds : (v : ℕ → Bool) (assumptions core : List Lit) → is_part core assumptions ≡ true → cube_value v assumptions ≡ true → cube_value v core ≡ true
+pub core_holds : (v : ℕ → Bool) (assumptions core : List Lit) → is_part core assumptions ≡ true → cube_value v assumptions ≡ true → cube_value v core ≡ true
 core_holds v assumptions [] part all = refl
 core_holds v assumptions (a ∷ core) part all =
     let parts = and_parts _ _ part in

@@ -1,7 +1,13 @@
 pub mod Variables
 pub mod Solving
+pub mod Asking
+pub mod Retiring
+pub mod UnitClauses
+pub mod Refuting
 pub mod Entries
+pub mod WithUnits
 pub mod Searching
+pub mod Finding
 pub mod Room
 pub mod Progress
 pub mod Writing

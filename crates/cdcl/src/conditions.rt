@@ -34,8 +34,8 @@ fn all_sized(literals: &[Lit]) -> bool
         .all(|literal| 0 < literal.var && literal.var < END)
 }
 
-// Whether the literal is one of the list.
-fn has_literal(literals: &[Lit], literal: Lit) -> bool
+/// Whether the literal is one of the list.
+pub(crate) fn has_literal(literals: &[Lit], literal: Lit) -> bool
     ensures { result ≡ has_literal literals.now literal }
 {
     literals.iter().any(|other| literal.is(*other))

@@ -2,13 +2,18 @@
 //! model, or with assumptions that are refused and a proof. The main type is `Solver`.
 #![tactic(auto)]
 
+mod answering;
+mod asking;
 mod choosing;
 mod conditions;
+mod finding;
 mod log;
 mod marking;
 mod order;
 mod refusing;
+mod refuting;
 mod restarts;
+mod retiring;
 mod returning;
 mod searching;
 mod solver;
@@ -17,6 +22,8 @@ mod spelling;
 mod values;
 mod writing;
 
+pub use asking::{Asked, Assignment, Refuted};
 pub use conditions::{are_sized, has_opposites};
+pub use retiring::retired_clauses_change_nothing;
 pub use solver::Solver;
 pub use solving::Answer;

@@ -1,5 +1,5 @@
 //! Which clauses a proof needs. The main call is `needed_by`.
-ghost use Rattle.std.specs.Prelude.{◌≡◌, ◌+◌, ◌<◌, ◌||◌, ℕ, IfOk, Some, true, length, nat_eq, nat_le, nat_lt, slice_set, List};
+ghost use Rattle.std.specs.Prelude.{◌≡◌, ◌+◌, ◌<◌, ◌^◌, ◌||◌, ℕ, IfOk, Some, true, length, nat_eq, nat_le, nat_lt, slice_set, List};
 ghost use Rattle.std.specs.List.{list_all, list_any};
 ghost use Rattle.cdcl.specs.Writing.{is_needed, AreBefore, HasMarked, IsClosed};
 
@@ -7,18 +7,21 @@ use items::Items;
 use std::alloc::{AllocError, Global};
 
 /// By its number, whether a clause is needed: the clauses with the numbers `hints` are, and so is
-/// what a needed clause follows from. The place 0 is no clause's.
+/// what a needed clause follows from. The place 0 is no clause's. Behind the clauses with sources
+/// there are `more` that were given.
 pub(crate) fn needed_by(
     alloc: Global,
     sources: &[Option<Items<u64>>],
+    more: usize,
     hints: &[u64],
 ) -> Result<Vec<bool>, AllocError>
     requires before { AreBefore sources.now }
-    requires within { list_all (λ n. nat_le n (length sources.now)) hints.now ≡ true }
+    requires few { more < 2 ^ 60 }
+    requires within { list_all (λ n. nat_le n (length sources.now + more)) hints.now ≡ true }
     ensures closed { IfOk result (λ needed. IsClosed needed.items sources.now) }
     ensures marked { IfOk result (λ needed. list_all (is_needed needed.items) hints.now ≡ true) }
 {
-    let mut needed = vec![in alloc; false; sources.len() + 1]?;
+    let mut needed = vec![in alloc; false; sources.len() + more + 1]?;
     mark(&mut needed, hints);
     let mut number = sources.len();
     'numbers: while number > 0 {

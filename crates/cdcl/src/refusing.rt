@@ -30,14 +30,15 @@ pub(crate) fn refusal(
     let proof = proof_of(
         alloc,
         log,
+        &[],
         traced.clause.as_slice(),
         traced.hints.as_slice(),
     )?;
     Ok(Answer::Unsat(core, proof))
 }
 
-// The negations of the literals, in their order.
-fn negations(alloc: Global, literals: &[Lit]) -> Result<Vec<Lit>, AllocError>
+/// The negations of the literals, in their order.
+pub(crate) fn negations(alloc: Global, literals: &[Lit]) -> Result<Vec<Lit>, AllocError>
     ensures { IfOk result (λ negated. negated.items ≡ map negation literals.now) }
 {
     let mut negated = Vec::new(alloc);

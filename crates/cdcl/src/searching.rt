@@ -1,20 +1,19 @@
 //! The search for a model or a core. The main call is `search`.
 ghost use Rattle.std.specs.Prelude.{◌≡◌, [], IfOk, IfErr, false};
 ghost use Rattle.proof_semantics.specs.Clauses.{has_opposites};
-ghost use Rattle.cdcl.specs.Entries.{IsLog, added_of};
+ghost use Rattle.cdcl.specs.Entries.{IsLog};
+ghost use Rattle.cdcl.specs.Finding.{IsFound};
 ghost use Rattle.proof_semantics.specs.Lines.{AreSized};
 ghost use Rattle.cdcl.specs.Progress.{IsSearched};
 ghost use Rattle.cdcl.specs.Searching.{AssumesAll};
-ghost use Rattle.cdcl.specs.Solving.{IsAnswer, IsEnd};
+ghost use Rattle.cdcl.specs.Solving.{IsEnd};
 
 use crate::choosing::choose;
+use crate::finding::Found;
 use crate::log::Log;
 use crate::order::Order;
-use crate::refusing::refusal;
 use crate::restarts::Restarts;
 use crate::returning::level_after;
-use crate::solving::Answer;
-use crate::values::values_from;
 use cdcl_learn::{learn, trace};
 use cdcl_trail::Trail;
 use cnf::Lit;
@@ -29,12 +28,12 @@ pub(crate) fn search(
     order: &mut Order,
     assumptions: &[Lit],
     meter: &mut Meter,
-) -> Result<Answer, SolveEnd>
+) -> Result<Found, SolveEnd>
     requires log { IsLog log.old }
     requires apart { has_opposites assumptions.now ≡ false }
     requires sizes { AreSized assumptions.now }
     ensures log { IsLog log.new }
-    ensures answer { IfOk result (IsAnswer (added_of log.old) assumptions.now) }
+    ensures found { IfOk result (IsFound log.new.clauses assumptions.now) }
     ensures end { IfErr result (IsEnd meter.new) }
     ensures searched { IsSearched assumptions.now log.old log.new meter.old meter.new }
 {
@@ -45,15 +44,14 @@ pub(crate) fn search(
     'decisions: loop {
         let Some(conflict) = trail.propagate(log.clauses())? else {
             let Some(literal) = choose(order, &trail, log.clauses().as_slice()) else {
-                let values = values_from(alloc, trail.literals())?;
-                return Ok(Answer::Sat(values.into_vec()));
+                return Ok(Found::Satisfied(trail));
             };
             trail.assume(literal)?;
             continue;
         };
         if trail.level() <= base {
             let traced = trace(alloc, log.clauses(), &trail, conflict)?;
-            return Ok(refusal(alloc, log, assumptions, traced)?);
+            return Ok(Found::Refused(traced));
         }
         let learned = learn(alloc, log.clauses(), &trail, conflict)?;
         order.keep(trail.literals())?;

@@ -1,12 +1,16 @@
 //! The solver. The main type is `Solver`.
 ghost use Rattle.std.specs.Prelude.{◌≡◌, ◌-◌, [], ◌∷◌, ◌++◌, IfOk, IfErr, OnOk, OnErr, length, false};
 ghost use Rattle.proof_semantics.specs.Lines.{AreSized};
+ghost use Rattle.cdcl.specs.Asking.{IsAsked};
+ghost use Rattle.cdcl.specs.Refuting.{IsRefuted};
 ghost use Rattle.cdcl.specs.Solving.{IsAnswer, IsBounded, IsEnd, Learns, with_conflicts};
 ghost use Rattle.proof_semantics.specs.Clauses.{has_opposites};
 
+use crate::answering::{search_answer, search_asked};
+use crate::asking::{Asked, Refuted};
 use crate::log::Log;
 use crate::order::Order;
-use crate::searching::search;
+use crate::refuting::search_refuted;
 use crate::solving::Answer;
 use cnf::{Clause, Lit};
 use edge::{Meter, SolveEnd};
@@ -72,12 +76,51 @@ impl Solver {
         ensures bounded { IsBounded self.old assumptions.now self.new.learned }
         ensures counted { meter.new ≡ with_conflicts meter.old (length self.new.learned - length self.old.learned) }
     {
-        search(
+        search_answer(
             self.alloc,
             &mut self.log,
             &mut self.order,
             assumptions,
             meter,
         )
+    }
+
+    /// The same question, without values or a proof being written.
+    pub fn ask(
+        &mut self,
+        alloc: Global,
+        assumptions: &[Lit],
+        meter: &mut Meter,
+    ) -> Result<Asked, SolveEnd>
+        requires apart { has_opposites assumptions.now ≡ false }
+        requires sizes { AreSized assumptions.now }
+        ensures answer { IfOk result (IsAsked self.old.added assumptions.now) }
+        ensures end { IfErr result (IsEnd meter.new) }
+        ensures added { self.new.added ≡ self.old.added }
+        ensures learned { Learns self.old.added self.old.learned self.new.learned }
+        ensures bounded { IsBounded self.old assumptions.now self.new.learned }
+        ensures counted { meter.new ≡ with_conflicts meter.old (length self.new.learned - length self.old.learned) }
+    {
+        search_asked(alloc, &mut self.log, &mut self.order, assumptions, meter)
+    }
+
+    /// Whether the added clauses, and behind them these literals as unit clauses, have a model; and
+    /// where they have none, a proof that refutes just that list. Two units may be opposites, and
+    /// then the proof is one line.
+    pub fn refute(
+        &mut self,
+        alloc: Global,
+        units: &[Lit],
+        meter: &mut Meter,
+    ) -> Result<Refuted, SolveEnd>
+        requires sizes { AreSized units.now }
+        ensures answer { IfOk result (IsRefuted self.old.added units.now) }
+        ensures end { IfErr result (IsEnd meter.new) }
+        ensures added { self.new.added ≡ self.old.added }
+        ensures learned { Learns self.old.added self.old.learned self.new.learned }
+        ensures bounded { IsBounded self.old units.now self.new.learned }
+        ensures counted { meter.new ≡ with_conflicts meter.old (length self.new.learned - length self.old.learned) }
+    {
+        search_refuted(alloc, &mut self.log, &mut self.order, units, meter)
     }
 }

@@ -6,6 +6,7 @@ ghost use Rattle.proof_semantics.specs.Lines.{text_of, AreSized};
 ghost use Rattle.proof_semantics.specs.Propagation.{hints_fault};
 ghost use Rattle.cnf.specs.Clauses.{clause_numbered};
 ghost use Rattle.cdcl.specs.Entries.{Entries, AreExplained, IsLog, added_of};
+ghost use Rattle.cdcl.specs.UnitClauses.{unit_clauses};
 ghost use Rattle.cdcl.specs.Writing.{count_added, is_needed, line_with, next_written, Proves};
 
 use crate::log::Log;
@@ -16,33 +17,42 @@ use items::Items;
 use std::alloc::{AllocError, Global};
 use std::marker::Model;
 
-/// Proofs number their clauses below 2^63. So many clauses fit into no memory.
-const MOST_CLAUSES: usize = 1 << 61;
+/// Proofs number their clauses below 2^63. So many clauses, or units, fit into no memory.
+pub(crate) const MOST_CLAUSES: usize = 1 << 60;
 
-/// The proof of a clause that follows along the clauses with the numbers `hints`. It has a line for
-/// each learned clause that is needed, and one for this clause.
+/// The proof of a clause that follows along the clauses with the numbers `hints`, over the added
+/// clauses and units, which have the numbers behind the held clauses. It has a line for each learned
+/// clause that is needed, and one for this clause.
 pub(crate) fn proof_of(
     alloc: Global,
     log: &Log,
+    units: &[Lit],
     clause: &[Lit],
     hints: &[u64],
 ) -> Result<Proof, AllocError>
     requires log { IsLog log.now }
+    requires units { AreSized units.now }
     requires sized { AreSized clause.now }
-    requires hints { hints_fault (clause_numbered log.now.clauses) (map negation clause.now) hints.now ≡ None }
-    ensures { IfOk result (λ proof. Proves (added_of log.now) proof clause.now) }
+    requires hints { hints_fault (clause_numbered (log.now.clauses ++ unit_clauses units.now)) (map negation clause.now) hints.now ≡ None }
+    ensures { IfOk result (λ proof. Proves (added_of log.now ++ unit_clauses units.now) proof clause.now) }
 {
     let clauses = log.clauses().as_slice();
     let sources = log.sources();
     if clauses.len() >= MOST_CLAUSES {
         return Err(AllocError);
     }
-    let needed = needed_by(alloc, sources, hints)?;
-    let mut writing = Writing::new(alloc, count_added(sources))?;
+    if units.len() >= MOST_CLAUSES {
+        return Err(AllocError);
+    }
+    let needed = needed_by(alloc, sources, units.len(), hints)?;
+    let mut writing = Writing::new(alloc, count_added(sources) + units.len() as u64)?;
     let marks = needed.as_slice();
     for (place, held) in clauses.iter().enumerate() {
         let needed = is_needed(marks, place + 1);
         writing.put(alloc, &sources[place], held.as_slice(), needed)?;
+    }
+    for _unit in units {
+        writing.put_added()?;
     }
     writing.put_learned(alloc, clause, hints)?;
     Ok(writing.into_lines())

@@ -1,7 +1,7 @@
 //! An own look at an answer. The main call is `judge`.
 
 use crate::questions::{clauses, has_model, literal};
-use cdcl::Answer;
+use cdcl::{Answer, Asked, Assignment};
 use cnf::{Db, Lit, ProofLine};
 use lrat::Checker;
 use std::alloc::{AllocError, Global};
@@ -56,7 +56,11 @@ pub(crate) fn judge(
 ) -> Result<Said, AllocError> {
     let is_satisfiable = has_model(alloc, asked, assumed)?;
     match answer {
-        Answer::Sat(values) => Ok(judge_values(is_satisfiable, asked, assumed, values.as_slice())),
+        Answer::Sat(values) => {
+            let clauses_true = truths_in(alloc, values.as_slice(), asked)?;
+            let assumed_true = truths_in(alloc, values.as_slice(), assumed)?;
+            Ok(judge_truths(is_satisfiable, asked, &clauses_true, &assumed_true))
+        }
         Answer::Unsat(core, proof) => {
             if is_satisfiable {
                 return Ok(Said::Wrong(Mistake::HasModel));
@@ -66,25 +70,76 @@ pub(crate) fn judge(
     }
 }
 
-fn judge_values(is_satisfiable: bool, asked: &[i64], assumed: &[i64], values: &[bool]) -> Said {
+/// The same of an answer without a proof.
+pub(crate) fn judge_asked(
+    alloc: Global,
+    asked: &[i64],
+    assumed: &[i64],
+    answer: &Asked,
+) -> Result<Said, AllocError> {
+    let is_satisfiable = has_model(alloc, asked, assumed)?;
+    match answer {
+        Asked::Sat(assignment) => {
+            let clauses_true = truths_of(alloc, assignment, asked)?;
+            let assumed_true = truths_of(alloc, assignment, assumed)?;
+            Ok(judge_truths(is_satisfiable, asked, &clauses_true, &assumed_true))
+        }
+        Asked::Unsat(core) => {
+            if is_satisfiable {
+                return Ok(Said::Wrong(Mistake::HasModel));
+            }
+            let fault = core_fault(alloc, asked, assumed, core.as_slice())?;
+            Ok(fault.map_or(Said::Unsat, Said::Wrong))
+        }
+    }
+}
+
+// Which of the literals are true under values.
+fn truths_in(alloc: Global, values: &[bool], numbers: &[i64]) -> Result<Vec<bool>, AllocError> {
+    let mut truths = Vec::new(alloc);
+    for number in numbers {
+        truths.push(is_true(values, *number))?;
+    }
+    Ok(truths)
+}
+
+// Which of the literals are true under an assignment.
+fn truths_of(
+    alloc: Global,
+    assignment: &Assignment,
+    numbers: &[i64],
+) -> Result<Vec<bool>, AllocError> {
+    let mut truths = Vec::new(alloc);
+    for number in numbers {
+        truths.push(assignment.value(number.unsigned_abs()) == (*number > 0))?;
+    }
+    Ok(truths)
+}
+
+fn judge_truths(
+    is_satisfiable: bool,
+    asked: &[i64],
+    clauses_true: &[bool],
+    assumed_true: &[bool],
+) -> Said {
     if !is_satisfiable {
         return Said::Wrong(Mistake::NoModel);
     }
-    if !are_true(values, asked) {
+    if !are_true(asked, clauses_true) {
         return Said::Wrong(Mistake::FalseClause);
     }
-    if !assumed.iter().all(|number| is_true(values, *number)) {
+    if !assumed_true.iter().all(|truth| *truth) {
         return Said::Wrong(Mistake::FalseAssumption);
     }
     Said::Sat
 }
 
-// Whether each clause is true under the values.
-fn are_true(values: &[bool], asked: &[i64]) -> bool {
+// Whether each clause has a true literal.
+fn are_true(asked: &[i64], truths: &[bool]) -> bool {
     let mut is_clause_true = false;
-    for number in asked {
+    for (number, truth) in asked.iter().zip(truths) {
         if *number != 0 {
-            is_clause_true = is_clause_true || is_true(values, *number);
+            is_clause_true = is_clause_true || *truth;
             continue;
         }
         if !is_clause_true {
@@ -111,11 +166,8 @@ fn judge_refusal(
     core: &[Lit],
     proof: &[ProofLine],
 ) -> Result<Said, AllocError> {
-    if !are_among(core, assumed) {
-        return Ok(Said::Wrong(Mistake::NotAssumed));
-    }
-    if has_model(alloc, asked, kept(alloc, assumed, core)?.as_slice())? {
-        return Ok(Said::Wrong(Mistake::WeakCore));
+    if let Some(mistake) = core_fault(alloc, asked, assumed, core)? {
+        return Ok(Said::Wrong(mistake));
     }
     if !adds_last(alloc, asked, core, proof)? {
         return Ok(Said::Wrong(Mistake::OtherClause));
@@ -124,6 +176,22 @@ fn judge_refusal(
         return Ok(Said::Wrong(Mistake::Needless));
     }
     judge_proof(alloc, asked, core.is_empty(), proof)
+}
+
+// What is wrong with a core.
+fn core_fault(
+    alloc: Global,
+    asked: &[i64],
+    assumed: &[i64],
+    core: &[Lit],
+) -> Result<Option<Mistake>, AllocError> {
+    if !are_among(core, assumed) {
+        return Ok(Some(Mistake::NotAssumed));
+    }
+    if has_model(alloc, asked, kept(alloc, assumed, core)?.as_slice())? {
+        return Ok(Some(Mistake::WeakCore));
+    }
+    Ok(None)
 }
 
 // Whether each literal of the core was assumed.

@@ -1,8 +1,8 @@
 //! A solver beside a record of what it was given. The main type is `Session`.
 
-use crate::judging::{Said, judge};
+use crate::judging::{Said, judge, judge_asked};
 use crate::questions::{clauses, literals};
-use cdcl::{Answer, Solver, are_sized, has_opposites};
+use cdcl::{Answer, Asked, Solver, are_sized, has_opposites};
 use cnf::{Clause, Lit};
 use edge::{Meter, SolveEnd};
 use std::alloc::{AllocError, Global};
@@ -10,10 +10,20 @@ use std::alloc::{AllocError, Global};
 /// No limit of conflicts.
 pub(crate) const NO_LIMIT: u64 = 4_294_967_295;
 
+/// The call that a question goes to.
+#[derive(Clone, Copy, Debug, PartialEq, Eq)]
+pub(crate) enum Way {
+    /// `solve`.
+    Solve,
+    /// `ask`.
+    Ask,
+}
+
 /// A solver, and the clauses that were added to it.
 #[derive(Debug, Drop)]
 pub(crate) struct Session {
     alloc: Global,
+    way: Way,
     solver: Solver,
     added: Vec<i64>,
     conflicts: u64,
@@ -21,9 +31,10 @@ pub(crate) struct Session {
 
 impl Session {
     /// A solver with these clauses, with a 0 behind each.
-    pub(crate) fn new(alloc: Global, numbers: &[i64]) -> Result<Session, AllocError> {
+    pub(crate) fn new(alloc: Global, way: Way, numbers: &[i64]) -> Result<Session, AllocError> {
         let mut session = Session {
             alloc,
+            way,
             solver: Solver::new(alloc)?,
             added: Vec::new(alloc),
             conflicts: 0,
@@ -45,12 +56,35 @@ impl Session {
     pub(crate) fn ask(&mut self, assumed: &[i64], limit: u64) -> Result<Said, AllocError> {
         let assumptions = literals(self.alloc, assumed)?;
         let mut meter = Meter::new(limit, 0);
-        let answer = ask_one(&mut self.solver, assumptions.as_slice(), &mut meter)?;
+        let said = match self.way {
+            Way::Solve => self.solve_one(assumed, assumptions.as_slice(), &mut meter)?,
+            Way::Ask => self.ask_one(assumed, assumptions.as_slice(), &mut meter)?,
+        };
         self.conflicts = meter.spending().conflicts();
-        match answer {
+        Ok(said)
+    }
+
+    fn solve_one(
+        &mut self,
+        assumed: &[i64],
+        assumptions: &[Lit],
+        meter: &mut Meter,
+    ) -> Result<Said, AllocError> {
+        match solve_apart(&mut self.solver, assumptions, meter)? {
             Ok(found) => judge(self.alloc, self.added.as_slice(), assumed, &found),
-            Err(SolveEnd::Spent(_)) => Ok(Said::Spent),
-            Err(SolveEnd::Memory) => Ok(Said::Memory),
+            Err(end) => Ok(said_at(&end)),
+        }
+    }
+
+    fn ask_one(
+        &mut self,
+        assumed: &[i64],
+        assumptions: &[Lit],
+        meter: &mut Meter,
+    ) -> Result<Said, AllocError> {
+        match ask_apart(self.alloc, &mut self.solver, assumptions, meter)? {
+            Ok(found) => judge_asked(self.alloc, self.added.as_slice(), assumed, &found),
+            Err(end) => Ok(said_at(&end)),
         }
     }
 
@@ -68,8 +102,15 @@ fn add_one(solver: &mut Solver, clause: Clause) -> Result<(), AllocError> {
     Ok(())
 }
 
+fn said_at(end: &SolveEnd) -> Said {
+    match end {
+        SolveEnd::Spent(_) => Said::Spent,
+        SolveEnd::Memory => Said::Memory,
+    }
+}
+
 // Asks what may be asked. Other assumptions are an error, so that no test passes over them.
-fn ask_one(
+fn solve_apart(
     solver: &mut Solver,
     assumptions: &[Lit],
     meter: &mut Meter,
@@ -78,4 +119,17 @@ fn ask_one(
         return Err(AllocError);
     }
     Ok(solver.solve(assumptions, meter))
+}
+
+// The same without a proof.
+fn ask_apart(
+    alloc: Global,
+    solver: &mut Solver,
+    assumptions: &[Lit],
+    meter: &mut Meter,
+) -> Result<Result<Asked, SolveEnd>, AllocError> {
+    if has_opposites(assumptions) || !are_sized(assumptions) {
+        return Err(AllocError);
+    }
+    Ok(solver.ask(alloc, assumptions, meter))
 }

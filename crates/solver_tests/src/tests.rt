@@ -2,15 +2,15 @@
 use super::*;
 use crate::drawing::draw_question;
 use crate::judging::Said;
-use crate::session::{NO_LIMIT, Session};
+use crate::session::{NO_LIMIT, Session, Way};
 use std::alloc::{AllocError, Global};
 use std::test::*;
 
 // What is said of a drawn question: at its first clauses, without assumptions; at all its clauses under its
 // assumptions, with no conflict to spend and then with no limit; and at all its clauses without assumptions.
-fn ask_drawn(alloc: Global, seed: u64) -> Result<[Said; 4], AllocError> {
+fn ask_drawn(alloc: Global, way: Way, seed: u64) -> Result<[Said; 4], AllocError> {
     let drawn = draw_question(alloc, seed)?;
-    let mut session = Session::new(alloc, drawn.first.as_slice())?;
+    let mut session = Session::new(alloc, way, drawn.first.as_slice())?;
     let first = session.ask(&[], NO_LIMIT)?;
     session.add(drawn.second.as_slice())?;
     let limited = session.ask(drawn.assumed.as_slice(), 0)?;
@@ -28,22 +28,26 @@ fn is_right(said: Said, may_be_spent: bool) -> bool {
     }
 }
 
+// Whether each answer to a drawn question is right.
+fn are_right(said: [Said; 4]) -> bool {
+    let [first, limited, assumed, free] = said;
+    is_right(first, false)
+        && is_right(limited, true)
+        && is_right(assumed, false)
+        && is_right(free, false)
+}
+
 #[test]
 fn drawn_questions(rt: HostRuntime) -> Result<(), Fail> {
     let mut sat: u64 = 0;
     let mut unsat: u64 = 0;
     let mut spent: u64 = 0;
     for seed in 0..200u64 {
-        let said = ask_drawn(rt.alloc(), seed)?;
-        let [first, limited, assumed, free] = said;
-        assert!(rt;
-            is_right(first, false) && is_right(limited, true),
-            "of {seed}: {said:?}"
-        );
-        assert!(rt;
-            is_right(assumed, false) && is_right(free, false),
-            "of {seed}: {said:?}"
-        );
+        let said = ask_drawn(rt.alloc(), Way::Solve, seed)?;
+        assert!(rt; are_right(said), "of {seed}: {said:?}");
+        let asked = ask_drawn(rt.alloc(), Way::Ask, seed)?;
+        assert!(rt; are_right(asked), "of {seed}: {asked:?}");
+        let [_first, limited, assumed, _free] = said;
         sat = sat.saturating_add(u64::from(assumed == Said::Sat));
         unsat = unsat.saturating_add(u64::from(assumed == Said::Unsat));
         spent = spent.saturating_add(u64::from(limited == Said::Spent));
@@ -62,7 +66,7 @@ const SQUARE: [[i64; 3]; 4] = [[1, 2, 0], [-1, 2, 0], [1, -2, 0], [-1, -2, 0]];
 // What is said of the square when its clauses are added in an order, and after how many conflicts. `None` where a
 // place comes twice.
 fn ask_in_order(alloc: Global, order: [usize; 4]) -> Result<Option<(Said, u64)>, AllocError> {
-    let mut session = Session::new(alloc, &[])?;
+    let mut session = Session::new(alloc, Way::Solve, &[])?;
     let mut found = [false; 4];
     for place in order {
         let place = place % 4;
@@ -92,8 +96,13 @@ fn the_square_in_each_order(rt: HostRuntime) -> Result<(), Fail> {
 }
 
 // What is said of clauses under assumptions, twice.
-fn ask_twice(alloc: Global, numbers: &[i64], assumed: &[i64]) -> Result<[Said; 2], AllocError> {
-    let mut session = Session::new(alloc, numbers)?;
+fn ask_twice(
+    alloc: Global,
+    way: Way,
+    numbers: &[i64],
+    assumed: &[i64],
+) -> Result<[Said; 2], AllocError> {
+    let mut session = Session::new(alloc, way, numbers)?;
     let once = session.ask(assumed, NO_LIMIT)?;
     let again = session.ask(assumed, NO_LIMIT)?;
     Ok([once, again])
@@ -127,8 +136,14 @@ const ROWS: [(&[i64], &[i64], Said); 15] = [
 #[test]
 fn special_clauses_and_assumptions(rt: HostRuntime) -> Result<(), Fail> {
     for (numbers, assumed, wanted) in ROWS {
-        let said = ask_twice(rt.alloc(), numbers, assumed)?;
-        assert_eq!(rt; said, [wanted, wanted], "of {numbers:?} under {assumed:?}");
+        for way in [Way::Solve, Way::Ask] {
+            let said = ask_twice(rt.alloc(), way, numbers, assumed)?;
+            assert_eq!(rt;
+                said,
+                [wanted, wanted],
+                "{way:?} of {numbers:?} under {assumed:?}"
+            );
+        }
     }
     Ok(())
 }
@@ -163,10 +178,13 @@ fn take_step(
 
 #[test]
 fn asked_again(rt: HostRuntime) -> Result<(), Fail> {
-    let mut session = Session::new(rt.alloc(), &[])?;
+    let mut solved = Session::new(rt.alloc(), Way::Solve, &[])?;
+    let mut asked = Session::new(rt.alloc(), Way::Ask, &[])?;
     for (added, assumed, limit, wanted, conflicts) in STEPS {
-        let said = take_step(&mut session, added, assumed, limit)?;
+        let said = take_step(&mut solved, added, assumed, limit)?;
         assert_eq!(rt; said, (wanted, conflicts), "under {assumed:?}");
+        let said = take_step(&mut asked, added, assumed, limit)?;
+        assert_eq!(rt; said, (wanted, conflicts), "asked under {assumed:?}");
     }
     Ok(())
 }
@@ -176,8 +194,8 @@ const FAR: i64 = 4_611_686_018_427_387_904;
 
 // What is said of clauses with a variable that no list of values has a place for: where the variable must be true,
 // where no model has to be written, and where the variable must be true again, after it could be asked otherwise.
-fn ask_far(alloc: Global) -> Result<[Said; 4], AllocError> {
-    let mut session = Session::new(alloc, &[1, FAR, 0])?;
+fn ask_far(alloc: Global, way: Way) -> Result<[Said; 4], AllocError> {
+    let mut session = Session::new(alloc, way, &[1, FAR, 0])?;
     let needed = session.ask(&[-1], NO_LIMIT)?;
     let refused = session.ask(&[-1, -FAR], NO_LIMIT)?;
     let again = session.ask(&[-1], NO_LIMIT)?;
@@ -189,8 +207,13 @@ fn ask_far(alloc: Global) -> Result<[Said; 4], AllocError> {
 #[test]
 fn a_variable_without_room(rt: HostRuntime) -> Result<(), Fail> {
     assert_eq!(rt;
-        ask_far(rt.alloc())?,
+        ask_far(rt.alloc(), Way::Solve)?,
         [Said::Memory, Said::Unsat, Said::Memory, Said::Unsat]
+    );
+    // its value is read alone
+    assert_eq!(rt;
+        ask_far(rt.alloc(), Way::Ask)?,
+        [Said::Sat, Said::Unsat, Said::Sat, Said::Unsat]
     );
     Ok(())
 }

@@ -14,7 +14,7 @@ numbers-init c = record {
 pub mark_behind-requires : goal.mark_behind-requires
 mark_behind-requires c =
     λ hints same. hints_within c.args.sources.now c.numbers.needed.items c.numbers.number c.index-sources-number.result hints c.numbers-test.true c.numbers.invariant.below
-    c.index-sources-number.is c.numbers.invariant.long c.requires.before same
+    c.index-sources-number.is (omega (arith, c.numbers.invariant.long)) c.requires.before same
 
 pub numbers-preserved : goal.numbers-preserved
 numbers-preserved c = record {

@@ -6,7 +6,7 @@ use Rattle.cdcl.proofs.marking.needed_by.Given as goal
 
 abbrev pub invariant-numbers : goal.invariant-numbers
 invariant-numbers l = record {
-  long : length l.needed.items ≡ length l.sources + 1;
+  long : length l.needed.items ≡ length l.sources + l.more + 1;
   below : l.number ≤ length l.sources;
   marked : list_all (is_needed l.needed.items) l.hints ≡ true;
   closed : IsClosedFrom l.needed.items l.sources l.number;

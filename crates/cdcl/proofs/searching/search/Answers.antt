@@ -1,15 +1,12 @@
 use Rattle.std.proofs.Common.{◌≡◌, ◌≤◌, ◌<◌, ℕ, List, length, true, false, sym, subst, ◌∙◌, arith}
-use Rattle.proof_semantics.specs.Clauses.{values_of, is_subsumed}
+use Rattle.proof_semantics.specs.Clauses.{is_subsumed}
 use Rattle.cdcl_trail.specs.Trails.{level, lower_steps}
 use Rattle.cdcl_trail.specs.Propagation.{is_complete, Propagates, IsReasonedTrail}
-use Rattle.cdcl.specs.Entries.{added_of}
 use Rattle.cdcl.specs.Room.{room, variables_of, variables_in}
-use Rattle.cdcl.specs.Searching.{IsOpen, AreTrue, is_satisfied, IsHinted, IsBackLevel, count_open}
-use Rattle.cdcl.specs.Solving.{IsModel}
+use Rattle.cdcl.specs.Searching.{IsOpen, is_satisfied, IsHinted, IsBackLevel, count_open}
 use Rattle.cdcl.proofs.RoomLaws.{all_over, own_over}
-use Rattle.cdcl.proofs.SearchLaws.{model_holds}
-use Rattle.cdcl.proofs.WayLaws.{way_starts, way_propagates, way_decides, way_lower, way_learns, way_back, way_core, way_true, work_learned, work_decided, count_open_small, decision_counts}
-use Rattle.cdcl.proofs.ProgressLaws.{first_variables, searched_none, searched_more, first_room_falls, new_spent, model_of}
+use Rattle.cdcl.proofs.WayLaws.{way_starts, way_propagates, way_decides, way_lower, way_learns, way_back, way_core, way_assumed, work_learned, work_decided, count_open_small, decision_counts}
+use Rattle.cdcl.proofs.ProgressLaws.{first_variables, searched_none, searched_more, first_room_falls, new_spent}
 use Rattle.cdcl.proofs.searching.search.Goals as goal
 
 pub decisions-init : goal.decisions-init
@@ -19,17 +16,15 @@ decisions-init c = record {
   on_way = way_starts c.args.log.now.clauses c.args.assumptions.now c.level-base.result c.assume_all.new.trail.steps c.in_ok-assume_all.ensures c.level-base.ensures;
 }
 
-pub returns-in_default-choose-clause-answer : goal.returns-in_default-choose-clause-answer
-returns-in_default-choose-clause-answer c =
+pub returns-in_default-choose-clause-found : goal.returns-in_default-choose-clause-found
+returns-in_default-choose-clause-found c =
     let way = way_propagates c.decisions.log.clauses c.args.assumptions.now c.level-base.result c.decisions.trail.steps c.propagate.new.self.steps c.decisions.invariant.on_way
     (subst (λ cs. Propagates cs c.decisions.trail.steps c.propagate.new.self.steps) c.clauses.ensures c.propagate.ensures.reasons) in
     let steps = c.propagate.new.self.steps in
-    let values = subst (λ ls. AreTrue c.in_ok-values.values ls) c.literals.ensures.value c.in_ok-values.ensures in
-    let satisfied = subst (λ cs. is_satisfied cs steps ≡ true) (c.as_slice.ensures ∙ c.clauses-in_default.ensures) c.in_default-choose.ensures.none in
-    subst (λ vs. IsModel (added_of c.args.log.now) c.args.assumptions.now (values_of vs)) (sym c.into_vec.ensures)
-    (model_of c.args.assumptions.now c.args.log.now c.decisions.log c.in_ok-values.values c.decisions.invariant.searched.added
-    (model_holds c.in_ok-values.values steps c.decisions.log.clauses values satisfied)
-    (way_true c.decisions.log.clauses c.args.assumptions.now c.level-base.result steps c.in_ok-values.values way values))
+    record {
+      clauses_true = subst (λ cs. is_satisfied cs steps ≡ true) (c.as_slice.ensures ∙ c.clauses-in_default.ensures) c.in_default-choose.ensures.none;
+      assumed = way_assumed c.decisions.log.clauses c.args.assumptions.now c.level-base.result steps way;
+    }
 
 pub decisions-smaller-in_default : goal.decisions-smaller-in_default
 decisions-smaller-in_default c =
@@ -60,12 +55,15 @@ trace-requires-clause-reasons c =
     (subst (λ cs. Propagates cs c.decisions.trail.steps c.propagate.new.self.steps) c.clauses.ensures c.propagate.ensures.reasons) in
     subst (λ cs. IsReasonedTrail cs c.propagate.new.self.steps) (sym c.clauses-then-level-base.ensures) way.reasoned
 
-pub refusal-requires-clause-among : goal.refusal-requires-clause-among
-refusal-requires-clause-among c =
+pub returns-then-level-base-clause-found : goal.returns-then-level-base-clause-found
+returns-then-level-base-clause-found c =
     let way = way_propagates c.decisions.log.clauses c.args.assumptions.now c.level-base.result c.decisions.trail.steps c.propagate.new.self.steps c.decisions.invariant.on_way
     (subst (λ cs. Propagates cs c.decisions.trail.steps c.propagate.new.self.steps) c.clauses.ensures c.propagate.ensures.reasons) in
     let within : level c.propagate.new.self.steps ≤ c.level-base.result = omega (arith, c.level.ensures, c.if-level-base.true) in
-    way_core c.decisions.log.clauses c.args.assumptions.now c.in_ok-traced.traced.clause c.level-base.result c.propagate.new.self.steps way within c.in_ok-traced.ensures.assumed
+    record {
+      among = way_core c.decisions.log.clauses c.args.assumptions.now c.in_ok-traced.traced.clause c.level-base.result c.propagate.new.self.steps way within c.in_ok-traced.ensures.assumed;
+      hinted = subst (λ cs. IsHinted cs c.in_ok-traced.traced) c.clauses-then-level-base.ensures c.in_ok-traced.ensures.hints;
+    }
 
 pub learn-requires-clause-reasons : goal.learn-requires-clause-reasons
 learn-requires-clause-reasons c =

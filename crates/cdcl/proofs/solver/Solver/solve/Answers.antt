@@ -5,11 +5,11 @@ use Rattle.cdcl.proofs.ProgressLaws.{kept_searched, searched_bounded}
 
 pub invariant_of-self : goal.invariant_of-self
 invariant_of-self c =
-    kept_searched c.args.assumptions.now c.self.inside.log c.search.new.log c.args.meter.now c.search.new.meter c.self.invariant c.search.ensures.log c.search.ensures.searched
+    kept_searched c.args.assumptions.now c.self.inside.log c.search_answer.new.log c.args.meter.now c.search_answer.new.meter c.self.invariant c.search_answer.ensures.log c.search_answer.ensures.searched
 
 pub returns-clause-bounded : goal.returns-clause-bounded
 returns-clause-bounded c =
-    searched_bounded c.args.assumptions.now c.args.self.now c.self.inside.log c.search.new.log c.args.meter.now c.search.new.meter
+    searched_bounded c.args.assumptions.now c.args.self.now c.self.inside.log c.search_answer.new.log c.args.meter.now c.search_answer.new.meter
     (sym (ap (λ (s : Solving). s.added) c.self.view_is)) (sym (ap (λ (s : Solving). s.learned) c.self.view_is)) c.self.invariant
-    (kept_searched c.args.assumptions.now c.self.inside.log c.search.new.log c.args.meter.now c.search.new.meter c.self.invariant c.search.ensures.log c.search.ensures.searched)
-    c.search.ensures.searched
+    (kept_searched c.args.assumptions.now c.self.inside.log c.search_answer.new.log c.args.meter.now c.search_answer.new.meter c.self.invariant c.search_answer.ensures.log c.search_answer.ensures.searched)
+    c.search_answer.ensures.searched

@@ -1,0 +1,9 @@
+use Rattle.std.proofs.Common.{sym}
+use Rattle.cdcl.specs.Entries.{added_of}
+use Rattle.cdcl.proofs.AnswerLaws.{asked_from}
+use Rattle.cdcl.proofs.answering.search_asked.Goals as goal
+
+pub returns-clause-answer : goal.returns-clause-answer
+returns-clause-answer c =
+    asked_from c.search.new.log (added_of c.args.log.now) c.args.assumptions.now c.in_ok-found.found c.in_ok-asked_of.field-0 (sym c.search.ensures.searched.added)
+    c.search.ensures.log c.in_ok-found.ensures.found c.in_ok-asked_of.ensures

@@ -1,0 +1,7 @@
+use Rattle.std.proofs.Common.{false, ap, ◌∙◌}
+use Rattle.std.specs.Option.{unwrap_or}
+use Rattle.cdcl.proofs.AnswerLaws.{assigned_is}
+use Rattle.cdcl.proofs.asking.Assignment.value.Goals as goal
+
+pub returns : goal.returns
+returns c = c.unwrap_or.ensures ∙ ap (λ o. unwrap_or o false) c.value.ensures ∙ assigned_is c.self.inside.trail.steps c.args.var ∙ ap (λ ls. Rattle.cdcl.specs.Asking.assigned ls c.args.var) c.self.view_is

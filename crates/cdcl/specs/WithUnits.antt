@@ -1,0 +1,26 @@
+-- Scaffolding of inner functions. The clauses that a solver holds, and unit clauses behind them.
+use Rattle.std.specs.Prelude.{ℕ, suc, ◌+◌, List, [], ◌∷◌, ◌++◌, Option, None, if◌then◌else◌}
+use Rattle.proof_semantics.specs.Clauses.{lit_eq}
+use Rattle.proof_semantics.specs.declared.literals.Lit.{Lit}
+use Rattle.cdcl.specs.Entries.{Entries}
+use Rattle.cdcl.specs.UnitClauses.{unit_clauses}
+
+-- unit clauses have no hints
+abbrev pub no_sources : List Lit → List (Option (List ℕ))
+no_sources [] = []
+no_sources (a ∷ units) = None ∷ no_sources units
+
+abbrev pub with_units : Entries → List Lit → Entries
+with_units entries units = record {
+  clauses = entries.clauses ++ unit_clauses units;
+  sources = entries.sources ++ no_sources units;
+}
+
+-- how many literals stand before the first that is this one
+abbrev pub place_of : List Lit → Lit → ℕ
+place_of [] a = 0
+place_of (b ∷ units) a = if lit_eq a b then 0 else suc (place_of units a)
+
+-- the number of a literal's unit clause, where the units stand behind so many clauses
+abbrev pub unit_number : ℕ → List Lit → Lit → ℕ
+unit_number first units a = first + place_of units a + 1

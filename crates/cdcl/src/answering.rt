@@ -1,0 +1,95 @@
+//! Answers, made of what a search finds. The main calls are `search_answer` and `search_asked`.
+ghost use Rattle.std.specs.Prelude.{◌≡◌, IfOk, IfErr, false};
+ghost use Rattle.proof_semantics.specs.Clauses.{has_opposites};
+ghost use Rattle.proof_semantics.specs.Lines.{AreSized};
+ghost use Rattle.cdcl.specs.Asking.{IsAsked};
+ghost use Rattle.cdcl.specs.Entries.{IsLog, added_of};
+ghost use Rattle.cdcl.specs.Finding.{IsFound, IsTold};
+ghost use Rattle.cdcl.specs.Progress.{IsSearched};
+ghost use Rattle.cdcl.specs.Solving.{IsAnswer, IsEnd};
+
+use crate::asking::{Asked, Assignment};
+use crate::finding::Found;
+use crate::log::Log;
+use crate::order::Order;
+use crate::refusing::{negations, refusal};
+use crate::searching::search;
+use crate::solving::Answer;
+use crate::values::values_from;
+use cnf::Lit;
+use edge::{Meter, SolveEnd};
+use std::alloc::{AllocError, Global};
+
+/// Searches, and writes the values or the core with its proof.
+pub(crate) fn search_answer(
+    alloc: Global,
+    log: &mut Log,
+    order: &mut Order,
+    assumptions: &[Lit],
+    meter: &mut Meter,
+) -> Result<Answer, SolveEnd>
+    requires log { IsLog log.old }
+    requires apart { has_opposites assumptions.now ≡ false }
+    requires sizes { AreSized assumptions.now }
+    ensures log { IsLog log.new }
+    ensures answer { IfOk result (IsAnswer (added_of log.old) assumptions.now) }
+    ensures end { IfErr result (IsEnd meter.new) }
+    ensures searched { IsSearched assumptions.now log.old log.new meter.old meter.new }
+{
+    let found = search(alloc, log, order, assumptions, meter)?;
+    Ok(answer_of(alloc, log, assumptions, found)?)
+}
+
+/// Searches, and keeps the trail or writes the core.
+pub(crate) fn search_asked(
+    alloc: Global,
+    log: &mut Log,
+    order: &mut Order,
+    assumptions: &[Lit],
+    meter: &mut Meter,
+) -> Result<Asked, SolveEnd>
+    requires log { IsLog log.old }
+    requires apart { has_opposites assumptions.now ≡ false }
+    requires sizes { AreSized assumptions.now }
+    ensures log { IsLog log.new }
+    ensures answer { IfOk result (IsAsked (added_of log.old) assumptions.now) }
+    ensures end { IfErr result (IsEnd meter.new) }
+    ensures searched { IsSearched assumptions.now log.old log.new meter.old meter.new }
+{
+    let found = search(alloc, log, order, assumptions, meter)?;
+    Ok(asked_of(alloc, found)?)
+}
+
+// The values of the trail, or the core with its proof.
+fn answer_of(
+    alloc: Global,
+    log: &Log,
+    assumptions: &[Lit],
+    found: Found,
+) -> Result<Answer, AllocError>
+    requires log { IsLog log.now }
+    requires sizes { AreSized assumptions.now }
+    requires found { IsFound log.now.clauses assumptions.now found }
+    ensures { IfOk result (IsAnswer (added_of log.now) assumptions.now) }
+{
+    match found {
+        Found::Satisfied(trail) => {
+            let values = values_from(alloc, trail.literals())?;
+            Ok(Answer::Sat(values.into_vec()))
+        }
+        Found::Refused(traced) => refusal(alloc, log, assumptions, traced),
+    }
+}
+
+// The trail, or the core.
+fn asked_of(alloc: Global, found: Found) -> Result<Asked, AllocError>
+    ensures { IfOk result (IsTold found) }
+{
+    match found {
+        Found::Satisfied(trail) => Ok(Asked::Sat(Assignment::from_trail(trail))),
+        Found::Refused(traced) => {
+            let core = negations(alloc, traced.clause.as_slice())?;
+            Ok(Asked::Unsat(core))
+        }
+    }
+}
