@@ -1,5 +1,14 @@
 //! A solver of clauses in conjunctive normal form that learns from conflicts. It answers with a
 //! model, or with assumptions that are refused and a proof. The main type is `Solver`.
+//!
+//! | Call | What it does |
+//! |---|---|
+//! | `Solver::new`, `Solver::add` | a solver without clauses; one clause more |
+//! | `Solver::solve` | a model, or a core of the assumptions with a proof |
+//! | `Solver::ask` | the same question without a proof; `Assignment::value` reads a model |
+//! | `Solver::refute` | the same of literals that are clauses of the list which a proof refutes |
+//! | `are_sized`, `has_opposites` | the tests of what these calls ask for |
+//! | `retired_clauses_change_nothing` | does nothing: the law of clauses that a question brings and retires |
 #![tactic(auto)]
 
 mod answering;
