@@ -132,3 +132,24 @@ end_lines true old new text lacks ended line some none ahead taken =
     ∙ ap (λ (bytes : List ℕ). new.line ∷ lines_of bytes) (sym (end_left old new text ended ahead taken))
 end_lines false old new text lacks ended line some none ahead taken =
     ap lines_of (ended ∙ none refl ∙ sym (end_left old new text ended ahead taken))
+
+-- the same is taken and left, so their sum stays
+pub same_sum : (old new : Reading) (text : List ℕ) → new.taken ≡ old.taken → left_of new text ≡ left_of old text → new.taken + length (left_of new text) ≡ old.taken + length (left_of old text)
+same_sum old new text taken left =
+    ap (λ (bytes : List ℕ). new.taken + length bytes) left
+    ∙ ap (λ (n : ℕ). n + length (left_of old text)) taken
+
+-- a line and its line feed, from the front of the bytes
+pub line_sum : (old new : ℕ) (line before after : List ℕ) → new ≡ old + length line + 1 → before ≡ line ++ 10 ∷ after → new + length after ≡ old + length before
+line_sum old new line before after taken spelled =
+    omega (arith, taken, ap length spelled, length-append {A = ℕ})
+
+-- all the bytes
+all_sum : (old new : ℕ) (ahead before after : List ℕ) → new ≡ old + length ahead → before ≡ ahead → after ≡ [] → new + length after ≡ old + length before
+all_sum old new ahead before after taken ended none =
+    omega (arith, taken, ap length ended, ap length none)
+
+-- what is in hand at the end
+pub end_sum : (old new : Reading) (text : List ℕ) → left_of old text ≡ old.ahead → new.ahead ≡ [] → new.taken ≡ old.taken + length old.ahead → new.taken + length (left_of new text) ≡ old.taken + length (left_of old text)
+end_sum old new text ended none taken =
+    all_sum old.taken new.taken old.ahead (left_of old text) (left_of new text) taken ended (end_left old new text ended none taken)

@@ -42,8 +42,8 @@ pub record IsTooLong (room : ℕ) (left : List ℕ) : Type 0 where
   pub unended : Lacks (take room left) 10
 
 -- the reading of a line ended with a failed read
-abbrev pub has_failed : {T : Type 0} → Result T LinesEnd → Bool
-has_failed (Ok given) = false
-has_failed (Err ends.ReadFault) = true
-has_failed (Err ends.TooLong) = false
-has_failed (Err ends.Memory) = false
+abbrev pub is_read_fault : {T : Type 0} → Result T LinesEnd → Bool
+is_read_fault (Ok given) = false
+is_read_fault (Err ends.ReadFault) = true
+is_read_fault (Err ends.TooLong) = false
+is_read_fault (Err ends.Memory) = false

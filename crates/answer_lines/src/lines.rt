@@ -5,7 +5,7 @@ ghost use Rattle.edge.specs.Told.{IfTold};
 ghost use Rattle.edge.specs.Reads.{KeepsTexts, Reads};
 ghost use Rattle.text_grammar.specs.Lines.{IsLine, lines_of};
 ghost use Rattle.text_grammar.specs.Pieces.{Lacks};
-ghost use Rattle.answer_lines.specs.Left.{at_start, left_of, given_line, most_bytes, IsTooLong, StaysLeft, has_failed};
+ghost use Rattle.answer_lines.specs.Left.{at_start, left_of, given_line, most_bytes, IsTooLong, StaysLeft, is_read_fault};
 ghost use Rattle.answer_lines.specs.LinesOf.{SameLeft};
 
 use crate::ends::LinesEnd;
@@ -81,6 +81,11 @@ impl Lines {
         ensures later { IfOk result (λ given. IsTrue given → self.old.taken < self.new.taken) }
         ensures size { IfOk result (λ given. IsTrue given → self.old.taken + length self.new.line ≤ self.new.taken) }
         ensures most { self.new.taken ≤ most_bytes }
+        // What is taken and what is left are together as long as before, whatever is answered: as long as the text,
+        // where it is read from its start. So the limit is one on bytes of the text.
+        ensures sum { IfTold (H.held shelf.old name.now)
+            (λ text. self.new.taken + length (left_of self.new text)
+            ≡ self.old.taken + length (left_of self.old text)) }
         // No line has a line feed, also where the text is not told.
         ensures plain { IfOk result (λ given. IsTrue given → Lacks self.new.line 10) }
         // Behind a given line no more than the rest of a piece is in hand.
@@ -99,7 +104,7 @@ impl Lines {
         ensures counts { NoneFell (H.faults shelf.old) (H.faults shelf.new) }
         ensures kept { KeepsTexts (H.held shelf.old) (H.held shelf.new) }
         // Nothing is read but this name, and nothing after a failed read, which is answered.
-        ensures reads { Reads H.reads name.now (has_failed result) shelf.old shelf.new }
+        ensures reads { Reads H.reads name.now (is_read_fault result) shelf.old shelf.new }
         // Nothing is read where the line is in hand.
         ensures in_hand { ¬ (Lacks self.old.ahead 10) → shelf.new ≡ shelf.old }
     {
@@ -148,7 +153,7 @@ impl Lines {
             → Rose (H.faults shelf.old name.now) (H.faults shelf.new name.now) }
         ensures counts { NoneFell (H.faults shelf.old) (H.faults shelf.new) }
         ensures kept { KeepsTexts (H.held shelf.old) (H.held shelf.new) }
-        ensures reads { Reads H.reads name.now (has_failed result) shelf.old shelf.new }
+        ensures reads { Reads H.reads name.now (is_read_fault result) shelf.old shelf.new }
     {
         hold(
             &mut self.line,

@@ -1,23 +1,23 @@
 use Rattle.std.proofs.Common.{rules, ◌≡◌, ◌∙◌, ℕ, Bool, false, List, Some, ap, sym, subst, arith}
 use Rattle.std.specs.Prelude.{IsTrue, IsFalse}
 use Rattle.edge.specs.Reads.{Reads}
-use Rattle.text_grammar.specs.Lines.{lines_of}
+use Rattle.text_grammar.specs.Lines.{IsLine, lines_of}
 use Rattle.text_grammar.specs.Pieces.{Lacks}
 use Rattle.text_grammar.proofs.LineLaws.{first_line}
 use Rattle.answer_lines.specs.LinesOf.{SameLeft}
-use Rattle.answer_lines.specs.Left.{left_of, has_failed}
-use Rattle.answer_lines.proofs.LeftLaws.{same_left, line_left, line_within, same_too_long, end_lines}
+use Rattle.answer_lines.specs.Left.{left_of, is_read_fault}
+use Rattle.answer_lines.proofs.LeftLaws.{same_left, line_left, line_within, same_too_long, same_sum, line_sum, end_sum, end_lines}
 use Rattle.answer_lines.proofs.ReadLaws.{reads_after}
 use Rattle.answer_lines.proofs.lines.Lines.next.Goals as goal
 
 pub returns-in_err-read_on-clause-reads : goal.returns-in_err-read_on-clause-reads
 returns-in_err-read_on-clause-reads g c =
-    reads_after g.H.Shelf.reads c.args.name.now (has_failed c.from_residual-in_err-read_on.result) c.args.shelf.now c.loop-self.shelf c.read_on.new.shelf c.loop-self.invariant.reads
+    reads_after g.H.Shelf.reads c.args.name.now (is_read_fault c.from_residual-in_err-read_on.result) c.args.shelf.now c.loop-self.shelf c.read_on.new.shelf c.loop-self.invariant.reads
     (subst (λ (failed : Bool). Reads g.H.Shelf.reads c.args.name.now failed c.loop-self.shelf c.read_on.new.shelf) (search rules) c.in_err-read_on.ensures.reads)
 
 pub returns-in_err-end_line-clause-reads : goal.returns-in_err-end_line-clause-reads
 returns-in_err-end_line-clause-reads g c =
-    let memory : false ≡ has_failed c.from_residual-in_err-end_line.result = search rules in
+    let memory : false ≡ is_read_fault c.from_residual-in_err-end_line.result = search rules in
     subst (λ (failed : Bool). Reads g.H.Shelf.reads c.args.name.now failed c.args.shelf.now c.read_on.new.shelf) memory
     (reads_after g.H.Shelf.reads c.args.name.now false c.args.shelf.now c.loop-self.shelf c.read_on.new.shelf c.loop-self.invariant.reads c.in_ok-read_on.ensures.reads)
 
@@ -66,3 +66,45 @@ returns-clause-within g c x told long =
     let found : IsTrue c.in_ok-cut.field-0 = search rules in
     line_within c.loop-self.self c.cut.new.self x (c.in_ok-cut.ensures.found found) (c.in_ok-cut.ensures.taken found) c.in_ok-cut.ensures.most
     (same_too_long c.args.self.now c.loop-self.self x c.loop-self.invariant.taken (c.loop-self.invariant.left x told) long)
+
+pub returns-clause-sum : goal.returns-clause-sum
+returns-clause-sum g c x told =
+    let found : IsTrue c.in_ok-cut.field-0 = search rules in
+    let line : IsLine c.cut.new.self.line (left_of c.loop-self.self x) (left_of c.cut.new.self x) = line_left c.loop-self.self c.cut.new.self x (c.in_ok-cut.ensures.found found) (c.in_ok-cut.ensures.taken found) in
+    line_sum c.loop-self.self.taken c.cut.new.self.taken c.cut.new.self.line (left_of c.loop-self.self x) (left_of c.cut.new.self x) (c.in_ok-cut.ensures.taken found) line.spelled
+    ∙ same_sum c.args.self.now c.loop-self.self x c.loop-self.invariant.taken (c.loop-self.invariant.left x told)
+
+pub returns-in_err-cut-clause-sum : goal.returns-in_err-cut-clause-sum
+returns-in_err-cut-clause-sum g c x told =
+    let same : SameLeft c.loop-self.self c.cut.new.self = c.in_err-cut.ensures.refused in
+    same_sum c.args.self.now c.cut.new.self x (same.taken ∙ c.loop-self.invariant.taken)
+    (same_left c.loop-self.self c.cut.new.self x same ∙ c.loop-self.invariant.left x told)
+
+pub returns-in_err-read_on-clause-sum : goal.returns-in_err-read_on-clause-sum
+returns-in_err-read_on-clause-sum g c x told =
+    let held : g.H.Shelf.held c.loop-self.shelf c.args.name.now ≡ Some x = c.loop-self.invariant.kept c.args.name.now ∙ told in
+    let none : IsFalse c.in_ok-cut.field-0 = search rules in
+    let same : SameLeft c.loop-self.self c.cut.new.self = c.in_ok-cut.ensures.same none in
+    same_sum c.args.self.now c.read_on.new.self x (c.in_err-read_on.ensures.taken ∙ same.taken ∙ c.loop-self.invariant.taken)
+    (c.in_err-read_on.ensures.left x held ∙ same_left c.loop-self.self c.cut.new.self x same ∙ c.loop-self.invariant.left x told)
+
+pub returns-in_err-end_line-clause-sum : goal.returns-in_err-end_line-clause-sum
+returns-in_err-end_line-clause-sum g c x told =
+    let held : g.H.Shelf.held c.loop-self.shelf c.args.name.now ≡ Some x = c.loop-self.invariant.kept c.args.name.now ∙ told in
+    let none : IsFalse c.in_ok-cut.field-0 = search rules in
+    let same : SameLeft c.loop-self.self c.cut.new.self = c.in_ok-cut.ensures.same none in
+    let again : SameLeft c.read_on.new.self c.end_line.new.self = c.in_err-end_line.ensures.refused in
+    same_sum c.args.self.now c.end_line.new.self x (again.taken ∙ c.in_ok-read_on.ensures.taken ∙ same.taken ∙ c.loop-self.invariant.taken)
+    (same_left c.read_on.new.self c.end_line.new.self x again ∙ c.in_ok-read_on.ensures.left x held ∙ same_left c.loop-self.self c.cut.new.self x same ∙ c.loop-self.invariant.left x told)
+
+pub returns-then-not-branch-2-clause-sum : goal.returns-then-not-branch-2-clause-sum
+returns-then-not-branch-2-clause-sum g c x told =
+    let held : g.H.Shelf.held c.loop-self.shelf c.args.name.now ≡ Some x = c.loop-self.invariant.kept c.args.name.now ∙ told in
+    let none : IsFalse c.in_ok-cut.field-0 = search rules in
+    let ended : IsFalse c.in_ok-read_on.field-0 = search rules in
+    let same : SameLeft c.loop-self.self c.cut.new.self = c.in_ok-cut.ensures.same none in
+    let ahead : c.read_on.new.self.ahead ≡ c.cut.new.self.ahead = c.in_ok-read_on.ensures.same ended in
+    let left : left_of c.read_on.new.self x ≡ left_of c.cut.new.self x = c.in_ok-read_on.ensures.left x held in
+    end_sum c.read_on.new.self c.end_line.new.self x (left ∙ c.in_ok-read_on.ensures.end ended x held ∙ sym ahead) c.in_ok-end_line.ensures.ahead c.in_ok-end_line.ensures.taken
+    ∙ same_sum c.args.self.now c.read_on.new.self x (c.in_ok-read_on.ensures.taken ∙ same.taken ∙ c.loop-self.invariant.taken)
+    (left ∙ same_left c.loop-self.self c.cut.new.self x same ∙ c.loop-self.invariant.left x told)
