@@ -1,5 +1,5 @@
 -- A shelf and a sink in memory, as contracts see them. Their calls are numbered from 1.
-use Rattle.std.specs.Prelude.{ℕ, Bool, if◌then◌else◌, List, map, ◌⊎◌, Contains, Option, option_map, IsNone, find, Vec, String, string_bytes}
+use Rattle.std.specs.Prelude.{ℕ, Bool, if◌then◌else◌, List, ◌≡◌, ◌++◌, map, ◌⊎◌, Contains, Option, option_map, IsNone, find, Vec, String, string_bytes}
 use Rattle.std.specs.Str.{bytes_eq}
 use Rattle.std.specs.declared.alloc.Global.{Global}
 use Rattle.edge.specs.Faults.{one_more}
@@ -49,3 +49,15 @@ pub record SinkInMemory : Type 0 where
   -- how many calls there were, and how many of them failed
   pub calls : ℕ
   pub faults : ℕ
+
+-- the sink after one more call, which failed or else took these bytes
+abbrev pub counted_write : SinkInMemory → Bool → List ℕ → SinkInMemory
+counted_write sink failed taken = record sink {
+  bytes = if failed then sink.bytes else sink.bytes ++ taken;
+  calls = one_more sink.calls;
+  faults = if failed then one_more sink.faults else sink.faults;
+}
+
+-- one more call, which failed or did not, makes this of the sink
+abbrev pub WritesOnce : SinkInMemory → Bool → SinkInMemory → Type 0
+WritesOnce old failed new = (taken : List ℕ) × (new ≡ counted_write old failed taken)

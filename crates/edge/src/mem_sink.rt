@@ -2,6 +2,7 @@
 ghost use Rattle.std.specs.Prelude.{[], ◌≡◌, ◌<◌, ◌≤◌, min, length, take, Some, IfOk, IsErr, OnErr, Contains, is_err, if◌then◌else◌};
 ghost use Rattle.edge.specs.Faults.{one_more, HasCause};
 ghost use Rattle.edge.specs.Writes.{Adds};
+ghost use Rattle.edge.specs.InMemory.{WritesOnce};
 
 use crate::failures::Failed;
 use crate::writing::Sink;
@@ -70,6 +71,8 @@ impl Sink for MemSink {
 
     ghost faults = { λ s. s.faults };
 
+    ghost writes = { WritesOnce };
+
     /// A call for whose bytes memory has no room fails too.
     fn write(&mut self, piece: &[u8]) -> Result<usize, Failed>
         ensures bound { IfOk result (λ n. n ≤ length piece.now) }
@@ -77,6 +80,7 @@ impl Sink for MemSink {
         ensures taken { IfOk result (λ n. Adds (Some self.old.bytes) (Some self.new.bytes) (take n piece.now)) }
         ensures kept { OnErr result (Some self.new.bytes ≡ Some self.old.bytes) }
         ensures cause { HasCause self.old.faults self.new.faults result }
+        ensures step { WritesOnce self.old (is_err result) self.new }
 
         // It fails at the calls that are to fail, and else for want of memory alone.
         ensures refused { Contains self.old.failing (one_more self.old.calls) → IsErr result }

@@ -36,6 +36,8 @@ impl<P: Print> Sink for StdSink<P> {
 
     ghost faults = { λ s. s };
 
+    ghost writes = { λ old failed new. new ≡ (if failed then one_more old else old) };
+
     /// A write of no byte of a piece that is not empty is a failure too.
     fn write(&mut self, piece: &[u8]) -> Result<usize, Failed>
         ensures bound { IfOk result (λ n. n ≤ length piece.now) }

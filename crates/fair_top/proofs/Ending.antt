@@ -1,14 +1,21 @@
 -- How a run ends, from what is asked for and from what its command gives.
-use Rattle.std.proofs.Common.{◌≡◌, ◌⊎◌, inl, inr, ℕ, Bool, false, List, refl, sym, subst}
-use Rattle.std.specs.Prelude.{Option}
-use Rattle.edge.specs.Writes.{Adds, AddsPart}
+use Rattle.std.proofs.Common.{◌≡◌, ◌⊎◌, inl, inr, ℕ, Bool, false, List, refl, sym, subst, Ok, Err}
+use Rattle.std.specs.Prelude.{Option, Result}
+use Rattle.aig_semantics.specs.Circuits.{Circuit}
+use Rattle.edge.specs.Writes.{Adds, AddsPart, Writes}
 use Rattle.fair_top.specs.declared.requests.GenRequest.{GenRequest}
 use Rattle.fair_top.specs.declared.status.Status.{Status}
 use Rattle.fair_top.specs.declared.status.Status.TheVariants as statuses
 use Rattle.fair_top.specs.declared.status.Done.TheVariants.{Printed}
-use Rattle.fair_top.specs.Asked.{Asked, Gen, names_in}
-use Rattle.fair_top.specs.Commands.{Decides}
-use Rattle.fair_top.specs.Headline.{AsksFor, IsUsage, Ends, IsVerdict, IsAnswered, Writes, FailedOf, ReadFailed, ReadsModelFirst, HasRead}
+use Rattle.fair_top.specs.declared.ends.Accepted.{Accepted}
+use Rattle.fair_top.specs.declared.ends.AnswerEnd.{AnswerEnd}
+use Rattle.fair_top.specs.declared.ends.AnswerEnd.TheVariants as ends
+use Rattle.fair_top.specs.Answers.{DecidesEnd}
+use Rattle.fair_top.specs.ModelGiven.{OfSomeText}
+use Rattle.fair_top.specs.Check.{status_of, JudgesAs}
+use Rattle.fair_top.specs.Asked.{Asked, Check, Gen, names_in}
+use Rattle.fair_top.specs.Commands.{CommandGives, Decides}
+use Rattle.fair_top.specs.Headline.{AsksFor, IsUsage, IsSilent, Ends, IsVerdict, IsAnswered, HasTaken, HasWritten, FailedOf, ReadFailed, ReadsModelFirst, HasRead}
 use Rattle.fair_top.specs.Statuses.{is_read_fault}
 use Rattle.fair_top.proofs.Taken.{one_asked, not_usage}
 
@@ -57,10 +64,36 @@ read_before Read held words status old new none (inr (asked, asks, reads)) =
 -- What the sink took.
 
 pub written : (held : List ℕ → Option (List ℕ)) (words : List (List ℕ)) (old new : Option (List ℕ)) (status : Status) (text bytes : List ℕ)
-    → bytes ≡ text → Ends held words status text → Adds old new bytes → Writes held words old new status
+    → bytes ≡ text → Ends held words status text → Adds old new bytes → HasTaken held words old new status
 written held words old new status text bytes same ends adds = inl (text, ends, subst (λ (b : List ℕ). Adds old new b) same adds)
 
 pub part_written : (held : List ℕ → Option (List ℕ)) (words : List (List ℕ)) (old new : Option (List ℕ)) (status : Status) (text bytes : List ℕ)
-    → bytes ≡ text → Ends held words status text → AddsPart old new bytes → Writes held words old new statuses.WriteFault
+    → bytes ≡ text → Ends held words status text → AddsPart old new bytes → HasTaken held words old new statuses.WriteFault
 part_written held words old new status text bytes same ends part =
     inr (inr (refl, status, text, ends, subst (λ (b : List ℕ). AddsPart old new b) same part))
+
+-- The writes that the sink saw.
+
+of_answer : {Sink : Type 0} (Write : Sink → Bool → Sink → Type 0) (c : Circuit) (text : List ℕ) (end : Result Accepted AnswerEnd) (old new : Sink)
+    → DecidesEnd c text end → Writes Write false old new → HasWritten Write (status_of end) old new
+of_answer Write c text (Ok found) old new said writes = writes
+of_answer Write c text (Err (ends.Refused fault)) old new said writes = writes
+of_answer Write c text (Err ends.ReadFault) old new said writes = absurd said
+of_answer Write c text (Err ends.Memory) old new said writes = absurd said
+
+of_check : {Sink : Type 0} (Write : Sink → Bool → Sink → Type 0) (model answer : Option (List ℕ)) (status : Status) (old new : Sink)
+    → JudgesAs OfSomeText model answer status → Writes Write false old new → HasWritten Write status old new
+of_check Write model answer status old new (inl (fault, e, bad)) writes = subst (λ (s : Status). HasWritten Write s old new) (sym e) writes
+of_check Write model answer status old new (inr (end, e, (_, _, (claimed, _, (m, _, said))))) writes =
+    subst (λ (s : Status). HasWritten Write s old new) (sym e) (of_answer Write m.circuit claimed end old new said writes)
+
+of_command : {Sink : Type 0} (Write : Sink → Bool → Sink → Type 0) (held : List ℕ → Option (List ℕ)) (asked : Asked) (status : Status) (text : List ℕ) (old new : Sink)
+    → CommandGives held asked status text → Writes Write false old new → HasWritten Write status old new
+of_command Write held (Check model answer) status text old new gives writes = of_check Write (held model) (held answer) status old new gives.0 writes
+of_command Write held (Gen request) status text old new gives writes = subst (λ (s : Status). HasWritten Write s old new) (sym gives.0) writes
+
+-- a status with a text is answered after good writes
+pub good_writes : {Sink : Type 0} (Write : Sink → Bool → Sink → Type 0) (held : List ℕ → Option (List ℕ)) (words : List (List ℕ)) (status : Status) (text : List ℕ) (old new : Sink)
+    → Ends held words status text → Writes Write false old new → HasWritten Write status old new
+good_writes Write held words status text old new (inl (usage, e, same)) writes = subst (λ (s : Status). HasWritten Write s old new) (sym e) writes
+good_writes Write held words status text old new (inr (asked, asks, gives)) writes = of_command Write held asked status text old new gives writes

@@ -121,10 +121,7 @@ IsMisread c text fault = (length text ≤ MAX_ANSWER_BYTES) × HasLineFault (len
 abbrev pub IsRefused : Circuit → List ℕ → AnswerFault → Type 0
 IsRefused c text TooLong = MAX_ANSWER_BYTES < length text
 IsRefused c text (Replay fault) = (n : ℕ) × OfAnswer c text n (λ stimulus. HasReplayFault c n stimulus fault)
-IsRefused c text (Shape line) = IsMisread c text (Shape line)
-IsRefused c text (NoProperty n) = IsMisread c text (NoProperty n)
-IsRefused c text (Trailing line) = IsMisread c text (Trailing line)
-IsRefused c text UnknownStatus = IsMisread c text UnknownStatus
+IsRefused c text fault = IsMisread c text fault
 
 -- the text decides this end of its check
 abbrev pub DecidesEnd : Circuit → List ℕ → Result Accepted AnswerEnd → Type 0

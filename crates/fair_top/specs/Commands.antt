@@ -19,9 +19,9 @@ Means (Check model answer) name rows = (name ≡ codes "check") × MeansCheck ro
 Means (Gen request) name rows = (name ≡ codes "gen") × MeansGen rows request
 
 -- What is so of the texts that the shelf tells where a run that asks for this ends with this status, and writes this text.
-abbrev pub Gives : (List ℕ → Option (List ℕ)) → Asked → Status → List ℕ → Type 0
-Gives held (Check model answer) status text = GivesCheck (held model) (held answer) status text
-Gives held (Gen request) status text = GivesGen request status text
+abbrev pub CommandGives : (List ℕ → Option (List ℕ)) → Asked → Status → List ℕ → Type 0
+CommandGives held (Check model answer) status text = GivesCheck (held model) (held answer) status text
+CommandGives held (Gen request) status text = GivesGen request status text
 
 -- the status is the only right one, by what is asked for and by the texts that the shelf tells
 abbrev pub Decides : (List ℕ → Option (List ℕ)) → Asked → Status → Type 0

@@ -1,5 +1,5 @@
 -- What a run of the program answers, writes and reads, whatever its commands are.
-use Rattle.std.specs.Prelude.{◌≡◌, ◌≢◌, ◌⊎◌, ℕ, Bool, false, List, [], ◌∷◌, Option, Some}
+use Rattle.std.specs.Prelude.{◌≡◌, ◌≢◌, ◌⊎◌, ℕ, Bool, true, false, List, [], ◌∷◌, Option, Some}
 use Rattle.circuit.specs.declared.faults.ModelFault.TheVariants.{Cycle}
 use Rattle.clap.specs.Walk.{Row}
 use Rattle.clap.specs.Simple.{subcommand_of}
@@ -7,13 +7,13 @@ use Rattle.clap.specs.Faults.{fault_of}
 use Rattle.edge.specs.Told.{IfTold}
 use Rattle.edge.specs.Faults.{Rose}
 use Rattle.edge.specs.Reads.{Reads}
-use Rattle.edge.specs.Writes.{Adds, AddsPart}
+use Rattle.edge.specs.Writes.{Adds, AddsPart, Writes}
 use Rattle.unless_memory.specs.Answers.{GivesSome}
 use Rattle.fair_top.specs.declared.status.Status.{Status}
 use Rattle.fair_top.specs.declared.status.Status.TheVariants as statuses
 use Rattle.fair_top.specs.ModelTexts.{OfModel}
 use Rattle.fair_top.specs.Asked.{Asked, names_in, usage_text}
-use Rattle.fair_top.specs.Commands.{fairlive, Means, Gives, Decides}
+use Rattle.fair_top.specs.Commands.{fairlive, Means, CommandGives, Decides}
 use Rattle.fair_top.specs.Statuses.{is_read_fault}
 
 -- What the words ask for.
@@ -57,7 +57,7 @@ ReadsNothing words = IsUsage words ⊎ ((asked : Asked) × AsksFor words asked �
 abbrev pub Ends : (List ℕ → Option (List ℕ)) → List (List ℕ) → Status → List ℕ → Type 0
 Ends held words status text =
     (IsUsage words × (status ≡ statuses.Usage) × (text ≡ usage_text))
-    ⊎ ((asked : Asked) × AsksFor words asked × Gives held asked status text)
+    ⊎ ((asked : Asked) × AsksFor words asked × CommandGives held asked status text)
 
 -- a run ends so without a text
 abbrev pub IsSilent : Status → Type 0
@@ -70,8 +70,8 @@ IsFound held words status =
     ⊎ (IsSilent status ⊎ ((status ≡ statuses.WriteFault) × (meant : Status) × (text : List ℕ) × Ends held words meant text))
 
 -- what a sink has taken: the text of the end, of which a failed write leaves a part; or nothing
-abbrev pub Writes : (List ℕ → Option (List ℕ)) → List (List ℕ) → Option (List ℕ) → Option (List ℕ) → Status → Type 0
-Writes held words old new status =
+abbrev pub HasTaken : (List ℕ → Option (List ℕ)) → List (List ℕ) → Option (List ℕ) → Option (List ℕ) → Status → Type 0
+HasTaken held words old new status =
     ((text : List ℕ) × Ends held words status text × Adds old new text)
     ⊎ ((IsSilent status × (new ≡ old))
     ⊎ ((status ≡ statuses.WriteFault) × (meant : Status) × (text : List ℕ) × Ends held words meant text × AddsPart old new text))
@@ -138,3 +138,13 @@ abbrev pub HasRead : {Shelf : Type 0} → (Shelf → List ℕ → Bool → Shelf
 HasRead Read held words status old new =
     (IsUsage words × (new ≡ old) × (is_read_fault status ≡ false))
     ⊎ ((asked : Asked) × AsksFor words asked × ReadsModelFirst Read held (names_in asked) (is_read_fault status) old new)
+
+-- What a run writes.
+
+-- the writes of a run, where `Write old failed new` says that one write does: none where a read failed or memory was
+-- refused. A failed write is the last one, and exactly where there is one the status says so.
+abbrev pub HasWritten : {Sink : Type 0} → (Sink → Bool → Sink → Type 0) → Status → Sink → Sink → Type 0
+HasWritten Write statuses.ReadFault old new = new ≡ old
+HasWritten Write statuses.Memory old new = new ≡ old
+HasWritten Write statuses.WriteFault old new = Writes Write true old new
+HasWritten Write _ old new = Writes Write false old new

@@ -40,7 +40,4 @@ abbrev pub EndsWithoutModel : Option (List ℕ) → Status → Type 0
 EndsWithoutModel told (statuses.BadModel fault) = IsFaultOf told fault
 EndsWithoutModel told statuses.ReadFault = Unit {0}
 EndsWithoutModel told statuses.Memory = Unit {0}
-EndsWithoutModel told (statuses.Done done) = ⊥
-EndsWithoutModel told (statuses.Refused fault) = ⊥
-EndsWithoutModel told statuses.WriteFault = ⊥
-EndsWithoutModel told statuses.Usage = ⊥
+EndsWithoutModel told _ = ⊥

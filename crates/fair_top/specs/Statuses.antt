@@ -19,27 +19,18 @@ status_of_read reads.Memory = statuses.Memory
 -- the status says that a read failed
 abbrev pub is_read_fault : Status → Bool
 is_read_fault statuses.ReadFault = true
-is_read_fault statuses.Memory = false
-is_read_fault statuses.WriteFault = false
-is_read_fault statuses.Usage = false
-is_read_fault (statuses.Done done) = false
-is_read_fault (statuses.Refused fault) = false
-is_read_fault (statuses.BadModel fault) = false
+is_read_fault _ = false
 
 -- a run ends with this status before it writes
 abbrev pub ends_silently : Status → Bool
 ends_silently statuses.ReadFault = true
 ends_silently statuses.Memory = true
-ends_silently statuses.WriteFault = false
-ends_silently statuses.Usage = false
-ends_silently (statuses.Done done) = false
-ends_silently (statuses.Refused fault) = false
-ends_silently (statuses.BadModel fault) = false
+ends_silently _ = false
 
 -- the status with which a run ends
-abbrev pub ends_with : Result Outcome Status → Status
-ends_with (Ok outcome) = outcome.status
-ends_with (Err status) = status
+abbrev pub status_in : Result Outcome Status → Status
+status_in (Ok outcome) = outcome.status
+status_in (Err status) = status
 
 -- the call ended with a failed read
 abbrev pub has_unread : {T : Type 0} → Result T AnswerEnd → Bool

@@ -5,9 +5,9 @@ ghost use Rattle.edge.specs.Faults.{NoneFell};
 ghost use Rattle.edge.specs.Reads.{KeepsTexts};
 ghost use Rattle.fair_top.specs.Words.{bytes_of};
 ghost use Rattle.fair_top.specs.Asked.{names_in, meant};
-ghost use Rattle.fair_top.specs.Commands.{Gives, Decides};
+ghost use Rattle.fair_top.specs.Commands.{CommandGives, Decides};
 ghost use Rattle.fair_top.specs.Headline.{AsksFor, IsTakenOrUsage, ReadsNothing, Ends, IsSilent, IsVerdict, IsAnswered, FailedOf, ReadFailed, ReadsModelFirst, HasRead};
-ghost use Rattle.fair_top.specs.Statuses.{ends_with, is_read_fault};
+ghost use Rattle.fair_top.specs.Statuses.{status_in, is_read_fault};
 
 use crate::checking::check;
 use crate::generating::generate;
@@ -28,10 +28,10 @@ pub(crate) fn outcome_of<H: Shelf>(
     ensures found { IfOk result (λ outcome. Ends (H.held shelf.old) (bytes_of words.now) outcome.status outcome.text.items) }
     ensures silent { IfErr result IsSilent }
     ensures aloud { IfOk result (λ outcome. is_read_fault outcome.status ≡ false) }
-    ensures exactly { (verdict : Status) → IsVerdict (H.held shelf.old) (bytes_of words.now) verdict → IsAnswered verdict (ends_with result) }
+    ensures exactly { (verdict : Status) → IsVerdict (H.held shelf.old) (bytes_of words.now) verdict → IsAnswered verdict (status_in result) }
     ensures words { IsTakenOrUsage (bytes_of words.now) }
-    ensures read { ends_with result ≡ Status.ReadFault → ReadFailed (H.held shelf.old) (bytes_of words.now) (H.faults shelf.old) (H.faults shelf.new) }
-    ensures reads { HasRead H.reads (H.held shelf.old) (bytes_of words.now) (ends_with result) shelf.old shelf.new }
+    ensures read { status_in result ≡ Status.ReadFault → ReadFailed (H.held shelf.old) (bytes_of words.now) (H.faults shelf.old) (H.faults shelf.new) }
+    ensures reads { HasRead H.reads (H.held shelf.old) (bytes_of words.now) (status_in result) shelf.old shelf.new }
     ensures unread { ReadsNothing (bytes_of words.now) → shelf.new ≡ shelf.old }
     ensures counts { NoneFell (H.faults shelf.old) (H.faults shelf.new) }
     ensures kept { KeepsTexts (H.held shelf.old) (H.held shelf.new) }
@@ -45,12 +45,12 @@ pub(crate) fn outcome_of<H: Shelf>(
 /// The same for what is asked for: a case for each command.
 fn outcome_for<H: Shelf>(alloc: Global, asked: Asked, shelf: &mut H) -> Result<Outcome, Status>
     requires { (words : List (List ℕ)) × AsksFor words (meant asked) }
-    ensures found { IfOk result (λ outcome. Gives (H.held shelf.old) (meant asked.entry) outcome.status outcome.text.items) }
+    ensures found { IfOk result (λ outcome. CommandGives (H.held shelf.old) (meant asked.entry) outcome.status outcome.text.items) }
     ensures silent { IfErr result IsSilent }
     ensures aloud { IfOk result (λ outcome. is_read_fault outcome.status ≡ false) }
-    ensures exactly { (verdict : Status) → Decides (H.held shelf.old) (meant asked.entry) verdict → IsAnswered verdict (ends_with result) }
-    ensures read { ends_with result ≡ Status.ReadFault → FailedOf (H.held shelf.old) (names_in (meant asked.entry)) (H.faults shelf.old) (H.faults shelf.new) }
-    ensures reads { ReadsModelFirst H.reads (H.held shelf.old) (names_in (meant asked.entry)) (is_read_fault (ends_with result)) shelf.old shelf.new }
+    ensures exactly { (verdict : Status) → Decides (H.held shelf.old) (meant asked.entry) verdict → IsAnswered verdict (status_in result) }
+    ensures read { status_in result ≡ Status.ReadFault → FailedOf (H.held shelf.old) (names_in (meant asked.entry)) (H.faults shelf.old) (H.faults shelf.new) }
+    ensures reads { ReadsModelFirst H.reads (H.held shelf.old) (names_in (meant asked.entry)) (is_read_fault (status_in result)) shelf.old shelf.new }
     ensures counts { NoneFell (H.faults shelf.old) (H.faults shelf.new) }
     ensures kept { KeepsTexts (H.held shelf.old) (H.held shelf.new) }
 {

@@ -5,7 +5,7 @@ ghost use Rattle.edge.specs.Faults.{Rose, NoneFell};
 ghost use Rattle.edge.specs.Reads.{KeepsTexts};
 ghost use Rattle.fair_top.specs.Words.{bytes_of};
 ghost use Rattle.fair_top.specs.Asked.Asked.{Gen};
-ghost use Rattle.fair_top.specs.Headline.{AsksFor, IsTakenOrUsage, ReadsNothing, IsFound, IsVerdict, IsAnswered, IsSilent, Writes, ReadFailed, HasRead};
+ghost use Rattle.fair_top.specs.Headline.{AsksFor, IsTakenOrUsage, ReadsNothing, IsFound, IsVerdict, IsAnswered, IsSilent, HasTaken, ReadFailed, HasRead, HasWritten};
 ghost use Rattle.fair_top.specs.declared.requests.GenRequest.{GenRequest};
 ghost use Rattle.fair_top.specs.declared.status.Done.TheVariants.{Printed};
 
@@ -31,10 +31,11 @@ pub fn run<R: Threads + Wait + Sync, H: Shelf, O: Sink, G: Gate>(
     ensures exactly { (verdict : Status) → IsVerdict (H.held shelf.old) (bytes_of words.now) verdict → IsAnswered verdict result }
     ensures words { IsTakenOrUsage (bytes_of words.now) }
     ensures printed { (request : GenRequest) → AsksFor (bytes_of words.now) (Gen request) → (result ≡ Status.Done Printed) ⊎ ((result ≡ Status.Memory) ⊎ (result ≡ Status.WriteFault)) }
-    ensures text { Writes (H.held shelf.old) (bytes_of words.now) (O.taken out.old) (O.taken out.new) result }
+    ensures text { HasTaken (H.held shelf.old) (bytes_of words.now) (O.taken out.old) (O.taken out.new) result }
     ensures silent { IsSilent result → out.new ≡ out.old }
     ensures read { result ≡ Status.ReadFault → ReadFailed (H.held shelf.old) (bytes_of words.now) (H.faults shelf.old) (H.faults shelf.new) }
     ensures reads { HasRead H.reads (H.held shelf.old) (bytes_of words.now) result shelf.old shelf.new }
+    ensures written { HasWritten O.writes result out.old out.new }
     ensures write { result ≡ Status.WriteFault → Rose (O.faults out.old) (O.faults out.new) }
     ensures kept { KeepsTexts (H.held shelf.old) (H.held shelf.new) }
     ensures counts { NoneFell (H.faults shelf.old) (H.faults shelf.new) }
@@ -63,13 +64,15 @@ pub fn run_alone<H: Shelf, O: Sink>(
 
     // The sink has taken the text that goes with the answer; after a failed write a part of it; after a failed read or
     // want of memory nothing: then the sink is as before.
-    ensures text { Writes (H.held shelf.old) (bytes_of words.now) (O.taken out.old) (O.taken out.new) result }
+    ensures text { HasTaken (H.held shelf.old) (bytes_of words.now) (O.taken out.old) (O.taken out.new) result }
     ensures silent { IsSilent result → out.new ≡ out.old }
 
     // A failed read or write is answered only where it came. The reads are of the names that the words give, in turn,
-    // MODEL's first and ANSWER's only where MODEL is a model's text; a failed one is the last, and is answered.
+    // MODEL's first and ANSWER's only where MODEL is a model's text. Of reads and of writes a failed one is the last, and
+    // is answered.
     ensures read { result ≡ Status.ReadFault → ReadFailed (H.held shelf.old) (bytes_of words.now) (H.faults shelf.old) (H.faults shelf.new) }
     ensures reads { HasRead H.reads (H.held shelf.old) (bytes_of words.now) result shelf.old shelf.new }
+    ensures written { HasWritten O.writes result out.old out.new }
     ensures write { result ≡ Status.WriteFault → Rose (O.faults out.old) (O.faults out.new) }
 
     // The texts stay as they are, and no count of faults falls; words that are no command and `gen` leave the shelf alone.

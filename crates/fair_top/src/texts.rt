@@ -1,7 +1,7 @@
 //! The text that each status writes. The main call is `with_text`.
 
 ghost use Rattle.std.specs.Prelude.{◌≡◌, ◌⊎◌, ◌++◌, true, false, IfOk, IfErr, OnOk, codes, decimal};
-ghost use Rattle.fair_top.specs.Statuses.{ends_silently, ends_with, is_read_fault};
+ghost use Rattle.fair_top.specs.Statuses.{ends_silently, status_in, is_read_fault};
 ghost use Rattle.fair_top.specs.Texts.{text_of, line_with, bad_model_text, replay_text, refusal_text, done_text};
 
 use crate::ends::AnswerFault;
@@ -21,11 +21,11 @@ pub(crate) struct Outcome {
 
 /// The status with its own text, or the status alone where nothing is written with it; or `Memory`.
 pub(crate) fn with_text(alloc: Global, status: Status) -> Result<Outcome, Status>
-    ensures status { (ends_with result ≡ status) ⊎ (ends_with result ≡ Status.Memory) }
+    ensures status { (status_in result ≡ status) ⊎ (status_in result ≡ Status.Memory) }
     ensures text { IfOk result (λ outcome. (outcome.status ≡ status) × (outcome.text.items ≡ text_of status)) }
     ensures aloud { IfOk result (λ outcome. ends_silently status ≡ false) }
     ensures silent { IfErr result (λ other. ends_silently other ≡ true) }
-    ensures fault { is_read_fault (ends_with result) ≡ is_read_fault status }
+    ensures fault { is_read_fault (status_in result) ≡ is_read_fault status }
 {
     if is_silent(&status) {
         return Err(status);

@@ -1,5 +1,5 @@
 use Rattle.fair_top.specs.Words.{bytes_of}
-use Rattle.fair_top.proofs.Ending.{is_printed, read_before, written, part_written}
+use Rattle.fair_top.proofs.Ending.{is_printed, read_before, written, part_written, good_writes}
 use Rattle.fair_top.proofs.running.run_alone.Goals as goal
 
 pub returns-in-Ok-write_all-clause-printed : goal.returns-in-Ok-write_all-clause-printed
@@ -21,3 +21,8 @@ pub returns-in-Ok-clause-reads : goal.returns-in-Ok-clause-reads
 returns-in-Ok-clause-reads g c =
     read_before g.H.Shelf.reads (g.H.Shelf.held c.args.shelf.now) (bytes_of c.args.words.now) c.in-Ok.field-0.status c.args.shelf.now c.outcome_of.new.shelf
     c.in-Ok.ensures.aloud c.in-Ok.ensures.reads
+
+pub returns-in-Ok-write_all-clause-written : goal.returns-in-Ok-write_all-clause-written
+returns-in-Ok-write_all-clause-written g c =
+    good_writes g.O.Sink.writes (g.H.Shelf.held c.args.shelf.now) (bytes_of c.args.words.now) c.in-Ok.field-0.status c.in-Ok.field-0.text.items
+    c.args.out.now c.write_all.new.sink c.in-Ok.ensures.found c.in-Ok-write_all.ensures.writes
