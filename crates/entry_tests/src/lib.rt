@@ -1,0 +1,9 @@
+//! Tests of entries and refutations of small circuits, whose proofs were worked out by hand.
+#![tactic(auto)]
+
+#[cfg(test)]
+mod claims;
+#[cfg(test)]
+mod parts;
+#[cfg(test)]
+mod tests;
