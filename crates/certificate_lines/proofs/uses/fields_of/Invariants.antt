@@ -1,0 +1,14 @@
+use Rattle.std.proofs.Common.{◌≡◌, length}
+use Rattle.certificate_lines.specs.Fields.{read_each}
+use Rattle.certificate_lines.specs.Uses.{use_in}
+use Rattle.certificate_lines.specs.Reading.{fields_behind, behind}
+use Rattle.certificate_lines.proofs.uses.fields_of.Given as goal
+
+-- what the fields that are left give, behind the uses so far, is the answer
+abbrev pub invariant-loop-left : goal.invariant-loop-left
+invariant-loop-left l =
+    behind l.uses (read_each (use_in l.version) (fields_behind l.left))
+    ≡ read_each (use_in l.version) (fields_behind l.initial.left)
+
+abbrev pub decreases-loop-left : goal.decreases-loop-left
+decreases-loop-left l = length (fields_behind l.left)
