@@ -6,3 +6,4 @@ pub mod ProofFaults
 pub mod Faultless
 pub mod Verdicts
 pub mod Present
+pub mod Over

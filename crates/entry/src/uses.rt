@@ -65,13 +65,13 @@ fn may_stand(user: User, list: &[Listed], least: u64, earlier: &[Use], u: Use) -
 /// The number of the first use that may not stand where it does: numbers ascend, and each is that of an entry of the
 /// list; a reach entry uses reach entries alone; only a use of a wall has a side named, and a refutation names none; and
 /// each wall of which a used wall names a side is used before it. `None` where each may stand. Takes no memory.
-pub fn first_bad_use(user: User, list: &[Listed], uses: &[Use]) -> Option<u32>
+pub fn first_bad_use(user: User, list: &[Listed], uses: &[Use]) -> Option<u64>
     ensures { result ≡ first_bad_use user (entries_of list.now) uses.now }
 {
     let mut least: u64 = 0;
     for (i, u) in uses.iter().enumerate() {
         if !may_stand(user, list, least, &uses[..i], *u) {
-            return Some(u.entry);
+            return Some(u64::from(u.entry));
         }
         least = u64::from(u.entry) + 1;
     }
