@@ -7,3 +7,4 @@ pub mod Faultless
 pub mod Verdicts
 pub mod Present
 pub mod Over
+pub mod Search
