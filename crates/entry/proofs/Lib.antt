@@ -6,3 +6,5 @@ pub mod ProofFaults
 pub mod Faultless
 pub mod Verdicts
 pub mod Present
+pub mod Over
+pub mod Search

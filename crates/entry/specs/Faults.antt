@@ -99,8 +99,8 @@ abbrev pub or_else : {X Y : Type 0} → Option X → (X → Y) → Option Y → 
 or_else None fault rest = rest
 or_else (Some x) fault rest = Some (fault x)
 
--- The first fault of an entry behind these, whose clauses are over the latches: of its uses, else of its clauses, else of
--- its proofs.
+-- The first fault of an entry behind these, whose clauses are over the latches, with a proof for each clause: of its uses,
+-- else of its clauses, else of its proofs.
 abbrev pub first_fault : Circuit → List Entry → Entry → List (List (List ℕ)) → Option EntryFault
 first_fault c before e proofs =
     or_else (first_bad_use (users.Entry e.kind) before e.uses) BadUse

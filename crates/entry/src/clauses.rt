@@ -1,8 +1,8 @@
 //! Clauses of entries: from the literals of a model, and the test of a reach entry's. The main call is
 //! `clause_from_aiger`.
 
-ghost use Rattle.std.specs.Prelude.{◌≡◌, slice_get};
-ghost use Rattle.std.specs.List.{list_any};
+ghost use Rattle.std.specs.Prelude.{◌≡◌, ◌<◌, length, IfOk, slice_get};
+ghost use Rattle.std.specs.List.{All, list_any};
 ghost use Rattle.proof_semantics.specs.Clauses.{has_literal};
 ghost use Rattle.fair_semantics.specs.States.{initial_cube};
 ghost use Rattle.entry.specs.Clauses.{latch_from, latch_literal, clause_of};
@@ -40,9 +40,7 @@ fn latch_literal(c: &Circuit, literal: u64) -> Option<Lit>
     }
 }
 
-/// The clause of these literals of the model, in their order, over the numbers of the latches, which are counted from 0
-/// in the order of the file. The fault is `NotLatch` of the first literal that is no latch's.
-pub fn clause_from_aiger(alloc: Global, c: &Circuit, literals: &[u64]) -> Result<Clause, EntryEnd>
+fn read_clause(alloc: Global, c: &Circuit, literals: &[u64]) -> Result<Clause, EntryEnd>
     ensures { Tells result (clause_of c.now literals.now) }
 {
     let mut clause = Clause::new(alloc);
@@ -53,6 +51,15 @@ pub fn clause_from_aiger(alloc: Global, c: &Circuit, literals: &[u64]) -> Result
         }
     }
     Ok(clause)
+}
+
+/// The clause of these literals of the model, in their order, over the numbers of the latches, which are counted from 0
+/// in the order of the file. The fault is `NotLatch` of the first literal that is no latch's.
+pub fn clause_from_aiger(alloc: Global, c: &Circuit, literals: &[u64]) -> Result<Clause, EntryEnd>
+    ensures clause { Tells result (clause_of c.now literals.now) }
+    ensures over { IfOk result (λ clause. All (λ l. l.var < length c.now.latches) clause) }
+{
+    read_clause(alloc, c, literals)
 }
 
 fn latch_at(c: &Circuit, n: u64) -> Option<Latch>

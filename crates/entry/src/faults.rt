@@ -9,7 +9,7 @@ use thiserror::Error;
 pub enum EntryFault {
     /// The first use that may not stand where it does is of the entry with this number.
     #[error("the use of entry {0} may not stand there")]
-    BadUse(u32),
+    BadUse(u64),
     /// This literal of the model is no latch's.
     #[error("literal {0} is no latch's")]
     NotLatch(u64),
@@ -26,7 +26,7 @@ pub enum EntryFault {
 pub enum RefutationFault {
     /// The first use that may not stand where it does is of the entry with this number.
     #[error("the use of entry {0} may not stand there")]
-    BadUse(u32),
+    BadUse(u64),
     /// The proof has this fault at this line. `Unfinished` carries the number of its lines.
     #[error("the proof is refused at line {0}: {1}")]
     Proof(u64, LratFault),
