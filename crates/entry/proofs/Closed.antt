@@ -1,8 +1,8 @@
 -- A line of uses has no bad use exactly where the uses are closed and the user may make each of them.
-use Rattle.std.proofs.Common.{◌≡◌, ℕ, zero, suc, ◌+◌, ◌<◌, ◌≤◌, Bool, true, false, not, ◌&&◌, ◌||◌, cond, List, [], ◌∷◌, ◌++◌, length, get_or, take, drop, refl, sym, ap, subst, ◌∙◌, inl, inr, ◌⊎◌, arith, append_assoc, append-nil, length-append, Some, None, Option}
-use Rattle.std.specs.Prelude.{nat_le, nat_lt, ◌==◌, leb, ltb}
-use Rattle.std.specs.List.{All, Any, AllPairs, list_any, list_all}
-use Rattle.std.proofs.lemmas.Bool.{and_parts, and_from, cases_Bool, leb-true, ltb-true, le-leb, lt-ltb, lt-leb, eqb-true, eq-eqb, or_cases, or_left, or_right}
+use Rattle.std.proofs.Common.{◌≡◌, ℕ, zero, suc, ◌+◌, ◌<◌, ◌≤◌, Bool, true, false, not, ◌||◌, cond, List, [], ◌∷◌, ◌++◌, length, get_or, refl, sym, ap, subst, ◌∙◌, inl, inr, arith, append_assoc, length-append, Some, None, Option}
+use Rattle.std.specs.Prelude.{◌==◌}
+use Rattle.std.specs.List.{All, Any, AllPairs, list_any}
+use Rattle.std.proofs.lemmas.Bool.{and_parts, and_from, cases_Bool, leb-true, ltb-true, le-leb, lt-ltb, eqb-true, eq-eqb, or_left, or_right}
 use Rattle.std.proofs.lemmas.List.{get_or_append_left}
 use Rattle.std.proofs.lemmas.List.Elements.{All-cons, All-nil, All-head, All-tail, All-append}
 use Rattle.std.proofs.lemmas.List.Kept.{AllPairs-cons}

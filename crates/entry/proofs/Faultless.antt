@@ -1,5 +1,5 @@
 -- An entry has no fault exactly where it is proved, and a refutation exactly where it is good.
-use Rattle.std.proofs.Common.{◌≡◌, ℕ, zero, suc, ◌+◌, ◌<◌, Bool, true, false, not, cond, List, [], ◌∷◌, length, get_or, refl, sym, ap, subst, ◌∙◌, arith, Some, None, Option, Ok, Err, Result}
+use Rattle.std.proofs.Common.{◌≡◌, ℕ, zero, suc, ◌+◌, ◌<◌, Bool, true, false, not, cond, List, [], ◌∷◌, length, get_or, refl, ap, subst, ◌∙◌, arith, Some, None, Option, Ok, Err, Result}
 use Rattle.std.specs.Prelude.{IsOkAnd}
 use Rattle.std.specs.List.{All, list_any}
 use Rattle.std.proofs.lemmas.List.Elements.{All-cons, All-nil, All-head, All-tail}
@@ -12,17 +12,15 @@ use Rattle.fair_semantics.specs.declared.entries.Kind.{Kind}
 use Rattle.fair_semantics.specs.declared.entries.Kind.TheVariants.{Reach, Wall}
 use Rattle.fair_semantics.specs.declared.entries.Side.{Side}
 use Rattle.fair_semantics.specs.declared.entries.Side.TheVariants as sides
-use Rattle.fair_semantics.specs.declared.entries.Use.{Use}
 use Rattle.fair_semantics.specs.States.{initial_cube}
-use Rattle.fair_semantics.specs.Entries.{Entry, entry_at, used_entries, IsSigned, AreClosed}
+use Rattle.fair_semantics.specs.Entries.{Entry, used_entries}
 use Rattle.cnf_unroll.specs.Obligations.{skeleton_clauses}
 use Rattle.cnf_unroll.specs.Laws.{AreOver}
-use Rattle.entry.specs.declared.uses.User.{User}
 use Rattle.entry.specs.declared.uses.User.TheVariants as users
 use Rattle.entry.specs.declared.faults.EntryFault.{EntryFault}
 use Rattle.entry.specs.declared.faults.EntryFault.TheVariants.{BadUse, Base}
 use Rattle.entry.specs.Faults.{is_signed, may_use, first_bad_use, baseless_from, first_baseless, unfinished_at, line_fault, fault_from, proof_fault, clause_fault, proofs_fault, or_else, first_fault}
-use Rattle.entry.specs.Proved.{holds_initial, obligation_of, HasBase, AreProofs, IsProved, IsGoodRefutation}
+use Rattle.entry.specs.Proved.{holds_initial, obligation_of, IsProved, IsGoodRefutation}
 use Rattle.entry.specs.Laws.{FaultlessIsProved, FaultlessIsGood}
 use Rattle.entry.proofs.Closed.{closed-from_none, none-from_closed}
 

@@ -1,17 +1,16 @@
 -- Closed uses of a good list can be understood by themselves.
-use Rattle.std.proofs.Common.{◌≡◌, ℕ, zero, suc, ◌+◌, ◌<◌, ◌≤◌, Bool, true, false, List, [], ◌∷◌, ◌++◌, length, get_or, take, drop, refl, sym, ap, subst, ◌∙◌, inl, inr, ◌⊎◌, arith, append_assoc, append-nil, length-append, length-take}
+use Rattle.std.proofs.Common.{◌≡◌, ℕ, zero, suc, ◌<◌, ◌≤◌, List, [], ◌∷◌, ◌++◌, length, get_or, take, drop, refl, sym, ap, subst, ◌∙◌, inl, inr, ◌⊎◌, arith, append_assoc, append-nil}
 use Rattle.std.specs.List.{All, AllPairs, Contains}
-use Rattle.std.proofs.lemmas.Bool.{cases_eq, cases_lt}
 use Rattle.std.proofs.lemmas.List.{take-append-drop}
 use Rattle.std.proofs.lemmas.List.Elements.{All-head, All-tail}
 use Rattle.aig_semantics.specs.Circuits.{Circuit}
 use Rattle.fair_semantics.specs.declared.entries.Kind.{Kind}
 use Rattle.fair_semantics.specs.declared.entries.Kind.TheVariants.{Reach, Wall}
 use Rattle.fair_semantics.specs.declared.entries.Use.{Use}
-use Rattle.fair_semantics.specs.Entries.{Entry, Numbered, entry_at, used_entries, IsSigned, Uses, AreClosed}
-use Rattle.fair_semantics.specs.Validity.{IsValid, IsReachBase, AreValid, AreValidBehind}
+use Rattle.fair_semantics.specs.Entries.{Entry, entry_at, used_entries, IsSigned, Uses, AreClosed}
+use Rattle.fair_semantics.specs.Validity.{IsValid, AreValid, AreValidBehind}
 use Rattle.fair_semantics.proofs.Sets.{entry_at-earlier}
-use Rattle.cnf_unroll.specs.Laws.{AreOver, NameKnown, walls_for, walls_with, walls_among, IsReadable, AreReadable}
+use Rattle.cnf_unroll.specs.Laws.{NameKnown, walls_for, walls_with, walls_among, IsReadable, AreReadable}
 use Rattle.entry.specs.Laws.{IsGoodList}
 
 -- ---- what is good of each entry of the list

@@ -1,12 +1,11 @@
 -- A proved entry behind a good list is valid, and a good refutation over one leaves no fair lasso.
-use Rattle.std.proofs.Common.{◌≡◌, ℕ, zero, suc, ◌+◌, ◌<◌, ◌≤◌, Bool, true, false, not, ◌&&◌, ◌||◌, List, [], ◌∷◌, ◌++◌, length, get_or, refl, sym, ap, subst, ◌∙◌, inl, inr, ◌⊎◌, arith}
+use Rattle.std.proofs.Common.{◌≡◌, ℕ, suc, ◌<◌, Bool, true, false, not, ◌&&◌, ◌||◌, List, [], ◌∷◌, length, get_or, refl, sym, ap, ◌∙◌, inl, inr, arith}
 use Rattle.std.specs.List.{All, list_any, list_all}
 use Rattle.std.proofs.lemmas.Bool.{and_parts, and_from, or_cases, or_left, or_right, true_from_ne_false, false_from_ne_true, true≢false}
 use Rattle.std.proofs.lemmas.List.Elements.{All-head, All-tail, All-nil, All-cons, All-append}
 use Rattle.aig_semantics.specs.Circuits.{Circuit}
-use Rattle.aig_semantics.specs.Runs.{IsInitial}
 use Rattle.proof_semantics.specs.declared.literals.Lit.{Lit}
-use Rattle.proof_semantics.specs.Clauses.{lit_eq, has_literal, bool_eq, literal_value, clause_value, clauses_value, values_of}
+use Rattle.proof_semantics.specs.Clauses.{lit_eq, has_literal, bool_eq, literal_value, clause_value, values_of}
 use Rattle.proof_semantics.proofs.LiteralLaws.{lit_eq-true}
 use Rattle.proof_semantics.proofs.Soundness.{refuted-unsatisfiable}
 use Rattle.fair_semantics.specs.declared.entries.Kind.{Kind}
@@ -14,12 +13,11 @@ use Rattle.fair_semantics.specs.declared.entries.Kind.TheVariants.{Reach, Wall}
 use Rattle.fair_semantics.specs.declared.entries.Side.{Side}
 use Rattle.fair_semantics.specs.declared.entries.Side.TheVariants as sides
 use Rattle.fair_semantics.specs.declared.entries.Use.{Use}
-use Rattle.fair_semantics.specs.declared.skeletons.Skeleton.{Skeleton}
-use Rattle.fair_semantics.specs.States.{IsStep, initial_cube, meets_clauses}
-use Rattle.fair_semantics.specs.Entries.{Entry, entry_at, used_entries, sets_of, set_at, set_over, lies_on, IsSigned, AreClosed}
+use Rattle.fair_semantics.specs.States.{initial_cube, meets_clauses}
+use Rattle.fair_semantics.specs.Entries.{Entry, entry_at, used_entries, set_at, lies_on, IsSigned, AreClosed}
 use Rattle.fair_semantics.specs.Allowing.{allows_by, all_allow, allow}
-use Rattle.fair_semantics.specs.Skeletons.{IsSkeleton, places}
-use Rattle.fair_semantics.specs.Validity.{set_behind, NoStepLeaves, IsReachBase, IsValid}
+use Rattle.fair_semantics.specs.Skeletons.{places}
+use Rattle.fair_semantics.specs.Validity.{set_behind, NoStepLeaves, IsReachBase}
 use Rattle.fair_semantics.specs.Laws.{StandAlone}
 use Rattle.fair_semantics.proofs.Alone.{uses_stand_alone}
 use Rattle.fair_semantics.proofs.Lists.{valid-push}
@@ -27,9 +25,9 @@ use Rattle.fair_semantics.proofs.Certified.{uses_certify}
 use Rattle.fair_semantics.proofs.Initial.{initial-in_cube}
 use Rattle.cnf_unroll.specs.Obligations.{skeleton_clauses}
 use Rattle.cnf_unroll.specs.Laws.{ObligationsTell, SkeletonClausesTell, BreaksClause, IsUnderstood, AreOver}
-use Rattle.entry.specs.Proved.{IsProved, HasBase, IsGoodRefutation, obligation_of}
+use Rattle.entry.specs.Proved.{IsProved, HasBase, obligation_of}
 use Rattle.entry.specs.Laws.{IsGoodList, ProvedIsValid, GoodListsGrow, RefutedAllowsNone, RefutedHasNoLasso}
-use Rattle.entry.proofs.Readable.{uses_readable, own_named, names_walls}
+use Rattle.entry.proofs.Readable.{uses_readable, own_named}
 
 -- ---- sides over a step
 

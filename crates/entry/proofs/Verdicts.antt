@@ -1,6 +1,6 @@
 -- Where an answer is Ok.
-use Rattle.std.proofs.Common.{◌≡◌, ◌↔◌, ◌⊎◌, inl, inr, refl, sym, ap, ◌∙◌, Some, None, Option, Ok, Err, Result}
-use Rattle.unless_memory.specs.Answers.{Gives, GivesExactlyWhere}
+use Rattle.std.proofs.Common.{◌≡◌, ◌↔◌, inl, inr, refl, sym, ◌∙◌, Some, None, Option, Ok, Err, Result}
+use Rattle.unless_memory.specs.Answers.{GivesExactlyWhere}
 use Rattle.entry.specs.declared.faults.EntryFault.{EntryFault}
 use Rattle.entry.specs.declared.faults.EntryEnd.{EntryEnd}
 use Rattle.entry.specs.declared.faults.EntryEnd.TheVariants.{Fault, Memory}

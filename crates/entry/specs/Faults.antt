@@ -1,5 +1,5 @@
 -- The first fault of an entry or a refutation: of its uses in their order, then of its clauses, then of its proofs.
-use Rattle.std.specs.Prelude.{ℕ, ◌+◌, ◌*◌, Bool, true, false, not, ◌&&◌, ◌||◌, List, [], ◌∷◌, ◌++◌, length, Option, Some, None, Result, Ok, Err, if◌then◌else◌, ◌==◌, nat_lt, nat_le}
+use Rattle.std.specs.Prelude.{ℕ, ◌+◌, Bool, true, false, not, ◌&&◌, ◌||◌, List, [], ◌∷◌, ◌++◌, length, Option, Some, None, Result, Ok, Err, if◌then◌else◌, ◌==◌, nat_lt, nat_le}
 use Rattle.std.specs.List.{list_any, list_all}
 use Rattle.aig_semantics.specs.Circuits.{Circuit}
 use Rattle.proof_semantics.specs.declared.literals.Lit.{Lit}
@@ -17,7 +17,7 @@ use Rattle.fair_semantics.specs.Entries.{Entry, entry_at}
 use Rattle.entry.specs.declared.uses.User.{User}
 use Rattle.entry.specs.declared.uses.User.TheVariants as users
 use Rattle.entry.specs.declared.faults.EntryFault.{EntryFault}
-use Rattle.entry.specs.declared.faults.EntryFault.TheVariants.{BadUse, NotLatch, Base, Proof}
+use Rattle.entry.specs.declared.faults.EntryFault.TheVariants.{BadUse, Base, Proof}
 use Rattle.entry.specs.Proved.{obligation_of}
 
 abbrev pub is_signed : Side → Bool

@@ -1,4 +1,4 @@
-use Rattle.std.proofs.Common.{◌≡◌, ◌<◌, ◌++◌, [], length, get_or, sym, ap, ◌∙◌, arith}
+use Rattle.std.proofs.Common.{◌<◌, ◌++◌, [], length, get_or, sym, ap, ◌∙◌, arith}
 use Rattle.cnf_unroll.specs.Obligations.{units, broken_literals}
 use Rattle.entry.specs.Listing.{entries_of}
 use Rattle.entry.specs.Proved.{obligation_of}

@@ -1,4 +1,4 @@
-use Rattle.std.proofs.Common.{◌<◌, ◌^◌, subst, sym, ap, ◌∙◌, arith}
+use Rattle.std.proofs.Common.{◌<◌, ◌^◌, subst, sym, ap, arith}
 use Rattle.std.specs.List.{All}
 use Rattle.cnf_unroll.proofs.Bounds.{latches_bound}
 use Rattle.entry.proofs.judge.broken_literal.Goals as goal

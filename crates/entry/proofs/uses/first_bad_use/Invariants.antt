@@ -1,4 +1,4 @@
-use Rattle.std.proofs.Common.{◌≡◌, ◌<◌, [], take, drop}
+use Rattle.std.proofs.Common.{◌≡◌, ◌<◌, take, drop}
 use Rattle.std.specs.List.{All, AllPairs}
 use Rattle.entry.specs.Listing.{entries_of}
 use Rattle.entry.specs.Faults.{bad_use_behind, first_bad_use}
