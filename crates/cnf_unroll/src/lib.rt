@@ -5,6 +5,7 @@
 //! | `step_cnf` | the clauses of one block: a position, its constraints and its successor |
 //! | `step_under_uses` | the same with the clauses of used entries, and the next free number |
 //! | `shared` | what the obligations of an entry share, and the next free number |
+//! | `shared_behind` | the same without the block |
 //! | `broken` | the literals by which the successor breaks a clause |
 //! | `obligation` | the obligation of a clause: `shared`, and `broken` as unit clauses |
 //! | `skeleton_cnf` | a block for each literal of a property, and the used entries over all of them |
@@ -35,7 +36,7 @@ pub use fair_semantics::{Kind, Side, Situation, Use};
 pub use laws::{
     blocks_are_situations, closed_uses_are_understood, obligations_tell, skeleton_clauses_tell,
 };
-pub use obligations::{Begun, broken, obligation, shared, step_under_uses};
+pub use obligations::{Begun, broken, obligation, shared, shared_behind, step_under_uses};
 pub use skeletons::skeleton_cnf;
 pub use used::{ClauseSet, Used};
 

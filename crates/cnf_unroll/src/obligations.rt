@@ -2,7 +2,9 @@
 
 ghost use Rattle.std.specs.Prelude.{◌≡◌, ◌+◌, ◌^◌, ◌<◌, [], ◌++◌, map, length, OnOk, IfOk};
 ghost use Rattle.proof_semantics.specs.Clauses.{negation};
-ghost use Rattle.cnf_unroll.specs.Numbers.{block_places, literal_at_place};
+ghost use Rattle.cnf_unroll.specs.Numbers.{block_size, block_places, literal_at_place};
+ghost use Rattle.cnf_unroll.specs.Blocks.{step_clauses};
+ghost use Rattle.cnf_unroll.specs.Uses.{free_from, uses_clauses};
 ghost use Rattle.cnf_unroll.specs.Obligations.{units, step_with_uses, after_step, shared_clauses, broken_literals, obligation_clauses};
 ghost use Rattle.cnf_unroll.specs.Sides.{counted};
 ghost use Rattle.cnf_unroll.specs.Lending.{lent_all};
@@ -50,9 +52,7 @@ fn push_step(
     ensures numbering { IfOk result (λ n. counted n ≡ after_step c.now (lent_all uses.now)) }
 {
     push_block(alloc, db, c, 0)?;
-    let mut places = Items::new(alloc);
-    push_places(alloc, &mut places, c, 0)?;
-    push_uses(alloc, db, places.as_slice(), 2 * c.max() + 3, uses)
+    push_step_uses(alloc, db, c, uses)
 }
 
 /// The clauses of one block, numbered from 1, and of the uses over its state and its successor.
@@ -99,6 +99,40 @@ pub fn shared(
         clauses,
         free: numbering.free,
     })
+}
+
+// The clauses of the uses over the state and the successor of the first block, whose variables they are numbered behind.
+fn push_step_uses(
+    alloc: Global,
+    db: &mut Db,
+    c: &Circuit,
+    uses: &[Used],
+) -> Result<Numbering, AllocError>
+    ensures clauses { OnOk result (db.new.clauses ≡ db.old.clauses ++ uses_clauses (block_places c.now 0) (free_from (block_size c.now + 1)) (lent_all uses.now)) }
+    ensures numbering { IfOk result (λ n. counted n ≡ after_step c.now (lent_all uses.now)) }
+{
+    let mut places = Items::new(alloc);
+    push_places(alloc, &mut places, c, 0)?;
+    push_uses(alloc, db, places.as_slice(), 2 * c.max() + 3, uses)
+}
+
+/// The clauses of `shared` that stand behind those of the block, which are `step_cnf`'s.
+pub fn shared_behind(
+    alloc: Global,
+    c: &Circuit,
+    uses: &[Used],
+    own: &[Use],
+    set: &ClauseSet,
+) -> Result<Db, AllocError>
+    ensures { IfOk result (λ db. step_clauses c.now ++ db.clauses ≡ shared_clauses c.now (lent_all uses.now) own.now set.now) }
+{
+    let mut clauses = Db::new(alloc);
+    let numbering = push_step_uses(alloc, &mut clauses, c, uses)?;
+    let names = named_sides(alloc, &numbering.sides, own)?;
+    push_units(alloc, &mut clauses, names.as_slice())?;
+    let place = state_place(alloc, c, 0)?;
+    push_set_at(alloc, &mut clauses, place.as_slice(), set.as_slice())?;
+    Ok(clauses)
 }
 
 fn negated_at(alloc: Global, place: &[u64], clause: &Clause) -> Result<Items<Lit>, AllocError>

@@ -82,7 +82,9 @@ fn judge_of(alloc: Global, c: &Circuit, list: &[Listed], e: &Entry) -> Result<Ju
     ensures { IfOk result (λ j. j.shared ≡ shared_clauses c.now (used_entries (entries_of list.now) e.now.uses) e.now.uses e.now.set) }
 {
     let used = used(alloc, list, e.uses.as_slice())?;
-    Judge::new(alloc, c, used.as_slice(), e.uses.as_slice(), &e.set)
+    let mut judge = Judge::new(alloc, c)?;
+    judge.enter(alloc, c, used.as_slice(), e.uses.as_slice(), &e.set)?;
+    Ok(judge)
 }
 
 // The first fault of the proofs.

@@ -1,4 +1,4 @@
-//! A judge of the proofs of an entry, clause by clause and line by line. The main type is `Judge`.
+//! A judge of the proofs of entries, clause by clause and line by line. The main type is `Judge`.
 
 ghost use Rattle.std.specs.Prelude.{◌≡◌, ◌<◌, ◌++◌, [], ◌∷◌, map, length, OnOk, OnErr, IfOk};
 ghost use Rattle.proof_semantics.specs.Clauses.{negation};
@@ -6,23 +6,26 @@ ghost use Rattle.proof_semantics.specs.Proofs.{start, judge};
 ghost use Rattle.lrat.specs.Judging.{Judges};
 ghost use Rattle.cnf_unroll.specs.Numbers.{successor_place, literal_at_place};
 ghost use Rattle.cnf_unroll.specs.Obligations.{units, shared_clauses, broken_literals, skeleton_clauses};
+ghost use Rattle.cnf_unroll.specs.Blocks.{step_clauses};
 ghost use Rattle.cnf_unroll.specs.Lending.{lent_all};
 ghost use Rattle.entry.specs.Faults.{fault_from};
 
 use circuit::Circuit;
 use cnf::{Clause, ProofLine};
-use cnf_unroll::{ClauseSet, Used, shared, skeleton_cnf};
+use cnf_unroll::{ClauseSet, Used, shared_behind, skeleton_cnf, step_cnf};
 use fair_semantics::Use;
 use lrat::{Checker, LratEnd};
 use proof_semantics::{Lit, LratFault};
 use std::alloc::{AllocError, Global};
 use std::marker::Model;
 
-/// A judge of the proofs of one entry. It keeps what the obligations of the entry share, and goes from clause to clause
-/// in the time that the clause and its proof take.
+/// A judge of proofs. It keeps the circuit's clauses from entry to entry, and what the obligations of an entry share from
+/// clause to clause: it goes on in the time that the entry, or the clause, and the proofs take.
 #[derive(Debug, Drop)]
 pub struct Judge {
     checker: Checker,
+    // How many of the given clauses are the circuit's, and how many the entry's obligations share.
+    block: usize,
     shared: usize,
 }
 
@@ -37,24 +40,39 @@ impl Model for Judge {
 }
 
 impl Judge {
-    /// A judge of the proofs of an entry with this set and these uses, `used` being the entries that it uses. The error
-    /// is want of memory.
-    pub fn new(
+    /// A judge of the proofs of entries, before the first of them. The error is want of memory.
+    pub fn new(alloc: Global, c: &Circuit) -> Result<Judge, AllocError>
+        ensures { IfOk result (λ j. j.block ≡ step_clauses c.now) }
+    {
+        let clauses = step_cnf(alloc, c)?;
+        let count = clauses.len();
+        let checker = Checker::new(alloc, clauses)?;
+        Ok(Judge {
+            checker,
+            block: count,
+            shared: count,
+        })
+    }
+
+    /// Goes to an entry with this set and these uses, `used` being the entries that it uses. It takes time for these
+    /// alone, not for the circuit. The error is want of memory, and changes nothing.
+    pub fn enter(
+        &mut self,
         alloc: Global,
         c: &Circuit,
         used: &[Used],
         own: &[Use],
         set: &ClauseSet,
-    ) -> Result<Judge, AllocError>
-        ensures { IfOk result (λ j. j.shared ≡ shared_clauses c.now (lent_all used.now) own.now set.now) }
+    ) -> Result<(), AllocError>
+        requires { self.old.block ≡ step_clauses c.now }
+        ensures ok { OnOk result (self.new.shared ≡ shared_clauses c.now (lent_all used.now) own.now set.now) }
+        ensures block { self.new.block ≡ self.old.block }
+        ensures err { OnErr result (self.new ≡ self.old) }
     {
-        let begun = shared(alloc, c, used, own, set)?;
-        let count = begun.clauses.len();
-        let checker = Checker::new(alloc, begun.clauses)?;
-        Ok(Judge {
-            checker,
-            shared: count,
-        })
+        let more = shared_behind(alloc, c, used, own, set)?;
+        self.checker.restart(self.block, more.as_slice())?;
+        self.shared = self.checker.given();
+        Ok(())
     }
 
     /// A judge of the proof of a refutation of property `j`, counted from 0, before its first line, `used` being the
@@ -73,6 +91,7 @@ impl Judge {
         let checker = Checker::new(alloc, clauses)?;
         Ok(Judge {
             checker,
+            block: count,
             shared: count,
         })
     }
@@ -81,6 +100,7 @@ impl Judge {
     /// nothing.
     pub fn begin(&mut self, alloc: Global, c: &Circuit, clause: &Clause) -> Result<(), AllocError>
         ensures ok { OnOk result (self.new.proof ≡ start (self.old.shared ++ units (broken_literals c.now clause.now))) }
+        ensures block { self.new.block ≡ self.old.block }
         ensures shared { self.new.shared ≡ self.old.shared }
         ensures err { OnErr result (self.new ≡ self.old) }
     {
@@ -91,6 +111,7 @@ impl Judge {
     /// Judges a line of the proof, given without its line feed. After an error the judge is as before.
     pub fn step(&mut self, line: &[u8]) -> Result<(), LratEnd>
         ensures judged { Judges result (judge self.old.proof line.now) self.new.proof }
+        ensures block { self.new.block ≡ self.old.block }
         ensures shared { self.new.shared ≡ self.old.shared }
         ensures err { OnErr result (self.new ≡ self.old) }
     {
@@ -111,6 +132,7 @@ impl Judge {
         lines: &[ProofLine],
     ) -> Result<Option<(u64, LratFault)>, AllocError>
         ensures fault { IfOk result (λ fault. fault ≡ fault_from 0 self.old.proof lines.now) }
+        ensures block { self.new.block ≡ self.old.block }
         ensures shared { self.new.shared ≡ self.old.shared }
     {
         for (k, line) in lines.iter().enumerate() {

@@ -21,7 +21,8 @@ fn clauses_end_with(
     entry: &Listed,
     line: &str,
 ) -> Result<bool, AllocError> {
-    let mut judge = Judge::new(alloc, c, &[], &[], &entry.set)?;
+    let mut judge = Judge::new(alloc, c)?;
+    judge.enter(alloc, c, &[], &[], &entry.set)?;
     for clause in entry.set.as_slice() {
         judge.begin(alloc, c, clause)?;
         if judge.proof_fault(&[])?.is_none() || !ends_with(&mut judge, line) {

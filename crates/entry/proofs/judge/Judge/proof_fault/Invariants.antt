@@ -5,5 +5,6 @@ use Rattle.entry.proofs.judge.Judge.proof_fault.Given as goal
 abbrev pub invariant-loop-k : goal.invariant-loop-k
 invariant-loop-k l = record {
   fault : fault_from l.k l.self.proof (drop l.k l.lines) ≡ fault_from 0 l.initial.self.proof l.lines;
+  block : l.self.block ≡ l.initial.self.block;
   shared : l.self.shared ≡ l.initial.self.shared;
 }

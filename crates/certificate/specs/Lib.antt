@@ -1,0 +1,9 @@
+-- What answers are, which of them are good, and the first fault of the others.
+pub mod Lines
+pub mod Certificates
+pub mod Answers
+pub mod Reading
+pub mod Ends
+pub mod Laws
+pub mod Seen
+pub mod Steps

@@ -1,0 +1,73 @@
+-- Scaffolding of inner functions: the states of code as those of the reading.
+use Rattle.std.specs.Prelude.{◌≡◌, ℕ, ◌<◌, length}
+use Rattle.aig_semantics.specs.Circuits.{Circuit}
+use Rattle.fair_semantics.specs.Entries.{Entry, used_entries}
+use Rattle.cnf_unroll.specs.Blocks.{step_clauses}
+use Rattle.cnf_unroll.specs.Obligations.{shared_clauses}
+use Rattle.entry.specs.Listing.{entry_of, entries_of}
+use Rattle.certificate.specs.declared.state.Body.{Body as BodyInCode}
+use Rattle.certificate.specs.declared.state.Begun.{Begun as BegunInCode}
+use Rattle.certificate.specs.declared.state.Proving.{Proving as ProvingInCode}
+use Rattle.certificate.specs.declared.state.Wanted.{Wanted as WantedInCode}
+use Rattle.certificate.specs.declared.state.Wanted.TheVariants as wanted
+use Rattle.certificate.specs.declared.state.Claim.{Claim as ClaimInCode}
+use Rattle.certificate.specs.declared.state.Claim.TheVariants as claims
+use Rattle.certificate.specs.declared.state.State.{State as StateInCode}
+use Rattle.certificate.specs.declared.state.State.TheVariants as states
+use Rattle.certificate.specs.Reading.{Body, Begun, Proving, Wanted, Start, EntryUses, EntryClause, EntryProof, EntryLine, RefutationUses, RefutationLine, Last, Claim, HasLasso, HasNone, State, Status, Property, Latches, Rows, Dotted, Versioned, Certified, Ended}
+
+abbrev pub seen_body : BodyInCode → Body
+seen_body b = record { property = b.property; version = b.version; entries = entries_of b.list }
+
+abbrev pub seen_begun : BegunInCode → Begun
+seen_begun begun =
+    record { entry = record { kind = begun.kind; clauses = begun.set; uses = begun.uses }; count = begun.count }
+
+-- a proof stands where the judge does
+abbrev pub seen_proving : BodyInCode → ProvingInCode → Proving
+seen_proving b p = record { count = p.count; read = p.read; state = b.judge.proof }
+
+abbrev pub seen_wanted : BodyInCode → WantedInCode → Wanted
+seen_wanted b wanted.Start = Start
+seen_wanted b (wanted.EntryUses opening) = EntryUses opening
+seen_wanted b (wanted.EntryClause begun) = EntryClause (seen_begun begun)
+seen_wanted b (wanted.EntryProof e i) = EntryProof (entry_of e) i
+seen_wanted b (wanted.EntryLine e i p) = EntryLine (entry_of e) i (seen_proving b p)
+seen_wanted b (wanted.RefutationUses refuting) = RefutationUses refuting
+seen_wanted b (wanted.RefutationLine p) = RefutationLine (seen_proving b p)
+seen_wanted b wanted.Last = Last
+
+abbrev pub seen_claim : ClaimInCode → Claim
+seen_claim claims.HasLasso = HasLasso
+seen_claim claims.HasNone = HasNone
+
+abbrev pub seen : StateInCode → State
+seen states.Status = Status
+seen (states.Property claim) = Property (seen_claim claim)
+seen (states.Latches n) = Latches n
+seen (states.Rows n s) = Rows n s
+seen (states.Dotted n s) = Dotted n s
+seen (states.Versioned n) = Versioned n
+seen (states.Certified b w) = Certified (seen_body b) (seen_wanted b w)
+seen (states.Ended b) = Ended (seen_body b)
+
+-- the judge has gone to this entry
+abbrev pub IsEntered : Circuit → BodyInCode → Entry → Type 0
+IsEntered c b e = b.judge.shared ≡ shared_clauses c (used_entries (entries_of b.list) e.uses) e.uses e.clauses
+
+-- The judge keeps the circuit's clauses, and has gone to the entry whose proofs are read.
+abbrev pub IsAhead : Circuit → BodyInCode → WantedInCode → Type 0
+IsAhead c b (wanted.EntryProof e i) = (b.judge.block ≡ step_clauses c) × IsEntered c b (entry_of e)
+IsAhead c b (wanted.EntryLine e i p) = (b.judge.block ≡ step_clauses c) × IsEntered c b (entry_of e)
+IsAhead c b wanted.Last = Unit {0}
+IsAhead c b (wanted.RefutationLine p) = Unit {0}
+IsAhead c b _ = b.judge.block ≡ step_clauses c
+
+-- what the code keeps of a state; a property is one of the circuit's
+abbrev pub IsKept : Circuit → StateInCode → Type 0
+IsKept c (states.Certified b w) = (b.property < length c.justice) × IsAhead c b w
+IsKept c (states.Versioned n) = n < length c.justice
+IsKept c (states.Latches n) = n < length c.justice
+IsKept c (states.Rows n s) = n < length c.justice
+IsKept c (states.Dotted n s) = n < length c.justice
+IsKept c _ = Unit {0}

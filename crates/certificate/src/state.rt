@@ -1,0 +1,66 @@
+//! Where the reading of an answer stands. The main type is `State`.
+
+use aig_semantics::Stimulus;
+use certificate_lines::{Opening, Refutation, Version};
+use cnf_unroll::ClauseSet;
+use entry::{Judge, Listed};
+use fair_semantics::{Kind, Use};
+use items::Items;
+
+/// What was read of a certificate. The judge keeps the circuit's clauses.
+#[derive(Drop)]
+pub(crate) struct Body {
+    pub(crate) property: u32,
+    pub(crate) version: Version,
+    pub(crate) list: Items<Listed>,
+    pub(crate) judge: Judge,
+}
+
+/// An entry of which some clauses were read, of so many that it has.
+#[derive(Drop)]
+pub(crate) struct Begun {
+    pub(crate) kind: Kind,
+    pub(crate) uses: Items<Use>,
+    pub(crate) set: ClauseSet,
+    pub(crate) count: u64,
+}
+
+/// A proof of which some lines were read, of so many that it has. The body's judge keeps where it stands.
+#[derive(Drop, Clone, Copy)]
+pub(crate) struct Proving {
+    pub(crate) count: u64,
+    pub(crate) read: u64,
+}
+
+/// What the next line of a certificate has to be.
+#[derive(Drop)]
+pub(crate) enum Wanted {
+    Start,
+    EntryUses(Opening),
+    EntryClause(Begun),
+    EntryProof(Listed, u64),
+    EntryLine(Listed, u64, Proving),
+    RefutationUses(Refutation),
+    RefutationLine(Proving),
+    Last,
+}
+
+/// What the status claims.
+#[derive(Clone, Copy, Debug)]
+pub(crate) enum Claim {
+    HasLasso,
+    HasNone,
+}
+
+/// What the next line of an answer has to be.
+#[derive(Drop)]
+pub(crate) enum State {
+    Status,
+    Property(Claim),
+    Latches(u32),
+    Rows(u32, Stimulus),
+    Dotted(u32, Stimulus),
+    Versioned(u32),
+    Certified(Body, Wanted),
+    Ended(Body),
+}
