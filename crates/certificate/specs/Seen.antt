@@ -1,5 +1,5 @@
 -- Scaffolding of inner functions: the states of code as those of the reading.
-use Rattle.std.specs.Prelude.{◌≡◌, ℕ, ◌<◌, length}
+use Rattle.std.specs.Prelude.{◌≡◌, ◌<◌, length}
 use Rattle.aig_semantics.specs.Circuits.{Circuit}
 use Rattle.fair_semantics.specs.Entries.{Entry, used_entries}
 use Rattle.cnf_unroll.specs.Blocks.{step_clauses}

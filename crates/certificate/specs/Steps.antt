@@ -1,5 +1,4 @@
 -- Scaffolding of inner functions: what is said of an end that no read comes to.
-use Rattle.std.specs.Prelude.{ℕ}
 use Rattle.certificate.specs.declared.ends.AnswerFault.{AnswerFault}
 use Rattle.certificate.specs.declared.ends.AnswerEnd.{AnswerEnd}
 use Rattle.certificate.specs.declared.ends.AnswerEnd.TheVariants as ends
