@@ -57,7 +57,7 @@ fn step_in(
     ensures { Tells circuit.now (step circuit.now (seen state) number line.now) result }
 {
     match state {
-        State::Status => status_step(number, line),
+        State::Status => status_step(circuit, number, line),
         State::Property(claim) => property_step(circuit, claim, number, line),
         State::Latches(property) => latches_step(alloc, circuit, property, number, line),
         State::Rows(property, stimulus) => {
