@@ -6,10 +6,16 @@
 #![tactic(auto)]
 
 mod checking;
+mod ending;
 mod ends;
+mod entries;
+mod heads;
 mod limits;
+mod refuting;
+mod rows;
 mod state;
 mod steps;
+mod uses;
 
 pub use checking::check_answer;
 pub use ends::{Accepted, AnswerEnd, AnswerFault};
