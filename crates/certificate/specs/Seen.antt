@@ -1,16 +1,13 @@
 -- Scaffolding of inner functions: the states of code as those of the reading.
-<<<<<<< HEAD
-use Rattle.std.specs.Prelude.{◌≡◌, ◌<◌, length}
-=======
 use Rattle.std.specs.Prelude.{◌≡◌, ℕ, ◌<◌, ◌≤◌, List, length}
 use Rattle.std.specs.List.{All}
->>>>>>> c04b5fc6be76c56e44c32991ef92b19007eccfe3
 use Rattle.aig_semantics.specs.Circuits.{Circuit}
 use Rattle.fair_semantics.specs.declared.entries.Use.{Use}
 use Rattle.fair_semantics.specs.Entries.{Entry, used_entries}
 use Rattle.cnf_unroll.specs.Blocks.{step_clauses}
 use Rattle.cnf_unroll.specs.Obligations.{shared_clauses}
 use Rattle.entry.specs.declared.list.Listed.{Listed}
+use Rattle.entry.specs.LatchTables.{AreNumbersOf}
 use Rattle.entry.specs.Listing.{entry_of, entries_of}
 use Rattle.certificate.specs.declared.limits.TheConstants.{MAX_ENTRIES}
 use Rattle.certificate.specs.declared.state.Body.{Body as BodyInCode}
@@ -72,11 +69,12 @@ pub record IsBody (c : Circuit) (b : BodyInCode) : Type 0 where
   pub property : b.property < length c.justice
   pub few : length b.list ≤ MAX_ENTRIES
 
--- and there is room for one more; the judge keeps the circuit's clauses
+-- and there is room for one more; the judge keeps the circuit's clauses, and the table is one of its latches
 pub record IsOpen (c : Circuit) (b : BodyInCode) : Type 0 where
   pub property : b.property < length c.justice
   pub room : length b.list < MAX_ENTRIES
   pub block : b.judge.block ≡ step_clauses c
+  pub latches : AreNumbersOf c b.latches
 
 -- the proof of this clause of an entry comes, or is read: the judge has gone to the entry
 pub record IsAtClause (c : Circuit) (b : BodyInCode) (e : Listed) (i : ℕ) : Type 0 where
@@ -86,7 +84,7 @@ pub record IsAtClause (c : Circuit) (b : BodyInCode) (e : Listed) (i : ℕ) : Ty
 
 -- what is kept before a line of a certificate
 abbrev pub IsAhead : Circuit → BodyInCode → WantedInCode → Type 0
-IsAhead c b wanted.Start = IsBody c b × (b.judge.block ≡ step_clauses c)
+IsAhead c b wanted.Start = IsBody c b × (b.judge.block ≡ step_clauses c) × AreNumbersOf c b.latches
 IsAhead c b (wanted.EntryUses opening) = IsOpen c b
 IsAhead c b (wanted.EntryClause begun) = IsOpen c b × ArePresent b begun.uses
 IsAhead c b (wanted.EntryProof e i) = IsAtClause c b e i

@@ -23,7 +23,7 @@ use crate::uses::{UsesEnd, read_uses};
 use certificate_lines::{Opening, WordLine, clause_of, word_line_of};
 use circuit::Circuit;
 use cnf::Clause;
-use entry::{EntryEnd, EntryFault, Judge, Listed, User, clause_from_aiger, holds_initial, used};
+use entry::{EntryEnd, EntryFault, Judge, Listed, User, holds_initial, used};
 use fair_semantics::Kind;
 use items::Items;
 use lrat::LratEnd;
@@ -91,12 +91,7 @@ fn enter(
 }
 
 // Behind the proofs of the first i clauses: the entry has passed where there is no other.
-fn next_proof(
-    _circuit: &Circuit,
-    mut body: Body,
-    entry: Listed,
-    i: u64,
-) -> Result<State, AnswerEnd>
+fn next_proof(_circuit: &Circuit, mut body: Body, entry: Listed, i: u64) -> Result<State, AnswerEnd>
     requires ready { IsOpen _circuit.now body }
     requires entered { IsEntered _circuit.now body (entry_of entry) }
     requires clause { i ≤ length entry.set }
@@ -225,7 +220,7 @@ pub(crate) fn clause_step(
     let Some(literals) = clause_of(alloc, line)? else {
         return Err(misplaced(number));
     };
-    match clause_from_aiger(alloc, circuit, literals.as_slice()) {
+    match body.latches.clause(alloc, circuit, literals.as_slice()) {
         Ok(clause) => base_step(alloc, circuit, body, begun, clause),
         Err(EntryEnd::Fault(fault)) => Err(entry_fault(&body, fault)),
         Err(EntryEnd::Memory) => Err(AnswerEnd::Memory),

@@ -4,6 +4,7 @@ ghost use Rattle.std.specs.Prelude.{◌≡◌, ◌<◌, ◌≤◌, length, IfOk,
 ghost use Rattle.std.specs.Str.{bytes_eq};
 ghost use Rattle.aig_semantics.specs.Circuits.{Circuit as CircuitOf};
 ghost use Rattle.cnf_unroll.specs.Blocks.{step_clauses};
+ghost use Rattle.entry.specs.LatchTables.{AreNumbersOf};
 ghost use Rattle.certificate_lines.specs.Fields.{number_in};
 ghost use Rattle.certificate_lines.specs.Words.{word_line_of};
 ghost use Rattle.certificate.specs.Reading.{status_step, property_in, claimed, property_step, version_step};
@@ -14,7 +15,7 @@ use crate::ends::{AnswerEnd, AnswerFault, misplaced};
 use crate::state::{Body, Claim, State, Wanted};
 use certificate_lines::{Version, WordLine, word_line_of};
 use circuit::Circuit;
-use entry::Judge;
+use entry::{Judge, LatchNumbers};
 use items::Items;
 use std::alloc::{AllocError, Global};
 use text_grammar::read_number;
@@ -30,11 +31,7 @@ pub(crate) fn is_word(line: &[u8], word: &[u8]) -> bool
 }
 
 /// Behind the line of the status.
-pub(crate) fn status_step(
-    _circuit: &Circuit,
-    number: u64,
-    line: &[u8],
-) -> Result<State, AnswerEnd>
+pub(crate) fn status_step(_circuit: &Circuit, number: u64, line: &[u8]) -> Result<State, AnswerEnd>
     ensures { Tells _circuit.now (status_step number line.now) result }
 {
     if is_word(line, b"1") {
@@ -125,13 +122,16 @@ fn body_of(
     ensures version { IfOk result (λ b. b.version ≡ version) }
     ensures list { IfOk result (λ b. b.list ≡ []) }
     ensures block { IfOk result (λ b. b.judge.block ≡ step_clauses circuit.now) }
+    ensures latches { IfOk result (λ b. AreNumbersOf circuit.now b.latches) }
 {
     let judge = Judge::new(alloc, circuit)?;
+    let latches = LatchNumbers::new(alloc, circuit)?;
     Ok(Body {
         property,
         version,
         list: Items::new(alloc),
         judge,
+        latches,
     })
 }
 
