@@ -1,5 +1,5 @@
 -- How a stimulus replayed, as the end of its answer.
-use Rattle.std.proofs.Common.{◌≡◌, ◌⊎◌, ℕ, ◌≤◌, refl, sym, ap, subst, inl, inr, arith, Ok, Err}
+use Rattle.std.proofs.Common.{◌≡◌, ℕ, ◌≤◌, refl, sym, ap, subst, inl, inr, arith, Ok, Err}
 use Rattle.std.specs.Prelude.{Result, IsOk}
 use Rattle.std.proofs.lemmas.Bool.{false≢true}
 use Rattle.aig_semantics.specs.Circuits.{Circuit}
@@ -70,17 +70,19 @@ of_lasso c j s P each (Holds i n) d = absurd d
 pub lasso_tells : (c : Circuit) (j : ℕ) (s : Stimulus) (lasso : LassoOf) (k from number : ℕ) → StandsFor c j s k from
     → ((fault : ReplayFault) → HasReplayFault c j s fault → Fails (Ok lasso) fault)
     → TellsEnd c (Dotted j s) number (Ok (Lasso j k from))
-lasso_tells c j s lasso k from number h every =
-    ((refl, h),
-    of_lasso c j s (λ other. Lasso j k from ≡ other)
-        (λ i n place same stands. (let both = one_lasso c j s k from n place h stands in same_lasso j i k n from place (sym same) both.0 both.1)),
-    of_replay c j s (λ _. ⊥) (λ fault d. not_given lasso fault (every fault d)))
+lasso_tells c j s lasso k from number h every = (
+  (refl, h),
+  of_lasso c j s (λ other. Lasso j k from ≡ other)
+      (λ i n place same stands. (let both = one_lasso c j s k from n place h stands in same_lasso j i k n from place (sym same) both.0 both.1)),
+  of_replay c j s (λ _. ⊥) (λ fault d. not_given lasso fault (every fault d)),
+)
 
 pub fault_tells : (c : Circuit) (j : ℕ) (s : Stimulus) (fault : ReplayFault) (number : ℕ) → HasReplayFault c j s fault
     → ((other : ReplayFault) → HasReplayFault c j s other → Fails (Err (replays.Fault fault)) other)
     → ((k from : ℕ) → HasLasso c j s k from → GivesSome {T = Result LassoOf ReplayEnd} (Err replays.Memory) IsOk (Err (replays.Fault fault)))
     → TellsEnd c (Dotted j s) number (Err (Refused (Replay fault)))
-fault_tells c j s fault number h every none =
-    (h,
-    of_replay c j s (λ other. Replay fault ≡ other) (λ other d. ap (λ (f : ReplayFault). Replay f) (same_fault fault other (every other d))),
-    of_lasso c j s (λ _. ⊥) (λ i n place same stands. none_given fault (none n place stands.has)))
+fault_tells c j s fault number h every none = (
+  h,
+  of_replay c j s (λ other. Replay fault ≡ other) (λ other d. ap (λ (f : ReplayFault). Replay f) (same_fault fault other (every other d))),
+  of_lasso c j s (λ _. ⊥) (λ i n place same stands. none_given fault (none n place stands.has)),
+)

@@ -91,12 +91,7 @@ fn enter(
 }
 
 // Behind the proofs of the first i clauses: the entry has passed where there is no other.
-fn next_proof(
-    _circuit: &Circuit,
-    mut body: Body,
-    entry: Listed,
-    i: u64,
-) -> Result<State, AnswerEnd>
+fn next_proof(_circuit: &Circuit, mut body: Body, entry: Listed, i: u64) -> Result<State, AnswerEnd>
     requires ready { IsOpen _circuit.now body }
     requires entered { IsEntered _circuit.now body (entry_of entry) }
     requires clause { i ≤ length entry.set }

@@ -30,11 +30,7 @@ pub(crate) fn is_word(line: &[u8], word: &[u8]) -> bool
 }
 
 /// Behind the line of the status.
-pub(crate) fn status_step(
-    _circuit: &Circuit,
-    number: u64,
-    line: &[u8],
-) -> Result<State, AnswerEnd>
+pub(crate) fn status_step(_circuit: &Circuit, number: u64, line: &[u8]) -> Result<State, AnswerEnd>
     ensures { Tells _circuit.now (status_step number line.now) result }
 {
     if is_word(line, b"1") {

@@ -40,11 +40,7 @@ fn judge_of(
 }
 
 // Behind some lines of the proof: behind the last an empty clause has been given or added.
-fn next_refuting_line(
-    _circuit: &Circuit,
-    body: Body,
-    proving: Proving,
-) -> Result<State, AnswerEnd>
+fn next_refuting_line(_circuit: &Circuit, body: Body, proving: Proving) -> Result<State, AnswerEnd>
     requires body { IsBody _circuit.now body }
     requires read { proving.read ≤ proving.count }
     ensures { Tells _circuit.now (next_refuting_line (seen_body body) (seen_proving body proving)) result }
@@ -90,13 +86,7 @@ pub(crate) fn refutation_uses_step(
     ensures { Tells circuit.now (refutation_uses_step circuit.now (seen_body body) refuting number (uses_of body.version line.now)) result }
 {
     match read_uses(alloc, &body, User::Refutation, refuting.uses, line) {
-        Ok(uses) => begin_refutation(
-            alloc,
-            circuit,
-            body,
-            uses.as_slice(),
-            refuting.proof_lines,
-        ),
+        Ok(uses) => begin_refutation(alloc, circuit, body, uses.as_slice(), refuting.proof_lines),
         Err(UsesEnd::Shape) => Err(misplaced(number)),
         Err(UsesEnd::Bad(used)) => Err(AnswerEnd::Refused(AnswerFault::RefuteUse(used))),
         Err(UsesEnd::Memory) => Err(AnswerEnd::Memory),

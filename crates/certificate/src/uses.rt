@@ -30,10 +30,7 @@ pub(crate) enum UsesEnd {
 }
 
 // The uses in front of the first whose number has more than 32 bits, and that number.
-fn cut_uses(
-    alloc: Global,
-    written: &[WrittenUse],
-) -> Result<(Items<Use>, Option<u64>), AllocError>
+fn cut_uses(alloc: Global, written: &[WrittenUse]) -> Result<(Items<Use>, Option<u64>), AllocError>
     ensures { IfOk result (λ cut. IsCut (map as_use written.now) cut.0 cut.1) }
 {
     let mut uses = Items::new(alloc);
@@ -48,12 +45,7 @@ fn cut_uses(
 
 // The number of the first of all these uses that may not stand where it does: there is no entry with one of more than
 // 32 bits.
-fn bad_use(
-    user: User,
-    list: &[Listed],
-    uses: &[Use],
-    beyond: Option<u64>,
-) -> Option<u64>
+fn bad_use(user: User, list: &[Listed], uses: &[Use], beyond: Option<u64>) -> Option<u64>
     requires { length list.now ≤ MAX_ENTRIES }
     ensures { (all : List UseOf) → IsCut all uses.now beyond → result ≡ first_bad_use user (entries_of list.now) all }
 {

@@ -11,6 +11,6 @@ use Rattle.certificate.proofs.entries.start_step.Goals as goal
 pub returns-in-Some-Opening : goal.returns-in-Some-Opening
 returns-in-Some-Opening c =
     let is : Some (lines.Opening c.in-Some-Opening.opening) ≡ word_line_of c.args.line.now =
-        ap (λ (l : WordLine). Some l) (sym c.in-Some-Opening.field-0-is) ∙ sym c.in-Some-Opening.is ∙ c.word_line_of.ensures.value in
+    ap (λ (l : WordLine). Some l) (sym c.in-Some-Opening.field-0-is) ∙ sym c.in-Some-Opening.is ∙ c.word_line_of.ensures.value in
     subst (λ (l : Option WordLine). Tells c.args.circuit.now (start_step (seen_body c.args.body) c.args.number l) c.open_entry.result) is
     (c.open_entry.ensures c.args.number)
