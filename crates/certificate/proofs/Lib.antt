@@ -1,3 +1,3 @@
 pub mod Values
 pub mod UseLaws
-pub mod Ended
+pub mod Replayed

@@ -1,16 +1,16 @@
 -- Uses with numbers of any size: there is no entry with one of more than 32 bits.
-use Rattle.std.proofs.Common.{◌≡◌, ℕ, ◌+◌, ◌<◌, ◌≤◌, ◌^◌, Bool, true, false, List, [], ◌∷◌, ◌++◌, length, get_or, map, take, drop, Some, None, Ok, Err, refl, sym, ap, subst, ◌∙◌, arith}
-use Rattle.std.specs.Prelude.{Option, Result, IfOk, nat_lt, nat_le, ◌&&◌, ◌==◌, if◌then◌else◌}
+use Rattle.std.proofs.Common.{◌≡◌, ℕ, ◌+◌, ◌<◌, ◌≤◌, Bool, true, false, List, [], ◌∷◌, ◌++◌, length, get_or, map, take, drop, Some, None, Ok, Err, refl, sym, ap, ◌∙◌, arith}
+use Rattle.std.specs.Prelude.{Option, Result, IfOk, nat_lt, nat_le, ◌==◌, if◌then◌else◌}
 use Rattle.std.specs.List.{All}
 use Rattle.std.proofs.lemmas.Bool.{and_left, and_right, le-ltb, eq-eqb, ne_eqb}
 use Rattle.std.proofs.lemmas.List.{drop_more, take-append-drop, length-map}
 use Rattle.fair_semantics.specs.declared.entries.Use.{Use}
-use Rattle.fair_semantics.specs.Entries.{Entry, entry_at}
+use Rattle.fair_semantics.specs.Entries.{Entry}
 use Rattle.certificate_lines.specs.declared.uses.WrittenUse.{WrittenUse}
 use Rattle.entry.specs.declared.uses.User.{User}
 use Rattle.entry.specs.declared.list.Listed.{Listed}
 use Rattle.entry.specs.Listing.{entry_of, entries_of}
-use Rattle.entry.specs.Faults.{may_use, are_known, may_stand, bad_use_behind, first_bad_use}
+use Rattle.entry.specs.Faults.{may_stand, bad_use_behind, first_bad_use}
 use Rattle.entry.proofs.Present.{present-from_none}
 use Rattle.certificate.specs.declared.limits.TheConstants.{MAX_ENTRIES}
 use Rattle.certificate.specs.declared.uses.UsesEnd.{UsesEnd}

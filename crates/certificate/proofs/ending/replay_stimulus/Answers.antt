@@ -1,6 +1,6 @@
 use Rattle.std.proofs.Common.{ℕ, refl, sym, subst}
 use Rattle.aig_semantics.specs.Stimuli.{StandsFor}
-use Rattle.certificate.proofs.Ended.{lasso_tells, fault_tells}
+use Rattle.certificate.proofs.Replayed.{lasso_tells, fault_tells}
 use Rattle.certificate.proofs.ending.replay_stimulus.Goals as goal
 
 pub returns-in-Ok : goal.returns-in-Ok

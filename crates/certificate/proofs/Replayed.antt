@@ -1,5 +1,5 @@
 -- How a stimulus replayed, as the end of its answer.
-use Rattle.std.proofs.Common.{◌≡◌, ◌⊎◌, ℕ, ◌≤◌, refl, sym, ap, subst, inl, inr, arith, Ok, Err}
+use Rattle.std.proofs.Common.{◌≡◌, ℕ, ◌≤◌, refl, sym, ap, subst, inl, inr, arith, Ok, Err}
 use Rattle.std.specs.Prelude.{Result, IsOk}
 use Rattle.std.proofs.lemmas.Bool.{false≢true}
 use Rattle.aig_semantics.specs.Circuits.{Circuit}
