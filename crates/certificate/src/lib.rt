@@ -7,10 +7,12 @@
 
 mod checking;
 mod ends;
+mod laws;
 mod limits;
 mod state;
 mod steps;
 
 pub use checking::check_answer;
 pub use ends::{Accepted, AnswerEnd, AnswerFault};
+pub use laws::good_answers_are_true;
 pub use limits::MAX_ENTRIES;

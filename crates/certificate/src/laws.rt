@@ -1,0 +1,14 @@
+//! The laws of answers. Each call does nothing; its contract is the law.
+
+ghost use Rattle.certificate.specs.Laws.{GoodIsTrue};
+
+use circuit::Circuit;
+use entry::{good_lists_grow, refutations_leave_no_lasso};
+
+/// A good answer is true: there is such a fair lasso of the property, or none at all.
+pub fn good_answers_are_true(c: &Circuit)
+    ensures { GoodIsTrue c.now }
+{
+    good_lists_grow(c);
+    refutations_leave_no_lasso(c);
+}
