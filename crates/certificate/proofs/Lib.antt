@@ -1,1 +1,3 @@
 pub mod GoodTrue
+pub mod Completing
+pub mod CompletingProofs
