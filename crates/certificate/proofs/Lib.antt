@@ -1,3 +1,4 @@
 pub mod GoodTrue
 pub mod Completing
 pub mod CompletingProofs
+pub mod CompletingEntries
