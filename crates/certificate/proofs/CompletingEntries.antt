@@ -48,7 +48,7 @@ use Rattle.certificate.proofs.CompletingProofs.{heads, differs, refuting_next, r
 
 -- ---- the base of clauses, and their latches
 
-abbrev IsBased : Circuit → Kind → List Lit → Type 0
+abbrev pub IsBased : Circuit → Kind → List Lit → Type 0
 IsBased c kind clause = has_base c kind clause ≡ true
 
 split_none : (test : Bool) (rest : Option ℕ) (n : ℕ) → cond test rest (Some n) ≡ None → (test ≡ true) × (rest ≡ None)
@@ -87,7 +87,7 @@ clauses_over c (ls ∷ literals) (k ∷ clauses) are =
     let both = heads (clause_of c ls) (Ok k) (map (clause_of c) literals) (map Ok clauses) are in
     All-cons (λ clause. All (λ l. l.var < length c.latches) clause) k clauses (clause_over c ls (Ok k) both.0) (clauses_over c literals clauses both.1)
 
-as_many : (c : Circuit) (literals : List (List ℕ)) (clauses : List (List Lit)) → AreClausesOf c literals clauses → length literals ≡ length clauses
+pub as_many : (c : Circuit) (literals : List (List ℕ)) (clauses : List (List Lit)) → AreClausesOf c literals clauses → length literals ≡ length clauses
 as_many c [] [] are = refl
 as_many c [] (k ∷ clauses) are = absurd (cc)
 as_many c (ls ∷ literals) [] are = absurd (cc)
@@ -100,18 +100,18 @@ else_parts : {X : Type 0} (r : Option X) (f : X → EntryFault) (rest : Option E
 else_parts None f rest h = (refl, h)
 else_parts (Some x) f rest h = absurd (cc)
 
-abbrev PassesEach : Circuit → List Entry → Entry → List (List (List ℕ)) → Type 0
+abbrev pub PassesEach : Circuit → List Entry → Entry → List (List (List ℕ)) → Type 0
 PassesEach c before e proofs =
     (first_bad_use (users.Entry e.kind) before e.uses ≡ None) × All (IsBased c e.kind) e.clauses × (proofs_fault (obligation_of c before e) 0 proofs ≡ None)
 
-passes_each : (c : Circuit) (before : List Entry) (e : Entry) (proofs : List (List (List ℕ))) → IsProved c before e proofs → PassesEach c before e proofs
+pub passes_each : (c : Circuit) (before : List Entry) (e : Entry) (proofs : List (List (List ℕ))) → IsProved c before e proofs → PassesEach c before e proofs
 passes_each c before e proofs is =
     let none = (faultless_is_proved c before e proofs is.over is.each.count).1 is in
     let uses = else_parts (first_bad_use (users.Entry e.kind) before e.uses) BadUse _ none in
     let clauses = else_parts (first_baseless c e.kind e.clauses) Base _ uses.1 in
     (uses.0, based_from_none c e.kind e.clauses clauses.0, clauses.1)
 
-proved_by_each : (c : Circuit) (before : List Entry) (e : Entry) (proofs : List (List (List ℕ))) → AreOver (length c.latches) e.clauses
+pub proved_by_each : (c : Circuit) (before : List Entry) (e : Entry) (proofs : List (List (List ℕ))) → AreOver (length c.latches) e.clauses
     → length proofs ≡ length e.clauses → PassesEach c before e proofs → IsProved c before e proofs
 proved_by_each c before e proofs over count (uses, based, refuted) =
     let none : first_fault c before e proofs ≡ None =

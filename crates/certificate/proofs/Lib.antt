@@ -2,3 +2,4 @@ pub mod GoodTrue
 pub mod Completing
 pub mod CompletingProofs
 pub mod CompletingEntries
+pub mod CompletingStarts
