@@ -3,3 +3,4 @@ pub mod Completing
 pub mod CompletingProofs
 pub mod CompletingEntries
 pub mod CompletingStarts
+pub mod CompletingTexts
