@@ -200,8 +200,7 @@ module _ (c : Circuit) (b : Body) (a : Accepted) where
       → has_base c begun.entry.kind clause ≡ true → ClausesTail c b (with_clause begun clause) left a → Continues c b (EntryClause begun) (line ∷ left) a
   clause_more begun line literals clause left is_line is base tail =
       let count : length (begun.entry.clauses ++ clause ∷ []) + length tail.clauses ≡ begun.count = tail.count in
-      let longer = length-append begun.entry.clauses (clause ∷ []) in
-      (
+      let longer = length-append begun.entry.clauses (clause ∷ []) in (
         record {
           literals = literals ∷ tail.literals;
           clauses = clause ∷ tail.clauses;

@@ -88,8 +88,7 @@ module _ (c : Circuit) (b : Body) (a : Accepted) where
       → After c (refuting_step b p r) left a → Continues c b (RefutationLine p) (line ∷ left) a
   refuting_line_from p line left (Ok t) is h =
       let tail : RefutationTail c b (with_line p t) left a = refuting_from (with_line p t) left h in
-      let count : (p.read + 1) + length tail.proof ≡ p.count = tail.count in
-      (
+      let count : (p.read + 1) + length tail.proof ≡ p.count = tail.count in (
         record {
           proof = line ∷ tail.proof;
           spelled = ap (λ ls. line ∷ ls) tail.spelled;
@@ -218,8 +217,7 @@ module _ (c : Circuit) (b : Body) (e : Entry) (a : Accepted) where
       → After c (line_step b e i p r) left a → Continues c b (EntryLine e i p) (line ∷ left) a
   entry_line_from i p line left (Ok t) is h =
       let tail : LinesTail c b e i (with_line p t) left a = line_from i (with_line p t) left h in
-      let count : (p.read + 1) + length tail.proof ≡ p.count = tail.count in
-      (
+      let count : (p.read + 1) + length tail.proof ≡ p.count = tail.count in (
         record {
           proof = line ∷ tail.proof;
           rest = tail.rest;
@@ -279,8 +277,7 @@ module _ (c : Circuit) (b : Body) (e : Entry) (a : Accepted) where
       let others : ProofsTail c b e (i + 1) tail.rest a = tail.others in
       let text : line ≡ word_line_text (lines.Proof (length tail.proof)) = is_line.spelled ∙ ap (λ n. word_line_text (lines.Proof n)) (sym same) in
       let spelled : left ≡ (tail.proof ++ flat_map proof_lines others.proofs) ++ others.rest =
-      tail.spelled ∙ ap (λ ls. tail.proof ++ ls) others.spelled ∙ sym (append_assoc tail.proof (flat_map proof_lines others.proofs) others.rest) in
-      (
+      tail.spelled ∙ ap (λ ls. tail.proof ++ ls) others.spelled ∙ sym (append_assoc tail.proof (flat_map proof_lines others.proofs) others.rest) in (
         record {
           proofs = tail.proof ∷ others.proofs;
           rest = others.rest;

@@ -4,3 +4,5 @@ pub mod CompletingProofs
 pub mod CompletingEntries
 pub mod CompletingStarts
 pub mod CompletingTexts
+pub mod CompletingAll
+pub mod GoodRead

@@ -1,9 +1,14 @@
 //! The laws of answers. Each call does nothing; its contract is the law.
 
-ghost use Rattle.certificate.specs.Laws.{GoodIsTrue};
+ghost use Rattle.certificate.specs.Laws.{ReadsGood, GoodIsTrue};
 
 use circuit::Circuit;
 use entry::{good_lists_grow, refutations_leave_no_lasso};
+
+/// A text is read as a good answer, line by line, exactly where it is one.
+pub fn answers_are_read_as_good(c: &Circuit)
+    ensures { ReadsGood c.now }
+{}
 
 /// A good answer is true: there is such a fair lasso of the property, or none at all.
 pub fn good_answers_are_true(c: &Circuit)
