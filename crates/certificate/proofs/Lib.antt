@@ -6,3 +6,4 @@ pub mod CompletingStarts
 pub mod CompletingTexts
 pub mod CompletingAll
 pub mod GoodRead
+pub mod OneEnd

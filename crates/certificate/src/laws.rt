@@ -1,6 +1,6 @@
 //! The laws of answers. Each call does nothing; its contract is the law.
 
-ghost use Rattle.certificate.specs.Laws.{ReadsGood, GoodIsTrue};
+ghost use Rattle.certificate.specs.Laws.{ReadsGood, GoodIsTrue, OneIsGood, GoodHasNoFault, OneFault};
 
 use circuit::Circuit;
 use entry::{good_lists_grow, refutations_leave_no_lasso};
@@ -17,3 +17,10 @@ pub fn good_answers_are_true(c: &Circuit)
     good_lists_grow(c);
     refutations_leave_no_lasso(c);
 }
+
+/// A text is good for one thing at most, and then it is not refused; and it is refused for one fault at most.
+pub fn answers_have_one_end(c: &Circuit)
+    ensures good { OneIsGood c.now }
+    ensures apart { GoodHasNoFault c.now }
+    ensures refused { OneFault c.now }
+{}
