@@ -7,3 +7,4 @@ pub mod CompletingTexts
 pub mod CompletingAll
 pub mod GoodRead
 pub mod OneEnd
+pub mod WrittenGood

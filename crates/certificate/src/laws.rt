@@ -1,6 +1,6 @@
 //! The laws of answers. Each call does nothing; its contract is the law.
 
-ghost use Rattle.certificate.specs.Laws.{ReadsGood, GoodIsTrue, OneIsGood, GoodHasNoFault, OneFault};
+ghost use Rattle.certificate.specs.Laws.{ReadsGood, GoodIsTrue, OneIsGood, GoodHasNoFault, OneFault, WrittenIsGood};
 
 use circuit::Circuit;
 use entry::{good_lists_grow, refutations_leave_no_lasso};
@@ -23,4 +23,10 @@ pub fn answers_have_one_end(c: &Circuit)
     ensures good { OneIsGood c.now }
     ensures apart { GoodHasNoFault c.now }
     ensures refused { OneFault c.now }
+{}
+
+/// What `stimulus::write` writes of a stimulus that stands for a fair lasso is a good answer, where the text is within
+/// the limit on its length.
+pub fn written_stimuli_are_good(c: &Circuit)
+    ensures { WrittenIsGood c.now }
 {}
