@@ -1,20 +1,16 @@
 -- The lines that are read from a state to a good answer are those that lead there.
-use Rattle.std.proofs.Common.{◌≡◌, ◌↔◌, ℕ, suc, ◌+◌, List, [], ◌∷◌, ◌++◌, length, map, flat_map, refl, sym, ap, subst, ◌∙◌, arith, Ok, Err, inl, inr, append-nil}
+use Rattle.std.proofs.Common.{◌≡◌, ℕ, ◌+◌, List, [], ◌∷◌, ◌++◌, length, map, flat_map, refl, sym, subst, arith, Ok, Err, inl, inr}
 use Rattle.std.specs.Prelude.{codes}
-use Rattle.aig_semantics.specs.declared.traces.Stimulus.{Stimulus}
 use Rattle.aig_semantics.specs.Circuits.{Circuit}
-use Rattle.stimulus.specs.Texts.{row_values, present}
 use Rattle.fair_semantics.specs.declared.entries.Use.{Use}
-use Rattle.fair_semantics.specs.Entries.{Entry}
 use Rattle.proof_semantics.specs.declared.literals.Lit.{Lit}
 use Rattle.certificate_lines.specs.Clauses.{clause_text}
 use Rattle.certificate.specs.declared.ends.Accepted.{Accepted}
-use Rattle.certificate.specs.declared.ends.Accepted.TheVariants.{Lasso, Holds}
 use Rattle.certificate.specs.Lines.{Numbered, bare}
 use Rattle.certificate.specs.Certificates.{Written, proof_lines, AreClausesOf}
-use Rattle.certificate.specs.Reading.{Body, Begun, Proving, Wanted, Start, EntryUses, EntryClause, EntryProof, EntryLine, RefutationUses, RefutationLine, Last, State, Status, Property, Latches, Rows, Dotted, Versioned, Certified, Ended, Stepped, step, certificate_step, and_then, read_lines}
+use Rattle.certificate.specs.Reading.{Body, Wanted, Start, EntryUses, EntryClause, EntryProof, EntryLine, RefutationUses, RefutationLine, Last, State, Status, Property, Latches, Rows, Dotted, Versioned, Certified, Ended, Stepped, step, certificate_step, and_then, read_lines}
 use Rattle.certificate.specs.Ends.{IsGoodAtEnd}
-use Rattle.certificate.proofs.Completing.{end_line, rest_lines, ProofsTail, LinesTail, ClausesTail, RefutationTail, Continues, Completes, After}
+use Rattle.certificate.proofs.Completing.{end_line, rest_lines, Continues, Completes, After}
 use Rattle.certificate.proofs.CompletingProofs.{entry_line_on, entry_line_back, entry_proof_on, entry_proof_back, refuting_line_on, refuting_line_back, last_on, last_back}
 use Rattle.certificate.proofs.CompletingEntries.{clause_on, clause_back_on, entry_uses_on, entry_uses_back, refuting_uses_on, refuting_uses_back}
 use Rattle.certificate.proofs.CompletingStarts.{start_on, start_back}

@@ -1,8 +1,8 @@
 -- One line of an entry in front of its proofs, and the line that opens it.
-use Rattle.std.proofs.Common.{◌≡◌, ℕ, zero, suc, ◌+◌, ◌<◌, ◌≤◌, Bool, true, false, cond, List, [], ◌∷◌, ◌++◌, map, length, flat_map, refl, sym, ap, subst, ◌∙◌, arith, append_assoc, append-nil, length-append, Some, None, Option, Ok, Err, Result, All}
-use Rattle.std.specs.Prelude.{◌==◌, if◌then◌else◌, nat_lt}
+use Rattle.std.proofs.Common.{◌≡◌, ℕ, suc, ◌+◌, ◌<◌, Bool, true, false, cond, List, [], ◌∷◌, ◌++◌, map, length, refl, sym, ap, subst, ◌∙◌, arith, append_assoc, append-nil, length-append, Some, None, Option, Ok, Err, Result, All}
+use Rattle.std.specs.Prelude.{◌==◌, if◌then◌else◌}
 use Rattle.std.specs.List.{list_any}
-use Rattle.std.proofs.lemmas.Bool.{eqb-true, eq-eqb, lt-ltb, ltb-true, false≢true}
+use Rattle.std.proofs.lemmas.Bool.{eqb-true, eq-eqb}
 use Rattle.std.proofs.lemmas.List.{length-map}
 use Rattle.std.proofs.lemmas.List.Elements.{All-cons, All-nil, All-head, All-tail}
 use Rattle.aig_semantics.specs.Circuits.{Circuit}
@@ -18,14 +18,9 @@ use Rattle.cnf_unroll.specs.Laws.{AreOver}
 use Rattle.certificate_lines.specs.declared.uses.WrittenUse.{WrittenUse}
 use Rattle.certificate_lines.specs.declared.words.Opening.{Opening}
 use Rattle.certificate_lines.specs.declared.words.Refutation.{Refutation as Refuting}
-use Rattle.certificate_lines.specs.declared.words.Version.{Version}
-use Rattle.certificate_lines.specs.declared.words.WordLine.{WordLine}
-use Rattle.certificate_lines.specs.declared.words.WordLine.TheVariants as lines
 use Rattle.certificate_lines.specs.Fields.{IsNumber}
-use Rattle.certificate_lines.specs.Words.{word_line_text, word_line_of, HasNumbers, IsWordLine}
 use Rattle.certificate_lines.specs.Uses.{uses_text, uses_of, MayStand, written}
 use Rattle.certificate_lines.specs.Clauses.{clause_text, IsClauseLine, clause_of as literals_of}
-use Rattle.certificate_lines.proofs.WordLaws.{word_given_line, word_back}
 use Rattle.certificate_lines.proofs.UseLaws.{uses_given, uses_back}
 use Rattle.certificate_lines.proofs.ClauseLaws.{clause_given, clause_back}
 use Rattle.entry.specs.declared.faults.EntryFault.{EntryFault}
@@ -33,17 +28,15 @@ use Rattle.entry.specs.declared.faults.EntryFault.TheVariants.{BadUse, Base}
 use Rattle.entry.specs.declared.uses.User.{User}
 use Rattle.entry.specs.declared.uses.User.TheVariants as users
 use Rattle.entry.specs.Clauses.{clause_of}
-use Rattle.entry.specs.Faults.{first_bad_use, baseless_from, first_baseless, proof_fault, proofs_fault, or_else, first_fault}
-use Rattle.entry.specs.Proved.{obligation_of, IsProved, IsGoodRefutation}
+use Rattle.entry.specs.Faults.{first_bad_use, baseless_from, first_baseless, proofs_fault, or_else, first_fault}
+use Rattle.entry.specs.Proved.{obligation_of, IsProved}
 use Rattle.entry.proofs.Over.{clause_over}
-use Rattle.entry.proofs.Faultless.{faultless_is_proved, faultless_is_good}
-use Rattle.certificate.specs.declared.limits.TheConstants.{MAX_ENTRIES}
+use Rattle.entry.proofs.Faultless.{faultless_is_proved}
 use Rattle.certificate.specs.declared.ends.Accepted.{Accepted}
 use Rattle.certificate.specs.declared.ends.AnswerFault.TheVariants as faults
-use Rattle.certificate.specs.Certificates.{Written, proof_lines, opening_line, entry_lines, entry_with, CanBeWritten, AreClausesOf, AreProvedBehind}
-use Rattle.certificate.specs.Reading.{Body, Begun, Start, EntryUses, EntryClause, RefutationUses, Certified, Ended, Stepped, with_entry, entry_fault, next_proof, next_clause, begin_proof, next_refuting_line, start_step, as_use, unless_bad, uses_step, begin_entry, with_clause, has_base, base_step, clause_step, entry_uses_step, refutation_uses_step}
-use Rattle.certificate.specs.Ends.{IsGoodAtEnd}
-use Rattle.certificate.proofs.Completing.{end_line, refuting_of, rest_lines, FromStart, ProofsTail, ClausesTail, FromUses, RefutationTail, FromRefuting, Continues, After}
+use Rattle.certificate.specs.Certificates.{AreClausesOf}
+use Rattle.certificate.specs.Reading.{Body, Begun, EntryUses, EntryClause, RefutationUses, Certified, Stepped, entry_fault, next_proof, next_clause, begin_proof, next_refuting_line, as_use, unless_bad, uses_step, begin_entry, with_clause, has_base, base_step, clause_step, entry_uses_step, refutation_uses_step}
+use Rattle.certificate.proofs.Completing.{end_line, ProofsTail, ClausesTail, RefutationTail, Continues, After}
 use Rattle.certificate.proofs.CompletingProofs.{heads, differs, refuting_next, refuting_from, proof_next, proof_from}
 
 -- ---- the base of clauses, and their latches

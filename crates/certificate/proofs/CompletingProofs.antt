@@ -1,13 +1,12 @@
 -- One line of a proof, of an entry or of the refutation.
-use Rattle.std.proofs.Common.{◌≡◌, ℕ, zero, suc, ◌+◌, ◌<◌, Bool, true, false, cond, List, [], ◌∷◌, ◌++◌, map, length, flat_map, refl, sym, ap, subst, ◌∙◌, arith, append_assoc, Some, None, Option, Ok, Err, Result, All}
+use Rattle.std.proofs.Common.{◌≡◌, ℕ, suc, ◌+◌, Bool, true, false, List, [], ◌∷◌, ◌++◌, length, flat_map, refl, sym, ap, subst, ◌∙◌, arith, append_assoc, Some, None, Option, Ok, Err, Result, All}
 use Rattle.std.specs.Prelude.{◌==◌, if◌then◌else◌}
 use Rattle.std.proofs.lemmas.Bool.{eqb-true, eq-eqb, false≢true}
 use Rattle.std.proofs.lemmas.List.Elements.{All-cons, All-nil, All-head, All-tail}
 use Rattle.aig_semantics.specs.Circuits.{Circuit}
-use Rattle.proof_semantics.specs.declared.literals.Lit.{Lit}
 use Rattle.proof_semantics.specs.declared.faults.LratFault.{LratFault}
 use Rattle.proof_semantics.specs.declared.faults.LratFault.TheVariants.{Unfinished}
-use Rattle.proof_semantics.specs.Proofs.{ProofState, start, judge}
+use Rattle.proof_semantics.specs.Proofs.{ProofState, judge}
 use Rattle.fair_semantics.specs.Entries.{Entry}
 use Rattle.certificate_lines.specs.declared.words.WordLine.{WordLine}
 use Rattle.certificate_lines.specs.declared.words.WordLine.TheVariants as lines

@@ -1,13 +1,11 @@
 -- The line that opens an entry or the refutation.
-use Rattle.std.proofs.Common.{◌≡◌, ℕ, zero, suc, ◌+◌, ◌<◌, ◌≤◌, Bool, true, false, List, [], ◌∷◌, ◌++◌, map, length, flat_map, refl, sym, ap, subst, ◌∙◌, arith, append_assoc, append-nil, length-append, Some, None, Option, Ok, Err, Result, All}
+use Rattle.std.proofs.Common.{◌≡◌, ℕ, suc, ◌+◌, ◌<◌, ◌≤◌, Bool, true, false, List, [], ◌∷◌, ◌++◌, map, length, flat_map, refl, sym, ap, subst, ◌∙◌, arith, append_assoc, length-append, Some, None, Option, Ok, Err, All}
 use Rattle.std.specs.Prelude.{if◌then◌else◌, nat_lt}
 use Rattle.std.proofs.lemmas.Bool.{lt-ltb, ltb-true}
 use Rattle.std.proofs.lemmas.List.Elements.{All-cons, All-nil, All-head, All-tail}
 use Rattle.aig_semantics.specs.Circuits.{Circuit}
-use Rattle.proof_semantics.specs.declared.literals.Lit.{Lit}
 use Rattle.fair_semantics.specs.declared.entries.Use.{Use}
-use Rattle.fair_semantics.specs.Entries.{Entry, used_entries}
-use Rattle.cnf_unroll.specs.Obligations.{skeleton_clauses}
+use Rattle.fair_semantics.specs.Entries.{Entry}
 use Rattle.certificate_lines.specs.declared.words.Opening.{Opening}
 use Rattle.certificate_lines.specs.declared.words.Refutation.{Refutation as Refuting}
 use Rattle.certificate_lines.specs.declared.words.WordLine.{WordLine}
@@ -17,14 +15,13 @@ use Rattle.certificate_lines.specs.Words.{word_line_text, word_line_of, HasNumbe
 use Rattle.certificate_lines.specs.Uses.{uses_text, MayStand, written}
 use Rattle.certificate_lines.specs.Clauses.{clause_text}
 use Rattle.certificate_lines.proofs.WordLaws.{word_given_line, word_back}
-use Rattle.entry.specs.Faults.{proof_fault}
 use Rattle.entry.specs.Proved.{IsGoodRefutation}
 use Rattle.entry.proofs.Faultless.{faultless_is_good}
 use Rattle.certificate.specs.declared.limits.TheConstants.{MAX_ENTRIES}
 use Rattle.certificate.specs.declared.ends.Accepted.{Accepted}
 use Rattle.certificate.specs.declared.ends.AnswerFault.TheVariants as faults
 use Rattle.certificate.specs.Certificates.{Written, proof_lines, opening_line, entry_lines, entry_with, CanBeWritten, AreProvedBehind}
-use Rattle.certificate.specs.Reading.{Body, Start, EntryUses, RefutationUses, Certified, Ended, with_entry, start_step, begin_entry}
+use Rattle.certificate.specs.Reading.{Body, Start, EntryUses, Certified, Ended, with_entry, start_step, begin_entry}
 use Rattle.certificate.specs.Ends.{IsGoodAtEnd}
 use Rattle.certificate.proofs.Completing.{end_line, refuting_of, rest_lines, FromStart, ProofsTail, ClausesTail, FromUses, FromRefuting, Continues, After}
 use Rattle.certificate.proofs.CompletingProofs.{heads}

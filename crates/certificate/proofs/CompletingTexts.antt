@@ -1,14 +1,13 @@
 -- One line in front of a certificate, or of a stimulus.
-use Rattle.std.proofs.Common.{◌≡◌, ◌≢◌, ◌⊎◌, inl, inr, ℕ, ◌+◌, ◌<◌, ◌^◌, Bool, true, false, cond, eqb, List, [], ◌∷◌, ◌++◌, map, length, refl, sym, ap, subst, ◌∙◌, arith, append_assoc, append-nil, Some, None, Option, Ok, Err, Result}
-use Rattle.std.specs.Prelude.{if◌then◌else◌, nat_lt, codes, decimal, ◌==◌}
+use Rattle.std.proofs.Common.{◌≡◌, inl, inr, ℕ, ◌<◌, ◌^◌, Bool, true, false, eqb, List, [], ◌∷◌, ◌++◌, map, length, refl, sym, ap, subst, ◌∙◌, append_assoc, append-nil, Some, None, Option, Ok, Err}
+use Rattle.std.specs.Prelude.{if◌then◌else◌, nat_lt, codes}
 use Rattle.std.specs.Str.{bytes_eq}
-use Rattle.std.proofs.lemmas.Bool.{lt-ltb, ltb-true, eqb-true, false≢true, true≢false}
+use Rattle.std.proofs.lemmas.Bool.{lt-ltb, ltb-true, eqb-true}
 use Rattle.std.proofs.lemmas.Option.{same_Some, none-some}
 use Rattle.std.proofs.lemmas.Slice.Eq.{bytes_eq-Decides}
 use Rattle.aig_semantics.specs.declared.traces.Stimulus.{Stimulus}
 use Rattle.aig_semantics.specs.Circuits.{Circuit}
 use Rattle.stimulus.specs.Texts.{value_of, row_values, present}
-use Rattle.certificate_lines.specs.declared.words.Version.{Version}
 use Rattle.certificate_lines.specs.declared.words.WordLine.{WordLine}
 use Rattle.certificate_lines.specs.declared.words.WordLine.TheVariants as lines
 use Rattle.certificate_lines.specs.Fields.{number_in}
@@ -18,9 +17,9 @@ use Rattle.certificate_lines.proofs.WordLaws.{word_given_line, word_back}
 use Rattle.certificate.specs.declared.ends.Accepted.{Accepted}
 use Rattle.certificate.specs.declared.ends.AnswerFault.TheVariants as faults
 use Rattle.certificate.specs.Answers.{property_line}
-use Rattle.certificate.specs.Reading.{Claim, HasLasso, HasNone, Status, Property, Latches, Rows, Dotted, Versioned, Stepped, status_step, property_in, claimed, property_step, version_step, with_value, values_in, latches_step, row_step, step}
+use Rattle.certificate.specs.Reading.{Claim, HasLasso, HasNone, Status, Property, Rows, Dotted, Stepped, status_step, property_in, claimed, property_step, version_step, with_value, values_in, latches_step, row_step, step}
 use Rattle.certificate.specs.Ends.{IsGoodAtEnd}
-use Rattle.certificate.proofs.Completing.{FromRows, FromLatches, FromVersion, Claims, FromProperty, FromStatus, Completes, After}
+use Rattle.certificate.proofs.Completing.{FromRows, FromLatches, FromVersion, Claims, FromProperty, Completes, After}
 use Rattle.certificate.proofs.CompletingProofs.{heads}
 
 -- ---- the values of a line

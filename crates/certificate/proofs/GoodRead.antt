@@ -1,12 +1,10 @@
 -- A text is read as a good answer exactly where it is one.
-use Rattle.std.proofs.Common.{◌≡◌, ◌↔◌, ◌≤◌, ◌<◌, ℕ, zero, suc, ◌+◌, Bool, true, false, List, [], ◌∷◌, ◌++◌, length, map, flat_map, refl, sym, ap, subst, ◌∙◌, arith, Ok, inl, inr, append_assoc, length-append}
-use Rattle.std.specs.Prelude.{codes, if◌then◌else◌, nat_le, take}
+use Rattle.std.proofs.Common.{◌≡◌, ◌≤◌, ◌<◌, ℕ, suc, ◌+◌, List, [], ◌∷◌, ◌++◌, length, flat_map, refl, sym, ap, subst, ◌∙◌, arith, inl, inr, append_assoc, length-append}
+use Rattle.std.specs.Prelude.{codes, if◌then◌else◌, take}
 use Rattle.std.proofs.lemmas.Bool.{le-leb}
 use Rattle.text_grammar.specs.Lines.{lines_of}
 use Rattle.text_grammar.specs.Pieces.{cut_at}
-use Rattle.aig_semantics.specs.declared.traces.Stimulus.{Stimulus}
 use Rattle.aig_semantics.specs.Circuits.{Circuit}
-use Rattle.aig_semantics.specs.Stimuli.{StandsFor}
 use Rattle.answer_lines.specs.Left.{most_bytes}
 use Rattle.fair_semantics.specs.declared.entries.Use.{Use}
 use Rattle.fair_semantics.specs.Entries.{Entry}
@@ -16,9 +14,9 @@ use Rattle.certificate_lines.specs.Words.{word_line_text}
 use Rattle.certificate.specs.declared.limits.TheConstants.{MAX_ENTRIES}
 use Rattle.certificate.specs.declared.ends.Accepted.{Accepted}
 use Rattle.certificate.specs.declared.ends.Accepted.TheVariants.{Lasso, Holds}
-use Rattle.certificate.specs.Lines.{Numbered, kept_from, kept_in, bare, but_last, readable, kept_readable}
+use Rattle.certificate.specs.Lines.{kept_from, kept_in, bare, but_last, kept_readable}
 use Rattle.certificate.specs.Certificates.{Written, Certificate, entry_lines, entry_with, refutation_lines, lines_of_certificate, AreProvedBehind, IsGoodCertificate}
-use Rattle.certificate.specs.Answers.{property_line, HasStimulus, HasCertificate, IsGood}
+use Rattle.certificate.specs.Answers.{property_line, HasStimulus, IsGood}
 use Rattle.certificate.specs.Reading.{HasLasso, HasNone, Status}
 use Rattle.certificate.specs.Ends.{ReadsWell}
 use Rattle.certificate.specs.Laws.{ReadsGood}

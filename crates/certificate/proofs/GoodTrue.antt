@@ -1,15 +1,13 @@
 -- A good answer is true.
-use Rattle.std.proofs.Common.{◌≡◌, ℕ, suc, Bool, ◌++◌, List, [], ◌∷◌, length, take, subst, sym, ap, ◌∙◌, refl}
+use Rattle.std.proofs.Common.{◌≡◌, suc, Bool, ◌++◌, List, [], ◌∷◌, length, take, subst, sym, ap, ◌∙◌, refl}
 use Rattle.std.proofs.lemmas.List.{length-take-le}
 use Rattle.aig_semantics.specs.Circuits.{Circuit}
 use Rattle.aig_semantics.specs.Runs.{position_of, successor}
 use Rattle.aig_semantics.specs.Stimuli.{simulated}
 use Rattle.fair_semantics.specs.Entries.{Entry}
 use Rattle.entry.specs.Laws.{IsGoodList, GoodListsGrow, RefutedHasNoLasso}
-use Rattle.certificate.specs.declared.ends.Accepted.{Accepted}
 use Rattle.certificate.specs.declared.ends.Accepted.TheVariants.{Lasso, Holds}
 use Rattle.certificate.specs.Certificates.{Written, entry_with, AreProvedBehind}
-use Rattle.certificate.specs.Answers.{IsGood, Shows}
 use Rattle.certificate.specs.Laws.{GoodIsTrue}
 
 -- entries that are proved one behind the other are a good list

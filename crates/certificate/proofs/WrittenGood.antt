@@ -1,6 +1,6 @@
 -- What is written of a stimulus is a good answer.
-use Rattle.std.proofs.Common.{◌≡◌, ◌≢◌, ◌≤◌, ◌<◌, ◌^◌, ℕ, ◌+◌, Bool, true, false, not, List, [], ◌∷◌, ◌++◌, map, length, refl, sym, ap, ◌∙◌, arith, append_assoc, All}
-use Rattle.std.specs.Prelude.{codes, decimal, flat_map}
+use Rattle.std.proofs.Common.{◌≡◌, ◌≢◌, ◌<◌, ◌^◌, ℕ, ◌+◌, Bool, true, false, not, List, [], ◌∷◌, ◌++◌, map, refl, sym, ap, ◌∙◌, arith, append_assoc, All}
+use Rattle.std.specs.Prelude.{codes, decimal}
 use Rattle.std.specs.Str.Parse.{AllDigits}
 use Rattle.std.proofs.lemmas.Fmt.{decimal_is_IsNumeral}
 use Rattle.std.proofs.lemmas.Str.Parse.{digit_from_value}
@@ -12,13 +12,10 @@ use Rattle.text_grammar.specs.Lines.{lines_of, ended_lines}
 use Rattle.text_grammar.proofs.LineLaws.{reads_written_lines}
 use Rattle.aig_semantics.specs.declared.traces.Stimulus.{Stimulus}
 use Rattle.aig_semantics.specs.Circuits.{Circuit}
-use Rattle.aig_semantics.specs.Stimuli.{StandsFor}
-use Rattle.answer_lines.specs.Left.{most_bytes}
-use Rattle.stimulus.specs.Texts.{is_skipped, row_values, present, kept_lines, digit_of, line_of, stimulus_lines, answer_text}
+use Rattle.stimulus.specs.Texts.{is_skipped, kept_lines, digit_of, stimulus_lines, answer_text}
 use Rattle.stimulus.proofs.WriteLemmas.{rows_lack, rows_kept, rows_read}
-use Rattle.certificate.specs.declared.ends.Accepted.TheVariants.{Lasso}
 use Rattle.certificate.specs.Lines.{kept_from, kept_in, bare}
-use Rattle.certificate.specs.Answers.{property_line, Spells, HasStimulus, IsGood}
+use Rattle.certificate.specs.Answers.{property_line, Spells, HasStimulus}
 use Rattle.certificate.specs.Laws.{WrittenIsGood}
 
 -- ---- the kept lines are those of a stimulus' text
@@ -52,8 +49,9 @@ one_lacks byte differs = All-cons (λ b. b ≢ 10) byte [] differs (All-nil (λ 
 
 property_lacks : (n : ℕ) → n < 2 ^ 63 → Lacks (property_line n) 10
 property_lacks n small =
+    let within : n < 2 ^ 64 = omega (arith, small) in
     let differs : 106 ≢ 10 = omega arith in
-    All-cons (λ b. b ≢ 10) 106 (decimal n) differs (digits_lack (decimal n) (decimal_is_IsNumeral n (omega (arith, small))).0.1)
+    All-cons (λ b. b ≢ 10) 106 (decimal n) differs (digits_lack (decimal n) (decimal_is_IsNumeral n within).0.1)
 
 lines_lack : (n : ℕ) (s : Stimulus) → n < 2 ^ 63 → All (λ line. Lacks line 10) (answer_lines_of n s)
 lines_lack n s small =

@@ -18,5 +18,7 @@ mod steps;
 
 pub use checking::check_answer;
 pub use ends::{Accepted, AnswerEnd, AnswerFault};
-pub use laws::{answers_are_read_as_good, answers_have_one_end, good_answers_are_true, written_stimuli_are_good};
+pub use laws::{
+    answers_are_read_as_good, answers_have_one_end, good_answers_are_true, written_stimuli_are_good,
+};
 pub use limits::MAX_ENTRIES;
