@@ -15,6 +15,7 @@ ghost use Rattle.certificate.specs.Steps.{OfEnd};
 ghost use Rattle.certificate.specs.Texts.{OfLines, ReadingSays};
 
 use crate::ends::{Accepted, AnswerEnd};
+use crate::laws::good_answers_are_true;
 use crate::state::State;
 use crate::steps::{finish, step};
 use answer_lines::Lines;
@@ -46,6 +47,7 @@ pub fn check_answer<H: Shelf>(
     ensures counts { NoneFell (H.faults shelf.old) (H.faults shelf.new) }
     ensures kept { KeepsTexts (H.held shelf.old) (H.held shelf.new) }
 {
+    good_answers_are_true(circuit);
     read_answer(alloc, circuit, shelf, name)
 }
 
