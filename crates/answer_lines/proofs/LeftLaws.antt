@@ -1,5 +1,5 @@
 -- The lines of what is left of a text.
-use Rattle.std.proofs.Common.{◌≡◌, ◌≢◌, ℕ, zero, suc, ◌+◌, ◌-◌, ◌≤◌, Bool, true, false, List, [], ◌∷◌, ◌++◌, length, take, drop, refl, ap, sym, subst, ◌∙◌, arith, append_assoc, length-append, length-take}
+use Rattle.std.proofs.Common.{◌≡◌, ◌≢◌, ℕ, zero, suc, ◌+◌, ◌-◌, ◌≤◌, Bool, true, false, List, [], ◌∷◌, ◌++◌, length, take, drop, refl, ap, sym, subst, ◌∙◌, arith, append_assoc, length-append, length-take, inl, inr, Option, Some}
 use Rattle.std.proofs.lemmas.List.{length-drop, take-append-drop, drop-take, drop_all, get_or_append_left}
 use Rattle.std.proofs.Math.Seq.{take-append-add, get_or-append-add}
 use Rattle.std.specs.Prelude.{IsTrue, IsFalse}
@@ -10,7 +10,7 @@ use Rattle.text_grammar.specs.Pieces.{Lacks}
 use Rattle.text_grammar.specs.Lines.{IsLine, lines_of}
 use Rattle.text_grammar.proofs.LineLaws.{last_line}
 use Rattle.answer_lines.specs.LinesOf.{SameLeft, front_of, rest_of}
-use Rattle.answer_lines.specs.Left.{Reading, left_of, given_line, most_bytes, IsTooLong}
+use Rattle.answer_lines.specs.Left.{Reading, left_of, given_line, most_bytes, IsTooLong, Took}
 
 -- as much is given and the same is in hand, so the same is left
 pub same_left : (old new : Reading) (text : List ℕ) → SameLeft old new → left_of new text ≡ left_of old text
@@ -153,3 +153,22 @@ all_sum old new ahead before after taken ended none =
 pub end_sum : (old new : Reading) (text : List ℕ) → left_of old text ≡ old.ahead → new.ahead ≡ [] → new.taken ≡ old.taken + length old.ahead → new.taken + length (left_of new text) ≡ old.taken + length (left_of old text)
 end_sum old new text ended none taken =
     all_sum old.taken new.taken old.ahead (left_of old text) (left_of new text) taken ended (end_left old new text ended none taken)
+
+-- a line in hand that a line feed ends is given
+pub took_line : (told : Option (List ℕ)) (old mid new : Reading) → mid.taken ≡ old.taken → ((text : List ℕ) → told ≡ Some text → left_of mid text ≡ left_of old text) → IsLine new.line mid.ahead new.ahead → new.taken ≡ mid.taken + length new.line + 1 → new.last ≡ false → Took told old new
+took_line told old mid new same left line taken goes_on =
+    inl (record {
+      goes_on = goes_on;
+      taken = taken ∙ ap (λ (n : ℕ). n + length new.line + 1) same;
+      left = λ text is. subst (λ (bytes : List ℕ). IsLine new.line bytes (left_of new text)) (left text is) (line_left mid new text line taken);
+    })
+
+-- what is in hand at the end is given
+pub took_last : (told : Option (List ℕ)) (old mid new : Reading) → mid.taken ≡ old.taken → ((text : List ℕ) → told ≡ Some text → left_of mid text ≡ left_of old text) → ((text : List ℕ) → told ≡ Some text → left_of mid text ≡ mid.ahead) → new.line ≡ mid.ahead → mid.ahead ≢ [] → new.ahead ≡ [] → new.taken ≡ mid.taken + length mid.ahead → new.last ≡ true → Took told old new
+took_last told old mid new same left ended line some none taken last =
+    inr (record {
+      last = last;
+      taken = taken ∙ ap (λ (n : ℕ). n + length mid.ahead) same ∙ ap (λ (bytes : List ℕ). old.taken + length bytes) (sym line);
+      some = λ empty. some (sym line ∙ empty);
+      left = λ text is. (sym (left text is) ∙ ended text is ∙ sym line, end_left mid new text (ended text is) none taken);
+    })

@@ -1,2 +1,2 @@
 mod LeftLaws
-mod ReadLaws
+pub mod ReadLaws

@@ -1,6 +1,7 @@
 -- What is left of a text whose lines are given one by one.
-use Rattle.std.specs.Prelude.{◌≡◌, ℕ, ◌+◌, ◌-◌, ◌^◌, ◌<◌, Bool, true, false, List, [], ◌∷◌, ◌++◌, Option, Result, Ok, Err, length, take, drop}
+use Rattle.std.specs.Prelude.{◌≡◌, ◌≢◌, ◌⊎◌, ℕ, ◌+◌, ◌-◌, ◌^◌, ◌<◌, Bool, true, false, List, [], ◌∷◌, ◌++◌, Option, Result, Ok, Err, length, take, drop}
 use Rattle.edge.specs.Told.{IfTold}
+use Rattle.text_grammar.specs.Lines.{IsLine}
 use Rattle.text_grammar.specs.Pieces.{Lacks}
 use Rattle.answer_lines.specs.declared.ends.LinesEnd.{LinesEnd}
 use Rattle.answer_lines.specs.declared.ends.LinesEnd.TheVariants as ends
@@ -13,10 +14,12 @@ pub record Reading : Type 0 where
   pub taken : ℕ
   -- the bytes behind them that are in hand
   pub ahead : List ℕ
+  -- the text's end, and no line feed, ended the line that was given last
+  pub last : Bool
 
 -- before the first line
 abbrev pub at_start : Reading
-at_start = record { line = []; taken = 0; ahead = [] }
+at_start = record { line = []; taken = 0; ahead = []; last = false }
 
 -- the bytes of a text that were not given: those in hand, and those that were not read
 abbrev pub left_of : Reading → List ℕ → List ℕ
@@ -40,6 +43,23 @@ most_bytes = 2 ^ 63 - 1
 pub record IsTooLong (room : ℕ) (left : List ℕ) : Type 0 where
   pub longer : room < length left
   pub unended : Lacks (take room left) 10
+
+-- the line was given with its line feed, which ended it
+pub record TookLine (told : Option (List ℕ)) (old new : Reading) : Type 0 where
+  pub goes_on : new.last ≡ false
+  pub taken : new.taken ≡ old.taken + length new.line + 1
+  pub left : IfTold told (λ text. IsLine new.line (left_of old text) (left_of new text))
+
+-- the line was given, and is all that was left: the text's end ended it
+pub record TookLast (told : Option (List ℕ)) (old new : Reading) : Type 0 where
+  pub last : new.last ≡ true
+  pub taken : new.taken ≡ old.taken + length new.line
+  pub some : new.line ≢ []
+  pub left : IfTold told (λ text. (left_of old text ≡ new.line) × (left_of new text ≡ []))
+
+-- a line was given
+abbrev pub Took : Option (List ℕ) → Reading → Reading → Type 0
+Took told old new = TookLine told old new ⊎ TookLast told old new
 
 -- the reading of a line ended with a failed read
 abbrev pub is_read_fault : {T : Type 0} → Result T LinesEnd → Bool

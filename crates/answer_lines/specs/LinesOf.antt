@@ -21,6 +21,7 @@ reading_of s = record {
   line = s.line.items;
   taken = s.place - length (ahead_of s);
   ahead = ahead_of s;
+  last = s.last;
 }
 
 -- what always holds

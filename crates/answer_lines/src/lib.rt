@@ -5,6 +5,7 @@
 //! | `Lines::new` | stands before the first line |
 //! | `Lines::next` | reads the next line, or finds the end of the text |
 //! | `Lines::line` | the line that was read last |
+//! | `Lines::is_last` | whether the text's end ended that line |
 #![tactic(auto)]
 
 mod ends;

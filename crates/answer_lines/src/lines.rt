@@ -1,11 +1,11 @@
 //! The lines of a text, one by one. The main call is `Lines::next`.
-ghost use Rattle.std.specs.Prelude.{◌≡◌, ◌≢◌, ◌↔◌, ◌+◌, ◌-◌, ◌<◌, ◌≤◌, [], ◌++◌, length, IfOk, OnErr, IsErrOf, IsTrue, IsFalse};
+ghost use Rattle.std.specs.Prelude.{◌≡◌, ◌≢◌, ◌↔◌, ◌+◌, ◌-◌, ◌<◌, ◌≤◌, [], ◌++◌, true, false, length, IfOk, OnErr, IsErrOf, IsTrue, IsFalse};
 ghost use Rattle.edge.specs.Faults.{Rose, NoneFell};
 ghost use Rattle.edge.specs.Told.{IfTold};
 ghost use Rattle.edge.specs.Reads.{KeepsTexts, Reads};
 ghost use Rattle.text_grammar.specs.Lines.{IsLine, lines_of};
 ghost use Rattle.text_grammar.specs.Pieces.{Lacks};
-ghost use Rattle.answer_lines.specs.Left.{at_start, left_of, given_line, most_bytes, IsTooLong, StaysLeft, is_read_fault};
+ghost use Rattle.answer_lines.specs.Left.{at_start, left_of, given_line, most_bytes, IsTooLong, StaysLeft, Took, is_read_fault};
 ghost use Rattle.answer_lines.specs.LinesOf.{SameLeft};
 
 use crate::ends::LinesEnd;
@@ -24,6 +24,8 @@ pub struct Lines {
     // The line that was given last, or else the front of the next one.
     line: Vec<u8>,
     given: bool,
+    // The text's end, and no line feed, ended the line that was given last.
+    last: bool,
     // The last piece that was read. What follows `line` in it stands from `start` to `end`.
     piece: Vec<u8>,
     start: usize,
@@ -52,6 +54,7 @@ impl Lines {
         Ok(Lines {
             line: Vec::new(alloc),
             given: false,
+            last: false,
             piece: zeros(alloc)?,
             start: 0,
             end: 0,
@@ -64,6 +67,13 @@ impl Lines {
         ensures { result.now ≡ self.now.line }
     {
         &self.line
+    }
+
+    /// Whether the text's end, and no line feed, ended the line that was given last. Behind such a line there is none.
+    pub fn is_last(&self) -> bool
+        ensures { result ≡ self.now.last }
+    {
+        self.last
     }
 
     /// Reads the next line of the text of a name, and says whether there was one: none means the end of the text. A
@@ -86,6 +96,8 @@ impl Lines {
         ensures sum { IfTold (H.held shelf.old name.now)
             (λ text. self.new.taken + length (left_of self.new text)
             ≡ self.old.taken + length (left_of self.old text)) }
+        // A line feed ended the line, or the text's end did, and then the line is all that was left.
+        ensures took { IfOk result (λ given. IsTrue given → Took (H.held shelf.old name.now) self.old self.new) }
         // No line has a line feed, also where the text is not told.
         ensures plain { IfOk result (λ given. IsTrue given → Lacks self.new.line 10) }
         // Behind a given line no more than the rest of a piece is in hand.
@@ -121,6 +133,7 @@ impl Lines {
         ensures found { IfOk result (λ found. IsTrue found → IsLine self.new.line self.old.ahead self.new.ahead) }
         ensures taken { IfOk result (λ found. IsTrue found → self.new.taken ≡ self.old.taken + length self.new.line + 1) }
         ensures hand { IfOk result (λ found. IsTrue found → length self.new.ahead ≤ 4096) }
+        ensures goes_on { IfOk result (λ found. IsTrue found → self.new.last ≡ false) }
         ensures none { IfOk result (λ found. IsFalse found → Lacks self.old.ahead 10) }
         ensures same { IfOk result (λ found. IsFalse found → SameLeft self.old self.new) }
         ensures refused { OnErr result (SameLeft self.old self.new) }
@@ -132,6 +145,7 @@ impl Lines {
         };
         self.start += n + 1;
         self.given = true;
+        self.last = false;
         Ok(true)
     }
 
@@ -180,6 +194,7 @@ impl Lines {
         ensures taken { IfOk result (λ some. self.new.taken ≡ self.old.taken + length self.old.ahead) }
         ensures none { IfOk result (λ some. IsFalse some → self.old.ahead ≡ []) }
         ensures ahead { IfOk result (λ _. self.new.ahead ≡ []) }
+        ensures last { IfOk result (λ some. IsTrue some → self.new.last ≡ true) }
         ensures refused { OnErr result (SameLeft self.old self.new) }
         ensures most { self.new.taken + length self.new.ahead ≤ most_bytes }
     {
@@ -190,6 +205,7 @@ impl Lines {
         )?;
         self.start = self.end;
         self.given = !self.line.as_slice().is_empty();
+        self.last = self.given;
         Ok(self.given)
     }
 }

@@ -1,3 +1,17 @@
 pub mod Values
 pub mod UseLaws
 pub mod Replayed
+pub mod Completing
+pub mod CompletingAll
+pub mod CompletingEntries
+pub mod CompletingProofs
+pub mod CompletingStarts
+pub mod CompletingTexts
+mod Ended
+pub mod GoodRead
+pub mod GoodTrue
+mod Judged
+pub mod OneEnd
+mod Reached
+mod Readable
+pub mod WrittenGood

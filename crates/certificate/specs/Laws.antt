@@ -1,5 +1,5 @@
 -- The laws of answers.
-use Rattle.std.specs.Prelude.{◌≡◌, ◌↔◌, ◌≤◌, ℕ, List, length}
+use Rattle.std.specs.Prelude.{◌≡◌, ◌↔◌, ◌≤◌, ◌<◌, ◌^◌, ℕ, List, length}
 use Rattle.aig_semantics.specs.declared.traces.Stimulus.{Stimulus}
 use Rattle.aig_semantics.specs.Circuits.{Circuit}
 use Rattle.aig_semantics.specs.Stimuli.{StandsFor}
@@ -31,8 +31,8 @@ GoodHasNoFault c = (text : List ℕ) (accepted : Accepted) (fault : AnswerFault)
 abbrev pub OneFault : Circuit → Type 0
 OneFault c = (text : List ℕ) (f g : AnswerFault) → IsRefused c text f → IsRefused c text g → f ≡ g
 
--- what is written of a stimulus that stands for a lasso is a good answer, where it is within the limit
+-- what is written of a stimulus that stands for a lasso is a good answer, where number and text are within the limits
 abbrev pub WrittenIsGood : Circuit → Type 0
 WrittenIsGood c =
-    (n : ℕ) (s : Stimulus) (positions from : ℕ) → StandsFor c n s positions from → length (answer_text n s) ≤ most_bytes
+    (n : ℕ) (s : Stimulus) (positions from : ℕ) → n < 2 ^ 63 → StandsFor c n s positions from → length (answer_text n s) ≤ most_bytes
     → IsGood c (answer_text n s) (Lasso n positions from)

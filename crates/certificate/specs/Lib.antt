@@ -7,3 +7,4 @@ pub mod Ends
 pub mod Laws
 pub mod Seen
 pub mod Steps
+pub mod Texts

@@ -1,15 +1,28 @@
 //! The check of an answer against a circuit. The main call is `check_answer`.
 
-ghost use Rattle.std.specs.Prelude.{◌≡◌, List, ℕ, Some, Result, Err, IfOk};
+ghost use Rattle.std.specs.Prelude.{◌≡◌, ◌<◌, ◌≤◌, List, [], ◌∷◌, ℕ, true, false, Some, Result, Ok, Err, IfOk, IfErr, IsTrue, IsFalse};
 ghost use Rattle.edge.specs.Faults.{Rose, NoneFell};
 ghost use Rattle.edge.specs.Reads.{KeepsTexts, Reads};
+ghost use Rattle.edge.specs.Told.{IfTold};
+ghost use Rattle.text_grammar.specs.Pieces.{Lacks};
+ghost use Rattle.answer_lines.specs.Left.{left_of, most_bytes, Took};
 ghost use Rattle.certificate.specs.Answers.{Shows};
-ghost use Rattle.certificate.specs.Ends.{DecidesEnd, CheckSays, EndsWith, has_unread};
+ghost use Rattle.certificate.specs.Ends.{DecidesEnd, CheckSays, EndsWith, ReadsAs, has_unread};
+ghost use Rattle.certificate.specs.Lines.{kept_from};
+ghost use Rattle.certificate.specs.Reading.{read_lines};
+ghost use Rattle.certificate.specs.Seen.{seen, IsKept};
+ghost use Rattle.certificate.specs.Steps.{OfEnd};
+ghost use Rattle.certificate.specs.Texts.{OfLines, ReadingSays};
 
 use crate::ends::{Accepted, AnswerEnd};
+use crate::laws::good_answers_are_true;
+use crate::state::State;
+use crate::steps::{finish, step};
+use answer_lines::Lines;
 use circuit::Circuit;
 use edge::Shelf;
 use std::alloc::Global;
+use stimulus::is_skipped;
 
 /// Checks the answer that the shelf holds under the name, against a circuit: `Accepted` exactly where it is a good
 /// answer, a stimulus that stands for a fair lasso of the property that it names or a certificate that there is none;
@@ -17,7 +30,7 @@ use std::alloc::Global;
 /// text is read line by line, and of a certificate the entries and one proof are held, never the text. `ReadFault`
 /// comes only where the shelf's count of faults of that name rose.
 pub fn check_answer<H: Shelf>(
-    _alloc: Global,
+    alloc: Global,
     circuit: &Circuit,
     shelf: &mut H,
     name: &str,
@@ -34,5 +47,74 @@ pub fn check_answer<H: Shelf>(
     ensures counts { NoneFell (H.faults shelf.old) (H.faults shelf.new) }
     ensures kept { KeepsTexts (H.held shelf.old) (H.held shelf.new) }
 {
-    Err(AnswerEnd::Memory)
+    good_answers_are_true(circuit);
+    read_answer(alloc, circuit, shelf, name)
+}
+
+/// Reads the text that the shelf holds under the name, line by line, and says how it ends.
+fn read_answer<H: Shelf>(
+    alloc: Global,
+    circuit: &Circuit,
+    shelf: &mut H,
+    name: &str,
+) -> Result<Accepted, AnswerEnd>
+    ensures found { ReadingSays circuit.now (H.held shelf.old name.now) result }
+    ensures exactly { (text : List ℕ) (verdict : Result Accepted AnswerEnd) → H.held shelf.old name.now ≡ Some text
+        → ReadsAs circuit.now text verdict → EndsWith result verdict }
+    ensures read { result ≡ Err AnswerEnd.ReadFault → Rose (H.faults shelf.old name.now) (H.faults shelf.new name.now) }
+    ensures reads { Reads H.reads name.now (has_unread result) shelf.old shelf.new }
+    ensures counts { NoneFell (H.faults shelf.old) (H.faults shelf.new) }
+    ensures kept { KeepsTexts (H.held shelf.old) (H.held shelf.new) }
+{
+    let mut lines = Lines::new(alloc)?;
+    let mut state = State::Status;
+    let mut number = 1;
+    'lines: while next_line(&mut lines, shelf, name)? {
+        state = line_step(alloc, circuit, state, number, lines.line())?;
+        number += 1;
+    }
+    finish(alloc, circuit, state, number)
+}
+
+/// Reads the next line, and says whether there was one. The condition is that nothing is left behind a line that the
+/// text's end ended.
+fn next_line<H: Shelf>(lines: &mut Lines, shelf: &mut H, name: &str) -> Result<bool, AnswerEnd>
+    requires { lines.old.last ≡ true → IfTold (H.held shelf.old name.now) (λ text. left_of lines.old text ≡ []) }
+    ensures took { IfOk result (λ given. IsTrue given → Took (H.held shelf.old name.now) lines.old lines.new) }
+    ensures goes_on { IfOk result (λ given. IsTrue given → lines.old.last ≡ false) }
+    ensures plain { IfOk result (λ given. IsTrue given → Lacks lines.new.line 10) }
+    ensures later { IfOk result (λ given. IsTrue given → lines.old.taken < lines.new.taken) }
+    ensures most { lines.old.taken ≤ most_bytes → lines.new.taken ≤ most_bytes }
+    ensures end { IfOk result (λ given. IsFalse given
+        → IfTold (H.held shelf.old name.now) (λ text. left_of lines.old text ≡ [])) }
+    ensures ended { IfErr result (OfLines (H.held shelf.old name.now) lines.old) }
+    ensures read { result ≡ Err AnswerEnd.ReadFault → Rose (H.faults shelf.old name.now) (H.faults shelf.new name.now) }
+    ensures reads { Reads H.reads name.now (has_unread result) shelf.old shelf.new }
+    ensures counts { NoneFell (H.faults shelf.old) (H.faults shelf.new) }
+    ensures kept { KeepsTexts (H.held shelf.old) (H.held shelf.new) }
+{
+    if lines.is_last() {
+        return Ok(false);
+    }
+    Ok(lines.next(shelf, name)?)
+}
+
+/// The state behind a line with this number, skipped or not, or the line's fault.
+fn line_step(
+    alloc: Global,
+    circuit: &Circuit,
+    state: State,
+    number: u64,
+    line: &[u8],
+) -> Result<State, AnswerEnd>
+    requires { IsKept circuit.now state }
+    ensures ok { IfOk result (λ next. read_lines circuit.now (seen state) (kept_from number (line.now ∷ [])) ≡ Ok (seen next)) }
+    ensures kept { IfOk result (IsKept circuit.now) }
+    ensures fault { IfErr result
+        (OfEnd (λ fault. read_lines circuit.now (seen state) (kept_from number (line.now ∷ [])) ≡ Err fault)) }
+{
+    if is_skipped(line) {
+        return Ok(state);
+    }
+    step(alloc, circuit, state, number, line)
 }

@@ -94,6 +94,21 @@ impl From<AnswerFault> for AnswerEnd {
     }
 }
 
+impl From<LinesEnd> for AnswerEnd {
+    ghost use Rattle.std.specs.Prelude.{◌≡◌};
+    ghost use Rattle.certificate.specs.Texts.{end_of_lines};
+
+    ghost from_gives = { λ lines end. end ≡ end_of_lines lines };
+
+    fn from(end: LinesEnd) -> AnswerEnd {
+        match end {
+            LinesEnd::ReadFault => AnswerEnd::ReadFault,
+            LinesEnd::TooLong => AnswerEnd::Refused(AnswerFault::TooLong),
+            LinesEnd::Memory => AnswerEnd::Memory,
+        }
+    }
+}
+
 impl From<AllocError> for AnswerEnd {
     ghost use Rattle.std.specs.Prelude.{◌≡◌};
     ghost use Rattle.certificate.specs.declared.ends.AnswerEnd.TheVariants.{Memory};

@@ -3,6 +3,10 @@
 //! | Call | What it does |
 //! |---|---|
 //! | `check_answer` | judges the answer that a shelf holds: a stimulus, or a certificate of version 1 or 2 |
+//! | `answers_are_read_as_good` | a law: what is read as a good answer is one, and every good answer is so read |
+//! | `good_answers_are_true` | a law: a good answer shows a fair lasso, or that there is none |
+//! | `answers_have_one_end` | a law: a text is good for one thing at most, or has one fault at most |
+//! | `written_stimuli_are_good` | a law: what `stimulus::write` writes is good, where the stimulus is |
 #![tactic(auto)]
 
 mod checking;
@@ -10,6 +14,7 @@ mod ending;
 mod ends;
 mod entries;
 mod heads;
+mod laws;
 mod limits;
 mod refuting;
 mod rows;
@@ -19,4 +24,7 @@ mod uses;
 
 pub use checking::check_answer;
 pub use ends::{Accepted, AnswerEnd, AnswerFault};
+pub use laws::{
+    answers_are_read_as_good, answers_have_one_end, good_answers_are_true, written_stimuli_are_good,
+};
 pub use limits::MAX_ENTRIES;

@@ -2,5 +2,5 @@ pub mod TextLemmas
 mod RunLemmas
 mod PlaceLemmas
 mod TrackLemmas
-mod FaultLemmas
-mod WriteLemmas
+pub mod FaultLemmas
+pub mod WriteLemmas

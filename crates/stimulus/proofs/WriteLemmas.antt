@@ -13,7 +13,7 @@ digits_lack [] = All-nil _
 digits_lack (false ∷ values) = All-cons (λ b. b ≢ 10) 48 (map digit_of values) (λ e. omega arith) (digits_lack values)
 digits_lack (true ∷ values) = All-cons (λ b. b ≢ 10) 49 (map digit_of values) (λ e. omega arith) (digits_lack values)
 
-rows_lack : (rows : List (List Bool)) → All (λ line. Lacks line 10) (map (map digit_of) rows)
+pub rows_lack : (rows : List (List Bool)) → All (λ line. Lacks line 10) (map (map digit_of) rows)
 rows_lack [] = All-nil _
 rows_lack (row ∷ rows) = All-cons (λ line. Lacks line 10) (map digit_of row) (map (map digit_of) rows) (digits_lack row) (rows_lack rows)
 
@@ -22,7 +22,7 @@ digits_kept [] = refl
 digits_kept (false ∷ row) = refl
 digits_kept (true ∷ row) = refl
 
-rows_kept : (rows : List (List Bool)) → kept_lines (map (map digit_of) rows) ≡ map (map digit_of) rows
+pub rows_kept : (rows : List (List Bool)) → kept_lines (map (map digit_of) rows) ≡ map (map digit_of) rows
 rows_kept [] = refl
 rows_kept (row ∷ rows) = rw (digits_kept row) (ap (λ lines. map digit_of row ∷ lines) (rows_kept rows))
 
@@ -31,7 +31,7 @@ digits_read [] = refl
 digits_read (false ∷ row) = ap (λ values. Some false ∷ values) (digits_read row)
 digits_read (true ∷ row) = ap (λ values. Some true ∷ values) (digits_read row)
 
-rows_read : (rows : List (List Bool)) → row_values (map (map digit_of) rows) ≡ present rows
+pub rows_read : (rows : List (List Bool)) → row_values (map (map digit_of) rows) ≡ present rows
 rows_read [] = refl
 rows_read (row ∷ rows) =
     let first = digits_read row in let others = rows_read rows in cc

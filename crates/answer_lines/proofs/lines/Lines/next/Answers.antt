@@ -6,7 +6,7 @@ use Rattle.text_grammar.specs.Pieces.{Lacks}
 use Rattle.text_grammar.proofs.LineLaws.{first_line}
 use Rattle.answer_lines.specs.LinesOf.{SameLeft}
 use Rattle.answer_lines.specs.Left.{left_of, is_read_fault}
-use Rattle.answer_lines.proofs.LeftLaws.{same_left, line_left, line_within, same_too_long, same_sum, line_sum, end_sum, end_lines}
+use Rattle.answer_lines.proofs.LeftLaws.{same_left, line_left, line_within, same_too_long, same_sum, line_sum, end_sum, end_lines, took_line, took_last}
 use Rattle.answer_lines.proofs.ReadLaws.{reads_after}
 use Rattle.answer_lines.proofs.lines.Lines.next.Goals as goal
 
@@ -108,3 +108,24 @@ returns-then-not-branch-2-clause-sum g c x told =
     end_sum c.read_on.new.self c.end_line.new.self x (left ∙ c.in_ok-read_on.ensures.end ended x held ∙ sym ahead) c.in_ok-end_line.ensures.ahead c.in_ok-end_line.ensures.taken
     ∙ same_sum c.args.self.now c.read_on.new.self x (c.in_ok-read_on.ensures.taken ∙ same.taken ∙ c.loop-self.invariant.taken)
     (left ∙ same_left c.loop-self.self c.cut.new.self x same ∙ c.loop-self.invariant.left x told)
+
+pub returns-clause-took : goal.returns-clause-took
+returns-clause-took g c given =
+    let found : IsTrue c.in_ok-cut.field-0 = search rules in
+    took_line (g.H.Shelf.held c.args.shelf.now c.args.name.now) c.args.self.now c.loop-self.self c.cut.new.self c.loop-self.invariant.taken
+    (λ x told. c.loop-self.invariant.left x told) (c.in_ok-cut.ensures.found found) (c.in_ok-cut.ensures.taken found) (c.in_ok-cut.ensures.goes_on found)
+
+pub returns-then-not-branch-2-clause-took : goal.returns-then-not-branch-2-clause-took
+returns-then-not-branch-2-clause-took g c given =
+    let none : IsFalse c.in_ok-cut.field-0 = search rules in
+    let ended : IsFalse c.in_ok-read_on.field-0 = search rules in
+    let some : IsTrue c.in_ok-end_line.field-0 = search rules in
+    let same : SameLeft c.loop-self.self c.cut.new.self = c.in_ok-cut.ensures.same none in
+    let ahead : c.read_on.new.self.ahead ≡ c.cut.new.self.ahead = c.in_ok-read_on.ensures.same ended in
+    let held : (x : List ℕ) → g.H.Shelf.held c.args.shelf.now c.args.name.now ≡ Some x → g.H.Shelf.held c.loop-self.shelf c.args.name.now ≡ Some x = λ x told. c.loop-self.invariant.kept c.args.name.now ∙ told in
+    let left : (x : List ℕ) → g.H.Shelf.held c.args.shelf.now c.args.name.now ≡ Some x → left_of c.read_on.new.self x ≡ left_of c.cut.new.self x = λ x told. c.in_ok-read_on.ensures.left x (held x told) in
+    took_last (g.H.Shelf.held c.args.shelf.now c.args.name.now) c.args.self.now c.read_on.new.self c.end_line.new.self
+    (c.in_ok-read_on.ensures.taken ∙ same.taken ∙ c.loop-self.invariant.taken)
+    (λ x told. left x told ∙ same_left c.loop-self.self c.cut.new.self x same ∙ c.loop-self.invariant.left x told)
+    (λ x told. left x told ∙ c.in_ok-read_on.ensures.end ended x (held x told) ∙ sym ahead)
+    (c.in_ok-end_line.ensures.line some) (c.in_ok-end_line.ensures.some some) c.in_ok-end_line.ensures.ahead c.in_ok-end_line.ensures.taken (c.in_ok-end_line.ensures.last some)

@@ -1,0 +1,32 @@
+-- A good answer is true.
+use Rattle.std.proofs.Common.{◌≡◌, suc, Bool, ◌++◌, List, [], ◌∷◌, length, take, subst, sym, ap, ◌∙◌, refl}
+use Rattle.std.proofs.lemmas.List.{length-take-le}
+use Rattle.aig_semantics.specs.Circuits.{Circuit}
+use Rattle.aig_semantics.specs.Runs.{position_of, successor}
+use Rattle.aig_semantics.specs.Stimuli.{simulated}
+use Rattle.fair_semantics.specs.Entries.{Entry}
+use Rattle.entry.specs.Laws.{IsGoodList, GoodListsGrow, RefutedHasNoLasso}
+use Rattle.certificate.specs.declared.ends.Accepted.TheVariants.{Lasso, Holds}
+use Rattle.certificate.specs.Certificates.{Written, entry_with, AreProvedBehind}
+use Rattle.certificate.specs.Laws.{GoodIsTrue}
+
+-- entries that are proved one behind the other are a good list
+pub proved_list : (c : Circuit) → GoodListsGrow c → (before : List Entry) (es : List Written) (all : List Entry)
+    → IsGoodList c before → AreProvedBehind c before es all → IsGoodList c all
+proved_list c grow before [] all good proved = subst (IsGoodList c) (sym proved) good
+proved_list c grow before (e ∷ es) all good (clauses, _, first, others) =
+    proved_list c grow (before ++ entry_with e clauses ∷ []) es all (grow.more before (entry_with e clauses) e.proofs good first) others
+
+length-simulated : (c : Circuit) (latches : List Bool) (inputs : List (List Bool)) → length (simulated c latches inputs) ≡ length inputs
+unfolding simulated
+length-simulated c latches [] = refl
+length-simulated c latches (now ∷ later) = ap suc (length-simulated c (successor c (position_of latches now)) later)
+
+pub good_is_true : (c : Circuit) → GoodListsGrow c → RefutedHasNoLasso c → GoodIsTrue c
+good_is_true c grow none text (Lasso n positions from) (_, _, s, _, stands) = (
+  simulated c s.latches (take positions s.inputs),
+  length-simulated c s.latches (take positions s.inputs) ∙ length-take-le positions s.inputs stands.has.inside,
+  stands.has.lasso,
+)
+good_is_true c grow none text (Holds n entries) (below, _, certificate, _, good, _) =
+    none good.entries n certificate.uses certificate.proof (proved_list c grow [] certificate.entries good.entries grow.none good.proved) below good.refuted

@@ -1,0 +1,32 @@
+//! The laws of answers. Each call does nothing; its contract is the law.
+
+ghost use Rattle.certificate.specs.Laws.{ReadsGood, GoodIsTrue, OneIsGood, GoodHasNoFault, OneFault, WrittenIsGood};
+
+use circuit::Circuit;
+use entry::{good_lists_grow, refutations_leave_no_lasso};
+
+/// A text is read as a good answer, line by line, exactly where it is one.
+pub fn answers_are_read_as_good(c: &Circuit)
+    ensures { ReadsGood c.now }
+{}
+
+/// A good answer is true: there is such a fair lasso of the property, or none at all.
+pub fn good_answers_are_true(c: &Circuit)
+    ensures { GoodIsTrue c.now }
+{
+    good_lists_grow(c);
+    refutations_leave_no_lasso(c);
+}
+
+/// A text is good for one thing at most, and then it is not refused; and it is refused for one fault at most.
+pub fn answers_have_one_end(c: &Circuit)
+    ensures good { OneIsGood c.now }
+    ensures apart { GoodHasNoFault c.now }
+    ensures refused { OneFault c.now }
+{}
+
+/// What `stimulus::write` writes of a stimulus that stands for a fair lasso is a good answer, where the text is within
+/// the limit on its length.
+pub fn written_stimuli_are_good(c: &Circuit)
+    ensures { WrittenIsGood c.now }
+{}
