@@ -21,11 +21,13 @@ const FALLS: &str = "aag 1 0 1 0 0 0 0 1 0\n2 0 1\n1\n3\n";
 const REACH: &str =
     "0\nj0\nversion 1\nreach 1 0\n\n3 0\nproof 1\n6 0 4 2 5 0\nrefute 1 1\n0\n7 0 4 5 0\nend\n";
 
-const WALL: &str = "0\nj0\nversion 1\nwall 1 0\n\n2 0\nproof 1\n6 0 1 3 5 0\nrefute 1 1\n0\n11 0 1 3 4 9 10 5 0\nend\n";
+const WALL: &str =
+    "0\nj0\nversion 1\nwall 1 0\n\n2 0\nproof 1\n6 0 1 3 5 0\nrefute 1 1\n0\n11 0 1 3 4 9 10 5 0\nend\n";
 
 const REFUTED: &str = "0\nj0\nversion 1\nrefute 0 1\n\n5 0 1 4 0\nend\n";
 
-const NAMED: &str = "0\nj0\nversion 2\nwall 1 0\n\n2 0\nproof 1\n6 0 1 3 5 0\nwall 1 1\n0-\n3 0\nproof 1\n13 0 1 3 10 9 8 0\nrefute 1 1\n0\n11 0 1 3 4 9 10 5 0\nend\n";
+const NAMED: &str =
+    "0\nj0\nversion 2\nwall 1 0\n\n2 0\nproof 1\n6 0 1 3 5 0\nwall 1 1\n0-\n3 0\nproof 1\n13 0 1 3 10 9 8 0\nrefute 1 1\n0\n11 0 1 3 4 9 10 5 0\nend\n";
 
 // Models and answers, with what must be written.
 const ROWS: [(&str, &str, &str); 29] = [
@@ -164,10 +166,7 @@ const ROWS: [(&str, &str, &str); 29] = [
 
 // The proof line of a refutation, and what must be written.
 const PROOF_LINES: [(&str, &str); 8] = [
-    (
-        "5 0 1 4 0 0",
-        "refused refutation line 0 bad line\n",
-    ),
+    ("5 0 1 4 0 0", "refused refutation line 0 bad line\n"),
     (
         "9223372036854775808 0 1 4 0",
         "refused refutation line 0 bad line\n",
@@ -308,7 +307,11 @@ const EDITS: [(usize, &str, &str); 26] = [
         "refused refutation line 2 id order\n",
     ),
     (60, "61 4 0 1 -3 0", "refused refutation line 1 rat\n"),
-    (61, "61 0 60 2 4 0", "refused refutation line 2 no clause 2\n"),
+    (
+        61,
+        "61 0 60 2 4 0",
+        "refused refutation line 2 no clause 2\n",
+    ),
     (
         61,
         "61 0 60 4 15 17 21 22 0",
@@ -369,7 +372,10 @@ fn many(alloc: Global, entries: u64, behind: &str) -> Result<String, Fail> {
 #[test]
 fn certificates(rt: HostRuntime) -> Result<(), Fail> {
     for (model, answer, line) in &ROWS {
-        assert!(rt; says(&rt, rt.alloc(), model, answer, line)?, "{model}{answer}");
+        assert!(rt;
+            says(&rt, rt.alloc(), model, answer, line)?,
+            "{model}{answer}"
+        );
     }
     Ok(())
 }
@@ -377,7 +383,12 @@ fn certificates(rt: HostRuntime) -> Result<(), Fail> {
 #[test]
 fn lines_of_a_refutation(rt: HostRuntime) -> Result<(), Fail> {
     for (proof, line) in &PROOF_LINES {
-        let answer = edited(rt.alloc(), &["0", "j0", "version 1", "refute 0 1", "", "", "end"], 6, proof)?;
+        let answer = edited(
+            rt.alloc(),
+            &["0", "j0", "version 1", "refute 0 1", "", "", "end"],
+            6,
+            proof,
+        )?;
         assert!(rt; says(&rt, rt.alloc(), NEVER, &answer, line)?, "{proof}");
     }
     Ok(())
@@ -387,7 +398,10 @@ fn lines_of_a_refutation(rt: HostRuntime) -> Result<(), Fail> {
 fn edited_certificates(rt: HostRuntime) -> Result<(), Fail> {
     for (number, other, line) in &EDITS {
         let answer = edited(rt.alloc(), &BASE, *number, other)?;
-        assert!(rt; says(&rt, rt.alloc(), RISES, &answer, line)?, "{number} {other}");
+        assert!(rt;
+            says(&rt, rt.alloc(), RISES, &answer, line)?,
+            "{number} {other}"
+        );
     }
     Ok(())
 }
@@ -418,8 +432,16 @@ fn cut_certificates(rt: HostRuntime) -> Result<(), Fail> {
 #[test]
 fn many_entries(rt: HostRuntime) -> Result<(), Fail> {
     for (entries, behind, line) in [
-        (65_536, "refute 1 1\n65535\n7 0 1 4 0\nend\n", "accepted certificate j0 entries 65536\n"),
-        (65_536, "refute 1 1\n65536\n7 0 1 4 0\nend\n", "refused refutation use 65536\n"),
+        (
+            65_536,
+            "refute 1 1\n65535\n7 0 1 4 0\nend\n",
+            "accepted certificate j0 entries 65536\n",
+        ),
+        (
+            65_536,
+            "refute 1 1\n65536\n7 0 1 4 0\nend\n",
+            "refused refutation use 65536\n",
+        ),
         (65_536, "reach 9 9\n", "refused too long\n"),
         (65_536, "wall 0\n", "refused shape line 131076\n"),
         (65_537, "", "refused too long\n"),

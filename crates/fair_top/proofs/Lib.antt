@@ -3,4 +3,3 @@ mod Judging
 mod Values
 mod Taken
 mod Ending
-mod Shown
