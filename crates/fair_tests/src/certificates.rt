@@ -324,6 +324,38 @@ const EDITS: [(usize, &str, &str); 26] = [
     ),
 ];
 
+// The number of lines in front of which the certificate is cut off, and what must be written.
+const CUTS: [(usize, &str); 11] = [
+    (1, "refused shape line 2\n"),
+    (2, "refused shape line 3\n"),
+    (3, "refused shape line 4\n"),
+    (4, "refused shape line 5\n"),
+    (7, "refused shape line 8\n"),
+    (8, "refused shape line 9\n"),
+    (11, "refused shape line 12\n"),
+    (56, "refused shape line 57\n"),
+    (57, "refused shape line 58\n"),
+    (59, "refused shape line 60\n"),
+    (61, "refused shape line 62\n"),
+];
+
+// How many entries, what stands behind them, and what must be written.
+const MANY: [(u64, &str, &str); 5] = [
+    (
+        65_536,
+        "refute 1 1\n65535\n7 0 1 4 0\nend\n",
+        "accepted certificate j0 entries 65536\n",
+    ),
+    (
+        65_536,
+        "refute 1 1\n65536\n7 0 1 4 0\nend\n",
+        "refused refutation use 65536\n",
+    ),
+    (65_536, "reach 9 9\n", "refused too long\n"),
+    (65_536, "wall 0\n", "refused shape line 131076\n"),
+    (65_537, "", "refused too long\n"),
+];
+
 /// Whether `check` over these texts writes this line and ends with its number, at once and at one byte a call alike.
 fn says<R: Threads + Wait + Sync>(
     rt: &R,
@@ -349,13 +381,33 @@ fn says<R: Threads + Wait + Sync>(
     )
 }
 
-/// The lines as a text, with this one in the place of the one with this number, counted from 1.
-fn edited(alloc: Global, lines: &[&str], number: usize, other: &str) -> Result<String, Fail> {
+/// The certificate with this line in the place of the one with this number, counted from 1.
+fn edited(alloc: Global, number: usize, other: &str) -> Result<String, Fail> {
     let mut text = String::new(alloc);
-    for (k, line) in lines.iter().enumerate() {
+    for (k, line) in BASE.iter().enumerate() {
         text.push_str(if k + 1 == number { other } else { line })?;
         text.push_str("\n")?;
     }
+    Ok(text)
+}
+
+/// The first so many lines of the certificate.
+fn front(alloc: Global, count: usize) -> Result<String, Fail> {
+    let mut text = String::new(alloc);
+    for (k, line) in BASE.iter().enumerate() {
+        if k < count {
+            text.push_str(line)?;
+            text.push_str("\n")?;
+        }
+    }
+    Ok(text)
+}
+
+/// A refutation of this one line, over no entries.
+fn refuted(alloc: Global, proof: &str) -> Result<String, Fail> {
+    let mut text = String::from_str(alloc, "0\nj0\nversion 1\nrefute 0 1\n\n")?;
+    text.push_str(proof)?;
+    text.push_str("\nend\n")?;
     Ok(text)
 }
 
@@ -367,6 +419,52 @@ fn many(alloc: Global, entries: u64, behind: &str) -> Result<String, Fail> {
     }
     text.push_str(behind)?;
     Ok(text)
+}
+
+/// The same of an edited certificate.
+fn edited_says<R: Threads + Wait + Sync>(
+    rt: &R,
+    alloc: Global,
+    number: usize,
+    other: &str,
+    line: &str,
+) -> Result<bool, Fail> {
+    let answer = edited(alloc, number, other)?;
+    says(rt, alloc, RISES, &answer, line)
+}
+
+/// The same of the front of the certificate.
+fn front_says<R: Threads + Wait + Sync>(
+    rt: &R,
+    alloc: Global,
+    count: usize,
+    line: &str,
+) -> Result<bool, Fail> {
+    let answer = front(alloc, count)?;
+    says(rt, alloc, RISES, &answer, line)
+}
+
+/// The same of a refutation of this one line.
+fn refuted_says<R: Threads + Wait + Sync>(
+    rt: &R,
+    alloc: Global,
+    proof: &str,
+    line: &str,
+) -> Result<bool, Fail> {
+    let answer = refuted(alloc, proof)?;
+    says(rt, alloc, NEVER, &answer, line)
+}
+
+/// The same of many entries.
+fn many_says<R: Threads + Wait + Sync>(
+    rt: &R,
+    alloc: Global,
+    entries: u64,
+    behind: &str,
+    line: &str,
+) -> Result<bool, Fail> {
+    let answer = many(alloc, entries, behind)?;
+    says(rt, alloc, NEVER, &answer, line)
 }
 
 #[test]
@@ -383,13 +481,7 @@ fn certificates(rt: HostRuntime) -> Result<(), Fail> {
 #[test]
 fn lines_of_a_refutation(rt: HostRuntime) -> Result<(), Fail> {
     for (proof, line) in &PROOF_LINES {
-        let answer = edited(
-            rt.alloc(),
-            &["0", "j0", "version 1", "refute 0 1", "", "", "end"],
-            6,
-            proof,
-        )?;
-        assert!(rt; says(&rt, rt.alloc(), NEVER, &answer, line)?, "{proof}");
+        assert!(rt; refuted_says(&rt, rt.alloc(), proof, line)?, "{proof}");
     }
     Ok(())
 }
@@ -397,9 +489,8 @@ fn lines_of_a_refutation(rt: HostRuntime) -> Result<(), Fail> {
 #[test]
 fn edited_certificates(rt: HostRuntime) -> Result<(), Fail> {
     for (number, other, line) in &EDITS {
-        let answer = edited(rt.alloc(), &BASE, *number, other)?;
         assert!(rt;
-            says(&rt, rt.alloc(), RISES, &answer, line)?,
+            edited_says(&rt, rt.alloc(), *number, other, line)?,
             "{number} {other}"
         );
     }
@@ -409,21 +500,8 @@ fn edited_certificates(rt: HostRuntime) -> Result<(), Fail> {
 /// The line that is wanted behind the first so many.
 #[test]
 fn cut_certificates(rt: HostRuntime) -> Result<(), Fail> {
-    for (lines, line) in [
-        (1, "refused shape line 2\n"),
-        (2, "refused shape line 3\n"),
-        (3, "refused shape line 4\n"),
-        (4, "refused shape line 5\n"),
-        (7, "refused shape line 8\n"),
-        (8, "refused shape line 9\n"),
-        (11, "refused shape line 12\n"),
-        (56, "refused shape line 57\n"),
-        (57, "refused shape line 58\n"),
-        (59, "refused shape line 60\n"),
-        (61, "refused shape line 62\n"),
-    ] {
-        let answer = edited(rt.alloc(), &BASE[..lines], 0, "")?;
-        assert!(rt; says(&rt, rt.alloc(), RISES, &answer, line)?, "{lines}");
+    for (count, line) in &CUTS {
+        assert!(rt; front_says(&rt, rt.alloc(), *count, line)?, "{count}");
     }
     Ok(())
 }
@@ -431,23 +509,11 @@ fn cut_certificates(rt: HostRuntime) -> Result<(), Fail> {
 /// As many entries as there may be, and one more.
 #[test]
 fn many_entries(rt: HostRuntime) -> Result<(), Fail> {
-    for (entries, behind, line) in [
-        (
-            65_536,
-            "refute 1 1\n65535\n7 0 1 4 0\nend\n",
-            "accepted certificate j0 entries 65536\n",
-        ),
-        (
-            65_536,
-            "refute 1 1\n65536\n7 0 1 4 0\nend\n",
-            "refused refutation use 65536\n",
-        ),
-        (65_536, "reach 9 9\n", "refused too long\n"),
-        (65_536, "wall 0\n", "refused shape line 131076\n"),
-        (65_537, "", "refused too long\n"),
-    ] {
-        let answer = many(rt.alloc(), entries, behind)?;
-        assert!(rt; says(&rt, rt.alloc(), NEVER, &answer, line)?, "{line}");
+    for (entries, behind, line) in &MANY {
+        assert!(rt;
+            many_says(&rt, rt.alloc(), *entries, behind, line)?,
+            "{line}"
+        );
     }
     Ok(())
 }
