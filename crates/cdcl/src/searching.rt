@@ -66,7 +66,8 @@ pub(crate) fn search(
 fn assume_all(trail: &mut Trail, assumptions: &[Lit]) -> Result<(), AllocError>
     requires empty { trail.old.steps ≡ [] }
     requires consistent { has_opposites assumptions.now ≡ false }
-    ensures { IfOk result (λ _. AssumesAll assumptions.now trail.new.steps) }
+    ensures assumes { IfOk result (λ _. AssumesAll assumptions.now trail.new.steps) }
+    ensures taken { trail.new.taken ≡ trail.old.taken }
 {
     for literal in assumptions {
         if trail.value(literal.var).is_some() {
