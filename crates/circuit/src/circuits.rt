@@ -67,7 +67,8 @@ impl Circuit {
 
     /// The gates in an order in which they can be evaluated, each after those that it reads.
     pub fn evaluation_order(&self) -> &[Gate]
-        ensures { IsEvaluationOrder self.now.gates result.now }
+        ensures order { IsEvaluationOrder self.now.gates result.now }
+        ensures checked { IsChecked self.now }
     {
         &self.order
     }

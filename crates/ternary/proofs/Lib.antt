@@ -1,0 +1,4 @@
+mod Besides
+mod Writing
+pub mod Simulated
+pub mod Refined

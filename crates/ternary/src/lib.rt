@@ -1,0 +1,12 @@
+//! Ternary simulation of circuits, with X for what is not known, and cubes lifted by it.
+//!
+//! | Call | Gives |
+//! |---|---|
+//! | `eval3_into` | the ternary value of each variable, from those of the latches and inputs |
+#![tactic(auto)]
+
+mod simulating;
+mod values;
+
+pub use simulating::{eval3_into, literal3_value};
+pub use values::Value3;
