@@ -2,3 +2,4 @@ mod Besides
 mod Writing
 pub mod Simulated
 pub mod Refined
+mod Words

@@ -1,3 +1,4 @@
 pub mod Values
 pub mod Simulation
+pub mod Lanes
 pub mod Writing

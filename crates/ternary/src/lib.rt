@@ -5,8 +5,10 @@
 //! | `eval3_into` | the ternary value of each variable, from those of the latches and inputs |
 #![tactic(auto)]
 
+mod lanes;
 mod simulating;
 mod values;
 
+pub use lanes::{LANES, Lanes};
 pub use simulating::{eval3_into, literal3_value};
 pub use values::Value3;
