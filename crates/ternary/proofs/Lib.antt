@@ -3,3 +3,4 @@ mod Writing
 pub mod Simulated
 pub mod Refined
 mod Words
+mod LanesWritten

@@ -9,7 +9,7 @@ use Rattle.aig_semantics.specs.Circuits.{Circuit}
 use Rattle.aig_semantics.specs.Valuations.{conjunction, value_beside, given_value, gate_value, value_through, values_below, valuation}
 use Rattle.ternary.specs.declared.values.Value3.{Value3}
 use Rattle.ternary.specs.declared.values.Value3.TheVariants.{Zero, One, X}
-use Rattle.ternary.specs.Values.{negation3, and3, known, literal3_by, Allows, IsCompletion}
+use Rattle.ternary.specs.Values.{negation3, and3, known, literal3_by, IsCompletion}
 use Rattle.ternary.specs.Simulation.{conjunction3, beside3, given3, gate_value3, value3_through, values3_below, simulation}
 
 -- the first value is X, or is the second

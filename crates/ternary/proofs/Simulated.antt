@@ -1,13 +1,13 @@
 -- What the gates put in order make of a list of inputs and latches: the simulation.
 use Rattle.std.proofs.Common.{◌≡◌, ◌≢◌, ℕ, zero, suc, ◌+◌, ◌<◌, ◌≤◌, ◌==◌, ◌⊎◌, List, [], ◌∷◌, ◌++◌, map, length, get_or, drop, fold, Option, Some, None, unwrap_or, refl, sym, ap, ◌∙◌, subst, inl, inr, arith}
 use Rattle.std.specs.List.{All, Contains, find}
-use Rattle.std.proofs.lemmas.Bool.{cases_eq, cases_lt, eqb-true, eqb-false}
-use Rattle.std.proofs.lemmas.List.{length-map, get_or-map, length-set, ext_get_or, get_or-set_same, get_or-set_other, get_or_past, get_or_append_left, get_or_push, length_push}
-use Rattle.std.proofs.lemmas.List.Elements.{All-head, All-tail, Contains-append_left, Contains-append_right, All-contains}
+use Rattle.std.proofs.lemmas.Bool.{cases_eq, cases_lt, eqb-true}
+use Rattle.std.proofs.lemmas.List.{length-map, get_or-map, length-set, ext_get_or, get_or-set_same, get_or-set_other, get_or_append_left, get_or_push, length_push}
+use Rattle.std.proofs.lemmas.List.Elements.{All-head, All-tail}
 use Rattle.aig_semantics.specs.declared.parts.Gate.{Gate}
 use Rattle.aig_semantics.specs.Literals.{variable_of}
-use Rattle.aig_semantics.specs.Circuits.{Circuit, IsChecked, defined}
-use Rattle.aig_semantics.proofs.Lists.{All-left, AllDiffer-right, AllDiffer-across, find-some, find-none, find-at}
+use Rattle.aig_semantics.specs.Circuits.{Circuit, IsChecked}
+use Rattle.aig_semantics.proofs.Lists.{All-left, AllDiffer-right, AllDiffer-across, find-some, find-at}
 use Rattle.aig_semantics.proofs.Values.{IsRanking, given_variables, gate_variables, gate_of}
 use Rattle.circuit.specs.Orders.{HasRightSide, variables_of, IsEvaluationOrder}
 use Rattle.circuit.proofs.Evaluated.{gates_in_range}
@@ -15,7 +15,7 @@ use Rattle.circuit.proofs.Ranking.{rank_in, order-ranking}
 use Rattle.ternary.specs.declared.values.Value3.{Value3}
 use Rattle.ternary.specs.declared.values.Value3.TheVariants.{Zero}
 use Rattle.ternary.specs.Values.{variable3_in}
-use Rattle.ternary.specs.Simulation.{conjunction3, beside3, given3, value3_through, values3_below, simulation}
+use Rattle.ternary.specs.Simulation.{conjunction3, given3, value3_through, values3_below, simulation}
 use Rattle.ternary.specs.Writing.{with_gate3}
 use Rattle.ternary.proofs.Besides.{beside3-none}
 use Rattle.ternary.proofs.Writing.{given3_list, length-given3_list, get_or-given3_list}

@@ -1,10 +1,9 @@
 -- The value at a place of two words, after operations on the words.
-use Rattle.std.proofs.Common.{◌≡◌, ◌≢◌, ℕ, zero, suc, ◌+◌, ◌-◌, ◌*◌, ◌^◌, ◌%◌, ◌/◌, ◌<◌, ◌≤◌, ◌⊎◌, List, [], ◌∷◌, min, get_or, slice_index_or, bit_and, bit_or, refl, sym, ap, ◌∙◌, subst, inl, inr, arith, w64}
-use Rattle.std.specs.Int.{bit_at, bit_not}
+use Rattle.std.proofs.Common.{◌≡◌, ◌≢◌, ℕ, zero, suc, ◌-◌, ◌*◌, ◌^◌, ◌%◌, ◌/◌, ◌<◌, ◌⊎◌, List, [], ◌∷◌, min, get_or, bit_and, bit_or, refl, sym, ap, ◌∙◌, inl, inr, arith, w64}
+use Rattle.std.specs.Int.{bit_at}
 use Rattle.std.proofs.lemmas.Nat.Bits.{bit_at_and, bit_at_not, bit_at_ones, bit_at-zero, bit_at-lt, shr_and_one, bit_at_set_same, bit_at_set_other, bit_at_clear_same, bit_at_clear_other}
 use Rattle.std.proofs.lemmas.Nat.{and_le_l}
 use lib.Lanes.{zip2}
-use Rattle.ternary.specs.declared.values.Value3.{Value3}
 use Rattle.ternary.specs.declared.values.Value3.TheVariants.{Zero, One, X}
 use Rattle.ternary.specs.Values.{negation3, and3}
 use Rattle.ternary.specs.Lanes.{of_bits, value_at}

@@ -14,25 +14,36 @@ use Rattle.aig_semantics.proofs.Values.{given_variables, gate_variables}
 use Rattle.ternary.specs.Writing.{with_values3}
 
 -- one variable more
-pub with_values3_more : (vs : List ℕ) (given out : List Value3) (i e : ℕ) (d : Value3) → i < length vs → length given ≡ length vs → with_values3 (drop i vs) (drop i given) out ≡ with_values3 (drop (i + 1) vs) (drop (i + 1) given) (set out (get_or vs i e) (get_or given i d))
+pub with_values3_more : {T : Type 0} (vs : List ℕ) (given out : List T) (i e : ℕ) (d : T) → i < length vs → length given ≡ length vs → with_values3 (drop i vs) (drop i given) out ≡ with_values3 (drop (i + 1) vs) (drop (i + 1) given) (set out (get_or vs i e) (get_or given i d))
 unfolding with_values3
 with_values3_more vs given out i e d below fit =
     let inside : i < length given = omega arith in
     ap (λ xs. with_values3 xs (drop i given) out) (drop_more vs i e below)
     ∙ ap (λ xs. with_values3 (get_or vs i e ∷ drop (i + 1) vs) xs out) (drop_more given i d inside)
 
-pub with_values3_end : (vs : List ℕ) (given out : List Value3) (i : ℕ) → length vs ≤ i → with_values3 (drop i vs) given out ≡ out
+pub with_values3_end : {T : Type 0} (vs : List ℕ) (given out : List T) (i : ℕ) → length vs ≤ i → with_values3 (drop i vs) given out ≡ out
 unfolding with_values3
 with_values3_end vs given out i all = ap (λ xs. with_values3 xs given out) (drop_all i vs all)
 
 -- the same, where the variables are those of a list
-pub with_values3_of_more : {X : Type 0} (key : X → ℕ) (xs : List X) (given out : List Value3) (i : ℕ) (x : X) (d : Value3) → i < length xs → length given ≡ length xs → with_values3 (drop i (map key xs)) (drop i given) out ≡ with_values3 (drop (i + 1) (map key xs)) (drop (i + 1) given) (set out (key (get_or xs i x)) (get_or given i d))
+pub with_values3_of_more : {X T : Type 0} (key : X → ℕ) (xs : List X) (given out : List T) (i : ℕ) (x : X) (d : T) → i < length xs → length given ≡ length xs → with_values3 (drop i (map key xs)) (drop i given) out ≡ with_values3 (drop (i + 1) (map key xs)) (drop (i + 1) given) (set out (key (get_or xs i x)) (get_or given i d))
 with_values3_of_more key xs given out i x d below fit =
     with_values3_more (map key xs) given out i 0 d (omega (arith, length-map xs key)) (fit ∙ sym (length-map xs key))
     ∙ ap (λ v. with_values3 (drop (i + 1) (map key xs)) (drop (i + 1) given) (set out v (get_or given i d))) (get_or-map key xs i x 0 below)
 
-pub with_values3_of_end : {X : Type 0} (key : X → ℕ) (xs : List X) (given out : List Value3) (i : ℕ) → length xs ≤ i → with_values3 (drop i (map key xs)) given out ≡ out
+pub with_values3_of_end : {X T : Type 0} (key : X → ℕ) (xs : List X) (given out : List T) (i : ℕ) → length xs ≤ i → with_values3 (drop i (map key xs)) given out ≡ out
 with_values3_of_end key xs given out i all = with_values3_end (map key xs) given out i (omega (arith, length-map xs key))
+
+-- the same, where what was read is known by its place
+pub with_values3_read : {T : Type 0} (vs : List ℕ) (given out : List T) (i e : ℕ) (x : T) → i < length vs → length given ≡ length vs → x ≡ get_or given i x → with_values3 (drop i vs) (drop i given) out ≡ with_values3 (drop (i + 1) vs) (drop (i + 1) given) (set out (get_or vs i e) x)
+with_values3_read vs given out i e x below fit is =
+    with_values3_more vs given out i e x below fit
+    ∙ ap (λ y. with_values3 (drop (i + 1) vs) (drop (i + 1) given) (set out (get_or vs i e) y)) (sym is)
+
+pub with_values3_of_read : {X T : Type 0} (key : X → ℕ) (xs : List X) (given out : List T) (i : ℕ) (d : X) (x : T) → i < length xs → length given ≡ length xs → x ≡ get_or given i x → with_values3 (drop i (map key xs)) (drop i given) out ≡ with_values3 (drop (i + 1) (map key xs)) (drop (i + 1) given) (set out (key (get_or xs i d)) x)
+with_values3_of_read key xs given out i d x below fit is =
+    with_values3_of_more key xs given out i d x below fit
+    ∙ ap (λ y. with_values3 (drop (i + 1) (map key xs)) (drop (i + 1) given) (set out (key (get_or xs i d)) y)) (sym is)
 
 -- ---- what the list is in the end
 

@@ -6,7 +6,7 @@ use Rattle.ternary.specs.Values.{variable3_in}
 use Rattle.ternary.specs.Simulation.{conjunction3}
 
 -- a list with a value put at the place of each variable
-unfoldable pub with_values3 : List ℕ → List Value3 → List Value3 → List Value3
+unfoldable pub with_values3 : {T : Type 0} → List ℕ → List T → List T → List T
 with_values3 [] given out = out
 with_values3 (v ∷ vs) [] out = out
 with_values3 (v ∷ vs) (b ∷ given) out = with_values3 vs given (slice_set out v b)

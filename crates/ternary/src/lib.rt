@@ -3,6 +3,7 @@
 //! | Call | Gives |
 //! |---|---|
 //! | `eval3_into` | the ternary value of each variable, from those of the latches and inputs |
+//! | `eval3_lanes` | the same of 64 states at once |
 #![tactic(auto)]
 
 mod lanes;
@@ -10,5 +11,5 @@ mod simulating;
 mod values;
 
 pub use lanes::{LANES, Lanes};
-pub use simulating::{eval3_into, literal3_value};
+pub use simulating::{eval3_into, eval3_lanes, literal3_lanes, literal3_value};
 pub use values::Value3;

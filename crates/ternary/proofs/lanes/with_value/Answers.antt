@@ -1,4 +1,4 @@
-use Rattle.std.proofs.Common.{get_or, bit_and, bit_or, ◌-◌, ◌*◌, ◌^◌, ◌%◌, sym, ◌∙◌, refl}
+use Rattle.std.proofs.Common.{get_or, sym, ◌∙◌, refl}
 use Rattle.ternary.proofs.Words.{value-set_zero, value-set_one, value-set_x, value-kept, set-kept, cleared-kept}
 use Rattle.ternary.proofs.lanes.with_value.Goals as goal
 

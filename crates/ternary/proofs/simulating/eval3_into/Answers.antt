@@ -1,7 +1,5 @@
-use Rattle.std.proofs.Common.{◌<◌, ◌≤◌, length, subst, sym, ap, ◌∙◌, map, arith}
+use Rattle.std.proofs.Common.{◌<◌, length, subst, sym, arith}
 use Rattle.std.specs.List.{All}
-use Rattle.aig_semantics.specs.Circuits.{defined}
-use Rattle.aig_semantics.proofs.Lists.{All-left}
 use Rattle.ternary.specs.Values.{IsCompletion}
 use Rattle.aig_semantics.specs.Valuations.{valuation}
 use Rattle.circuit.proofs.Evaluated.{latches_in_range}
