@@ -4,3 +4,6 @@ pub mod Simulated
 pub mod Refined
 mod Words
 mod LanesWritten
+mod Forgetting
+mod CubeLaws
+mod LiftLaws

@@ -1,0 +1,5 @@
+use Rattle.ternary.proofs.LiftLaws.{IsLifting}
+use Rattle.ternary.proofs.lifting.forget_all.Given as goal
+
+abbrev pub invariant-loop-i : goal.invariant-loop-i
+invariant-loop-i l = IsLifting l.c l.at l.keep l.i l.state l.inputs l.values
