@@ -1,5 +1,5 @@
 -- Values of latches are forgotten one by one: what is kept, and that what is needed stays needed.
-use Rattle.std.proofs.Common.{◌≡◌, ◌≢◌, ℕ, zero, suc, ◌+◌, ◌<◌, ◌⊎◌, Bool, true, false, List, [], ◌∷◌, map, length, get_or, set, refl, sym, ap, ◌∙◌, subst, inl, inr, arith}
+use Rattle.std.proofs.Common.{◌≡◌, ◌≢◌, ◌↔◌, ℕ, zero, suc, ◌+◌, ◌<◌, ◌≤◌, ◌⊎◌, Bool, true, false, List, [], ◌∷◌, map, length, get_or, set, refl, sym, ap, ◌∙◌, subst, inl, inr, arith}
 use Rattle.std.specs.List.{All}
 use Rattle.std.proofs.lemmas.Bool.{cases_eq}
 use Rattle.std.proofs.lemmas.List.{get_or-set_same, get_or-set_other}
@@ -11,7 +11,10 @@ use Rattle.ternary.specs.declared.values.Value3.{Value3}
 use Rattle.ternary.specs.declared.values.Value3.TheVariants.{Zero, One, X}
 use Rattle.ternary.specs.Values.{known, variable3_in, literal3_in, IsCompletion}
 use Rattle.ternary.specs.Simulation.{simulation}
-use Rattle.ternary.specs.Lifting.{AreOne, SomeIsX, Forgets, IsLiftedTo}
+use Rattle.ternary.specs.Lifting.{AreOne, SomeIsX, IsLiftedTo, hide, forgotten}
+use Rattle.ternary.proofs.Words.{two_bits}
+use Rattle.ternary.proofs.Ahead.{length-forgotten}
+use Rattle.std.specs.Int.{bit_at}
 use Rattle.ternary.proofs.Refined.{MayBecome, MayAllBecome, literal3-becomes, simulation-becomes, simulation-known, known-literal, completion-becomes, becomes-completion}
 
 -- ---- lists of values that may become others
@@ -165,10 +168,81 @@ module _ (c : Circuit) (latches inputs : List Bool) (keep : List ℕ) where
       below_other : (i j : ℕ) → j < i + 1 → j ≢ i → j < i
       below_other i j below ne = omega arith
 
-  pub lifted-next : AllTrue → (state new : List Value3) (i : ℕ) → i < length state → IsLiftedTo c latches inputs keep i state → Forgets c (map known inputs) keep i state new → IsLiftedTo c latches inputs keep (i + 1) new
-  lifted-next true_there state new i inside h (inl (e, all)) = subst (λ xs. IsLiftedTo c latches inputs keep (i + 1) xs) (sym e) (lifted-forgotten state i inside h all)
-  lifted-next true_there state new i inside h (inr (e, none)) = subst (λ xs. IsLiftedTo c latches inputs keep (i + 1) xs) (sym e) (lifted-kept true_there state i h none)
+  -- where it is not so that all are 1, it is not so where more is known no better
+  one-before : (state after : List Value3) → MayAllBecome state after → AreOne (sim state) keep → AreOne (sim after) keep
+  one-before state after h all =
+      λ k d below.
+      elim (becomes-literal (sim state) (sim after) (sim-becomes state after h) (get_or keep k d)) [
+        | inl x ↦ absurd (apart (sym (all k d below) ∙ x))
+        | inr same ↦ sym same ∙ all k d below
+      ]
+    where
+      apart : One ≡ X → ⊥
+      apart e = cc
+
+  kept-still : (state after : List Value3) (i : ℕ) → MayAllBecome state after → (AreOne (sim (set after i X)) keep → ⊥) → AreOne (sim (set state i X)) keep → ⊥
+  kept-still state after i h none all = none (one-before (set state i X) (set after i X) (becomes-forgets_both state after i h) all)
+
+  hide-becomes : (b v : ℕ) (state after : List Value3) → MayAllBecome state after → MayAllBecome (hide b v state) after
+  hide-becomes zero v state after h = h
+  hide-becomes (suc b) v state after h = becomes-forgets state after v h
+
+  pub forgotten-becomes : (word n i : ℕ) (state : List Value3) → MayAllBecome (forgotten word n i state) state
+  forgotten-becomes word zero i state = becomes-refl state
+  forgotten-becomes word (suc n) i state = hide-becomes (bit_at word n) (i + n) (forgotten word n i state) state (forgotten-becomes word n i state)
+
+  -- of a word whose zeros are latches that are needed alone, as many are forgotten as lanes go through
+  pub lifted-ahead : AllTrue → (state : List Value3) (word i n : ℕ) → n ≤ 64 → i + n ≤ length state → IsLiftedTo c latches inputs keep i state → ((k : ℕ) → k < 64 → bit_at word k ≡ 0 → AreOne (sim (set state (i + k) X)) keep → ⊥) → ((k : ℕ) → k < n → AreOne (sim (forgotten word (k + 1) i state)) keep) → IsLiftedTo c latches inputs keep (i + n) (forgotten word n i state)
+  lifted-ahead true_there state word i zero most inside h alone ahead = subst (λ m. IsLiftedTo c latches inputs keep m state) (same i) h
+    where
+      same : (i : ℕ) → i ≡ i + 0
+      same i = omega arith
+  lifted-ahead true_there state word i (suc n) most inside h alone ahead =
+      let before = lifted-ahead true_there state word i n (omega arith) (omega arith) h alone (λ k below. ahead k (omega arith)) in
+      let now : List Value3 = forgotten word n i state in
+      let room : i + n < length now = omega (arith, length-forgotten word n i state) in
+      subst (λ m. IsLiftedTo c latches inputs keep m (hide (bit_at word n) (i + n) now)) (more i n)
+      (step (bit_at word n) now (i + n) (two_bits word n) room before
+      (λ bit. kept-still now state (i + n) (forgotten-becomes word n i state) (alone n (omega arith) bit))
+      (subst (λ m. AreOne (sim (forgotten word m i state)) keep) (one_more n) (ahead n (omega arith))))
+    where
+      more : (i n : ℕ) → i + n + 1 ≡ i + suc n
+      more i n = omega arith
+
+      one_more : (n : ℕ) → n + 1 ≡ suc n
+      one_more n = omega arith
+
+      step : (b : ℕ) (now : List Value3) (j : ℕ) → (b ≡ 0) ⊎ (b ≡ 1) → j < length now → IsLiftedTo c latches inputs keep j now → (b ≡ 0 → AreOne (sim (set now j X)) keep → ⊥) → AreOne (sim (hide b j now)) keep → IsLiftedTo c latches inputs keep (j + 1) (hide b j now)
+      step b now j (inl e) room before none all =
+          subst (λ m. IsLiftedTo c latches inputs keep (j + 1) (hide m j now)) (sym e) (lifted-kept true_there now j before (none e))
+      step b now j (inr e) room before none all =
+          subst (λ m. IsLiftedTo c latches inputs keep (j + 1) (hide m j now)) (sym e)
+          (lifted-forgotten now j room before (subst (λ m. AreOne (sim (hide m j now)) keep) e all))
+
+  -- and the next latch is needed where its lane does not go through
+  pub lifted-behind : AllTrue → (state : List Value3) (word i n : ℕ) → n < 64 → IsLiftedTo c latches inputs keep (i + n) (forgotten word n i state) → ((k : ℕ) → k < 64 → bit_at word k ≡ 0 → AreOne (sim (set state (i + k) X)) keep → ⊥) → (AreOne (sim (forgotten word (n + 1) i state)) keep → ⊥) → IsLiftedTo c latches inputs keep (i + n + 1) (forgotten word n i state)
+  lifted-behind true_there state word i n most h alone fails =
+      lifted-kept true_there (forgotten word n i state) (i + n) h
+      (needed (bit_at word n) (two_bits word n)
+      (λ bit. kept-still (forgotten word n i state) state (i + n) (forgotten-becomes word n i state) (alone n most bit))
+      (λ all. fails (subst (λ m. AreOne (sim (forgotten word m i state)) keep) (one_more n) all)))
+    where
+      one_more : (n : ℕ) → suc n ≡ n + 1
+      one_more n = omega arith
+
+      needed : (b : ℕ) → (b ≡ 0) ⊎ (b ≡ 1) → (b ≡ 0 → AreOne (sim (set (forgotten word n i state) (i + n) X)) keep → ⊥) → (AreOne (sim (hide b (i + n) (forgotten word n i state))) keep → ⊥) → AreOne (sim (set (forgotten word n i state) (i + n) X)) keep → ⊥
+      needed b (inl e) low high = low e
+      needed b (inr e) low high = λ all. high (subst (λ m. AreOne (sim (hide m (i + n) (forgotten word n i state))) keep) (sym e) all)
 
 pub apart_by : (b : Bool) → b ≡ false → b ≡ true → ⊥
 apart_by true e f = cc
 apart_by false e f = cc
+
+-- ---- what lanes tell
+
+pub pass-tells : (c : Circuit) (ahead after inputs known_inputs : List Value3) (keep : List ℕ) (bit : ℕ) → ahead ≡ after → inputs ≡ known_inputs → (bit ≡ 1) ↔ AreOne (simulation c ahead inputs) keep → (bit ≡ 1) ↔ AreOne (simulation c after known_inputs) keep
+pass-tells c ahead after inputs known_inputs keep bit e f h =
+    subst (λ xs. (bit ≡ 1) ↔ AreOne (simulation c after xs) keep) f (subst (λ xs. (bit ≡ 1) ↔ AreOne (simulation c xs inputs) keep) e h)
+
+pub clash : (b : ℕ) → b ≡ 0 → b ≡ 1 → ⊥
+clash b e f = omega arith

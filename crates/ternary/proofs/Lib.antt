@@ -7,3 +7,4 @@ mod LanesWritten
 mod Forgetting
 mod CubeLaws
 mod LiftLaws
+mod Ahead

@@ -1,5 +1,5 @@
 -- What the cube of a lifted state promises.
-use Rattle.std.proofs.Common.{◌≡◌, ℕ, ◌+◌, ◌<◌, Bool, true, false, List, [], ◌∷◌, map, length, get_or, set, refl, sym, ap, ◌∙◌, subst, inl, inr, arith}
+use Rattle.std.proofs.Common.{◌≡◌, ℕ, ◌+◌, ◌<◌, ◌≤◌, Bool, true, false, List, [], ◌∷◌, map, length, get_or, set, refl, sym, ap, ◌∙◌, subst, inl, inr, arith}
 use Rattle.std.proofs.lemmas.Option.{unwrap_or-slice_get}
 use Rattle.aig_semantics.specs.declared.traces.Position.{Position}
 use Rattle.aig_semantics.specs.Literals.{literal_in}
@@ -17,12 +17,11 @@ use Rattle.ternary.proofs.Refined.{completion-becomes, simulation-sound}
 use Rattle.ternary.proofs.Forgetting.{known-completes, becomes-literal, known-literal_in}
 use Rattle.ternary.proofs.CubeLaws.{over-from, lies-from, completes-from, state-without}
 
--- what holds while values are forgotten: the state, and the inputs and the buffer that go with it
-pub record IsLifting (c : Circuit) (at : Position) (keep : List ℕ) (i : ℕ) (state inputs values : List Value3) : Type 0 where
+-- what holds while values are forgotten, all that are left being latches from i on
+pub record IsLifting (c : Circuit) (at : Position) (keep : List ℕ) (i : ℕ) (state : List Value3) : Type 0 where
   pub lifted : IsLiftedTo c at.latches at.inputs keep i state
+  pub within : i ≤ length at.latches
   pub long : length state ≡ length at.latches
-  pub inputs_known : inputs ≡ map known at.inputs
-  pub room : length values ≡ c.max + 1
 
 completion-long : (xs : List Value3) (bs : List Bool) → IsCompletion xs bs → length xs ≡ length bs
 completion-long [] [] h = refl

@@ -1,7 +1,7 @@
 -- The value at a place of two words, after operations on the words.
-use Rattle.std.proofs.Common.{◌≡◌, ◌≢◌, ℕ, zero, suc, ◌-◌, ◌*◌, ◌^◌, ◌%◌, ◌/◌, ◌<◌, ◌⊎◌, List, [], ◌∷◌, min, get_or, bit_and, bit_or, refl, sym, ap, ◌∙◌, inl, inr, arith, w64}
-use Rattle.std.specs.Int.{bit_at}
-use Rattle.std.proofs.lemmas.Nat.Bits.{bit_at_and, bit_at_not, bit_at_ones, bit_at-zero, bit_at-lt, shr_and_one, bit_at_set_same, bit_at_set_other, bit_at_clear_same, bit_at_clear_other}
+use Rattle.std.proofs.Common.{◌≡◌, ◌≢◌, ℕ, zero, suc, ◌-◌, ◌*◌, ◌^◌, ◌%◌, ◌/◌, ◌<◌, ◌≤◌, ◌⊎◌, List, [], ◌∷◌, min, max, ◌↔◌, get_or, bit_and, bit_or, refl, sym, ap, subst, ◌∙◌, inl, inr, arith, w64, ◌+◌}
+use Rattle.std.specs.Int.{bit_at, trailing_ones}
+use Rattle.std.proofs.lemmas.Nat.Bits.{bit_at_and, bit_at_not, bit_at_ones, bit_at-zero, bit_at-lt, shr_and_one, bit_at_set_same, bit_at_set_other, bit_at_clear_same, bit_at_clear_other, bit_at_or, ones_shl, bit_at_mask_inside, bit_at_mask_below, bit_at-trailing_ones}
 use Rattle.std.proofs.lemmas.Nat.{and_le_l}
 use lib.Lanes.{zip2}
 use Rattle.ternary.specs.declared.values.Value3.TheVariants.{Zero, One, X}
@@ -9,7 +9,7 @@ use Rattle.ternary.specs.Values.{negation3, and3}
 use Rattle.ternary.specs.Lanes.{of_bits, value_at}
 use Rattle.std.specs.Int.Bits.{and_zero_l, and_zero_r}
 
-two_bits : (n i : ℕ) → (bit_at n i ≡ 0) ⊎ (bit_at n i ≡ 1)
+pub two_bits : (n i : ℕ) → (bit_at n i ≡ 0) ⊎ (bit_at n i ≡ 1)
 two_bits n i = small (bit_at n i) (bit_at-lt n i)
   where
     small : (b : ℕ) → b < 2 → (b ≡ 0) ⊎ (b ≡ 1)
@@ -142,3 +142,112 @@ value-reads_one a b k possible some =
         | inr f ↦ sym (ap (λ n. of_bits n (bit_at b k)) f ∙ ap (λ n. of_bits 1 n) e)
       ]
     ]
+
+-- ---- X from a place on
+
+abbrev high : ℕ → ℕ
+high from = 18446744073709551615 * 2 ^ from % 18446744073709551616
+
+high-is : (from : ℕ) → from < 64 → high from ≡ 18446744073709551616 - 2 ^ from
+high-is from below = let within : from ≤ 64 = omega arith in ones_shl 64 from within
+
+high-at : (from k : ℕ) → from < 64 → from ≤ k → k < 64 → bit_at (high from) k ≡ 1
+high-at from k below le lt = ap (λ n. bit_at n k) (high-is from below) ∙ bit_at_mask_inside from 64 k le lt
+
+high-before : (from k : ℕ) → from < 64 → k < from → bit_at (high from) k ≡ 0
+high-before from k below lt = ap (λ n. bit_at n k) (high-is from below) ∙ bit_at_mask_below from 64 k lt
+
+bits-hidden : (a r k : ℕ) → r < 2 ^ 64 → k < 64 → bit_at r k ≡ 1 → bit_at (bit_and a (18446744073709551615 - r)) k ≡ 0
+bits-hidden a r k fits below e =
+    let other : bit_at (18446744073709551615 - r) k ≡ 1 - bit_at r k = bit_at_not w64 r k fits below in
+    bit_at_and a (18446744073709551615 - r) k ∙ (ap (λ n. min (bit_at a k) n) (other ∙ ap (λ n. 1 - n) e) ∙ least (bit_at a k))
+  where
+    least : (b : ℕ) → min b 0 ≡ 0
+    least b = omega arith
+
+bits-shown : (a r k : ℕ) → r < 2 ^ 64 → k < 64 → bit_at r k ≡ 0 → bit_at (bit_and a (18446744073709551615 - r)) k ≡ bit_at a k
+bits-shown a r k fits below e =
+    let other : bit_at (18446744073709551615 - r) k ≡ 1 - bit_at r k = bit_at_not w64 r k fits below in
+    bit_at_and a (18446744073709551615 - r) k ∙ (ap (λ n. min (bit_at a k) n) (other ∙ ap (λ n. 1 - n) e) ∙ least (bit_at a k) (bit_at-lt a k))
+  where
+    least : (b : ℕ) → b < 2 → min b 1 ≡ b
+    least b h = omega arith
+
+bits-with : (a r k : ℕ) → bit_at r k ≡ 1 → bit_at (bit_or a r) k ≡ 1
+bits-with a r k e = bit_at_or a r k ∙ (ap (λ n. max (bit_at a k) n) e ∙ most (bit_at a k) (bit_at-lt a k))
+  where
+    most : (b : ℕ) → b < 2 → max b 1 ≡ 1
+    most b h = omega arith
+
+bits-without : (a r k : ℕ) → bit_at r k ≡ 0 → bit_at (bit_or a r) k ≡ bit_at a k
+bits-without a r k e = bit_at_or a r k ∙ (ap (λ n. max (bit_at a k) n) e ∙ most (bit_at a k))
+  where
+    most : (b : ℕ) → max b 0 ≡ b
+    most b = omega arith
+
+pub value-hidden : (a b from k : ℕ) → from < 64 → from ≤ k → k < 64 → value_at (bit_and a (18446744073709551615 - high from) ∷ bit_or b (high from) ∷ []) k ≡ X
+value-hidden a b from k below le lt =
+    let fits : high from < 2 ^ 64 = omega arith in
+    let one = high-at from k below le lt in
+    ap (λ n. of_bits n (bit_at (bit_or b (high from)) k)) (bits-hidden a (high from) k fits lt one)
+    ∙ ap (λ n. of_bits 0 n) (bits-with b (high from) k one)
+
+pub value-shown : (a b from k : ℕ) → from < 64 → k < from → value_at (bit_and a (18446744073709551615 - high from) ∷ bit_or b (high from) ∷ []) k ≡ of_bits (bit_at a k) (bit_at b k)
+value-shown a b from k below lt =
+    let fits : high from < 2 ^ 64 = omega arith in
+    let inside : k < 64 = omega arith in
+    let none = high-before from k below lt in
+    ap (λ n. of_bits n (bit_at (bit_or b (high from)) k)) (bits-shown a (high from) k fits inside none)
+    ∙ ap (λ n. of_bits (bit_at a k) n) (bits-without b (high from) k none)
+
+-- ---- the places of ones
+
+ones-cases : (a b : ℕ) → (a ≡ 0) ⊎ (a ≡ 1) → (b ≡ 0) ⊎ (b ≡ 1) → (min a b ≡ 1) ↔ (of_bits a b ≡ One)
+ones-cases a b (inl p) (inl q) = rw (p, q) (λ e. absurd (omega arith), λ e. absurd cc)
+ones-cases a b (inl p) (inr q) = rw (p, q) (λ e. absurd (omega arith), λ e. absurd cc)
+ones-cases a b (inr p) (inl q) = rw (p, q) (λ e. absurd (omega arith), λ e. absurd cc)
+ones-cases a b (inr p) (inr q) = rw (p, q) (λ e. refl, λ e. refl)
+
+pub value-ones_in : (a b k : ℕ) → (bit_at (bit_and a b) k ≡ 1) ↔ (of_bits (bit_at a k) (bit_at b k) ≡ One)
+value-ones_in a b k =
+    let both = ones-cases (bit_at a k) (bit_at b k) (two_bits a k) (two_bits b k) in
+    (λ e. both.0 (sym (bit_at_and a b k) ∙ e), λ e. bit_at_and a b k ∙ both.1 e)
+
+pub min-ones : (a b : ℕ) → a < 2 → b < 2 → min a b ≡ 1 → (a ≡ 1) × (b ≡ 1)
+min-ones a b h k e = (omega arith, omega arith)
+
+pub bits-both : (a b k : ℕ) → bit_at (bit_and a b) k ≡ 1 → (bit_at a k ≡ 1) × (bit_at b k ≡ 1)
+bits-both a b k e = min-ones (bit_at a k) (bit_at b k) (bit_at-lt a k) (bit_at-lt b k) (sym (bit_at_and a b k) ∙ e)
+
+pub bits-join : (a b k : ℕ) → bit_at a k ≡ 1 → bit_at b k ≡ 1 → bit_at (bit_and a b) k ≡ 1
+bits-join a b k e f = bit_at_and a b k ∙ (ap (λ n. min n (bit_at b k)) e ∙ ap (λ n. min 1 n) f)
+
+pub bit-set : (word j : ℕ) → (bit_and (word / 2 ^ j) 1 ≡ 0 → ⊥) → bit_at word j ≡ 1
+bit-set word j h =
+    elim (two_bits word j) [
+      | inl e ↦ absurd (h (shr_and_one word j ∙ e))
+      | inr e ↦ e
+    ]
+
+pub bit-clear : (word j : ℕ) → (bit_and (word / 2 ^ j) 1 ≡ 1 → ⊥) → bit_at word j ≡ 0
+bit-clear word j h =
+    elim (two_bits word j) [
+      | inl e ↦ e
+      | inr e ↦ absurd (h (shr_and_one word j ∙ e))
+    ]
+
+pub bit-is : (word j b : ℕ) → bit_and (word / 2 ^ j) 1 ≡ b → bit_at word j ≡ b
+bit-is word j b e = sym (shr_and_one word j) ∙ e
+
+pub all-ones : (word k : ℕ) → word ≡ 18446744073709551615 → k < 64 → bit_at word k ≡ 1
+all-ones word k e below = let one : bit_at 18446744073709551615 k ≡ 1 = bit_at_ones 64 k below in ap (λ n. bit_at n k) e ∙ one
+
+pub trailing-set : (word n k : ℕ) → word < 2 ^ 64 → (word ≡ 18446744073709551615 → ⊥) → n ≡ trailing_ones w64 word → k < n → bit_at word k ≡ 1
+trailing-set word n k fits ne e below =
+    let small : word + 1 < 2 ^ 64 = omega arith in
+    (bit_at-trailing_ones w64 word small).2 k (subst (λ m. k < m) e below)
+
+pub trailing-clear : (word n : ℕ) → word < 2 ^ 64 → (word ≡ 18446744073709551615 → ⊥) → n ≡ trailing_ones w64 word → bit_at word n ≡ 0
+trailing-clear word n fits ne e =
+    let small : word + 1 < 2 ^ 64 = omega arith in
+    ap (λ m. bit_at word m) e ∙ (bit_at-trailing_ones w64 word small).1

@@ -1,6 +1,7 @@
 //! Sixty-four ternary values at once. The main type is `Lanes`.
 
-ghost use Rattle.std.specs.Prelude.{◌≡◌, ◌≢◌, ℕ, ◌<◌};
+ghost use Rattle.std.specs.Prelude.{◌≡◌, ◌≢◌, ◌↔◌, ℕ, ◌<◌, ◌≤◌};
+ghost use Rattle.std.specs.Int.{bit_at};
 ghost use Rattle.ternary.specs.Values.{negation3, and3};
 ghost use Rattle.ternary.specs.Lanes.{lane_of, value_at};
 
@@ -51,6 +52,25 @@ fn with_value(words: [u64; 2], k: usize, value: Value3) -> [u64; 2]
     }
 }
 
+/// The words where the values at the places from `from` on, which is below 64, are X.
+fn unknown_words(words: [u64; 2], from: usize) -> [u64; 2]
+    requires { from < 64 }
+    ensures hidden { (k : ℕ) → k < 64 → from ≤ k → value_at result k ≡ Value3.X }
+    ensures shown { (k : ℕ) → k < from → value_at result k ≡ value_at words k }
+{
+    let [one, possible] = words;
+    let rest = u64::MAX << from;
+    [one & !rest, possible | rest]
+}
+
+/// The places where the value is 1, as the bits of a word.
+fn ones_in(words: [u64; 2]) -> u64
+    ensures { (k : ℕ) → k < 64 → ((bit_at result k ≡ 1) ↔ (value_at words k ≡ Value3.One)) }
+{
+    let [one, possible] = words;
+    one & possible
+}
+
 /// The value at place k of two words.
 fn value_in(words: [u64; 2], k: usize) -> Value3
     requires { k < 64 }
@@ -93,6 +113,24 @@ impl Lanes {
         Lanes {
             planes: u64x2::from_array(words_of(value)),
         }
+    }
+
+    /// The same lanes with X from lane `from` on.
+    pub fn unknown_from(self, from: usize) -> Lanes
+        requires { from < 64 }
+        ensures hidden { (k : ℕ) → k < 64 → from ≤ k → lane_of result k ≡ Value3.X }
+        ensures shown { (k : ℕ) → k < from → lane_of result k ≡ lane_of self k }
+    {
+        Lanes {
+            planes: u64x2::from_array(unknown_words(self.planes.to_array(), from)),
+        }
+    }
+
+    /// The lanes whose value is 1, as the bits of a word.
+    pub fn ones(self) -> u64
+        ensures { (k : ℕ) → k < 64 → ((bit_at result k ≡ 1) ↔ (lane_of self k ≡ Value3.One)) }
+    {
+        ones_in(self.planes.to_array())
     }
 
     /// The negation in each lane.

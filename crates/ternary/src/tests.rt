@@ -1,5 +1,9 @@
 //! Ternary simulation and lifting on small circuits, with values worked out by hand.
 
+ghost use Rattle.std.specs.Prelude.{IfOk, IsTrue};
+ghost use Rattle.aig_semantics.specs.Runs.{IsPosition};
+ghost use Rattle.ternary.specs.Cubes.{MakesTrue};
+
 use super::*;
 use circuit::{Circuit, Gate, Latch, ModelEnd, ModelFault, Parts, Position, Reset, check_circuit};
 use items::Items;
@@ -170,7 +174,10 @@ fn first_wrong_lane(
 }
 
 /// Whether each literal is true at the position.
-fn are_true(alloc: Global, c: &Circuit, at: &Position, keep: &[u64]) -> Result<bool, AllocError> {
+fn are_true(alloc: Global, c: &Circuit, at: &Position, keep: &[u64]) -> Result<bool, AllocError>
+    requires { IsPosition c.now at.now }
+    ensures { IfOk result (λ all. IsTrue all → MakesTrue c.now at.now keep.now) }
+{
     let mut values = vec![in alloc; false; c.max() as usize + 1]?;
     circuit::eval_into(c, at.latches.as_slice(), at.inputs.as_slice(), &mut values);
     Ok(keep.iter().all(|l| circuit::literal_value(&values, *l)))
