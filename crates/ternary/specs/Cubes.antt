@@ -1,6 +1,6 @@
--- What a lifted cube promises. Cubes of states as in IC3 (Bradley, SAT-based model checking without unrolling, 2011); lifted
--- by ternary simulation as in Eén, Mishchenko, Brayton, Efficient implementation of property directed reachability, 2011.
--- A literal of a cube has the number of a latch, from 0, as its variable.
+-- What a lifted cube promises: cubes of states as in IC3 (Bradley, SAT-based model checking without unrolling, 2011),
+-- lifted by ternary simulation (Eén, Mishchenko, Brayton, Efficient implementation of property directed reachability,
+-- 2011). A literal of a cube has the number of a latch, from 0, as its variable.
 use Rattle.std.specs.Prelude.{◌≡◌, ℕ, suc, ◌<◌, ◌==◌, Bool, true, List, [], ◌∷◌, ◌++◌, map, length, take, drop, IsTrue, if◌then◌else◌}
 use Rattle.std.specs.List.{All, Any}
 use Rattle.aig_semantics.specs.declared.traces.Position.{Position}
@@ -28,7 +28,8 @@ MakesTrue c p keep = All (λ literal. IsTrue (literal_at c p literal)) keep
 -- every state of the cube, with these inputs, makes the literals true
 abbrev pub KeepsTrue : Circuit → List Bool → List ℕ → List Lit → Type 0
 KeepsTrue c inputs keep cube =
-    (state : List Bool) → length state ≡ length c.latches → LiesIn state cube → MakesTrue c (position_of state inputs) keep
+    (state : List Bool) → length state ≡ length c.latches → LiesIn state cube
+    → MakesTrue c (position_of state inputs) keep
 
 -- the value that a cube tells of latch v: X where it has no literal of it
 abbrev pub told_by : List Lit → ℕ → Value3

@@ -19,10 +19,12 @@ SomeIsX values keep = Any (λ literal. literal3_in values literal ≡ X) keep
 
 -- A ternary state from which each latch below i would have been forgotten if it could: it tells nothing wrong of the
 -- latches, the literals are 1, and where one more value below i is forgotten, one of them is X.
-pub record IsLiftedTo (c : Circuit) (latches inputs : List Bool) (keep : List ℕ) (i : ℕ) (state : List Value3) : Type 0 where
+pub record IsLiftedTo (c : Circuit) (latches inputs : List Bool) (keep : List ℕ) (i : ℕ) (state : List Value3) :
+    Type 0 where
   pub tells : IsCompletion state latches
   pub keeps : AreOne (simulation c state (map known inputs)) keep
-  pub tight : (j : ℕ) → j < i → slice_index_or state j X ≢ X → SomeIsX (simulation c (slice_set state j X) (map known inputs)) keep
+  pub tight : (j : ℕ) → j < i → slice_index_or state j X ≢ X
+      → SomeIsX (simulation c (slice_set state j X) (map known inputs)) keep
 
 -- X where the bit is 1 and the latch is the one that is meant
 abbrev pub hidden_one : ℕ → Bool → Value3 → Value3

@@ -1,5 +1,6 @@
 -- Ternary simulation of a circuit: the value of each variable, from ternary values of its latches and inputs
--- (Eichelberger, 1965). It follows the valuation by truth values, whose gates, variable 0 and undefined variables it has.
+-- (Eichelberger, Hazard detection in combinational and sequential switching circuits, 1965). Gates, variable 0 and
+-- undefined variables are as in the valuation by truth values.
 use Rattle.std.specs.Prelude.{ℕ, zero, suc, ◌+◌, ◌==◌, List, [], ◌∷◌, ◌++◌, map, length, Option, Some, None, unwrap_or, if◌then◌else◌}
 use Rattle.std.specs.List.{find}
 use Rattle.aig_semantics.specs.declared.parts.Gate.{Gate}
@@ -40,4 +41,5 @@ values3_below (suc n) value = values3_below n value ++ value n ∷ []
 
 -- the values of the variables 0 to max
 unfoldable pub simulation : Circuit → List Value3 → List Value3 → List Value3
-simulation c latches inputs = values3_below (c.max + 1) (value3_through (length c.gates) c.gates (given3 c latches inputs))
+simulation c latches inputs =
+    values3_below (c.max + 1) (value3_through (length c.gates) c.gates (given3 c latches inputs))

@@ -27,7 +27,8 @@ known true = One
 
 -- the value of a literal, from the values of variables
 abbrev pub literal3_by : (ℕ → Value3) → ℕ → Value3
-literal3_by value literal = if is_negated literal then negation3 (value (variable_of literal)) else value (variable_of literal)
+literal3_by value literal =
+    if is_negated literal then negation3 (value (variable_of literal)) else value (variable_of literal)
 
 -- a list of values has the value of variable v at place v
 abbrev pub variable3_in : List Value3 → ℕ → Value3

@@ -12,6 +12,7 @@ mod lanes;
 mod lifting;
 mod simulating;
 mod values;
+pub mod worked_rows;
 
 pub use lanes::{LANES, Lanes};
 pub use lifting::lift;

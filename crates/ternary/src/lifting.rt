@@ -1,4 +1,5 @@
-//! Cubes lifted by ternary simulation: of a state only the latches that literals need are kept. The main call is `lift`.
+//! Cubes lifted by ternary simulation: of a state only the latches that literals need are kept. The main call is
+//! `lift`.
 
 ghost use Rattle.std.specs.Prelude.{◌≡◌, ◌↔◌, ℕ, ◌+◌, ◌<◌, ◌≤◌, ◌==◌, length, map, slice_set, IfOk, IsTrue};
 ghost use Rattle.std.specs.Int.{bit_at};
@@ -220,7 +221,8 @@ fn lifted_state(
 ) -> Result<Vec<Value3>, AllocError>
     requires position { IsPosition c.now at.now }
     requires keep { MakesTrue c.now at.now keep.now }
-    ensures { IfOk result (λ state. IsLiftedTo c.now at.now.latches at.now.inputs keep.now (length at.now.latches) state.items) }
+    ensures { IfOk result (λ state.
+        IsLiftedTo c.now at.now.latches at.now.inputs keep.now (length at.now.latches) state.items) }
 {
     let mut state = known_values(alloc, at.latches.as_slice())?;
     let inputs = known_lanes(alloc, at.inputs.as_slice())?;

@@ -88,8 +88,8 @@ pub fn eval3_into(c: &Circuit, latches: &[Value3], inputs: &[Value3], out: &mut 
     requires out { length out.old ≡ c.now.max + 1 }
 
     ensures exact { out.new ≡ simulation c.now latches.now inputs.now }
-    ensures sound { (state input_values : List Bool) → IsCompletion latches.now state → IsCompletion inputs.now input_values
-        → IsCompletion out.new (valuation c.now state input_values) }
+    ensures sound { (state input_values : List Bool) → IsCompletion latches.now state
+        → IsCompletion inputs.now input_values → IsCompletion out.new (valuation c.now state input_values) }
 {
     let order = c.evaluation_order();
     clear(Value3::Zero, out);
