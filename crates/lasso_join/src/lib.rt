@@ -17,3 +17,6 @@ pub use fair_semantics::{Situation, Skeleton};
 pub use items::Items;
 pub use joining::join;
 pub use shortening::shortest_prefix;
+
+#[cfg(test)]
+mod tests;
