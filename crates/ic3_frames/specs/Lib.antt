@@ -1,0 +1,5 @@
+pub mod Frames
+pub mod Kept
+pub mod Inside
+pub mod Lent
+pub mod Room
