@@ -1,12 +1,12 @@
 -- What a frame means, before and after a lemma is put into it.
-use Rattle.std.proofs.Common.{◌≡◌, ℕ, zero, suc, ◌+◌, ◌<◌, ◌≤◌, Bool, true, false, ◌&&◌, ◌||◌, List, [], ◌∷◌, ◌++◌, length, drop, refl, sym, ap, ◌∙◌, subst, inl, inr, if◌then◌else◌, arith}
-use Rattle.std.specs.List.{flat_map, list_all}
+use Rattle.std.proofs.Common.{◌≡◌, ℕ, zero, suc, ◌<◌, ◌≤◌, Bool, true, false, ◌&&◌, ◌||◌, List, [], ◌∷◌, ◌++◌, length, refl, sym, ap, ◌∙◌, subst, inl, inr, add-one, arith}
 use Rattle.std.proofs.lemmas.Bool.{cases_Bool, false≢true}
 use Rattle.std.proofs.lemmas.List.Folds.{list_all-append, list_any-append}
 use Rattle.indexmap.specs.IndexSet.{remove_key}
 use Rattle.proof_semantics.specs.declared.literals.Lit.{Lit}
 use Rattle.proof_semantics.specs.Clauses.{clause_value, clauses_value}
 use Rattle.ic3_frames.specs.Frames.{same_clause, has_clause, frame_at, put_at, with_lemma}
+use Rattle.ic3_frames.specs.Meaning.{FramesGrow, LemmasRestrict, AboveStay, NumberStays, OpenedStay}
 use Rattle.ic3_frames.proofs.Times.{same-is}
 
 abbrev Levels : Type 0
@@ -138,3 +138,43 @@ with-above levels n c k above =
       | inl there ↦ rw there refl
       | inr absent ↦ rw absent (put-above levels n c k above)
     ]
+
+and-second : (a b : Bool) → (a && b) ≡ true → b ≡ true
+and-second true b e = e
+and-second false b e = absurd (false≢true e)
+
+grow : (levels : Levels) (k : ℕ) (v : ℕ → Bool) → clauses_value v (frame_at levels k) ≡ true → clauses_value v (frame_at levels (suc k)) ≡ true
+grow [] zero v h = refl
+grow [] (suc k) v h = refl
+grow (own ∷ levels) zero v h =
+    and-second (clauses_value v own) (clauses_value v (frame_at levels 0))
+    (sym (list_all-append (clause_value v) own (frame_at levels 0)) ∙ h)
+grow (own ∷ levels) (suc k) v h = grow levels k v h
+
+pub frames-grow : FramesGrow
+frames-grow levels k v h = ap (λ n. clauses_value v (frame_at levels n)) (add-one k) ∙ grow levels k v h
+
+pub lemmas-restrict : LemmasRestrict
+lemmas-restrict levels n lemma k v inside within = with-within v levels n lemma k inside within
+
+pub above-stay : AboveStay
+above-stay levels n lemma k above = with-above levels n lemma k above
+
+pub length-put : (levels : Levels) (k : ℕ) (c : List Lit) → length (put_at levels k c) ≡ length levels
+length-put [] k c = refl
+length-put (own ∷ levels) zero c = refl
+length-put (own ∷ levels) (suc k) c = ap suc (length-put levels k c)
+
+pub number-stays : NumberStays
+number-stays levels n c =
+    elim (cases_Bool (has_clause (frame_at levels n) c)) [
+      | inl there ↦ rw there refl
+      | inr absent ↦ rw absent (length-put levels n c)
+    ]
+
+pub opened-stay : OpenedStay
+opened-stay [] zero = refl
+opened-stay [] (suc zero) = refl
+opened-stay [] (suc (suc k)) = refl
+opened-stay (own ∷ levels) zero = ap (λ later. own ++ later) (opened-stay levels 0)
+opened-stay (own ∷ levels) (suc k) = opened-stay levels k

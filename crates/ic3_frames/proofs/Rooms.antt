@@ -1,13 +1,12 @@
 -- Lemmas and frames take room.
-use Rattle.std.proofs.Common.{◌≡◌, ℕ, zero, suc, ◌+◌, ◌-◌, ◌*◌, ◌^◌, ◌<◌, ◌≤◌, Bool, true, false, ◌&&◌, List, [], ◌∷◌, ◌++◌, length, length-append, refl, sym, ap, ◌∙◌, subst, inl, inr, if◌then◌else◌, arith}
+use Rattle.std.proofs.Common.{◌≡◌, ℕ, zero, suc, ◌+◌, ◌-◌, ◌*◌, ◌^◌, ◌<◌, ◌≤◌, Bool, true, false, ◌&&◌, List, [], ◌∷◌, ◌++◌, length, length-append, refl, sym, ap, ◌∙◌, inl, inr, if◌then◌else◌, arith}
 use Rattle.std.proofs.Math.Nat.{pow-suc}
 use Rattle.std.proofs.lemmas.Bool.{cases_Bool, false≢true}
-use Rattle.std.proofs.lemmas.List.Folds.{list_all-append}
 use Rattle.proof_semantics.specs.declared.literals.Lit.{Lit}
-use Rattle.proof_semantics.specs.Clauses.{clause_value, clauses_value, values_of}
-use Rattle.ic3_frames.specs.Frames.{has_clause, frame_at, put_at, with_lemma}
+use Rattle.proof_semantics.specs.Clauses.{clause_value, values_of}
+use Rattle.ic3_frames.specs.Frames.{has_clause, frame_at, put_at}
 use Rattle.ic3_frames.specs.Room.{count_states, allowed_by, total, room, LemmasTakeRoom, LemmasMakeNoRoom, FramesTakeRoom}
-use Rattle.ic3_frames.proofs.Meaning.{put-within, has-adds-nothing}
+use Rattle.ic3_frames.proofs.Meaning.{put-within, has-adds-nothing, length-put, opened-stay}
 
 abbrev Levels : Type 0
 Levels = List (List (List Lit))
@@ -97,11 +96,6 @@ total-less n (own ∷ levels) (suc k) c s inside size allowed out =
     let above = total-less n levels k c s (omega arith) size allowed out in
     omega arith
 
-length-put : (levels : Levels) (k : ℕ) (c : List Lit) → length (put_at levels k c) ≡ length levels
-length-put [] k c = refl
-length-put (own ∷ levels) zero c = refl
-length-put (own ∷ levels) (suc k) c = ap suc (length-put levels k c)
-
 room-put : (n : ℕ) (levels : Levels) (k : ℕ) (c : List Lit)
     → room n (put_at levels k c) ≡ total n (put_at levels k c) + (2 ^ n + 2 - length levels) * (2 ^ n + 1)
 unfolding room
@@ -145,15 +139,11 @@ lemmas-take n levels k c s inside size allowed out =
 
 -- ---- a frame is opened
 
-flat-opened : (levels : Levels) → frame_at (levels ++ [] ∷ []) 0 ≡ frame_at levels 0
-flat-opened [] = refl
-flat-opened (own ∷ levels) = ap (λ later. own ++ later) (flat-opened levels)
-
 total-opened : (n : ℕ) (levels : Levels) → total n (levels ++ [] ∷ []) ≡ total n levels + 2 ^ n
 total-opened n [] = let h = count-all n in omega arith
 total-opened n (own ∷ levels) =
     let here : count_states n (allowed_by (frame_at ((own ∷ levels) ++ [] ∷ []) 0)) ≡ count_states n (allowed_by (frame_at (own ∷ levels) 0)) =
-    ap (λ lemmas. count_states n (allowed_by lemmas)) (flat-opened (own ∷ levels))
+    ap (λ lemmas. count_states n (allowed_by lemmas)) (opened-stay (own ∷ levels) 0)
     in
     let above = total-opened n levels in
     omega arith

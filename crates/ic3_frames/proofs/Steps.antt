@@ -1,5 +1,5 @@
 -- Steps of the code over sets of lemmas.
-use Rattle.std.proofs.Common.{◌≡◌, ◌≢◌, ℕ, zero, suc, ◌+◌, ◌-◌, ◌<◌, ◌≤◌, Bool, true, false, ◌||◌, if◌then◌else◌, Result, Ok, Err, List, [], ◌∷◌, ◌++◌, map, length, length-drop, take, drop, set, get_or, Option, Some, None, refl, sym, ap, ◌∙◌, subst, inl, inr, All, arith, below_more, add-zero, get_or-set_other, get_or-set_same}
+use Rattle.std.proofs.Common.{◌≡◌, ◌≢◌, ℕ, ◌+◌, ◌-◌, ◌<◌, ◌≤◌, Bool, true, false, ◌||◌, Result, Ok, Err, List, [], ◌∷◌, ◌++◌, length, length-drop, take, drop, set, get_or, Option, Some, None, refl, sym, ap, ◌∙◌, subst, inl, inr, arith, below_more, add-zero, get_or-set_other, get_or-set_same}
 use Rattle.std.specs.Prelude.{IfNone, IfSome}
 use Rattle.std.specs.HashSet.{HashSet}
 use Rattle.std.proofs.lemmas.Bool.{cases_lt}

@@ -1,14 +1,12 @@
 -- How often a clause stands in lists.
-use Rattle.std.proofs.Common.{◌≡◌, ℕ, zero, suc, ◌+◌, ◌<◌, ◌≤◌, Bool, true, false, List, [], ◌∷◌, ◌++◌, cond, length, drop, get_or, refl, sym, ap, ◌∙◌, subst, inl, inr, if◌then◌else◌, arith, add_assoc, zero-add}
-use Rattle.std.specs.List.{list_any, flat_map}
-use Rattle.std.specs.Bool.{Decides}
+use Rattle.std.proofs.Common.{◌≡◌, ◌+◌, ◌≤◌, Bool, true, false, List, [], ◌∷◌, ◌++◌, refl, sym, ap, ◌∙◌, inl, inr, if◌then◌else◌, arith, zero-add}
 use Rattle.std.proofs.lemmas.Bool.{cases_Bool, false≢true}
 use Rattle.indexmap.specs.IndexSet.{remove_key}
 use Rattle.proof_semantics.specs.declared.literals.Lit.{Lit}
 use Rattle.proof_semantics.specs.Clauses.{lit_eq}
 use Rattle.proof_semantics.proofs.LiteralLaws.{lit_eq-true, lit_eq-same}
-use Rattle.ic3_frames.specs.Frames.{same_clause, has_clause, own_lemmas, frame_at}
-use Rattle.ic3_frames.specs.Kept.{times, StandOnce}
+use Rattle.ic3_frames.specs.Frames.{same_clause, has_clause}
+use Rattle.ic3_frames.specs.Kept.{times}
 
 pub and-parts : (a b : Bool) → (if a then b else false) ≡ true → (a ≡ true) × (b ≡ true)
 and-parts true b e = (refl, e)

@@ -3,3 +3,4 @@ pub mod Kept
 pub mod Inside
 pub mod Lent
 pub mod Room
+pub mod Meaning

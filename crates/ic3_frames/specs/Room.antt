@@ -1,9 +1,9 @@
 -- The room that is left for lemmas and frames: a bound on the steps of a search by frames (IC3: Bradley, 2011), by the
 -- states that the frames allow.
-use Rattle.std.specs.Prelude.{◌≡◌, ℕ, zero, suc, ◌+◌, ◌-◌, ◌*◌, ◌^◌, ◌<◌, ◌≤◌, Bool, true, false, List, [], ◌∷◌, ◌++◌, length, slice_index_or, if◌then◌else◌}
+use Rattle.std.specs.Prelude.{◌≡◌, ℕ, zero, suc, ◌+◌, ◌-◌, ◌*◌, ◌^◌, ◌<◌, ◌≤◌, Bool, true, false, List, [], ◌∷◌, ◌++◌, length, if◌then◌else◌}
 use Rattle.proof_semantics.specs.declared.literals.Lit.{Lit}
 use Rattle.proof_semantics.specs.Clauses.{clause_value, clauses_value, values_of}
-use Rattle.ic3_frames.specs.Frames.{own_lemmas, frame_at, with_lemma}
+use Rattle.ic3_frames.specs.Frames.{frame_at, with_lemma}
 
 -- how many states of n latches pass the test
 abbrev pub count_states : ℕ → (List Bool → Bool) → ℕ

@@ -11,6 +11,8 @@
 //! | `at` | a frame as a list of clauses, for the meter of a search |
 //! | `equal_pair` | a level whose frame has the same lemmas as the next |
 //! | `count_frame` | counts the step of a frame that is to be opened |
+//! | `frames_grow` | nothing: the laws of what frames mean |
+//! | `steps_take_room` | nothing: the laws of the room that bounds the steps of a search |
 //!
 //! Levels and places are counted from 0. Each error but that of `count_frame` is want of memory, and changes nothing.
 #![tactic(auto)]
@@ -20,4 +22,7 @@ mod laws;
 mod levels;
 
 pub use frames::{FrameAt, Frames};
-pub use laws::steps_take_room;
+pub use laws::{frames_grow, steps_take_room};
+
+#[cfg(test)]
+mod tests;

@@ -1,4 +1,4 @@
-use Rattle.std.proofs.Common.{◌≡◌, ◌≢◌, ℕ, ◌+◌, ◌<◌, []}
+use Rattle.std.proofs.Common.{◌≢◌, ℕ, ◌+◌, ◌<◌, []}
 use Rattle.ic3_frames.specs.Frames.{own_lemmas}
 use Rattle.ic3_frames.specs.Kept.{keys_of}
 use Rattle.ic3_frames.proofs.levels.first_empty.Given as goal

@@ -1,6 +1,4 @@
-use Rattle.std.proofs.Common.{◌≡◌, false, sym, ◌∙◌}
-use Rattle.ic3_frames.specs.Frames.{has_clause, frame_at}
-use Rattle.ic3_frames.specs.Kept.{keys_of}
+use Rattle.std.proofs.Common.{sym, ◌∙◌}
 use Rattle.ic3_frames.proofs.Steps.{made-keys, absent-there, put-done, on-err}
 use Rattle.ic3_frames.proofs.levels.put_at.Goals as goal
 
