@@ -1,6 +1,6 @@
 #!/usr/bin/env python3
 """Certificates of small drawn circuits, made from their explicit states, and thousands of texts and models that differ
-from one of them in one place: ./fairlive check must print of each what the judge beside this file says, with its status.
+from one of them in one place: the program must print of each what the judge beside this file says, with its status.
 
     certificates.py [SEED [CIRCUITS [CHANGES]]]     CHANGES of each certificate; as many as 60 seconds allow"""
 import concurrent.futures
@@ -33,16 +33,18 @@ GATED = "aig 3 1 1 0 1 0 0 1 0\n6\n1\n4\n\x02\x02l0 t\nc\nany"
 TITLE = "0\nj0\nversion 1\n"
 WALL = TITLE + "wall 1 0\n\n2 0\nproof 1\n6 0 1 3 5 0\n"
 END = "refute 1 1\n0\n11 0 1 3 4 9 10 5 0\nend\n"
-SIDED = WALL.replace("version 1", "version 2") + "wall 1 1\n0-\n3 0\nproof 1\n13 0 1 3 10 9 8 0\n"
+OUTSIDE = "0-\n3 0\nproof 1\n13 0 1 3 10 9 8 0\n"
+SIDED = WALL.replace("version 1", "version 2") + "wall 1 1\n" + OUTSIDE
 SHORT = TITLE + "refute 0 1\n\n{}\nend\n"
+ONE = "accepted certificate j0 entries 1"
 KNOWN = [
-    (STUCK, TITLE + "reach 1 0\n\n3 0\nproof 1\n6 0 4 2 5 0\nrefute 1 1\n0\n7 0 4 5 0\nend\n", "accepted certificate j0 entries 1"),
-    (RISING, WALL + END, "accepted certificate j0 entries 1"),
+    (STUCK, TITLE + "reach 1 0\n\n3 0\nproof 1\n6 0 4 2 5 0\nrefute 1 1\n0\n7 0 4 5 0\nend\n", ONE),
+    (RISING, WALL + END, ONE),
     (RISING, WALL.replace("\n2 0\n", "\n3 0\n") + END, "refused entry 0 clause 0 proof line 0 no conflict"),
     (RISING, WALL.replace("\n2 0\n", "\n9 0\n") + END, "refused entry 0 literal 9"),
     (RISING, WALL + "reach 1 1\n0\n2 0\nproof 0\n" + END, "refused entry 1 use 0"),
     (FREE, SHORT.format("6 0 2 5 0"), "accepted certificate j0 entries 0"),
-    (GATED, TITLE + "reach 1 0\n\n5 0\nproof 1\n9 0 8 5 2 7 0\nrefute 1 1\n0\n10 0 7 8 0\nend\n", "accepted certificate j0 entries 1"),
+    (GATED, TITLE + "reach 1 0\n\n5 0\nproof 1\n9 0 8 5 2 7 0\nrefute 1 1\n0\n10 0 7 8 0\nend\n", ONE),
     (NEVER, SHORT.format("5 0 1 4 0"), "accepted certificate j0 entries 0"),
     (NEVER, TITLE + "refute 0 0\n\nend\n", "refused refutation line 0 unfinished"),
     (NEVER, SHORT.format("5 0 -1 4 0"), "refused refutation line 0 rat"),
@@ -56,7 +58,7 @@ KNOWN = [
     (RISING, TITLE + "wall 9223372036854775808 0\n\n", "refused shape line 4"),
     (CHANGING, TITLE + "wall 0 0\n\n" * 65537, "refused too long"),
     (RISING, SIDED + END, "accepted certificate j0 entries 2"),
-    (RISING, SIDED.replace("0-\n3 0\nproof 1\n13 0 1 3 10 9 8 0", "0+\n2 0\nproof 1\n13 0 1 3 12 0") + END, "accepted certificate j0 entries 2"),
+    (RISING, SIDED.replace(OUTSIDE, "0+\n2 0\nproof 1\n13 0 1 3 12 0\n") + END, "accepted certificate j0 entries 2"),
     (RISING, SIDED.replace("0-", "0") + END, "refused entry 1 clause 0 proof line 0 not unit 9"),
     (RISING, SIDED.replace("version 2", "version 1") + END, "refused shape line 10"),
     (RISING, SIDED + END.replace("\n0\n", "\n1\n"), "refused refutation use 1"),
@@ -91,7 +93,7 @@ def changed(chance, text):
 
 
 def places_of_kind(lines, drawn):
-    """The places of all lines of a kind: those with words one time in ten, else lines of proofs, else uses and clauses."""
+    """The places of the lines of a kind: those with words one time in ten, or those of proofs, or uses and clauses."""
     words = [k for k, line in enumerate(lines) if not line[:1].isdigit()]
     proofs = [k for k, line in enumerate(lines) if " 0 " in line or " d " in line]
     others = [k for k in range(3, len(lines)) if k not in words and k not in proofs]
@@ -161,7 +163,8 @@ def other_field(chance, field):
 
 
 def printed(model, answer):
-    ran = subprocess.run([PROGRAM, "check", model, answer], stdout=subprocess.PIPE, stderr=subprocess.STDOUT, timeout=60)
+    command = [PROGRAM, "check", model, answer]
+    ran = subprocess.run(command, stdout=subprocess.PIPE, stderr=subprocess.STDOUT, timeout=60)
     return ran.stdout.decode("latin1"), ran.returncode
 
 
@@ -237,7 +240,8 @@ def main(words):
     if comparison.differing:
         print(f"certificates: {comparison.differing} answers that the judge does not give")
         return 1
-    print(f"certificates: {comparison.agreed} texts on {done} drawn circuits as the judge says, {comparison.accepted} accepted")
+    accepted = f"{comparison.accepted} accepted"
+    print(f"certificates: {comparison.agreed} texts, on {done} drawn circuits, as the judge says, {accepted}")
     return 0
 
 

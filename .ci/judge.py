@@ -21,8 +21,8 @@ class Refused(Exception):
 
 
 class Circuit:
-    """A circuit: inputs by their variables; latches as (variable, next literal, reset: 0, 1 or None); gates as (variable,
-    right side, right side) in the order of the file; constraints, properties and fairness as lists of literals."""
+    """A circuit: inputs by their variables; latches as (variable, next literal, reset: 0, 1 or None); gates as
+    (variable, right side, right side) in the order of the file; constraints, properties and fairness by literals."""
 
     def __init__(self, most, inputs, latches, gates, constraints, justice, fairness):
         self.most, self.inputs, self.latches, self.gates = most, inputs, latches, gates
@@ -243,7 +243,7 @@ def replay(circuit, j, rows):
 
 
 class Entry:
-    """What is kept of an entry: whether it is a wall, its uses as (number, side), its clauses as lists of (latch, sign)."""
+    """What is kept of an entry: whether it is a wall, its uses as (number, side), its clauses of (latch, sign)."""
 
     def __init__(self, is_wall, uses, clauses):
         self.is_wall, self.uses, self.clauses = is_wall, uses, clauses
@@ -311,10 +311,10 @@ def read_use(lines, version, field):
 
 
 def is_bad_use(entries, before, number):
-    """Whether a use behind these does not ascend, names no entry before, or a wall whose named walls are not among them."""
-    earlier = [n for n, _ in before]
-    if (earlier and number <= earlier[-1]) or number >= len(entries):
+    """Whether a use behind these does not ascend, is no earlier entry, or names walls that are not among these."""
+    if (before and number <= before[-1][0]) or number >= len(entries):
         return True
+    earlier = {n for n, _ in before}
     return any(n not in earlier for n, _ in entries[number].named())
 
 
@@ -381,7 +381,7 @@ def signed(number, side):
 
 
 def use_clauses(uses, places, free):
-    """The clauses of uses over places, where numbers are free from this one on; and the side number of each used wall."""
+    """The clauses of uses over places, where numbers are free from this one on; and each used wall's side number."""
     clauses, sides = [], {}
     for number, entry in uses:
         if not entry.is_wall:

@@ -1,9 +1,9 @@
-"""Small circuits, drawn, and certificates that a property of theirs has no fair lasso, made from their explicit states.
+"""Small circuits, drawn, and certificates that a property of theirs has no fair lasso, made from explicit states.
 
-A state is a number below 2^L whose bit i is latch i, and a set of states is a number whose bit s is state s. Reach sets
-and walls are closed sets that a search over states finds; proofs come from splitting over sides, latches and inputs.
-Every choice is drawn, so that certificates of many forms come out: entries that nothing needs, clauses that say more
-than they must, literals and clauses twice, uses with and without signs, ids with gaps, deletions, skipped lines."""
+A state is a number below 2^L whose bit i is latch i. Reach sets and walls are closed sets that a search over states
+finds; proofs come from splitting over sides, latches and inputs. Every choice is drawn, so that certificates of many
+forms come out: entries that nothing needs, clauses that say more than they must, literals and clauses twice, uses with
+and without signs, ids with gaps, deletions, skipped lines."""
 import itertools
 
 import judge
@@ -91,13 +91,16 @@ class States:
 
     def has_fair_lasso(self, j):
         """Whether a state that can be reached lies on steps, round and back to it, that make each literal true."""
-        reached = self.closure(self.initial, lambda s, t: True)
-        for state in reached:
-            loop = {s for s in self.closure([state], lambda s, t: True) if state in self.closure([s], lambda s, t: True)}
+        for state in self.closure(self.initial, any_step):
+            loop = {s for s in self.closure([state], any_step) if state in self.closure([s], any_step)}
             values = [value for first, second, value in self.steps if first in loop and second in loop]
             if values and all(any(judge.is_true(v, x) for v in values) for x in self.circuit.literals(j)):
                 return True
         return False
+
+
+def any_step(first, second):
+    return True
 
 
 def number_of_bits(bits):
@@ -165,7 +168,7 @@ class Maker:
         return all(entry.is_wall or entry.keeps(first, second) for entry in self.entries)
 
     def exclude(self, skeleton):
-        """Adds an entry that excludes the skeleton: one of those that a failed stem or a failed piece of the ring give."""
+        """Adds an entry that excludes the skeleton: one that a failed stem or a failed piece of the ring gives."""
         ways = []
         reached = self.states.closure(self.states.initial, self.allows_reach)
         ends = [first for first, _, _ in skeleton] + [second for _, second, _ in skeleton]
@@ -180,13 +183,13 @@ class Maker:
         self.add(*pick(self.chance, ways), lambda states, is_wall: is_excluded(ends, states, is_wall))
 
     def add_needless(self):
+        start = below(self.chance, self.states.count)
         if self.often(0.3):
             self.add(self.often(0.5), set(range(self.states.count)), None, lambda states, is_wall: True)
-        elif self.often(0.5):
-            self.add(False, self.states.closure(self.states.initial, self.allows_reach), None, lambda states, is_wall: True)
-        else:
-            start = below(self.chance, self.states.count)
-            self.add(True, self.states.closure([start], self.allows), start, lambda states, is_wall: True)
+            return
+        is_wall = self.often(0.5)
+        starts, allows = ([start], self.allows) if is_wall else (self.states.initial, self.allows_reach)
+        self.add(is_wall, self.states.closure(starts, allows), start, lambda states, is_wall: True)
 
     def add(self, is_wall, states, start, is_wanted):
         """Adds an entry that is wanted: with this set and all uses, or one that varies it."""
