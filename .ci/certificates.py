@@ -36,6 +36,7 @@ END = "refute 1 1\n0\n11 0 1 3 4 9 10 5 0\nend\n"
 OUTSIDE = "0-\n3 0\nproof 1\n13 0 1 3 10 9 8 0\n"
 SIDED = WALL.replace("version 1", "version 2") + "wall 1 1\n" + OUTSIDE
 SHORT = TITLE + "refute 0 1\n\n{}\nend\n"
+MOST = TITLE + "wall 0 0\n\n" * 65536
 ONE = "accepted certificate j0 entries 1"
 KNOWN = [
     (STUCK, TITLE + "reach 1 0\n\n3 0\nproof 1\n6 0 4 2 5 0\nrefute 1 1\n0\n7 0 4 5 0\nend\n", ONE),
@@ -56,7 +57,8 @@ KNOWN = [
     (NEVER, SHORT.format("9223372036854775808 0 1 4 0"), "refused refutation line 0 bad line"),
     (RISING, TITLE + "wall 9000000000000000000 0\n\n", "refused shape line 6"),
     (RISING, TITLE + "wall 9223372036854775808 0\n\n", "refused shape line 4"),
-    (CHANGING, TITLE + "wall 0 0\n\n" * 65537, "refused too long"),
+    (NEVER, MOST + "wall 0 0\n\n", "refused too long"),
+    (NEVER, MOST + "refute 0 1\n\n5 0 1 4 0\nend\n", "accepted certificate j0 entries 65536"),
     (RISING, SIDED + END, "accepted certificate j0 entries 2"),
     (RISING, SIDED.replace(OUTSIDE, "0+\n2 0\nproof 1\n13 0 1 3 12 0\n") + END, "accepted certificate j0 entries 2"),
     (RISING, SIDED.replace("0-", "0") + END, "refused entry 1 clause 0 proof line 0 not unit 9"),

@@ -346,9 +346,14 @@ class Prover:
         return self.learn(clause, hints[::-1])
 
 
-def proof_lines(chance, count, additions, given):
+def proof_lines(chance, clauses, additions):
     """The lines of a proof: ids with gaps, deletions of clauses that no later hint names, and now and then more."""
+    given = len(clauses)
     ids, lines, last = {n: n for n in range(1, given + 1)}, [], given
+    if given <= 60 and chance.random() < 0.15:
+        # each given clause, learned from itself: so a literal that is left out is seen
+        lines = [line_of([given + n, *clause, 0, n, 0]) for n, clause in enumerate(clauses, 1)]
+        last += given
     final_use = {}
     for place, (_, hints) in enumerate(additions):
         final_use.update((hint, place) for hint in hints)
@@ -356,14 +361,17 @@ def proof_lines(chance, count, additions, given):
     for place, (clause, hints) in enumerate(additions):
         last += 1 + (below(chance, 3) if has_gaps else 0)
         ids[given + 1 + place] = last
-        numbers = [last, *clause, 0, *(ids[hint] for hint in hints), 0]
-        lines.append(" ".join(map(str, numbers)))
+        lines.append(line_of([last, *clause, 0, *(ids[hint] for hint in hints), 0]))
         done = [ids[h] for h in dict.fromkeys(hints) if final_use[h] == place]
         if deletes and done and chance.random() < 0.5:
-            lines.append(" ".join(map(str, [1 + below(chance, last + 2), "d", *done, 0])))
-    if count and chance.random() < 0.1:
+            lines.append(line_of([1 + below(chance, last + 2), "d", *done, 0]))
+    if lines and chance.random() < 0.1:
         lines.insert(below(chance, len(lines) + 1), "1 d 0")
     return lines
+
+
+def line_of(fields):
+    return " ".join(map(str, fields))
 
 
 # ---- texts
@@ -381,8 +389,7 @@ def prove(chance, circuit, blocks, clauses):
     places = [n for b in range(blocks) for n in judge.state_place(circuit, b)]
     inputs = [b * size + 1 + v for b in range(blocks) for v in circuit.inputs]
     order = sides_first(clauses, places, inputs, blocks * size + 1)
-    additions = Prover(clauses, order).refute()
-    return proof_lines(chance, len(additions), additions, len(clauses))
+    return proof_lines(chance, clauses, Prover(clauses, order).refute())
 
 
 def use_text(n, side):
@@ -391,7 +398,7 @@ def use_text(n, side):
 
 def clause_text(circuit, clause):
     literals = [2 * circuit.latches[k][0] + 1 - sign for k, sign in clause]
-    return " ".join(map(str, [*literals, 0]))
+    return line_of([*literals, 0])
 
 
 def entry_lines(chance, circuit, entries, entry):
