@@ -4,6 +4,7 @@ wait or take memory: the program must answer each as stated, within 60 seconds a
 texts and the most inputs that there may be, within 4 GB. A short text must be answered within 20 MB, which is less than
 the latches or gates take that its header may announce, and than what a certificate announces; but for inputs, which
 have no bytes in the binary form."""
+import itertools
 import os
 import subprocess
 import sys
@@ -254,19 +255,18 @@ def crowded(count):
     return TITLE.replace("1", "2") + walls + "refute 0 0\n\nend\n"
 
 
-# the name, the memory, the answer, and what is wanted
-CERTIFICATES = [
-    *[("the greatest numbers", LITTLE, text, f"refused {wanted}\n") for text, wanted in NUMBERS],
-    ("100 MB of entries", SOME, TITLE + EMPTY * (LENGTHY // len(EMPTY)), "refused too long\n"),
-    ("a first line of 100 MB", MEMORY, "0" * LENGTHY, "refused shape line 1\n"),
-    ("an opening line of 100 MB", MEMORY, TITLE + "wall " + "1" * LENGTHY, "refused shape line 4\n"),
-    ("a line of uses of 100 MB", MEMORY, TITLE + "wall 0 0\n" + "0 " * (LENGTHY // 2), "refused shape line 5\n"),
-    ("a proof line of 100 MB", MEMORY, PROOF + "9" * LENGTHY, "refused refutation line 0 bad line\n"),
-    ("a skipped line of 100 MB", MEMORY, "c" * LENGTHY + "\n" + TITLE + WALL + END, ACCEPTED),
-    ("many hints", MUCH, TITLE + WALL.replace("6 0 ", "6 0 " + "1 " * 10_000_000) + END, ACCEPTED),
-    ("a wide clause", MEMORY, wide(1_000_000), ACCEPTED),
-    ("walls that name all before them", MEMORY, crowded(400), "refused refutation line 0 unfinished\n"),
-]
+def long_certificates():
+    """Each with its name, memory and what is wanted; they are made one after another, since they are long."""
+    yield "100 MB of entries", SOME, TITLE + EMPTY * (LENGTHY // len(EMPTY)), "refused too long\n"
+    yield "a first line of 100 MB", MEMORY, "0" * LENGTHY, "refused shape line 1\n"
+    yield "an opening line of 100 MB", MEMORY, TITLE + "wall " + "1" * LENGTHY, "refused shape line 4\n"
+    yield "a line of uses of 100 MB", MEMORY, TITLE + "wall 0 0\n" + "0 " * (LENGTHY // 2), "refused shape line 5\n"
+    yield "a proof line of 100 MB", MEMORY, PROOF + "9" * LENGTHY, "refused refutation line 0 bad line\n"
+    yield "a skipped line of 100 MB", MEMORY, "c" * LENGTHY + "\n" + TITLE + WALL + END, ACCEPTED
+    yield "many hints", MUCH, TITLE + WALL.replace("6 0 ", "6 0 " + "1 " * 10_000_000) + END, ACCEPTED
+    yield "a wide clause", MEMORY, wide(1_000_000), ACCEPTED
+    yield "walls that name all before them", MEMORY, crowded(400), "refused refutation line 0 unfinished\n"
+
 
 # the name, how the text begins, what stands behind it again and again, the memory, and what is wanted
 ENDLESS = [
@@ -289,7 +289,7 @@ def cut_certificates():
 
 
 def check(name, model, answer, memory, wanted, status=None):
-    """Whether the program prints what begins so, and ends with the status where one is given."""
+    """Whether the program prints what begins so; or, where a status is given, just that, and ends with the status."""
     limited = ["bash", "-c", 'ulimit -v "$0" && exec "$@"', str(memory)]
     command = [*limited, PROGRAM, "check", model, answer]
     try:
@@ -297,10 +297,10 @@ def check(name, model, answer, memory, wanted, status=None):
     except subprocess.TimeoutExpired:
         print(f"{name}: no answer within 60 seconds")
         return False
-    if not ran.stdout.startswith(wanted) or status not in (None, ran.returncode):
+    good = ran.stdout.startswith(wanted) if status is None else (ran.stdout, ran.returncode) == (wanted, status)
+    if not good:
         print(f"{name}: status {ran.returncode}, printed {ran.stdout!r}")
-        return False
-    return True
+    return good
 
 
 def pour(pipe, beginning, piece):
@@ -350,17 +350,18 @@ def check_certificates(folder):
     """Whether each certificate is answered as it must be, and how many they are."""
     model, answer = os.path.join(folder, "rising"), os.path.join(folder, "certificate")
     write(model, RISING)
-    cases = [*cut_certificates(), *CERTIFICATES]
-    good = True
-    for name, memory, text, wanted in cases:
+    good, count = True, 0
+    numbers = [("the greatest numbers", LITTLE, text, f"refused {wanted}\n") for text, wanted in NUMBERS]
+    for name, memory, text, wanted in itertools.chain(cut_certificates(), numbers, long_certificates()):
         write(answer, text)
         good = check(name, model, answer, memory, wanted, int(wanted.startswith("refused"))) and good
+        count += 1
     for name, beginning, piece, memory, wanted in ENDLESS:
         good = check(name, model, endless(folder, name, beginning, piece), memory, wanted, 1) and good
     # a line that never ends takes all memory: status 6, and nothing is printed
     good = check("an endless line", model, "/dev/zero", SOME, "", 6) and good
     inner = endless(folder, "an endless line of a proof", PROOF, "5")
-    return check("an endless line of a proof", model, inner, SOME, "", 6) and good, len(cases) + len(ENDLESS) + 2
+    return check("an endless line of a proof", model, inner, SOME, "", 6) and good, count + len(ENDLESS) + 2
 
 
 def main():
