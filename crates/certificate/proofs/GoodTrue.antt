@@ -17,7 +17,7 @@ proved_list c grow before [] all good proved = subst (IsGoodList c) (sym proved)
 proved_list c grow before (e ∷ es) all good (clauses, _, first, others) =
     proved_list c grow (before ++ entry_with e clauses ∷ []) es all (grow.more before (entry_with e clauses) e.proofs good first) others
 
-length-simulated : (c : Circuit) (latches : List Bool) (inputs : List (List Bool)) → length (simulated c latches inputs) ≡ length inputs
+pub length-simulated : (c : Circuit) (latches : List Bool) (inputs : List (List Bool)) → length (simulated c latches inputs) ≡ length inputs
 unfolding simulated
 length-simulated c latches [] = refl
 length-simulated c latches (now ∷ later) = ap suc (length-simulated c (successor c (position_of latches now)) later)

@@ -15,3 +15,4 @@ pub mod OneEnd
 mod Reached
 mod Readable
 pub mod WrittenGood
+pub mod EachEnd

@@ -1,5 +1,5 @@
 -- The laws of answers.
-use Rattle.std.specs.Prelude.{◌≡◌, ◌↔◌, ◌≤◌, ◌<◌, ◌^◌, ℕ, List, length}
+use Rattle.std.specs.Prelude.{◌≡◌, ◌⊎◌, ◌↔◌, ◌≤◌, ◌<◌, ◌^◌, ℕ, List, length}
 use Rattle.aig_semantics.specs.declared.traces.Stimulus.{Stimulus}
 use Rattle.aig_semantics.specs.Circuits.{Circuit}
 use Rattle.aig_semantics.specs.Stimuli.{StandsFor}
@@ -19,7 +19,11 @@ ReadsGood c = (text : List ℕ) (accepted : Accepted) → ReadsWell c text accep
 abbrev pub GoodIsTrue : Circuit → Type 0
 GoodIsTrue c = (text : List ℕ) (accepted : Accepted) → IsGood c text accepted → Shows c accepted
 
--- a text is good for one thing at most
+-- any text is good for something, or has a fault
+abbrev pub EachHasEnd : Circuit → Type 0
+EachHasEnd c = (text : List ℕ) → ((accepted : Accepted) × IsGood c text accepted) ⊎ ((fault : AnswerFault) × IsRefused c text fault)
+
+-- it is good for one thing at most
 abbrev pub OneIsGood : Circuit → Type 0
 OneIsGood c = (text : List ℕ) (a b : Accepted) → IsGood c text a → IsGood c text b → a ≡ b
 

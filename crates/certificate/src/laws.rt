@@ -1,6 +1,6 @@
 //! The laws of answers. Each call does nothing; its contract is the law.
 
-ghost use Rattle.certificate.specs.Laws.{ReadsGood, GoodIsTrue, OneIsGood, GoodHasNoFault, OneFault, WrittenIsGood};
+ghost use Rattle.certificate.specs.Laws.{ReadsGood, GoodIsTrue, EachHasEnd, OneIsGood, GoodHasNoFault, OneFault, WrittenIsGood};
 
 use circuit::Circuit;
 use entry::{good_lists_grow, refutations_leave_no_lasso};
@@ -18,8 +18,10 @@ pub fn good_answers_are_true(c: &Circuit)
     refutations_leave_no_lasso(c);
 }
 
-/// A text is good for one thing at most, and then it is not refused; and it is refused for one fault at most.
+/// Any text is good for something or is refused for a fault; it is good for one thing at most, and then it is not
+/// refused, and it is refused for one fault at most.
 pub fn answers_have_one_end(c: &Circuit)
+    ensures each { EachHasEnd c.now }
     ensures good { OneIsGood c.now }
     ensures apart { GoodHasNoFault c.now }
     ensures refused { OneFault c.now }

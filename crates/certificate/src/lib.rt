@@ -5,7 +5,7 @@
 //! | `check_answer` | judges the answer that a shelf holds: a stimulus, or a certificate of version 1 or 2 |
 //! | `answers_are_read_as_good` | a law: what is read as a good answer is one, and every good answer is so read |
 //! | `good_answers_are_true` | a law: a good answer shows a fair lasso, or that there is none |
-//! | `answers_have_one_end` | a law: a text is good for one thing at most, or has one fault at most |
+//! | `answers_have_one_end` | a law: any text is good for one thing, or has one first fault, never both |
 //! | `written_stimuli_are_good` | a law: what `stimulus::write` writes is good, where the stimulus is |
 #![tactic(auto)]
 
