@@ -1,9 +1,10 @@
 -- A lemma is put into a level: no lemma stands twice, and the levels that are written one by one.
-use Rattle.std.proofs.Common.{◌≡◌, ◌≢◌, ℕ, zero, suc, ◌+◌, ◌<◌, ◌≤◌, true, false, List, [], ◌∷◌, ◌++◌, length, set, refl, sym, ap, ◌∙◌, subst, inl, inr, arith}
+use Rattle.std.proofs.Common.{◌≡◌, ◌≢◌, ℕ, zero, suc, ◌+◌, ◌<◌, ◌≤◌, true, false, List, [], ◌∷◌, ◌++◌, length, set, get_or, refl, sym, ap, ◌∙◌, subst, inl, inr, add-one, arith}
+use Rattle.std.specs.List.{remove}
 use Rattle.std.proofs.lemmas.Bool.{cases_Bool, false≢true}
 use Rattle.indexmap.specs.IndexSet.{remove_key}
 use Rattle.proof_semantics.specs.declared.literals.Lit.{Lit}
-use Rattle.ic3_frames.specs.Frames.{same_clause, has_clause, own_lemmas, frame_at, put_at, with_lemma, HasOwn}
+use Rattle.ic3_frames.specs.Frames.{same_clause, has_clause, own_lemmas, frame_at, put_at, with_lemma, moved, HasOwn}
 use Rattle.ic3_frames.specs.Kept.{times, StandOnce, taken_out}
 use Rattle.ic3_frames.proofs.Times.{same-same, same-is, times-append, times-none, has-none, times-removed-same, times-removed-other}
 
@@ -132,3 +133,84 @@ has-own levels k some once below = own-is-own levels k (own_lemmas levels k) ref
 pub some-own : (levels : Levels) (k : ℕ) → k < length levels → HasOwn levels k → own_lemmas levels k ≢ []
 some-own levels k below (c, (here, absent)) none =
     false≢true (sym absent ∙ ap (λ xs. has_clause xs c) (sym (same-frames levels k below none)) ∙ here)
+
+-- ---- a lemma is pushed to the next level
+
+-- the clause at a place stands in the list
+times-at : (own : List (List Lit)) (place : ℕ) → place < length own → 1 ≤ times (get_or own place []) own
+times-at [] place inside = absurd (omega arith)
+times-at (c ∷ own) zero inside =
+    let one : times c (c ∷ own) ≡ 1 + times c own = rw (same-same c) refl in
+    omega arith
+times-at (c ∷ own) (suc place) inside = let later = times-at own place (omega arith) in omega arith
+
+-- where it stands once, it is the one that is taken out
+removed-at : (own : List (List Lit)) (place : ℕ) → place < length own → times (get_or own place []) own ≤ 1
+    → remove_key (same_clause (get_or own place [])) own ≡ remove own place
+removed-at [] place inside once = absurd (omega arith)
+removed-at (c ∷ own) zero inside once = rw (same-same c) refl
+removed-at (d ∷ own) (suc place) inside once =
+    let c : List Lit = get_or own place [] in
+    elim (cases_Bool (same_clause c d)) [
+      | inl same ↦
+          let twice = rw same at once in
+          let some = times-at own place (omega arith) in
+          absurd (omega arith)
+      | inr other ↦
+          let alone = rw other at once in
+          let rest : times c own ≤ 1 = omega arith in
+          rw other (ap (λ later. d ∷ later) (removed-at own place (omega arith) rest))
+    ]
+
+removed-none : (c : List Lit) (own : List (List Lit)) → has_clause own c ≡ false → remove_key (same_clause c) own ≡ own
+removed-none c [] none = refl
+removed-none c (d ∷ own) none =
+    elim (cases_Bool (same_clause c d)) [
+      | inl here ↦ absurd (false≢true (sym (rw here at none)))
+      | inr other ↦ rw other (ap (λ later. d ∷ later) (removed-none c own (rw other at none)))
+    ]
+
+-- how often a lemma of a level stands in the frame, without the levels above
+times-own : (c : List Lit) (levels : Levels) (k : ℕ) → k < length levels
+    → times c (own_lemmas levels k) + times c (frame_at levels (suc k)) ≤ times c (frame_at levels 0)
+times-own c [] k below = absurd (omega arith)
+times-own c (own ∷ levels) zero below = let e = times-append c own (frame_at levels 0) in omega arith
+times-own c (own ∷ levels) (suc k) below =
+    let later = times-own c levels k (omega arith) in
+    let e = times-append c own (frame_at levels 0) in
+    omega arith
+
+put-moved : (c : List Lit) (levels : Levels) (k place : ℕ) → suc k < length levels → times c (frame_at levels 0) ≤ 1
+    → place < length (own_lemmas levels k) → c ≡ get_or (own_lemmas levels k) place []
+    → put_at levels (suc k) c ≡ set (set levels k (remove (own_lemmas levels k) place)) (suc k) (own_lemmas levels (suc k) ++ c ∷ [])
+put-moved c [] k place below once inside is = absurd (omega arith)
+put-moved c (own ∷ []) zero place below once inside is = absurd (omega arith)
+put-moved c (own ∷ next ∷ levels) zero place below once inside is =
+    let e = times-append c own (frame_at (next ∷ levels) 0) in
+    let most : times c own ≤ 1 = omega arith in
+    let gone : remove_key (same_clause c) own ≡ remove own place =
+    ap (λ d. remove_key (same_clause d) own) is ∙ removed-at own place inside (subst (λ d. times d own ≤ 1) is most)
+    in
+    ap (λ rest. rest ∷ (next ++ c ∷ []) ∷ levels) gone
+put-moved c (own ∷ levels) (suc k) place below once inside is =
+    let e = times-append c own (frame_at levels 0) in
+    let some : 1 ≤ times c (own_lemmas levels k) = subst (λ d. 1 ≤ times d (own_lemmas levels k)) (sym is) (times-at (own_lemmas levels k) place inside) in
+    let there = times-own c levels k (omega arith) in
+    let none : has_clause own c ≡ false = has-none c own (omega arith) in
+    let later = put-moved c levels k place (omega arith) (omega arith) inside is in
+    ap (λ rest. rest ∷ put_at levels (suc k) c) (removed-none c own none) ∙ ap (λ rest. own ∷ rest) later
+
+pub with-moved : (levels : Levels) (k place : ℕ) → k + 1 < length levels → StandOnce levels → place < length (own_lemmas levels k)
+    → with_lemma levels (k + 1) (get_or (own_lemmas levels k) place []) ≡ moved levels k place
+with-moved levels k place below once inside =
+    let c : List Lit = get_or (own_lemmas levels k) place [] in
+    let some = times-at (own_lemmas levels k) place inside in
+    let there = times-own c levels k (omega arith) in
+    let most = once c in
+    let absent : has_clause (frame_at levels (suc k)) c ≡ false = has-none c (frame_at levels (suc k)) (omega arith) in
+    let put : put_at levels (suc k) c ≡ with_lemma levels (suc k) c = rw absent refl in
+    let here : with_lemma levels (suc k) c ≡ set (set levels k (remove (own_lemmas levels k) place)) (suc k) (own_lemmas levels (suc k) ++ c ∷ []) =
+    sym put ∙ put-moved c levels k place (omega arith) most inside refl
+    in
+    ap (λ n. with_lemma levels n c) (add-one k) ∙ here
+    ∙ ap (λ n. set (set levels k (remove (own_lemmas levels k) place)) n (own_lemmas levels n ++ c ∷ [])) (sym (add-one k))

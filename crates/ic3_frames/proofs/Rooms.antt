@@ -1,11 +1,11 @@
 -- Lemmas and frames take room.
-use Rattle.std.proofs.Common.{◌≡◌, ℕ, zero, suc, ◌+◌, ◌-◌, ◌*◌, ◌^◌, ◌<◌, ◌≤◌, Bool, true, false, ◌&&◌, List, [], ◌∷◌, ◌++◌, length, length-append, refl, sym, ap, ◌∙◌, inl, inr, if◌then◌else◌, arith}
+use Rattle.std.proofs.Common.{◌≡◌, ℕ, zero, suc, ◌+◌, ◌-◌, ◌*◌, ◌^◌, ◌<◌, ◌≤◌, Bool, true, false, ◌&&◌, List, [], ◌∷◌, ◌++◌, length, length-append, refl, sym, ap, ◌∙◌, inl, inr, if◌then◌else◌, zero-add, arith}
 use Rattle.std.proofs.Math.Nat.{pow-suc}
 use Rattle.std.proofs.lemmas.Bool.{cases_Bool, false≢true}
 use Rattle.proof_semantics.specs.declared.literals.Lit.{Lit}
 use Rattle.proof_semantics.specs.Clauses.{clause_value, values_of}
 use Rattle.ic3_frames.specs.Frames.{has_clause, frame_at, put_at}
-use Rattle.ic3_frames.specs.Room.{count_states, allowed_by, total, room, LemmasTakeRoom, LemmasMakeNoRoom, FramesTakeRoom}
+use Rattle.ic3_frames.specs.Room.{count_states, allowed_by, total, room, LemmasTakeRoom, LemmasMakeNoRoom, FramesTakeRoom, FirstRoom}
 use Rattle.ic3_frames.proofs.Meaning.{put-within, has-adds-nothing, length-put, opened-stay}
 
 abbrev Levels : Type 0
@@ -160,3 +160,8 @@ frames-take n levels few =
     let f : room n levels ≡ total n levels + (left + 1) * width = room-is n levels ∙ ap (λ k. total n levels + k * width) more in
     let g = total-opened n levels in
     omega arith
+
+pub first-room : FirstRoom
+first-room n =
+    let e : 2 ^ n + 2 - 0 ≡ 2 ^ n + 2 = omega arith in
+    room-is n [] ∙ zero-add ((2 ^ n + 2 - 0) * (2 ^ n + 1)) ∙ ap (λ k. k * (2 ^ n + 1)) e

@@ -10,9 +10,9 @@ use Rattle.std.specs.Result.{OnOk, OnErr}
 use Rattle.indexmap.specs.IndexSet.{remove_key}
 use Rattle.proof_semantics.specs.declared.literals.Lit.{Lit}
 use Rattle.edge.specs.Units.{SpentFrame}
-use Rattle.ic3_frames.specs.Frames.{same_clause, has_clause, own_lemmas, frame_at, put_at, with_lemma, AllDiffer}
+use Rattle.ic3_frames.specs.Frames.{same_clause, has_clause, own_lemmas, frame_at, put_at, with_lemma, moved, AllDiffer}
 use Rattle.ic3_frames.specs.Kept.{keys_of, taken_out, StandOnce}
-use Rattle.ic3_frames.proofs.Putting.{taken-above, taken-more, put-taken, once-with, frame-own, same-frames, has-own, some-own}
+use Rattle.ic3_frames.proofs.Putting.{taken-above, taken-more, put-taken, once-with, with-moved, frame-own, same-frames, has-own, some-own}
 
 abbrev Levels : Type 0
 Levels = List (List (List Lit))
@@ -180,3 +180,10 @@ pub kept-once : {T E : Type 0} (r : Result T E) (old new : Levels) (k : ℕ) (le
     → OnOk r (new ≡ with_lemma old k lemma) → OnErr r (new ≡ old) → StandOnce old → StandOnce new
 kept-once (Ok x) old new k lemma ok err once = subst StandOnce (sym ok) (once-with old k lemma once)
 kept-once (Err e) old new k lemma ok err once = subst StandOnce (sym err) once
+
+pub pushed-lists : {T E : Type 0} (r : Result T E) (levels new : Levels) (k place : ℕ) (lemma : List Lit) → k + 1 < length levels → StandOnce levels
+    → place < length (own_lemmas levels k) → lemma ≡ get_or (own_lemmas levels k) place [] → OnOk r (new ≡ with_lemma levels (k + 1) lemma)
+    → OnOk r (new ≡ moved levels k place)
+pushed-lists r levels new k place lemma below once inside is ok =
+    on-ok r (new ≡ with_lemma levels (k + 1) lemma) (new ≡ moved levels k place)
+    (λ put. put ∙ ap (with_lemma levels (k + 1)) is ∙ with-moved levels k place below once inside) ok

@@ -1,6 +1,6 @@
 -- Frames of IC3 (Bradley, 2011), kept as lists of lemmas: for each level those that the next one has not.
-use Rattle.std.specs.Prelude.{◌≡◌, ℕ, zero, suc, ◌+◌, ◌<◌, Bool, true, false, List, [], ◌∷◌, ◌++◌, length, drop, slice_index_or, if◌then◌else◌}
-use Rattle.std.specs.List.{list_any, flat_map}
+use Rattle.std.specs.Prelude.{◌≡◌, ℕ, zero, suc, ◌+◌, ◌<◌, Bool, true, false, List, [], ◌∷◌, ◌++◌, length, drop, slice_index_or, slice_set, if◌then◌else◌}
+use Rattle.std.specs.List.{list_any, flat_map, remove}
 use Rattle.std.specs.Cmp.Lexicographic.{pointwise}
 use Rattle.indexmap.specs.IndexSet.{remove_key}
 use Rattle.proof_semantics.specs.declared.literals.Lit.{Lit}
@@ -31,6 +31,12 @@ put_at (own ∷ levels) (suc k) lemma = remove_key (same_clause lemma) own ∷ p
 -- the same, unless the frame of that level has it
 abbrev pub with_lemma : List (List (List Lit)) → ℕ → List Lit → List (List (List Lit))
 with_lemma levels k lemma = if has_clause (frame_at levels k) lemma then levels else put_at levels k lemma
+
+-- the lemma at a place of level k goes to the end of the next level
+abbrev pub moved : List (List (List Lit)) → ℕ → ℕ → List (List (List Lit))
+moved levels k place =
+    slice_set (slice_set levels k (remove (own_lemmas levels k) place)) (k + 1)
+    (own_lemmas levels (k + 1) ++ slice_index_or (own_lemmas levels k) place [] ∷ [])
 
 -- frame k has a lemma that the next has not
 abbrev pub HasOwn : List (List (List Lit)) → ℕ → Type 0

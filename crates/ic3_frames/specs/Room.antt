@@ -41,3 +41,7 @@ abbrev pub FramesTakeRoom : Type 0
 FramesTakeRoom =
     (n : ℕ) (levels : List (List (List Lit)))
     → length levels < 2 ^ n + 2 → room n (levels ++ [] ∷ []) + 1 ≤ room n levels
+
+-- The room before any frame.
+abbrev pub FirstRoom : Type 0
+FirstRoom = (n : ℕ) → room n [] ≡ (2 ^ n + 2) * (2 ^ n + 1)

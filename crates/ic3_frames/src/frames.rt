@@ -3,7 +3,7 @@ ghost use Rattle.std.specs.Prelude.{◌≡◌, ℕ, ◌+◌, ◌≤◌, ◌<◌,
 ghost use Rattle.proof_semantics.specs.Clauses.{clause_value, clauses_value, values_of};
 ghost use Rattle.edge.specs.Faults.{one_more};
 ghost use Rattle.edge.specs.declared.metering.Counted.TheVariants.{Steps};
-ghost use Rattle.ic3_frames.specs.Frames.{own_lemmas, frame_at, with_lemma, AllDiffer};
+ghost use Rattle.ic3_frames.specs.Frames.{own_lemmas, frame_at, with_lemma, moved, AllDiffer};
 ghost use Rattle.ic3_frames.specs.Lent.{clauses_of};
 
 use crate::levels::{add_level, allow, copy_at, count, first_empty, lemma_at, put};
@@ -78,6 +78,7 @@ impl Frames {
         requires place { place < length (own_lemmas self.old level) }
         ensures ok { OnOk result (self.new
             ≡ with_lemma self.old (level + 1) (slice_index_or (own_lemmas self.old level) place [])) }
+        ensures lists { OnOk result (self.new ≡ moved self.old level place) }
         ensures err { OnErr result (self.new ≡ self.old) }
     {
         let lemma = copy_at(&self.levels, level as usize, place as usize)?;

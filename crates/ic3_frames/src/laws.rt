@@ -1,6 +1,6 @@
 //! The laws of frames: what they mean, and the room that steps take. Each call does nothing; its contract is the laws.
 ghost use Rattle.ic3_frames.specs.Meaning.{FramesGrow, LemmasRestrict, AboveStay, NumberStays, OpenedStay};
-ghost use Rattle.ic3_frames.specs.Room.{LemmasTakeRoom, LemmasMakeNoRoom, FramesTakeRoom};
+ghost use Rattle.ic3_frames.specs.Room.{LemmasTakeRoom, LemmasMakeNoRoom, FramesTakeRoom, FirstRoom};
 
 /// What a frame allows, the next one allows. A lemma that is put into a frame restricts it and those below, and a frame
 /// that is opened restricts none.
@@ -18,4 +18,5 @@ pub fn steps_take_room()
     ensures lemmas { LemmasTakeRoom }
     ensures pushes { LemmasMakeNoRoom }
     ensures frames { FramesTakeRoom }
+    ensures first { FirstRoom }
 {}

@@ -1,6 +1,8 @@
-use Rattle.std.proofs.Common.{◌+◌, arith}
-use Rattle.ic3_frames.specs.Kept.{keys_of}
-use Rattle.ic3_frames.proofs.Steps.{kept-once}
+use Rattle.std.proofs.Common.{◌≡◌, ◌+◌, [], get_or, ap, ◌∙◌, subst, arith}
+use Rattle.std.specs.Result.{OnOk}
+use Rattle.ic3_frames.specs.Frames.{own_lemmas, with_lemma}
+use Rattle.ic3_frames.specs.Kept.{keys_of, StandOnce}
+use Rattle.ic3_frames.proofs.Steps.{kept-once, pushed-lists}
 use Rattle.ic3_frames.proofs.frames.Frames.push_on.Goals as goal
 
 pub invariant_of-self : goal.invariant_of-self
@@ -10,3 +12,12 @@ invariant_of-self c = record {
       c.self.invariant.once;
   counts = omega arith;
 }
+
+pub returns-clause-lists : goal.returns-clause-lists
+returns-clause-lists c =
+    let k = c.args.level in
+    let is = ap keys_of c.deref.ensures.value ∙ c.self.view_is in
+    let lemma = c.in_ok-lemma.ensures ∙ ap (λ levels. get_or (own_lemmas levels k) c.args.place []) is in
+    let ok = subst (λ levels. OnOk c.put.result (keys_of c.put.new.levels.items ≡ with_lemma levels (k + 1) c.in_ok-lemma.lemma)) c.self.view_is c.put.ensures.ok in
+    pushed-lists c.put.result c.args.self.now (keys_of c.put.new.levels.items) k c.args.place c.in_ok-lemma.lemma
+    c.requires.next (subst StandOnce c.self.view_is c.self.invariant.once) c.requires.place lemma ok
