@@ -64,6 +64,36 @@ fn spelled(alloc: Global, lengths: &[usize], end: u8) -> Result<Vec<u8>, AllocEr
     Ok(text)
 }
 
+/// For each line of a text, whether it is said to be the last.
+fn lasts(alloc: Global, text: &[u8]) -> Result<Vec<bool>, LinesEnd> {
+    let mut shelf = shelf(alloc, text, 2, &[])?;
+    let mut lines = Lines::new(alloc)?;
+    let mut lasts = Vec::new(alloc);
+    for _ in 0..1000 {
+        if !lines.next(&mut shelf, "answer")? {
+            break;
+        }
+        lasts.push(lines.is_last())?;
+    }
+    Ok(lasts)
+}
+
+#[test]
+fn says_that_a_line_is_last(rt: HostRuntime) -> Result<(), Fail> {
+    let cases: [(&str, &[bool]); 5] = [
+        ("", &[]),
+        ("a", &[true]),
+        ("a\n", &[false]),
+        ("a\n\nbc", &[false, false, true]),
+        ("a\n\nbc\n", &[false, false, false]),
+    ];
+    for (text, want) in cases {
+        let given = lasts(rt.alloc(), text.as_bytes())?;
+        assert_eq!(rt; given.as_slice(), want, "{text:?}");
+    }
+    Ok(())
+}
+
 #[test]
 fn gives_the_lines_of_short_texts(rt: HostRuntime) -> Result<(), Fail> {
     let cases = [
