@@ -1,22 +1,32 @@
 #!/usr/bin/env python3
-"""Models that are cut off anywhere, and models that would make a careless reader crash, recurse deeply, wait or take
-memory: ./fairlive must answer each as stated, within 60 seconds and 1 GB of address space; the longest texts and the
-most inputs that there may be, within 4 GB. A short text must be answered within 20 MB, which is less than the latches
-or gates take that its header may announce; but for inputs, which have no bytes in the binary form."""
+"""Models and certificates that are cut off anywhere, and such that would make a careless reader crash, recurse deeply,
+wait or take memory: the program must answer each as stated, within 60 seconds and 1 GB of address space; the longest
+texts and the most inputs that there may be, within 4 GB. A short text must be answered within 20 MB, which is less than
+the latches or gates take that its header may announce, and than what a certificate announces; but for inputs, which
+have no bytes in the binary form."""
+import itertools
 import os
 import subprocess
 import sys
 import tempfile
 import threading
 
+sys.dont_write_bytecode = True
+import judge  # noqa: E402
+
 TOP = os.path.dirname(os.path.dirname(os.path.abspath(__file__)))
+# the program itself, without the script before it that looks for sources that are newer
+PROGRAM = os.path.join(TOP, "crates", "fair_main", "out", "fair_main")
 GATES = 1_000_000
 GREATEST = 4_294_967_295
+GREATEST_ID = 2**63 - 1
 # the greatest variable that a model may have, and the most bytes
 VARIABLES = 16_777_216
 LENGTH = 1_073_741_824
 # address space, in units of 1,024 bytes
 MUCH, MEMORY, LITTLE = 4_000_000, 1_000_000, 20_000
+# less than the texts and lines that are 100 MB long
+SOME = 60_000
 READ = "refused unknown status\n"
 
 
@@ -144,61 +154,225 @@ def prefixes(text, gates_end, symbol_end):
             yield name, text[:length], READ
 
 
-def check(name, model, answer, memory, wanted):
+# ---- certificates
+
+# one latch that goes to 1 and stays, and the property that it is 0
+RISING = "aag 1 0 1 0 0 0 0 1 0\n2 1\n1\n3\n"
+TITLE = "0\nj0\nversion 1\n"
+WALL = "wall 1 0\n\n2 0\nproof 1\n6 0 1 3 5 0\n"
+END = "refute 1 1\n0\n11 0 1 3 4 9 10 5 0\nend\n"
+EMPTY = "wall 0 0\n\n"
+PROOF = TITLE + "refute 0 1\n\n"
+LENGTHY = 100_000_000
+ACCEPTED = "accepted certificate j0 entries 1\n"
+
+# both kinds, entries with no clause and with some, sides, literals twice, deletions, skipped lines
+FEATURES = """0
+j0
+version 2
+wall 3 0
+
+2 0
+2 2 0
+3 2 0
+proof 3
+8 4 0 1 3 0
+9 d 4 2 0
+9 0 8 7 0
+c skipped
+proof 3
+9 4 0 1 3 0
+10 d 0
+10 0 9 8 0
+proof 3
+9 -4 0 8 0
+u
+10 d 1 2 3 0
+10 0 7 8 0
+reach 2 0
+
+3 2 0
+2 3 3 0
+proof 1
+8 0 6 7 0
+proof 2
+10 4 0 7 0
+12 0 10 6 0
+wall 0 2
+0+ 1
+reach 0 1
+1
+wall 1 4
+0- 1 2 3
+3 0
+proof 3
+32 4 0 1 3 0
+40 d 2 28 0
+33 0 32 30 29 14 16 20 21 0
+refute 3 3
+0 1 4
+60 4 0 1 3 0
+61 d 2 7 0
+61 0 60 4 15 17 21 22 5 0
+end
+c behind the end
+"""
+
+# the greatest numbers, and those that are too great; what is wanted
+NUMBERS = [
+    ("0\nj9223372036854775807\n", "property 9223372036854775807"),
+    ("0\nj9223372036854775808\n", "shape line 2"),
+    (TITLE + "wall 9223372036854775807 0\n\n", "shape line 6"),
+    (TITLE + "wall 9223372036854775807 9223372036854775807\n", "shape line 5"),
+    (TITLE + "wall 9223372036854775808 0\n\n", "shape line 4"),
+    (TITLE + "reach 0 9223372036854775807\n\n", "shape line 5"),
+    (TITLE + "wall 0 1\n9223372036854775807\n", "entry 0 use 9223372036854775807"),
+    (TITLE + "wall 0 1\n9223372036854775808\n", "shape line 5"),
+    (TITLE + "wall 1 0\n\n9223372036854775807 0\n", "entry 0 literal 9223372036854775807"),
+    (TITLE + "wall 1 0\n\n18446744073709551618 0\n", "shape line 6"),
+    (TITLE + "wall 1 0\n\n2 0\nproof 9223372036854775807\n", "shape line 8"),
+    (TITLE + "refute 0 9223372036854775807\n\n", "shape line 6"),
+    (TITLE + "refute 9223372036854775807 0\n\n", "shape line 5"),
+    (PROOF + "9223372036854775807 9223372036854775807 0 1 4 5 0\n", "refutation line 0 no clause 5"),
+    (PROOF + f"{GREATEST_ID} 0 {GREATEST_ID} 0\n", f"refutation line 0 no clause {GREATEST_ID}"),
+    (PROOF + f"{GREATEST_ID} d {GREATEST_ID} 0\n", f"refutation line 0 no clause {GREATEST_ID}"),
+    (PROOF + "9223372036854775808 d 0\n", "refutation line 0 bad line"),
+    (PROOF + "18446744073709551621 0 1 4 0\n", "refutation line 0 bad line"),
+    (PROOF + "5 -9223372036854775808 0 1 4 0\n", "refutation line 0 bad line"),
+]
+
+
+def wide(count):
+    """A wall of one clause with the same literal so many times, and its use."""
+    wall = f"wall 1 0\n\n{'2 ' * count}0\nproof 1\n{count + 5} 0 4 1 3 5 0\n"
+    return TITLE + wall + f"refute 1 1\n0\n{2 * count + 9} 0 1 3 4 {count + 8} {2 * count + 8} 5 0\nend\n"
+
+
+def crowded(count):
+    """Walls that each name the inside of all that stand before."""
+    uses = [" ".join(f"{n}+" for n in range(k)) for k in range(count)]
+    walls = "".join(f"wall 0 {k}\n{line}\n" for k, line in enumerate(uses))
+    return TITLE.replace("1", "2") + walls + "refute 0 0\n\nend\n"
+
+
+def long_certificates():
+    """Each with its name, memory and what is wanted; they are made one after another, since they are long."""
+    yield "100 MB of entries", SOME, TITLE + EMPTY * (LENGTHY // len(EMPTY)), "refused too long\n"
+    yield "a first line of 100 MB", MEMORY, "0" * LENGTHY, "refused shape line 1\n"
+    yield "an opening line of 100 MB", MEMORY, TITLE + "wall " + "1" * LENGTHY, "refused shape line 4\n"
+    yield "a line of uses of 100 MB", MEMORY, TITLE + "wall 0 0\n" + "0 " * (LENGTHY // 2), "refused shape line 5\n"
+    yield "a proof line of 100 MB", MEMORY, PROOF + "9" * LENGTHY, "refused refutation line 0 bad line\n"
+    yield "a skipped line of 100 MB", MEMORY, "c" * LENGTHY + "\n" + TITLE + WALL + END, ACCEPTED
+    yield "many hints", MUCH, TITLE + WALL.replace("6 0 ", "6 0 " + "1 " * 10_000_000) + END, ACCEPTED
+    yield "a wide clause", MEMORY, wide(1_000_000), ACCEPTED
+    yield "walls that name all before them", MEMORY, crowded(400), "refused refutation line 0 unfinished\n"
+
+
+# the name, how the text begins, what stands behind it again and again, the memory, and what is wanted
+ENDLESS = [
+    ("endless lines in no form", "", "zz\n", LITTLE, "refused shape line 1\n"),
+    ("endless entries", TITLE, EMPTY, SOME, "refused too long\n"),
+    ("endless lines of a proof", PROOF, "5 0 1 4 5 0\n", LITTLE, "refused refutation line 0 no clause 5\n"),
+    ("endless lines behind the end", TITLE + WALL + END, "\n", LITTLE, "refused trailing line 13\n"),
+]
+
+
+def cut_certificates():
+    """The certificate with all features, cut off behind each byte, judged beside the program."""
+    circuit = judge.read_circuit(RISING.encode())
+    for length in range(len(FEATURES) + 1):
+        text = FEATURES[:length]
+        yield f"the first {length} bytes of a certificate", LITTLE, text, judge.judge(circuit, text.encode())[0]
+
+
+# ---- runs
+
+
+def check(name, model, answer, memory, wanted, status=None):
+    """Whether the program prints what begins so; or, where a status is given, just that, and ends with the status."""
     limited = ["bash", "-c", 'ulimit -v "$0" && exec "$@"', str(memory)]
-    command = [*limited, os.path.join(TOP, "fairlive"), "check", model, answer]
+    command = [*limited, PROGRAM, "check", model, answer]
     try:
         ran = subprocess.run(command, stdout=subprocess.PIPE, timeout=60, text=True)
     except subprocess.TimeoutExpired:
         print(f"{name}: no answer within 60 seconds")
         return False
-    if not ran.stdout.startswith(wanted):
+    good = ran.stdout.startswith(wanted) if status is None else (ran.stdout, ran.returncode) == (wanted, status)
+    if not good:
         print(f"{name}: status {ran.returncode}, printed {ran.stdout!r}")
-        return False
-    return True
+    return good
 
 
-def pour(pipe, beginning):
+def pour(pipe, beginning, piece):
     """Writes a text that never ends, until nobody reads it."""
     try:
         with open(pipe, "wb", buffering=0) as file:
             file.write(beginning)
             while True:
-                file.write(bytes(65536))
+                file.write(piece * (65536 // len(piece)))
     except BrokenPipeError:
         pass
 
 
-def check_endless(folder, answer):
-    """An endless binary model; one of zeros alone is no binary text."""
-    pipe = os.path.join(folder, "pipe")
+def endless(folder, name, beginning, piece):
+    """The path of a text that never ends."""
+    pipe = os.path.join(folder, name.replace(" ", "_"))
     os.mkfifo(pipe)
-    threading.Thread(target=pour, args=(pipe, b"aig 1 1 0 0 0\nc"), daemon=True).start()
+    threading.Thread(target=pour, args=(pipe, beginning.encode(), piece.encode()), daemon=True).start()
+    return pipe
+
+
+def write(path, text, length=0):
+    with open(path, "wb") as file:
+        file.write(text if isinstance(text, bytes) else text.encode())
+        file.truncate(max(length, file.tell()))
+
+
+def check_models(folder):
+    """Whether each model is answered as it must be, and how many they are."""
+    model, answer = os.path.join(folder, "model"), os.path.join(folder, "answer")
+    write(answer, "2\n")
+    short = SHORT + [case for sections in SECTIONS for case in prefixes(*sections)]
+    cases = [(LITTLE, (*case, 0)) for case in short] + [(MEMORY, (*case, 0)) for case in ASCII + BINARY]
+    cases += [(MUCH, case) for case in GREAT]
+    good = True
+    for memory, (name, text, wanted, length) in cases:
+        write(model, text, length)
+        good = check(name, model, answer, memory, wanted) and good
     wanted = f"model refused limit {LENGTH}\n"
-    binary = check("an endless binary model", pipe, answer, MUCH, wanted)
-    return check("an endless model", "/dev/zero", answer, MUCH, wanted) and binary
+    pipe = endless(folder, "an endless binary model", "aig 1 1 0 0 0\nc", "\0")
+    good = check("an endless binary model", pipe, answer, MUCH, wanted) and good
+    # one of zeros alone is no binary text
+    return check("an endless model", "/dev/zero", answer, MUCH, wanted) and good, len(cases) + 2
+
+
+def check_certificates(folder):
+    """Whether each certificate is answered as it must be, and how many they are."""
+    model, answer = os.path.join(folder, "rising"), os.path.join(folder, "certificate")
+    write(model, RISING)
+    good, count = True, 0
+    numbers = [("the greatest numbers", LITTLE, text, f"refused {wanted}\n") for text, wanted in NUMBERS]
+    for name, memory, text, wanted in itertools.chain(cut_certificates(), numbers, long_certificates()):
+        write(answer, text)
+        good = check(name, model, answer, memory, wanted, int(wanted.startswith("refused"))) and good
+        count += 1
+    for name, beginning, piece, memory, wanted in ENDLESS:
+        good = check(name, model, endless(folder, name, beginning, piece), memory, wanted, 1) and good
+    # a line that never ends takes all memory: status 6, and nothing is printed
+    good = check("an endless line", model, "/dev/zero", SOME, "", 6) and good
+    inner = endless(folder, "an endless line of a proof", PROOF, "5")
+    return check("an endless line of a proof", model, inner, SOME, "", 6) and good, count + len(ENDLESS) + 2
 
 
 def main():
     # a first run without limits, which builds the program where it is not built
     subprocess.run([os.path.join(TOP, "fairlive")], stdout=subprocess.DEVNULL)
     with tempfile.TemporaryDirectory() as folder:
-        model, answer = os.path.join(folder, "model"), os.path.join(folder, "answer")
-        with open(answer, "w") as file:
-            file.write("2\n")
-        good = True
-        short = SHORT + [case for sections in SECTIONS for case in prefixes(*sections)]
-        cases = [(LITTLE, (*case, 0)) for case in short] + [(MEMORY, (*case, 0)) for case in ASCII + BINARY]
-        cases += [(MUCH, case) for case in GREAT]
-        for memory, (name, text, wanted, length) in cases:
-            with open(model, "wb") as file:
-                file.write(text if isinstance(text, bytes) else text.encode())
-                file.truncate(max(length, file.tell()))
-            good = check(name, model, answer, memory, wanted) and good
-        good = check_endless(folder, answer) and good
-    if good:
-        print(f"hostile models: {len(cases) + 2} answered as they must be")
-    return 0 if good else 1
+        models, models_count = check_models(folder)
+        certificates, certificates_count = check_certificates(folder)
+    if models and certificates:
+        print(f"hostile texts: {models_count} models and {certificates_count} certificates answered as they must be")
+    return 0 if models and certificates else 1
 
 
 if __name__ == "__main__":

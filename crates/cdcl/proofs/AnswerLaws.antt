@@ -2,8 +2,7 @@
 use Rattle.std.proofs.Common.{◌≡◌, ℕ, Bool, true, false, eqb, List, [], ◌∷◌, map, Option, Some, None, refl, ap, sym, subst, ◌∙◌, inl, inr}
 use Rattle.std.specs.Option.{unwrap_or, option_map}
 use Rattle.std.proofs.lemmas.Bool.{false≢true, cond-true, cond-false}
-use Rattle.proof_semantics.specs.Clauses.{bool_eq, negation, has_literal, literal_value, clause_value, cube_value, clauses_value, values_of, is_part}
-use Rattle.proof_semantics.specs.Propagation.{hints_fault}
+use Rattle.proof_semantics.specs.Clauses.{bool_eq, negation, literal_value, clause_value, cube_value, clauses_value, values_of, is_part}
 use Rattle.proof_semantics.specs.declared.literals.Lit.{Lit}
 use Rattle.proof_semantics.proofs.LiteralLaws.{bool_eq-true, bool_eq-same}
 use Rattle.proof_semantics.proofs.Soundness.{hints_refute}

@@ -5,7 +5,7 @@ use Rattle.std.specs.List.{list_any, list_all}
 use Rattle.std.proofs.lemmas.Bool.{false≢true, and_parts, and_from, or_cases, or_left, or_right}
 use Rattle.std.proofs.lemmas.List.{append-nil, length-append}
 use Rattle.std.proofs.lemmas.List.Folds.{list_any-append}
-use Rattle.proof_semantics.specs.Clauses.{has_literal, clause_value, clauses_value, IsImplied, is_subsumed}
+use Rattle.proof_semantics.specs.Clauses.{has_literal, clause_value, IsImplied, is_subsumed}
 use Rattle.proof_semantics.specs.Lines.{IsSize, AreSized}
 use Rattle.proof_semantics.specs.declared.literals.Lit.{Lit}
 use Rattle.proof_semantics.proofs.LiteralLaws.{lit_eq-true, lit_eq-same}
@@ -13,7 +13,6 @@ use Rattle.edge.specs.Faults.{one_more}
 use Rattle.edge.specs.Units.{Spendings, SpentConflict}
 use Rattle.cdcl_learn.specs.declared.learning.Learned.{Learned}
 use Rattle.cdcl_trail.proofs.TrailLaws.{or_both, or_neither}
-use Rattle.cdcl_trail.proofs.PrefixLaws.{all_from}
 use Rattle.cdcl.specs.Entries.{Entries, with_added, with_learned, added_in, learned_in, added_of, learned_of, IsLog}
 use Rattle.cdcl.specs.Room.{room, variables_of, variables_in}
 use Rattle.cdcl.specs.Searching.{is_over, are_over, IsNewClause}

@@ -11,7 +11,7 @@ use Rattle.proof_semantics.specs.declared.literals.Lit.{Lit}
 use Rattle.proof_semantics.proofs.LiteralLaws.{lit_eq-true, lit_eq-same, bool_eq-true, bool_eq-same, same_lit, has_literal-push, clause_value-has}
 use Rattle.cdcl_trail.specs.Trails.{Step, assumed, literals_of, step_of, value_of, once}
 use Rattle.cdcl_trail.specs.Propagation.{is_value, is_true, is_false, is_falsified, is_complete, AreForced, Propagates}
-use Rattle.cdcl_trail.proofs.TrailLaws.{either, not-true, or_neither, or_both}
+use Rattle.cdcl_trail.proofs.TrailLaws.{either, not-true, or_neither}
 use Rattle.cdcl_trail.proofs.ScanLaws.{all_has, any_gives, any_has, untrue, one_value}
 use Rattle.cdcl_trail.proofs.PassLaws.{step_comes, no_step, complete_at, held_at}
 use Rattle.cdcl_trail.proofs.PrefixLaws.{all_from, true_more, none_before, reasoned_assumed}
@@ -89,49 +89,17 @@ false_push : (f : Lit → Bool) (xs : List Lit) (a : Lit) → list_all f xs ≡ 
 false_push f [] a all here = and_from _ _ here refl
 false_push f (x ∷ xs) a all here = let parts = and_parts _ _ all in and_from _ _ parts.0 (false_push f xs a parts.1 here)
 
--- one more literal of the clause without a value, of which one is kept
-pub open_more : (steps : List Step) (clause : List Lit) (i : ℕ) (d : Lit) (open_now : Option Lit) (kept : Lit) → i < length clause → d ≡ get_or clause i d
-    → value_of steps d.var ≡ None → (kept ≡ d) ⊎ (open_now ≡ Some kept) → OpenSoFar steps (take i clause) open_now → OpenSoFar steps (take (i + 1) clause) (Some kept)
-open_more steps clause i d open_now kept below is none which so_far =
-    let pushed : take (i + 1) clause ≡ take i clause ++ d ∷ [] = take_in clause i d below is in
-    elim which [
-      | inl last ↦ (
-        ap (λ (a : Lit). value_of steps a.var) last ∙ none,
-        ap (λ xs. has_literal xs kept) pushed ∙ has_literal-push (take i clause) d kept ∙ or_right _ _ (ap (lit_eq kept) (sym last) ∙ lit_eq-same kept),
-      )
-      | inr before ↦
-          let old = subst (λ o. OpenSoFar steps (take i clause) o) before so_far in
-          (old.0, ap (λ xs. has_literal xs kept) pushed ∙ has_literal-push (take i clause) d kept ∙ or_left _ _ old.1)
-    ]
-
--- no literal so far is true
-abbrev pub NoneTrue : List Step → List Lit → Type 0
-NoneTrue steps seen = list_any (is_true steps) seen ≡ false
-
-untrue_push : (f : Lit → Bool) (xs : List Lit) (a : Lit) → list_any f xs ≡ false → f a ≡ false → list_any f (xs ++ a ∷ []) ≡ false
-untrue_push f [] a none here = or_both _ _ here refl
-untrue_push f (x ∷ xs) a none here = let parts = or_neither _ _ none in or_both _ _ parts.0 (untrue_push f xs a parts.1 here)
-
-unvalued_untrue : (o : Option Bool) (b : Bool) → o ≡ None → is_value o b ≡ false
-unvalued_untrue None b e = refl
-unvalued_untrue (Some v) b e = absurd (none-some v (sym e))
-
-pub none_true_open : (steps : List Step) (clause : List Lit) (i : ℕ) (d : Lit) → i < length clause → d ≡ get_or clause i d → value_of steps d.var ≡ None
-    → NoneTrue steps (take i clause) → NoneTrue steps (take (i + 1) clause)
-none_true_open steps clause i d below is none so_far =
-    ap (list_any (is_true steps)) (take_in clause i d below is) ∙ untrue_push (is_true steps) (take i clause) d so_far (unvalued_untrue _ d.positive none)
+-- one more literal of the clause, without a value
+pub open_more : (steps : List Step) (clause : List Lit) (i : ℕ) (d : Lit) → i < length clause → d ≡ get_or clause i d → value_of steps d.var ≡ None
+    → OpenSoFar steps (take (i + 1) clause) (Some d)
+open_more steps clause i d below is none =
+    (none, ap (λ xs. has_literal xs d) (take_in clause i d below is) ∙ has_literal-push (take i clause) d d ∙ or_right _ _ (lit_eq-same d))
 
 wrong_value : (o : Option Bool) (value b : Bool) → o ≡ Some value → (value ≡ b → ⊥) → (is_value o b ≡ false) × (is_value o (not b) ≡ true)
 wrong_value None value b e differs = absurd (none-some value e)
 wrong_value (Some v) value b e differs =
     let same : v ≡ value = same_Some v value e in
     (untrue _ (λ t. differs (sym same ∙ bool_eq-true v b t)), ap (λ x. bool_eq x (not b)) same ∙ not_wanted value b differs)
-
-pub none_true_false : (steps : List Step) (clause : List Lit) (i : ℕ) (d : Lit) (value : Bool) → i < length clause → d ≡ get_or clause i d → value_of steps d.var ≡ Some value
-    → (value ≡ d.positive → ⊥) → NoneTrue steps (take i clause) → NoneTrue steps (take (i + 1) clause)
-none_true_false steps clause i d value below is valued differs so_far =
-    ap (list_any (is_true steps)) (take_in clause i d below is)
-    ∙ untrue_push (is_true steps) (take i clause) d so_far (wrong_value _ value d.positive valued differs).0
 
 pub open_stays : (steps : List Step) (clause : List Lit) (i : ℕ) (d : Lit) (value : Bool) (open_now : Option Lit) → i < length clause → d ≡ get_or clause i d
     → value_of steps d.var ≡ Some value → (value ≡ d.positive → ⊥) → OpenSoFar steps (take i clause) open_now → OpenSoFar steps (take (i + 1) clause) open_now
@@ -147,14 +115,11 @@ open_ends_none steps clause i None past unfalsified so_far =
     absurd (false≢true (sym unfalsified ∙ ap (is_falsified steps) (sym (take_all i clause past)) ∙ so_far))
 open_ends_none steps clause i (Some a) past unfalsified so_far = tt
 
-pub open_ends_some : (steps : List Step) (clause : List Lit) (i : ℕ) (o : Option Lit) → length clause ≤ i → OpenSoFar steps (take i clause) o → NoneTrue steps (take i clause)
+pub open_ends_some : (steps : List Step) (clause : List Lit) (i : ℕ) (o : Option Lit) → length clause ≤ i → OpenSoFar steps (take i clause) o
     → IfSome o (λ a. IsOpenIn steps clause a)
-open_ends_some steps clause i None past so_far none = tt
-open_ends_some steps clause i (Some a) past so_far none = record {
-  unvalued = so_far.0;
-  inside = ap (λ xs. has_literal xs a) (sym (take_all i clause past)) ∙ so_far.1;
-  unsatisfied = ap (list_any (is_true steps)) (sym (take_all i clause past)) ∙ none;
-}
+open_ends_some steps clause i None past so_far = tt
+open_ends_some steps clause i (Some a) past so_far =
+    record { unvalued = so_far.0; inside = ap (λ xs. has_literal xs a) (sym (take_all i clause past)) ∙ so_far.1 }
 
 has_at : (clause : List Lit) (i : ℕ) (d : Lit) → i < length clause → d ≡ get_or clause i d → Has clause d
 has_at [] i d below is = absurd (omega (arith, below))
@@ -180,17 +145,16 @@ satisfied_push : (clauses : List (List Lit)) (steps : List Step) (c : List Lit) 
 satisfied_push [] steps c all here = and_from _ _ here refl
 satisfied_push (x ∷ clauses) steps c all here = let parts = and_parts _ _ all in and_from _ _ parts.0 (satisfied_push clauses steps c parts.1 here)
 
--- the choice among the clauses that were seen
-abbrev pub BestSoFar : List (List Lit) → List (List Lit) → List Step → Option Lit → Type 0
-BestSoFar clauses seen steps None = is_satisfied seen steps ≡ true
-BestSoFar clauses seen steps (Some a) = IsOpen clauses steps a
-
-pub best_stays : (clauses : List (List Lit)) (steps : List Step) (i : ℕ) (clause : List Lit) (o best : Option Lit) → i < length clauses → clause ≡ get_or clauses i clause
-    → o ≡ None → IfNone o (list_any (is_true steps) clause ≡ true) → BestSoFar clauses (take i clauses) steps best → BestSoFar clauses (take (i + 1) clauses) steps best
-best_stays clauses steps i clause None None below is none here so_far =
+-- one more clause, with a true literal
+pub satisfied_more : (clauses : List (List Lit)) (steps : List Step) (i : ℕ) (clause : List Lit) (o : Option Lit) → i < length clauses → clause ≡ get_or clauses i clause
+    → o ≡ None → IfNone o (list_any (is_true steps) clause ≡ true) → is_satisfied (take i clauses) steps ≡ true → is_satisfied (take (i + 1) clauses) steps ≡ true
+satisfied_more clauses steps i clause None below is none here so_far =
     ap (λ cs. is_satisfied cs steps) (take_more clauses i clause below ∙ ap (λ c. take i clauses ++ c ∷ []) (sym is)) ∙ satisfied_push (take i clauses) steps clause so_far here
-best_stays clauses steps i clause None (Some b) below is none here so_far = so_far
-best_stays clauses steps i clause (Some a) best below is none here so_far = absurd (none-some a (sym none))
+satisfied_more clauses steps i clause (Some a) below is none here so_far = absurd (none-some a (sym none))
+
+-- all clauses
+pub satisfied_all : (clauses : List (List Lit)) (steps : List Step) (i : ℕ) → length clauses ≤ i → is_satisfied (take i clauses) steps ≡ true → is_satisfied clauses steps ≡ true
+satisfied_all clauses steps i past so_far = ap (λ cs. is_satisfied cs steps) (sym (take_all i clauses past)) ∙ so_far
 
 has_variable-of : (clause : List Lit) (a : Lit) → Has clause a → has_variable clause a.var ≡ true
 has_variable-of [] a has = absurd (false≢true has)
@@ -200,7 +164,7 @@ has_variable-of (b ∷ clause) a has =
       | inr later ↦ or_right _ _ (has_variable-of clause a later)
     ]
 
-open_at : (clauses : List (List Lit)) (steps : List Step) (i : ℕ) (clause : List Lit) (a : Lit) → i < length clauses → clause ≡ get_or clauses i clause → IsOpenIn steps clause a
+pub open_at : (clauses : List (List Lit)) (steps : List Step) (i : ℕ) (clause : List Lit) (a : Lit) → i < length clauses → clause ≡ get_or clauses i clause → IsOpenIn steps clause a
     → IsOpen clauses steps a
 open_at clauses steps i clause a below is o = record {
   unvalued = o.unvalued;
@@ -208,36 +172,18 @@ open_at clauses steps i clause a below is o = record {
   clause = clause;
   at = slice_get_read clauses _ i clause refl below is;
   inside = has_variable-of clause a o.inside;
-  unsatisfied = o.unsatisfied;
 }
 
-pub best_more : (clauses : List (List Lit)) (steps : List Step) (i : ℕ) (clause : List Lit) (a kept : Lit) (o best : Option Lit) → i < length clauses
-    → clause ≡ get_or clauses i clause → o ≡ Some a → IfSome o (λ b. IsOpenIn steps clause b) → (kept ≡ a) ⊎ (best ≡ Some kept)
-    → BestSoFar clauses (take i clauses) steps best → BestSoFar clauses (take (i + 1) clauses) steps (Some kept)
-best_more clauses steps i clause a kept o best below is some opens which so_far =
-    elim which [
-      | inl new ↦ subst (λ b. IsOpen clauses steps b) (sym new) (open_at clauses steps i clause a below is (subst (λ p. IfSome p (λ b. IsOpenIn steps clause b)) some opens))
-      | inr old ↦ subst (λ p. BestSoFar clauses (take i clauses) steps p) old so_far
-    ]
-
-pub best_none : (clauses : List (List Lit)) (steps : List Step) (i : ℕ) (best : Option Lit) → length clauses ≤ i → best ≡ None
-    → BestSoFar clauses (take i clauses) steps best → is_satisfied clauses steps ≡ true
-best_none clauses steps i None past is so_far = ap (λ cs. is_satisfied cs steps) (sym (take_all i clauses past)) ∙ so_far
-best_none clauses steps i (Some a) past is so_far = absurd (none-some a (sym is))
-
--- the sign of an open literal is free
-pub open_signed : (clauses : List (List Lit)) (steps : List Step) (i : ℕ) (best : Option Lit) (a b : Lit) → best ≡ Some a → b.var ≡ a.var
-    → BestSoFar clauses (take i clauses) steps best → IsOpen clauses steps b
-open_signed clauses steps i best a b is same so_far =
-    let o = subst (λ p. BestSoFar clauses (take i clauses) steps p) is so_far in
-    record {
-      unvalued = ap (value_of steps) same ∙ o.unvalued;
-      place = o.place;
-      clause = o.clause;
-      at = o.at;
-      inside = ap (has_variable o.clause) same ∙ o.inside;
-      unsatisfied = o.unsatisfied;
-    }
+-- a variable without a value, of the clause at a place
+pub open_told : (clauses : List (List Lit)) (steps : List Step) (i : ℕ) (clause : List Lit) (a : Lit) → slice_get clauses i ≡ Some clause → value_of steps a.var ≡ None
+    → has_variable clause a.var ≡ true → IsOpen clauses steps a
+open_told clauses steps i clause a at none inside = record {
+  unvalued = none;
+  place = i;
+  clause = clause;
+  at = at;
+  inside = inside;
+}
 
 -- Decisions.
 
@@ -365,7 +311,7 @@ assumed_already assumptions steps i value some below consistent told is_some_tol
       only = so_far.only;
     }
 
-none_told : (o : Option Bool) (some : Bool) → some ≡ is_some o → some ≡ false → o ≡ None
+pub none_told : (o : Option Bool) (some : Bool) → some ≡ is_some o → some ≡ false → o ≡ None
 none_told None some told is = refl
 none_told (Some b) some told is = absurd (false≢true (sym is ∙ told))
 

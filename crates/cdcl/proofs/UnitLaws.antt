@@ -9,7 +9,7 @@ use Rattle.std.proofs.lemmas.Option.{none-some, same_Some}
 use Rattle.proof_semantics.specs.Clauses.{lit_eq, negation, has_literal, has_opposites, cube_value, clauses_value}
 use Rattle.proof_semantics.specs.Propagation.{open_literals, only_literal, with_clause, with_unit, conflict_fault, hints_fault}
 use Rattle.proof_semantics.specs.Proofs.{Refutes}
-use Rattle.proof_semantics.specs.Lines.{IsSize, AreSized, text_of}
+use Rattle.proof_semantics.specs.Lines.{AreSized, text_of}
 use Rattle.proof_semantics.specs.declared.literals.Lit.{Lit}
 use Rattle.proof_semantics.proofs.LiteralLaws.{lit_eq-same, lit_eq-true, negation_twice}
 use Rattle.cdcl_trail.proofs.TrailLaws.{either, or_neither}

@@ -17,8 +17,8 @@ use Rattle.cdcl_trail.proofs.PassLaws.{step_comes, no_step, unit_unvalued, propa
 use Rattle.cdcl_trail.proofs.PrefixLaws.{all_from, true_more, none_before, reasoned_assumed, reasoned_propagated, lower_assumed}
 use Rattle.cdcl_learn.specs.declared.learning.Learned.{Learned}
 use Rattle.cdcl_learn.specs.Learning.{is_assumed}
-use Rattle.cdcl.specs.Searching.{IsOpen, open_by, count_open, is_over, are_over, AreTrue, AssumesAll, IsOnWay, IsBackLevel, IsHinted, IsNewClause, NegatesOnly}
-use Rattle.cdcl.proofs.SearchLaws.{count_open_more, count_open_falls, over_append, over_at, over_variable, over_propagated, falsified_no_tautology, falsified_over, valued_step, true_stands}
+use Rattle.cdcl.specs.Searching.{IsOpen, open_by, count_open, is_over, are_over, AssumesAll, IsOnWay, IsBackLevel, IsHinted, IsNewClause, NegatesOnly}
+use Rattle.cdcl.proofs.SearchLaws.{count_open_more, count_open_falls, over_append, over_at, over_variable, over_propagated, falsified_no_tautology, falsified_over, valued_step}
 use Rattle.cdcl.proofs.BackLaws.{cut_is_first, cut_behind, cut_early, cut_twice, late_step, early_step, reasoned_back, open_two, complete_more, assumed_first}
 
 abbrev Has : List Lit → Lit → Type 0

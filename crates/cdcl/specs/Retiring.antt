@@ -1,7 +1,7 @@
 -- How a question brings clauses of its own, and leaves them behind: each holds a literal of a variable that stands for
 -- the question, and the literal's unit clause retires them. So is MiniSat used with activation literals (Eén,
 -- Sörensson, 2003).
-use Rattle.std.specs.Prelude.{◌≡◌, ℕ, Bool, true, false, not, ◌↔◌, List, if◌then◌else◌, ◌==◌}
+use Rattle.std.specs.Prelude.{◌≡◌, ℕ, Bool, true, not, ◌↔◌, List, if◌then◌else◌, ◌==◌}
 use Rattle.std.specs.List.{filter, list_all}
 use Rattle.proof_semantics.specs.Clauses.{negation, has_literal}
 use Rattle.proof_semantics.specs.declared.literals.Lit.{Lit}

@@ -14,20 +14,18 @@ pub use Rattle.cdcl.specs.Variables.{is_over, are_over}
 abbrev pub has_variable : List Lit → ℕ → Bool
 has_variable clause v = list_any (λ a. nat_eq v a.var) clause
 
--- A literal whose variable has no value, and stands in a clause without a true literal.
+-- A literal whose variable has no value, and stands in a clause.
 pub record IsOpen (clauses : List (List Lit)) (steps : List Step) (a : Lit) : Type 0 where
   pub unvalued : value_of steps a.var ≡ None
   pub place : ℕ
   pub clause : List Lit
   pub at : slice_get clauses place ≡ Some clause
   pub inside : has_variable clause a.var ≡ true
-  pub unsatisfied : list_any (is_true steps) clause ≡ false
 
--- A literal of the clause without a value, where none is true.
+-- A literal of the clause without a value.
 pub record IsOpenIn (steps : List Step) (clause : List Lit) (a : Lit) : Type 0 where
   pub unvalued : value_of steps a.var ≡ None
   pub inside : has_literal clause a ≡ true
-  pub unsatisfied : list_any (is_true steps) clause ≡ false
 
 -- how many of the variables have no value
 abbrev pub open_by : Option Bool → ℕ

@@ -1,13 +1,12 @@
 -- What a solver of clauses answers, and what it learns. After GRASP (Marques-Silva, Sakallah, 1999) and MiniSat (Eén,
 -- Sörensson, 2003), with answers under assumptions.
 use Rattle.std.specs.Prelude.{◌≡◌, ◌≢◌, ℕ, zero, suc, ◌^◌, ◌≤◌, Bool, true, false, List, [], ◌∷◌, ◌++◌, map, length, Some, IsOkAnd}
-use Rattle.std.specs.List.{list_any}
 use Rattle.edge.specs.Faults.{one_more}
 use Rattle.edge.specs.Units.{Spendings}
 use Rattle.edge.specs.declared.metering.Counted.TheVariants.{Conflicts}
 use Rattle.edge.specs.declared.solve_end.SolveEnd.{SolveEnd}
 use Rattle.edge.specs.declared.solve_end.SolveEnd.TheVariants.{Spent as SpentEnd, Memory}
-use Rattle.proof_semantics.specs.Clauses.{negation, has_literal, is_part, clauses_value, cube_value, values_of, IsImplied, is_subsumed, has_opposites}
+use Rattle.proof_semantics.specs.Clauses.{negation, is_part, clauses_value, cube_value, values_of, IsImplied, is_subsumed, has_opposites}
 use Rattle.proof_semantics.specs.Proofs.{start, clause_at, judge_all, Refutes}
 use Rattle.proof_semantics.specs.declared.literals.Lit.{Lit}
 use Rattle.cdcl.specs.Variables.{is_over, are_over}

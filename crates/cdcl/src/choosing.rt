@@ -1,33 +1,87 @@
 //! The choice of the next literal to assume. The main call is `choose`.
-ghost use Rattle.std.specs.Prelude.{◌≡◌, IfNone, IfSome, true, false};
+ghost use Rattle.std.specs.Prelude.{◌≡◌, IfNone, IfSome, IsTrue, true, false, slice_get, option_copied};
 ghost use Rattle.std.specs.List.{list_any};
 ghost use Rattle.cdcl_trail.specs.Propagation.{is_complete, is_true, is_falsified};
-ghost use Rattle.cdcl.specs.Searching.{IsOpen, IsOpenIn, is_satisfied};
+ghost use Rattle.cdcl.specs.Searching.{IsOpen, IsOpenIn, has_variable, is_satisfied};
 
-use crate::order::Order;
+use crate::order::{Candidate, Order};
 use cdcl_trail::Trail;
-use cnf::{Clause, Lit};
+use cnf::{Clause, Lit, Var};
 
-/// The most active variable without a value of a clause that has no true literal, with the value
-/// that it had last. `None` where every clause has a true literal.
-pub(crate) fn choose(order: &Order, trail: &Trail, clauses: &[Clause]) -> Option<Lit>
+/// The most active variable without a value, with the value that it had last. `None` where every
+/// clause has a true literal.
+pub(crate) fn choose(order: &mut Order, trail: &Trail, clauses: &[Clause]) -> Option<Lit>
     requires { is_complete clauses.now trail.now.steps ≡ true }
     ensures none { IfNone result (is_satisfied clauses.now trail.now.steps ≡ true) }
     ensures open { IfSome result (λ a. IsOpen clauses.now trail.now.steps a) }
 {
-    let mut best: Option<Lit> = None;
-    for clause in clauses {
-        let Some(literal) = open_literal(order, trail, clause.as_slice()) else {
-            continue;
-        };
-        best = Some(order.more_active(best, literal));
+    match most_active(order, trail, clauses) {
+        Some(literal) => Some(literal),
+        None => first_open(trail, clauses),
     }
-    Some(order.last_true(best?))
 }
 
-// The most active literal without a value, where no literal of the clause is true. `None` where one
-// is.
-fn open_literal(order: &Order, trail: &Trail, clause: &[Lit]) -> Option<Lit>
+// The most active variable without a value that the order has.
+fn most_active(order: &mut Order, trail: &Trail, clauses: &[Clause]) -> Option<Lit>
+    ensures { IfSome result (λ a. IsOpen clauses.now trail.now.steps a) }
+{
+    for _turn in 0..order.count() {
+        let candidate = order.take()?;
+        if is_open(trail, clauses, candidate) {
+            return Some(candidate.literal);
+        }
+    }
+    None
+}
+
+// Whether a variable has no value, and stands in the clause that is told.
+fn is_open(trail: &Trail, clauses: &[Clause], candidate: Candidate) -> bool
+    ensures { IsTrue result → IsOpen clauses.now trail.now.steps candidate.literal }
+{
+    let var = candidate.literal.var;
+    if trail.value(var).is_some() {
+        return false;
+    }
+    let Some(clause) = clause_at(clauses, candidate.clause) else {
+        return false;
+    };
+    has_variable(clause, var)
+}
+
+// The literals of the clause at a place.
+fn clause_at(clauses: &[Clause], place: usize) -> Option<&[Lit]>
+    ensures { option_copied result ≡ slice_get clauses.now place }
+{
+    match clauses.get(place) {
+        None => None,
+        Some(clause) => Some(clause.as_slice()),
+    }
+}
+
+// Whether the variable is that of a literal of the clause.
+fn has_variable(clause: &[Lit], var: Var) -> bool
+    ensures { result ≡ has_variable clause.now var }
+{
+    clause.iter().any(|literal| var == literal.var)
+}
+
+// A literal without a value of the first clause that has no true literal. `None` where every clause
+// has one.
+fn first_open(trail: &Trail, clauses: &[Clause]) -> Option<Lit>
+    requires { is_complete clauses.now trail.now.steps ≡ true }
+    ensures none { IfNone result (is_satisfied clauses.now trail.now.steps ≡ true) }
+    ensures open { IfSome result (λ a. IsOpen clauses.now trail.now.steps a) }
+{
+    for clause in clauses {
+        if let Some(literal) = open_literal(trail, clause.as_slice()) {
+            return Some(literal);
+        }
+    }
+    None
+}
+
+// A literal without a value, where no literal of the clause is true. `None` where one is.
+fn open_literal(trail: &Trail, clause: &[Lit]) -> Option<Lit>
     requires { is_falsified trail.now.steps clause.now ≡ false }
     ensures none { IfNone result (list_any (is_true trail.now.steps) clause.now ≡ true) }
     ensures open { IfSome result (λ a. IsOpenIn trail.now.steps clause.now a) }
@@ -35,7 +89,7 @@ fn open_literal(order: &Order, trail: &Trail, clause: &[Lit]) -> Option<Lit>
     let mut open: Option<Lit> = None;
     for literal in clause {
         let Some(value) = trail.value(literal.var) else {
-            open = Some(order.more_active(open, *literal));
+            open = Some(*literal);
             continue;
         };
         if value == literal.positive {

@@ -1,12 +1,12 @@
 //! Which variable is decided next, and with which value. After MiniSat (Eén, Sörensson, 2003): the
 //! most active variable, with the value that it had last. The main type is `Order`. No contract
 //! rests on what it keeps.
-ghost use Rattle.std.specs.Prelude.{◌≡◌, ◌⊎◌, Some};
 
+use crate::log::Log;
 use cdcl_learn::Learned;
 use cnf::{Clause, Db, Lit, Var};
 use std::alloc::{AllocError, Global};
-use std::collections::BTreeMap;
+use std::collections::HashMap;
 
 /// The weight of the first conflict.
 const FIRST_WEIGHT: u64 = 1 << 8;
@@ -17,110 +17,269 @@ const GREAT_WEIGHT: u64 = 1 << 40;
 /// By how many bits.
 const SHIFT: u32 = 32;
 
-// How active a variable is, the value that it had last, and the last conflict that it was met in.
+/// The place of a variable that is not in the heap.
+const NOWHERE: usize = usize::MAX;
+
+/// More steps than a heap is deep.
+const DEEP: u32 = 64;
+
+/// A variable that may be decided.
+#[derive(Clone, Copy, Debug)]
+pub(crate) struct Candidate {
+    /// Its literal that was true last; the negative one where none was.
+    pub(crate) literal: Lit,
+    /// The place of a clause that has the variable.
+    pub(crate) clause: usize,
+}
+
+// A variable, how active it is, the last conflict that it was met in, and its place in the heap.
 #[derive(Clone, Copy, Debug)]
 struct Rank {
+    candidate: Candidate,
     activity: u64,
-    positive: bool,
     conflict: u64,
+    place: usize,
 }
 
 /// The activities of variables, and the values that they had last. Each conflict adds its weight to
 /// the activities of the variables that it comes from, and weighs a twentieth more than the one
-/// before it.
+/// before it. The variables are numbered as they come, and those that may be decided stand in a
+/// binary heap by their activities.
 #[derive(Debug, Drop)]
 pub(crate) struct Order {
-    ranks: BTreeMap<u64, Rank>,
+    numbers: HashMap<u64, usize>,
+    ranks: Vec<Rank>,
+    heap: Vec<usize>,
+    met: usize,
     weight: u64,
     conflict: u64,
 }
 
 impl Order {
-    /// No variable is active. Takes no memory.
+    /// No variable. Takes no memory.
     pub(crate) fn new(alloc: Global) -> Order {
         Order {
-            ranks: BTreeMap::new(alloc),
+            numbers: HashMap::new(alloc),
+            ranks: Vec::new(alloc),
+            heap: Vec::new(alloc),
+            met: 0,
             weight: FIRST_WEIGHT,
             conflict: 1,
         }
     }
 
-    /// The more active of two literals; the first where they are alike. Takes no memory.
-    pub(crate) fn more_active(&self, first: Option<Lit>, second: Lit) -> Lit
-        ensures { (result ≡ second) ⊎ (first ≡ Some result) }
-    {
-        let Some(literal) = first else {
-            return second;
-        };
-        if self.rank(literal.var).activity < self.rank(second.var).activity {
-            return second;
+    /// Meets the variables of the clauses that are new, and lets each variable be decided.
+    pub(crate) fn begin(&mut self, log: &Log) -> Result<(), AllocError> {
+        let clauses = log.clauses().as_slice();
+        for place in self.met..clauses.len() {
+            if let Some(clause) = clauses.get(place) {
+                self.meet(clause.as_slice(), place)?;
+            }
         }
-        literal
+        self.met = clauses.len();
+        for number in 0..self.ranks.len() {
+            self.insert(number)?;
+        }
+        Ok(())
     }
 
-    /// The literal of the same variable that was true last; the negative one where none was. Takes
-    /// no memory.
-    pub(crate) fn last_true(&self, literal: Lit) -> Lit
-        ensures { result.var ≡ literal.var }
-    {
-        Lit {
-            var: literal.var,
-            positive: self.rank(literal.var).positive,
+    // Meets the variables of the clause at a place.
+    fn meet(&mut self, clause: &[Lit], place: usize) -> Result<(), AllocError> {
+        for literal in clause {
+            if self.numbers.contains_key(&literal.var) {
+                continue;
+            }
+            let number = self.ranks.len();
+            self.ranks.push(Rank {
+                candidate: Candidate {
+                    literal: Lit {
+                        var: literal.var,
+                        positive: false,
+                    },
+                    clause: place,
+                },
+                activity: 0,
+                conflict: 0,
+                place: NOWHERE,
+            })?;
+            self.numbers.insert(literal.var, number)?;
         }
+        Ok(())
     }
 
-    /// Keeps the values of a trail with these literals.
+    /// How many variables may be decided. Takes no memory.
+    pub(crate) fn count(&self) -> usize {
+        self.heap.len()
+    }
+
+    /// Takes the most active variable that may be decided. Takes no memory.
+    pub(crate) fn take(&mut self) -> Option<Candidate> {
+        let first = self.heap.as_slice().first().copied()?;
+        let last = self.heap.pop()?;
+        self.set_place(first, NOWHERE);
+        if !self.heap.is_empty() {
+            self.put(0, last);
+            self.sink(0);
+        }
+        Some(self.rank(first)?.candidate)
+    }
+
+    /// Keeps the values of literals that are taken back, and lets their variables be decided.
     pub(crate) fn keep(&mut self, literals: &[Lit]) -> Result<(), AllocError> {
         for literal in literals {
-            let mut rank = self.rank(literal.var);
-            rank.positive = literal.positive;
-            self.ranks.insert(literal.var, rank)?;
+            let Some(number) = self.number(literal.var) else {
+                continue;
+            };
+            if let Some(rank) = self.ranks.get_mut(number) {
+                rank.candidate.literal = *literal;
+            }
+            self.insert(number)?;
         }
         Ok(())
     }
 
     /// Makes the variables more active that a learned clause comes from: those of the clauses that
     /// its hints name.
-    pub(crate) fn bump(&mut self, db: &Db, learned: &Learned) -> Result<(), AllocError> {
+    pub(crate) fn bump(&mut self, db: &Db, learned: &Learned) {
         for number in learned.hints.as_slice() {
             if let Some(clause) = db.get(*number) {
-                self.bump_clause(clause)?;
+                self.bump_clause(clause);
             }
         }
         self.conflict = self.conflict.saturating_add(1);
         self.weight = self.weight.saturating_add(self.weight / 20);
         if self.weight >= GREAT_WEIGHT {
             self.weight >>= SHIFT;
-            for rank in self.ranks.values_mut() {
+            for rank in self.ranks.iter_mut() {
                 rank.activity >>= SHIFT;
             }
         }
-        Ok(())
     }
 
     // Makes the variables of a clause more active that were not yet met in this conflict.
-    fn bump_clause(&mut self, clause: &Clause) -> Result<(), AllocError> {
+    fn bump_clause(&mut self, clause: &Clause) {
         for literal in clause.as_slice() {
-            let mut rank = self.rank(literal.var);
-            if rank.conflict == self.conflict {
-                continue;
+            if let Some(number) = self.number(literal.var) {
+                self.bump_one(number);
             }
-            rank.conflict = self.conflict;
-            rank.activity = rank.activity.saturating_add(self.weight);
-            self.ranks.insert(literal.var, rank)?;
         }
+    }
+
+    // Makes a variable more active that was not yet met in this conflict.
+    fn bump_one(&mut self, number: usize) {
+        let Some(rank) = self.ranks.get_mut(number) else {
+            return;
+        };
+        if rank.conflict == self.conflict {
+            return;
+        }
+        rank.conflict = self.conflict;
+        rank.activity = rank.activity.saturating_add(self.weight);
+        let place = rank.place;
+        if place < self.heap.len() {
+            self.rise(place);
+        }
+    }
+
+    // The number of a variable.
+    fn number(&self, var: Var) -> Option<usize> {
+        self.numbers.get(&var).copied()
+    }
+
+    // What is kept of the variable with a number.
+    fn rank(&self, number: usize) -> Option<Rank> {
+        self.ranks.as_slice().get(number).copied()
+    }
+
+    // Puts a variable into the heap, if it is not there.
+    fn insert(&mut self, number: usize) -> Result<(), AllocError> {
+        let Some(rank) = self.rank(number) else {
+            return Ok(());
+        };
+        if rank.place < NOWHERE {
+            return Ok(());
+        }
+        let place = self.heap.len();
+        self.heap.push(number)?;
+        self.set_place(number, place);
+        self.rise(place);
         Ok(())
     }
 
-    // What is kept of a variable.
-    fn rank(&self, var: Var) -> Rank {
-        match self.ranks.get(&var) {
-            Some(rank) => *rank,
-            None => Rank {
-                activity: 0,
-                positive: false,
-                conflict: 0,
-            },
+    // Brings the variable at a place of the heap up to where it belongs.
+    fn rise(&mut self, start: usize) {
+        let mut place = start;
+        for _step in 0..DEEP {
+            if place == 0 {
+                return;
+            }
+            let above = (place - 1) / 2;
+            if self.activity_at(above) >= self.activity_at(place) {
+                return;
+            }
+            self.exchange(above, place);
+            place = above;
+        }
+    }
+
+    // Brings the variable at a place of the heap down to where it belongs.
+    fn sink(&mut self, start: usize) {
+        let mut place = start;
+        for _step in 0..DEEP {
+            let left = place.saturating_mul(2).saturating_add(1);
+            let right = left.saturating_add(1);
+            if left >= self.heap.len() {
+                return;
+            }
+            let mut below = left;
+            if self.activity_at(right) > self.activity_at(left) {
+                below = right;
+            }
+            if self.activity_at(place) >= self.activity_at(below) {
+                return;
+            }
+            self.exchange(place, below);
+            place = below;
+        }
+    }
+
+    // The variables at two places of the heap, each at the other's place.
+    fn exchange(&mut self, first: usize, second: usize) {
+        let (Some(upper), Some(lower)) = (self.at(first), self.at(second)) else {
+            return;
+        };
+        self.put(first, lower);
+        self.put(second, upper);
+    }
+
+    // The number of the variable at a place of the heap.
+    fn at(&self, place: usize) -> Option<usize> {
+        self.heap.as_slice().get(place).copied()
+    }
+
+    // How active the variable at a place of the heap is; 0 where there is none.
+    fn activity_at(&self, place: usize) -> u64 {
+        let Some(number) = self.at(place) else {
+            return 0;
+        };
+        match self.rank(number) {
+            None => 0,
+            Some(rank) => rank.activity,
+        }
+    }
+
+    // Writes the variable at a place of the heap.
+    fn put(&mut self, place: usize, number: usize) {
+        if let Some(entry) = self.heap.get_mut(place) {
+            *entry = number;
+        }
+        self.set_place(number, place);
+    }
+
+    // Writes the place of a variable.
+    fn set_place(&mut self, number: usize, place: usize) {
+        if let Some(rank) = self.ranks.get_mut(number) {
+            rank.place = place;
         }
     }
 }

@@ -1,4 +1,5 @@
-//! To which level a search goes back after a conflict. The main call is `level_after`.
+//! To which level a search goes back after a conflict, and over which literals. The main calls are
+//! `level_after` and `above_level`.
 ghost use Rattle.std.specs.Prelude.{◌≡◌, ◌<◌, true};
 ghost use Rattle.cdcl_trail.specs.Trails.{level};
 ghost use Rattle.cdcl_trail.specs.Propagation.{is_falsified};
@@ -41,4 +42,20 @@ fn back_level(trail: &Trail, clause: &[Lit], base: u64) -> u64
         target = level;
     }
     target
+}
+
+/// The literals above a level, in the order in which they came. Takes no memory.
+pub(crate) fn above_level(trail: &Trail, target: u64) -> &[Lit] {
+    let mut levels = trail.level().saturating_sub(target);
+    let mut place = trail.literals().len();
+    for reason in trail.reasons().iter().rev() {
+        if levels == 0 {
+            break;
+        }
+        place = place.saturating_sub(1);
+        if reason.is_none() {
+            levels -= 1;
+        }
+    }
+    trail.literals().get(place..).unwrap_or(&[])
 }

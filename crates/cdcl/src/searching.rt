@@ -13,7 +13,7 @@ use crate::finding::Found;
 use crate::log::Log;
 use crate::order::Order;
 use crate::restarts::Restarts;
-use crate::returning::level_after;
+use crate::returning::{above_level, level_after};
 use cdcl_learn::{learn, trace};
 use cdcl_trail::Trail;
 use cnf::Lit;
@@ -41,6 +41,7 @@ pub(crate) fn search(
     assume_all(&mut trail, assumptions)?;
     let base = trail.level();
     let mut restarts = Restarts::new();
+    order.begin(log)?;
     'decisions: loop {
         let Some(conflict) = trail.propagate(log.clauses())? else {
             let Some(literal) = choose(order, &trail, log.clauses().as_slice()) else {
@@ -54,9 +55,9 @@ pub(crate) fn search(
             return Ok(Found::Refused(traced));
         }
         let learned = learn(alloc, log.clauses(), &trail, conflict)?;
-        order.keep(trail.literals())?;
-        order.bump(log.clauses(), &learned)?;
+        order.bump(log.clauses(), &learned);
         let target = level_after(&mut restarts, &trail, learned.clause.as_slice(), base);
+        order.keep(above_level(&trail, target))?;
         log.learn(learned, meter)?;
         trail.back_to(target);
     }
@@ -66,7 +67,8 @@ pub(crate) fn search(
 fn assume_all(trail: &mut Trail, assumptions: &[Lit]) -> Result<(), AllocError>
     requires empty { trail.old.steps ≡ [] }
     requires consistent { has_opposites assumptions.now ≡ false }
-    ensures { IfOk result (λ _. AssumesAll assumptions.now trail.new.steps) }
+    ensures assumes { IfOk result (λ _. AssumesAll assumptions.now trail.new.steps) }
+    ensures taken { trail.new.taken ≡ trail.old.taken }
 {
     for literal in assumptions {
         if trail.value(literal.var).is_some() {

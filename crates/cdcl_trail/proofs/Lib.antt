@@ -2,3 +2,11 @@ pub mod TrailLaws
 pub mod ScanLaws
 pub mod PassLaws
 pub mod PrefixLaws
+pub mod ListLaws
+pub mod GuardLaws
+pub mod StoreLaws
+pub mod VisitLaws
+pub mod LoopLaws
+pub mod SoundLaws
+pub mod TakeLaws
+pub mod ExtendLaws

@@ -1,10 +1,9 @@
 -- Laws of passes over the clauses, and of what propagation adds.
-use Rattle.std.proofs.Common.{◌≡◌, ℕ, zero, suc, ◌+◌, ◌-◌, ◌<◌, ◌≤◌, Bool, true, false, ◌&&◌, cond, eqb, List, [], ◌∷◌, ◌++◌, length, get_or, drop, Option, Some, None, refl, ap, sym, subst, ◌∙◌, inl, inr, arith, append_assoc}
+use Rattle.std.proofs.Common.{◌≡◌, ℕ, zero, suc, ◌+◌, ◌-◌, ◌<◌, ◌≤◌, Bool, true, false, cond, eqb, List, [], ◌∷◌, ◌++◌, Option, Some, None, refl, ap, sym, subst, ◌∙◌, inl, inr, arith, append_assoc}
 use Rattle.std.specs.Prelude.{slice_get}
 use Rattle.std.specs.List.{list_any}
 use Rattle.std.specs.Option.{option_map}
 use Rattle.std.proofs.lemmas.List.{append-nil}
-use Rattle.std.proofs.Math.ListN.{drop_of_length-le}
 use Rattle.std.proofs.lemmas.Bool.{false≢true, and_parts, cond-true, cond-false, ne_eqb, eq-eqb}
 use Rattle.std.proofs.lemmas.Option.{none-some, same_Some}
 use Rattle.proof_semantics.specs.declared.literals.Lit.{Lit}
@@ -12,12 +11,9 @@ use Rattle.proof_semantics.proofs.LiteralLaws.{bool_eq-same}
 use Rattle.cdcl_trail.specs.Trails.{Step, step, opened_by, step_of, value_of, level}
 use Rattle.cdcl_trail.specs.Propagation.{is_value, is_true, is_falsified, is_unit_for, is_complete, IsConflict, IsForced, AreForced, Propagates}
 use Rattle.cnf.specs.Clauses.{clause_numbered}
-use Rattle.cdcl_trail.specs.Scanning.{standing_from, unsatisfied, PassSays, HasFound}
-use Rattle.cdcl_trail.specs.declared.propagation.Standing.TheVariants.{Settled}
-use Rattle.cdcl_trail.specs.declared.propagation.Pass.{Pass}
-use Rattle.cdcl_trail.specs.declared.propagation.Pass.TheVariants.{Quiet, Longer, Conflict}
+use Rattle.cdcl_trail.specs.Measure.{unsatisfied}
 use Rattle.cdcl_trail.proofs.TrailLaws.{either, not-true, or_neither}
-use Rattle.cdcl_trail.proofs.ScanLaws.{any_gives, any_has, unit_true, unvalued, untrue, scan_settled}
+use Rattle.cdcl_trail.proofs.ScanLaws.{any_gives, any_has, unit_true, unvalued, untrue}
 
 -- Values stay when a step comes.
 
@@ -168,45 +164,6 @@ held_at clauses number clause held =
 pub conflict_incomplete : (clauses : List (List Lit)) (steps : List Step) (number : ℕ) → IsConflict clauses steps number → is_complete clauses steps ≡ true → ⊥
 conflict_incomplete clauses steps number conflict all =
     false≢true (sym (complete_at clauses (number - 1) steps conflict.0 (held_at clauses number conflict.0 conflict.1) all) ∙ conflict.2)
-
-next_up : (i : ℕ) → suc (i + 1) ≡ suc i + 1
-next_up i = omega arith
-
-pub drop_first : {A : Type 0} (xs : List A) (i : ℕ) (d : A) → i < length xs → drop i xs ≡ get_or xs i d ∷ drop (i + 1) xs
-drop_first [] i d below = absurd (omega arith)
-drop_first (x ∷ xs) zero d below = refl
-drop_first (x ∷ xs) (suc i) d below =
-    drop_first xs i d (omega arith) ∙ ap (λ n. get_or xs i d ∷ drop n (x ∷ xs)) (next_up i)
-
-and_of : (b c : Bool) → b ≡ true → (b && c) ≡ c
-and_of true c e = refl
-and_of false c e = absurd (false≢true e)
-
--- a settled clause leaves the question to those behind it
-pub complete_step : (clauses : List (List Lit)) (i : ℕ) (steps : List Step) (clause : List Lit) → i < length clauses → get_or clauses i clause ≡ clause
-    → standing_from steps None clause ≡ Settled → is_complete (drop i clauses) steps ≡ is_complete (drop (i + 1) clauses) steps
-complete_step clauses i steps clause below is settled =
-    ap (λ cs. is_complete cs steps) (drop_first clauses i clause below ∙ ap (λ c. c ∷ drop (i + 1) clauses) is)
-    ∙ and_of _ _ (scan_settled steps clause settled)
-
--- A pass.
-
-pub found_settled : (clauses : List (List Lit)) (i : ℕ) (a b : List Step) (found : Pass) (clause : List Lit) → i < length clauses → get_or clauses i clause ≡ clause
-    → standing_from b None clause ≡ Settled → HasFound clauses i a b found → HasFound clauses (i + 1) a b found
-found_settled clauses i a b Quiet clause below at_i settled has = (has.0, sym (complete_step clauses i b clause below at_i settled) ∙ has.1)
-found_settled clauses i a b Longer clause below at_i settled has = has
-found_settled clauses i a b (Conflict number) clause below at_i settled has = has
-
-pub found_longer : (clauses : List (List Lit)) (i : ℕ) (a b c : List Step) (found : Pass) → HasFound clauses i a b found → unsatisfied clauses c < unsatisfied clauses b
-    → unsatisfied clauses c < unsatisfied clauses a
-found_longer clauses i a b c Quiet has less = subst (λ xs. unsatisfied clauses c < unsatisfied clauses xs) has.0 less
-found_longer clauses i a b c Longer has less = omega (arith, has, less)
-found_longer clauses i a b c (Conflict number) has less = absurd has
-
-pub found_all : (clauses : List (List Lit)) (i : ℕ) (a b : List Step) (found : Pass) → length clauses ≤ i → HasFound clauses i a b found → PassSays clauses a b found
-found_all clauses i a b Quiet past has = sym has.1 ∙ ap (λ cs. is_complete cs b) (drop_of_length-le clauses past)
-found_all clauses i a b Longer past has = has
-found_all clauses i a b (Conflict number) past has = absurd has
 
 -- what propagation answers
 pub answered_none : (clauses : List (List Lit)) (steps : List Step) → is_complete clauses steps ≡ true

@@ -143,7 +143,7 @@ reasoned_propagated clauses steps later p reasoned =
     subst (λ xs. IsReasonedTrail clauses xs) (sym p.behind)
     (reasons_append clauses [] steps p.added reasoned (reasoned_forced clauses steps p.added p.reasons))
 
-cut_at_level : (xs : List Step) (a : Lit) (ys : List Step) → up_to_level (level xs) (xs ++ assumed a ∷ ys) ≡ xs
+pub cut_at_level : (xs : List Step) (a : Lit) (ys : List Step) → up_to_level (level xs) (xs ++ assumed a ∷ ys) ≡ xs
 cut_at_level [] a ys = refl
 cut_at_level (x ∷ xs) a ys =
     cond-true (leb (opened_by x.reason) (level (x ∷ xs))) (x ∷ up_to_level (level (x ∷ xs) - opened_by x.reason) (xs ++ assumed a ∷ ys)) []

@@ -1,5 +1,5 @@
 -- Laws of literals, reasons and places beside each other.
-use Rattle.std.proofs.Common.{◌≡◌, ℕ, suc, ◌+◌, ◌-◌, ◌<◌, ◌≤◌, Bool, true, false, not, ◌||◌, cond, eqb, List, [], ◌∷◌, ◌++◌, length, get_or, take, Option, Some, None, refl, ap, sym, subst, ◌∙◌, ◌⊎◌, inl, inr, arith, eqb-true, eq-eqb}
+use Rattle.std.proofs.Common.{◌≡◌, ℕ, zero, suc, ◌+◌, ◌-◌, ◌<◌, ◌≤◌, Bool, true, false, not, ◌||◌, cond, eqb, List, [], ◌∷◌, ◌++◌, length, get_or, take, Option, Some, None, refl, ap, sym, subst, ◌∙◌, ◌⊎◌, inl, inr, arith, eqb-true, eq-eqb}
 use Rattle.std.specs.Prelude.{Result, Ok, Err}
 use Rattle.std.specs.List.{list_any}
 use Rattle.std.specs.Option.{option_map, option_flatten, IsSome}
@@ -13,8 +13,8 @@ use Rattle.std.proofs.lemmas.Bool.Decides.{leb_tells, nat_tests}
 use Rattle.std.proofs.Math.Dec.{leb}
 use Rattle.proof_semantics.specs.declared.literals.Lit.{Lit}
 use Rattle.cdcl_trail.specs.Trails.{Step, step, assumed, opened_by, literals_of, reasons_in, step_of, value_of, reason_in, reason_of, level, up_to_variable, level_of, up_to_level, once}
-use Rattle.cdcl_trail.specs.TrailOf.{steps_from, place_in, positive_at, reason_at, count_assumed, state_of, IsOrderly}
-use Rattle.cdcl_trail.specs.declared.trail.Trail.TheInside.{Inside}
+use Rattle.cdcl_trail.specs.AssignmentOf.{steps_from, place_in, positive_at, reason_at, count_assumed, state_of, IsOrderly}
+use Rattle.cdcl_trail.specs.declared.assignment.Assignment.TheInside.{Inside}
 
 pub either : (b : Bool) → (b ≡ true) ⊎ (b ≡ false)
 either true = inl refl
@@ -218,7 +218,7 @@ place_pop lits a v none =
 
 -- Levels.
 
-cut_step : (b : Bool) (x : Step) (xs ys : List Step) → (b ≡ true → xs ≡ ys) → cond b (x ∷ xs) [] ≡ cond b (x ∷ ys) []
+pub cut_step : (b : Bool) (x : Step) (xs ys : List Step) → (b ≡ true → xs ≡ ys) → cond b (x ∷ xs) [] ≡ cond b (x ∷ ys) []
 cut_step true x xs ys e = ap (λ zs. x ∷ zs) (e refl)
 cut_step false x xs ys e = refl
 
@@ -383,3 +383,27 @@ pub popped_level : (t u : Inside) (a : Lit) (r : Option ℕ) → IsOrderly t
     → t.literals.items ≡ u.literals.items ++ a ∷ [] → t.reasons.items ≡ u.reasons.items ++ r ∷ [] → opened_by r ≤ t.level
 popped_level t u a r orderly literals reasons =
     omega (arith, orderly.depth, ap level (popped_steps t u a r orderly literals reasons), level_push (state_of u).steps (step a r))
+
+-- What the first steps lack.
+
+step_none : (b : Bool) (x : Step) (later : Option Step) → cond b (Some x) later ≡ None → (b ≡ false) × (later ≡ None)
+step_none true x later e = absurd (none-some x (sym e))
+step_none false x later e = (refl, e)
+
+pub none_take : (steps : List Step) (n v : ℕ) → step_of steps v ≡ None → step_of (take n steps) v ≡ None
+none_take [] zero v e = refl
+none_take [] (suc n) v e = refl
+none_take (x ∷ steps) zero v e = refl
+none_take (x ∷ steps) (suc n) v e =
+    let parts = step_none _ x _ e in cond-false (eqb x.literal.var v) (Some x) (step_of (take n steps) v) parts.0 ∙ none_take steps n v parts.1
+
+pub none_to_place : (lits : List Lit) (reasons : List (Option ℕ)) (v p : ℕ) → place_in lits v ≡ Some p → step_of (take p (steps_from lits reasons)) v ≡ None
+none_to_place [] reasons v p e = absurd (none-some p e)
+none_to_place (a ∷ lits) [] v p e = none_take [] p v refl
+none_to_place (a ∷ lits) (r ∷ reasons) v p e =
+    elim (place_cases _ _ p e) [
+      | inl here ↦ subst (λ n. step_of (take n (steps_from (a ∷ lits) (r ∷ reasons))) v ≡ None) (sym here.1) refl
+      | inr later ↦
+          subst (λ n. step_of (take n (steps_from (a ∷ lits) (r ∷ reasons))) v ≡ None) (sym (later.3 ∙ next_length later.0))
+          (cond-false (eqb a.var v) (Some (step a r)) (step_of (take later.0 (steps_from lits reasons)) v) later.1 ∙ none_to_place lits reasons v later.0 later.2)
+    ]

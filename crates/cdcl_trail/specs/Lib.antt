@@ -1,4 +1,11 @@
 pub mod Trails
 pub mod Propagation
+pub mod Guards
+pub mod AssignmentOf
+pub mod Lists
+pub mod Looking
+pub mod Measure
+pub mod Storing
+pub mod Visiting
+pub mod Watched
 pub mod TrailOf
-pub mod Scanning

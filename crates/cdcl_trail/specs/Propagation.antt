@@ -1,5 +1,5 @@
 -- Unit propagation under a trail. After MiniSat (Eén, Sörensson, 2003).
-use Rattle.std.specs.Prelude.{◌≡◌, ℕ, ◌-◌, Bool, true, false, not, ◌&&◌, ◌||◌, List, [], ◌∷◌, ◌++◌, Option, None, Some, is_some, slice_get, if◌then◌else◌, ◌==◌, ◌⊎◌}
+use Rattle.std.specs.Prelude.{◌≡◌, ℕ, Bool, true, false, not, ◌&&◌, ◌||◌, List, [], ◌∷◌, ◌++◌, Option, None, Some, is_some, ◌⊎◌}
 use Rattle.std.specs.List.{list_any, list_all}
 use Rattle.proof_semantics.specs.Clauses.{bool_eq, lit_eq, has_literal}
 use Rattle.proof_semantics.specs.declared.literals.Lit.{Lit}

@@ -1,44 +1,51 @@
--- The steps of a trail, by what it keeps.
-use Rattle.std.specs.Prelude.{◌≡◌, ℕ, ◌+◌, Bool, true, List, [], ◌∷◌, length, Option, None, Some, if◌then◌else◌, ◌==◌, slice_get}
-use Rattle.std.specs.Option.{option_map, option_flatten}
-use Rattle.std.specs.Ordering.{nat_cmp}
-use Rattle.std.specs.BTreeMap as tree
+-- The state of a trail, by what it keeps.
+use Rattle.std.specs.Prelude.{◌≡◌, ℕ, ◌<◌, ◌≤◌, List, length, take, Some, slice_get}
 use Rattle.proof_semantics.specs.declared.literals.Lit.{Lit}
-use Rattle.cdcl_trail.specs.Trails.{Step, Steps, step, opened_by, once, level}
+use Rattle.cdcl_trail.specs.Trails.{Step, level, up_to_level}
+use Rattle.cdcl_trail.specs.Guards.{AreGuarded, AreSure}
+use Rattle.cdcl_trail.specs.Storing.{held, IsStored}
+use Rattle.cdcl_trail.specs.Watched.{TrailState}
+use Rattle.cdcl_trail.specs.declared.trail.Reached.{Reached}
 use Rattle.cdcl_trail.specs.declared.trail.Trail.TheInside.{Inside}
+use Rattle.cdcl_trail.specs.declared.watching.Watching.{Watching}
 
--- literals and their reasons, side by side
-abbrev pub steps_from : List Lit → List (Option ℕ) → List Step
-steps_from [] reasons = []
-steps_from (a ∷ lits) [] = []
-steps_from (a ∷ lits) (reason ∷ reasons) = step a reason ∷ steps_from lits reasons
+abbrev pub state_of : Inside → TrailState
+state_of t = record { steps = t.assignment.steps; taken = held t.watching; watched = t.watching.pairs.items }
 
--- where the literal of a variable stands
-abbrev pub place_in : List Lit → ℕ → Option ℕ
-place_in [] var = None
-place_in (a ∷ lits) var = if a.var == var then Some 0 else option_map (λ place. place + 1) (place_in lits var)
+-- Propagation over the steps has come so far.
+pub record HasReached (reached : Reached) (steps : List Step) (w : Watching) : Type 0 where
+  pub guarded : AreGuarded reached.steps steps w.pairs.items
+  pub sure : AreSure reached.singles steps w.singles.items (held w)
+  pub within : reached.steps ≤ length steps
+  pub counted : reached.singles ≤ length w.singles.items
 
-abbrev pub state_of : Inside → Steps
-state_of t = record { steps = steps_from t.literals.items t.reasons.items }
+-- For the present, and for each open level below the last, propagation over its steps has come as far as it is told.
+pub record Sound (steps : List Step) (w : Watching) (reached : Reached) (saved : List Reached) : Type 0 where
+  pub stored : IsStored w
+  pub present : HasReached reached steps w
+  pub depth : length saved ≡ level steps
+  pub levels : (n : ℕ) (earlier : Reached) → slice_get saved n ≡ Some earlier → HasReached earlier (up_to_level n steps) w
 
--- the value that the literal at a place gives its variable
-abbrev pub positive_at : List Lit → Option ℕ → Option Bool
-positive_at lits None = None
-positive_at lits (Some place) = option_map (λ a. a.positive) (slice_get lits place)
+abbrev pub IsSound : Inside → Type 0
+IsSound t = Sound t.assignment.steps t.watching t.reached t.saved.items
 
--- the reason at a place
-abbrev pub reason_at : List (Option ℕ) → Option ℕ → Option ℕ
-reason_at reasons None = None
-reason_at reasons (Some place) = option_flatten (slice_get reasons place)
+-- the place was no lower, and is not above the bound
+abbrev pub IsLowered : List Reached → ℕ → ℕ → Reached → Type 0
+IsLowered earlier n bound r =
+    (q : Reached) × (slice_get earlier n ≡ Some q) × (r.steps ≤ q.steps) × (r.steps ≤ bound) × (r.singles ≡ q.singles)
 
--- how many of the reasons are none
-abbrev pub count_assumed : List (Option ℕ) → ℕ
-count_assumed [] = 0
-count_assumed (reason ∷ reasons) = opened_by reason + count_assumed reasons
+-- Each place came down to the bound at least.
+pub record AreLowered (earlier : List Reached) (bound : ℕ) (later : List Reached) : Type 0 where
+  pub as_many : length later ≡ length earlier
+  pub lowered : (n : ℕ) (r : Reached) → slice_get later n ≡ Some r → IsLowered earlier n bound r
 
--- Each literal has a reason or none beside it, no variable comes twice, and places and level are told right.
-pub record IsOrderly (t : Inside) : Type 0 where
-  pub beside : length t.reasons.items ≡ length t.literals.items
-  pub apart : once t.literals.items ≡ true
-  pub places : (var : ℕ) → tree.get nat_cmp t.places var ≡ place_in t.literals.items var
-  pub depth : t.level ≡ level (steps_from t.literals.items t.reasons.items)
+-- the clauses before the place were taken over
+pub record IsTaking (earlier : List Step) (clauses : List (List Lit)) (steps : List Step) (taken : List (List Lit)) (place : ℕ) : Type 0 where
+  pub same : steps ≡ earlier
+  pub fronts : taken ≡ take place clauses
+
+-- the places before this one came down, and the others are as they were
+pub record IsLowering (earlier : List Reached) (bound : ℕ) (later : List Reached) (place : ℕ) : Type 0 where
+  pub as_many : length later ≡ length earlier
+  pub before : (n : ℕ) (r : Reached) → n < place → slice_get later n ≡ Some r → IsLowered earlier n bound r
+  pub behind : (n : ℕ) → place ≤ n → slice_get later n ≡ slice_get earlier n

@@ -1,95 +1,193 @@
-//! Unit propagation, by scans of every clause. The main call is `Trail::propagate`, which leaves
-//! the forced literals on the trail.
-ghost use Rattle.std.specs.Prelude.{◌≡◌, ◌↔◌, IfOk, IfSome, IsTrue, None};
-ghost use Rattle.cdcl_trail.specs.Trails.{level};
-ghost use Rattle.cdcl_trail.specs.Propagation.{is_complete, IsConflict, Propagates};
-ghost use Rattle.cdcl_trail.specs.Scanning.{standing_from, PassSays};
+//! Unit propagation by watched literals. The main calls are `settle_singles` and `settle_steps`,
+//! which leave the forced literals in the assignment.
+ghost use Rattle.std.specs.Prelude.{◌≡◌, ◌≤◌, ◌<◌, ◌+◌, IfOk, IfSome, None, Some, IsTrue, true, length, slice_get};
+ghost use Rattle.cdcl_trail.specs.Guards.{IsSingle, AreGuarded, AreSure, AreDone, KeepsGuards};
+ghost use Rattle.cdcl_trail.specs.Lists.{list_for};
+ghost use Rattle.cdcl_trail.specs.Propagation.{is_false, IsConflict, Propagates};
+ghost use Rattle.cdcl_trail.specs.Storing.{held, IsStored, IsRewatched};
+ghost use Rattle.cdcl_trail.specs.Trails.{literals_of, once};
+ghost use Rattle.cdcl_trail.specs.Visiting.{IsVisited, VisitSays, IsSettled, SingleSays};
 
-use crate::trail::Trail;
-use cnf::{Clause, Db, Lit};
+use crate::assignment::Assignment;
+use crate::looking::{Finding, is_false, look};
+use crate::pairs::{Pair, beside};
+use crate::watching::Watching;
+use cnf::Lit;
 use std::alloc::AllocError;
 
-/// How a clause stands: neither false nor unit, false, or unit, and the literal that it leaves.
+/// What a look at a clause came to: it stands in the list as before, it was taken from the list, or
+/// it is false.
 #[derive(Clone, Copy, Debug)]
-pub(crate) enum Standing {
-    Settled,
-    Falsified,
-    Leaves(Lit),
-}
-
-/// What a pass over the clauses found: nothing to do, literals that it put on the trail, or the
-/// number of a false clause.
-#[derive(Clone, Copy, Debug)]
-pub(crate) enum Pass {
-    Quiet,
-    Longer,
+pub(crate) enum Visited {
+    Stands,
+    Left,
     Conflict(u64),
 }
 
-impl Trail {
-    /// Puts the literals that the clauses force on the trail, until no clause is unit or false, and
-    /// answers `None`; or until a clause is false, and answers its number. The error is want of
-    /// memory: some literals may have come, each of them forced.
-    pub fn propagate(&mut self, db: &Db) -> Result<Option<u64>, AllocError>
-        ensures complete { IfOk result (λ conflict. (conflict ≡ None) ↔ IsTrue (is_complete db.now.clauses self.new.steps)) }
-        ensures conflict { IfOk result (λ conflict. IfSome conflict (λ number. IsConflict db.now.clauses self.new.steps number)) }
-        ensures reasons { Propagates db.now.clauses self.old.steps self.new.steps }
-        ensures level { level self.new.steps ≡ level self.old.steps }
-    {
-        let clauses = db.as_slice();
-        'passes: loop {
-            match pass_over(self, clauses)? {
-                Pass::Quiet => return Ok(None),
-                Pass::Longer => {}
-                Pass::Conflict(number) => return Ok(Some(number)),
-            }
+/// Puts the literals of clauses without two different literals on the trail, from the count on,
+/// until the number of a false one is found. The error is want of memory.
+pub(crate) fn settle_singles(
+    assignment: &mut Assignment,
+    watching: &Watching,
+    count: &mut usize,
+) -> Result<Option<u64>, AllocError>
+    requires { IsStored watching.now }
+    ensures steps { Propagates (held watching.now) assignment.old.steps assignment.new.steps }
+    ensures sure { AreSure count.old assignment.old.steps watching.now.singles.items (held watching.now) → AreSure count.new assignment.new.steps watching.now.singles.items (held watching.now) }
+    ensures counted { count.old ≤ length watching.now.singles.items → count.new ≤ length watching.now.singles.items }
+    ensures none { IfOk result (λ found. found ≡ None → length watching.now.singles.items ≤ count.new) }
+    ensures conflict { IfOk result (λ found. IfSome found (IsConflict (held watching.now) assignment.new.steps)) }
+{
+    'singles: loop {
+        let Some(number) = single_at(watching, *count) else {
+            return Ok(None);
+        };
+        let Some(clause) = watching.clause(number) else {
+            *count += 1;
+            continue;
+        };
+        if !settle_single(assignment, clause, number as u64 + 1)? {
+            return Ok(Some(number as u64 + 1));
+        }
+        *count += 1;
+    }
+}
+
+/// Looks at the clauses that watch a literal which the steps from the count on made false, and puts
+/// the literals that they force on the trail, until the number of a false one is found. The error
+/// is want of memory.
+pub(crate) fn settle_steps(
+    assignment: &mut Assignment,
+    watching: &mut Watching,
+    count: &mut usize,
+) -> Result<Option<u64>, AllocError>
+    requires stored { IsStored watching.old }
+    requires within { count.old ≤ length assignment.old.steps }
+    requires guarded { AreGuarded count.old assignment.old.steps watching.old.pairs.items }
+    ensures rewatched { IsRewatched watching.old watching.new }
+    ensures steps { Propagates (held watching.old) assignment.old.steps assignment.new.steps }
+    ensures keeps { KeepsGuards assignment.old.steps watching.old.pairs.items watching.new.pairs.items }
+    ensures within { count.new ≤ length assignment.new.steps }
+    ensures guarded { AreGuarded count.new assignment.new.steps watching.new.pairs.items }
+    ensures none { IfOk result (λ found. found ≡ None → count.new ≡ length assignment.new.steps) }
+    ensures conflict { IfOk result (λ found. IfSome found (IsConflict (held watching.old) assignment.new.steps)) }
+{
+    'steps: loop {
+        let Some(literal) = literal_at(assignment, *count) else {
+            return Ok(None);
+        };
+        let falsified = literal.negation();
+        if let Some(conflict) = visit_all(assignment, watching, falsified)? {
+            return Ok(Some(conflict));
+        }
+        *count += 1;
+    }
+}
+
+// Looks at each clause that watches a literal that is false.
+fn visit_all(
+    assignment: &mut Assignment,
+    watching: &mut Watching,
+    falsified: Lit,
+) -> Result<Option<u64>, AllocError>
+    requires stored { IsStored watching.old }
+    requires falsified { is_false assignment.old.steps falsified ≡ true }
+    ensures rewatched { IsRewatched watching.old watching.new }
+    ensures steps { Propagates (held watching.old) assignment.old.steps assignment.new.steps }
+    ensures keeps { KeepsGuards assignment.old.steps watching.old.pairs.items watching.new.pairs.items }
+    ensures none { IfOk result (λ found. found ≡ None → AreDone assignment.new.steps falsified watching.new.pairs.items) }
+    ensures conflict { IfOk result (λ found. IfSome found (IsConflict (held watching.old) assignment.new.steps)) }
+{
+    let mut place: usize = 0;
+    'entries: loop {
+        let Some(number) = watching.lists.get(falsified, place) else {
+            return Ok(None);
+        };
+        match visit(assignment, watching, falsified, place, number)? {
+            Visited::Stands => place += 1,
+            Visited::Left => {}
+            Visited::Conflict(conflict) => return Ok(Some(conflict)),
         }
     }
 }
 
-// Looks at each clause once, and puts the literal of each that is unit on the trail. Ends early at
-// a false one.
-fn pass_over(trail: &mut Trail, clauses: &[Clause]) -> Result<Pass, AllocError>
-    ensures reasons { Propagates clauses.now trail.old.steps trail.new.steps }
-    ensures says { IfOk result (λ found. PassSays clauses.now trail.old.steps trail.new.steps found) }
+// Looks at the clause at a place of the list of a literal that is false.
+fn visit(
+    assignment: &mut Assignment,
+    watching: &mut Watching,
+    falsified: Lit,
+    place: usize,
+    number: usize,
+) -> Result<Visited, AllocError>
+    requires stored { IsStored watching.old }
+    requires falsified { is_false assignment.old.steps falsified ≡ true }
+    requires entry { slice_get (list_for watching.old.lists falsified) place ≡ Some number }
+    ensures visited { IsVisited watching.old assignment.old.steps watching.new assignment.new.steps falsified place }
+    ensures says { IfOk result (VisitSays watching.old watching.new assignment.new.steps falsified number) }
 {
-    let mut found = Pass::Quiet;
-    for (place, clause) in clauses.iter().enumerate() {
-        let number = place as u64 + 1;
-        match scan(trail, clause.as_slice()) {
-            Standing::Settled => continue,
-            Standing::Falsified => return Ok(Pass::Conflict(number)),
-            Standing::Leaves(literal) => trail.put(literal, Some(number))?,
+    let Some(pair) = watching.pair(number) else {
+        return Ok(Visited::Stands);
+    };
+    let Some(other) = beside(pair, falsified) else {
+        return Ok(Visited::Stands);
+    };
+    let Some(clause) = watching.clause(number) else {
+        return Ok(Visited::Stands);
+    };
+    match look(assignment, clause, other) {
+        Finding::Stays => Ok(Visited::Stands),
+        Finding::Conflict => Ok(Visited::Conflict(number as u64 + 1)),
+        Finding::Forces => {
+            assignment.put(other, Some(number as u64 + 1))?;
+            Ok(Visited::Stands)
         }
-        found = Pass::Longer;
+        Finding::Moves(first) => {
+            let pair = Pair {
+                first,
+                second: other,
+            };
+            watching.rewatch(number, pair, falsified, place)?;
+            Ok(Visited::Left)
+        }
     }
-    Ok(found)
 }
 
-// How a clause stands.
-fn scan(trail: &Trail, clause: &[Lit]) -> Standing
-    ensures { result ≡ standing_from trail.now.steps None clause.now }
+// Puts the literal of a clause without two different literals on the trail, and tells whether it is
+// true. The error is want of memory, and changes nothing.
+fn settle_single(
+    assignment: &mut Assignment,
+    clause: &[Lit],
+    number: u64,
+) -> Result<bool, AllocError>
+    requires single { IsSingle clause.now }
+    ensures steps { IsSettled clause.now number assignment.old.steps assignment.new.steps }
+    ensures settled { IfOk result (SingleSays clause.now assignment.new.steps) }
 {
-    let mut left: Option<Lit> = None;
-    for literal in clause {
-        match trail.value(literal.var) {
-            Some(value) => {
-                if value == literal.positive {
-                    return Standing::Settled;
-                }
-            }
-            None => match left {
-                None => left = Some(*literal),
-                Some(first) => {
-                    if !first.is(*literal) {
-                        return Standing::Settled;
-                    }
-                }
-            },
-        }
+    let Some(literal) = clause.first() else {
+        return Ok(false);
+    };
+    if is_false(assignment, *literal) {
+        return Ok(false);
     }
-    match left {
-        None => Standing::Falsified,
-        Some(literal) => Standing::Leaves(literal),
+    if assignment.value(literal.var).is_some() {
+        return Ok(true);
     }
+    assignment.put(*literal, Some(number))?;
+    Ok(true)
+}
+
+// The clause at a place of the list of those without two different literals.
+fn single_at(watching: &Watching, place: usize) -> Option<usize>
+    ensures { result ≡ slice_get watching.now.singles.items place }
+{
+    watching.singles.as_slice().get(place).copied()
+}
+
+// The literal of the step at a place.
+fn literal_at(assignment: &Assignment, place: usize) -> Option<Lit>
+    ensures value { result ≡ slice_get (literals_of assignment.now.steps) place }
+    ensures once { IsTrue (once (literals_of assignment.now.steps)) }
+    ensures small { IfSome result (λ _. place < usize.MAX) }
+{
+    assignment.literals().get(place).copied()
 }

@@ -1,46 +1,65 @@
-//! The literals that are true, in the order in which they came. The main type is `Trail`.
-ghost use Rattle.std.specs.Prelude.{◌≡◌, ◌≤◌, ◌<◌, ◌+◌, ℕ, [], ◌∷◌, ◌++◌, IsTrue, IsSome, OnOk, OnErr, Option, None, length, option_copied, take};
-ghost use Rattle.cdcl_trail.specs.Trails.{Step, step, opened_by, assumed, literals_of, reasons_in, step_of, value_of, reason_of, level, level_of, up_to_level, once};
-ghost use Rattle.cdcl_trail.specs.TrailOf.{positive_at, reason_at, count_assumed};
+//! The trail of a solver. The main type is `Trail`.
+ghost use Rattle.std.specs.Prelude.{◌≡◌, ◌≤◌, ◌<◌, ◌+◌, ◌-◌, ◌↔◌, ℕ, [], ◌∷◌, ◌++◌, IsTrue, IsSome, IfOk, IfSome, OnOk, OnErr, Option, Some, None, length, map, take, slice_get, option_copied};
+ghost use Rattle.cdcl_trail.specs.Trails.{assumed, literals_of, reasons_in, value_of, reason_of, level, level_of, up_to_level, once};
+ghost use Rattle.cdcl_trail.specs.Propagation.{is_complete, IsConflict, Propagates};
+ghost use Rattle.cdcl_trail.specs.Watched.{Extends, AreWatchedWell, KeepWatch, IsWatchable, IsWatchedAt};
+ghost use Rattle.cdcl_trail.specs.TrailOf.{AreLowered};
+ghost use Rattle.std.specs.Option.{unwrap_or};
 
-use cnf::{Lit, Var};
+use crate::assignment::Assignment;
+use crate::choosing::{latest_pair, lesser, pair_false_from};
+use crate::propagation::{settle_singles, settle_steps};
+use crate::watching::Watching;
+use cnf::{Clause, Db, Lit, Var};
 use std::alloc::{AllocError, Global};
-use std::collections::BTreeMap;
 use std::marker::Model;
 
-/// An assignment as a solver makes it. Contracts see the steps, each with its literal and, where
-/// it was not assumed, the number of the clause that forced it. Levels count from 0, on which
-/// nothing is assumed.
+/// How far propagation has come: over how many steps, and over how many of the clauses without two
+/// different literals.
+#[derive(Clone, Copy, Debug)]
+pub struct Reached {
+    pub steps: usize,
+    pub singles: usize,
+}
+
+/// An assignment as a solver makes it, and the clauses that it took over. Contracts see the steps,
+/// each with its literal and, where it was not assumed, the number of the clause that forced it;
+/// the clauses; and the literals at which each is watched. Levels count from 0, on which nothing is
+/// assumed.
 #[derive(Debug, Drop)]
 pub struct Trail {
-    literals: Vec<Lit>,
-    reasons: Vec<Option<u64>>,
-    places: BTreeMap<u64, usize>,
-    level: usize,
+    assignment: Assignment,
+    watching: Watching,
+    reached: Reached,
+    saved: Vec<Reached>,
 }
 
 impl Model for Trail {
-    ghost use Rattle.cdcl_trail.specs.Trails.{Steps};
+    ghost use Rattle.cdcl_trail.specs.Watched.{TrailState};
 
-    ghost Value = { Steps };
+    ghost Value = { TrailState };
 
-    ghost use Rattle.cdcl_trail.specs.TrailOf.{state_of, IsOrderly};
+    ghost use Rattle.cdcl_trail.specs.TrailOf.{state_of, IsSound};
 
     ghost view = { state_of };
 
-    ghost invariant = { IsOrderly };
+    ghost invariant = { IsSound };
 }
 
 impl Trail {
-    /// No literal, on level 0. Takes no memory.
+    /// No literal, on level 0, and no clause. Takes no memory.
     pub fn new(alloc: Global) -> Trail
-        ensures { result.steps ≡ [] }
+        ensures steps { result.steps ≡ [] }
+        ensures taken { result.taken ≡ [] }
     {
         Trail {
-            literals: Vec::new(alloc),
-            reasons: Vec::new(alloc),
-            places: BTreeMap::new(alloc),
-            level: 0,
+            assignment: Assignment::new(alloc),
+            watching: Watching::new(alloc),
+            reached: Reached {
+                steps: 0,
+                singles: 0,
+            },
+            saved: Vec::new(alloc),
         }
     }
 
@@ -50,9 +69,13 @@ impl Trail {
         requires { value_of self.old.steps literal.var ≡ None }
         ensures ok { OnOk result (self.new.steps ≡ self.old.steps ++ assumed literal ∷ []) }
         ensures level { OnOk result (level self.new.steps ≡ level self.old.steps + 1) }
+        ensures watch { KeepWatch self.old self.new }
         ensures err { OnErr result (self.new ≡ self.old) }
     {
-        self.put(literal, None)
+        self.saved.reserve(1)?;
+        self.assignment.put(literal, None)?;
+        self.saved.push_reserved(self.reached);
+        Ok(())
     }
 
     /// Goes back to a level: leaves the literals of it and of those below it. The condition is that
@@ -61,9 +84,103 @@ impl Trail {
         requires { target ≤ level self.old.steps }
         ensures steps { self.new.steps ≡ up_to_level target self.old.steps }
         ensures level { level self.new.steps ≡ target }
+        ensures watch { KeepWatch self.old self.new }
     {
-        'steps: while self.level() > target {
-            self.pop();
+        self.assignment.back_to(target);
+        self.reached = reached_at(self.saved.as_slice(), target as usize, self.reached);
+        self.saved.truncate(target as usize);
+    }
+
+    /// Takes over the clauses that the list has more than at the call before, and puts the literals
+    /// that the clauses force on the trail, until no clause is unit or false, and answers `None`; or
+    /// until a clause is false, and answers its number. The condition is that the list begins with
+    /// the clauses that were taken over. The error is want of memory: some clauses may have been
+    /// taken over, and some literals may have come, each of them forced.
+    pub fn propagate(&mut self, db: &Db) -> Result<Option<u64>, AllocError>
+        requires { Extends self.old.taken db.now.clauses }
+        ensures complete { IfOk result (λ conflict. (conflict ≡ None) ↔ IsTrue (is_complete db.now.clauses self.new.steps)) }
+        ensures conflict { IfOk result (λ conflict. IfSome conflict (λ number. IsConflict db.now.clauses self.new.steps number)) }
+        ensures reasons { Propagates db.now.clauses self.old.steps self.new.steps }
+        ensures level { level self.new.steps ≡ level self.old.steps }
+        ensures taken { OnOk result (self.new.taken ≡ db.now.clauses) }
+        ensures extends { Extends self.new.taken db.now.clauses }
+        ensures watched { IfOk result (λ conflict. conflict ≡ None → AreWatchedWell self.new) }
+    {
+        self.take_all(db.as_slice())?;
+        self.settle()
+    }
+
+    // Takes over the clauses that come behind those that were taken over.
+    fn take_all(&mut self, clauses: &[Clause]) -> Result<(), AllocError>
+        requires { Extends self.old.taken clauses.now }
+        ensures steps { self.new.steps ≡ self.old.steps }
+        ensures taken { OnOk result (self.new.taken ≡ clauses.now) }
+        ensures extends { Extends self.new.taken clauses.now }
+    {
+        let mut place = self.count_taken();
+        'takes: loop {
+            let Some(clause) = literals_at(clauses, place) else {
+                return Ok(());
+            };
+            self.take_one(clause)?;
+            place += 1;
+        }
+    }
+
+    // How many clauses were taken over.
+    fn count_taken(&self) -> usize
+        ensures { result ≡ length self.now.taken }
+    {
+        self.watching.places.as_slice().len()
+    }
+
+    // Takes over a clause. The places to which propagation has come go back where one of its
+    // watched literals is false already.
+    fn take_one(&mut self, clause: &[Lit]) -> Result<(), AllocError>
+        ensures steps { self.new.steps ≡ self.old.steps }
+        ensures ok { OnOk result (self.new.taken ≡ self.old.taken ++ clause.now ∷ []) }
+        ensures err { OnErr result (self.new.taken ≡ self.old.taken) }
+    {
+        let pair = latest_pair(&self.assignment, clause);
+        let bound = pair_false_from(&self.assignment, pair);
+        self.watching.keep(clause, pair)?;
+        self.reached = lowered(self.reached, bound);
+        lower(&mut self.saved, bound);
+        Ok(())
+    }
+
+    // Puts the literals that the clauses force on the trail.
+    fn settle(&mut self) -> Result<Option<u64>, AllocError>
+        ensures complete { IfOk result (λ conflict. (conflict ≡ None) ↔ IsTrue (is_complete self.new.taken self.new.steps)) }
+        ensures conflict { IfOk result (λ conflict. IfSome conflict (λ number. IsConflict self.new.taken self.new.steps number)) }
+        ensures reasons { Propagates self.new.taken self.old.steps self.new.steps }
+        ensures taken { self.new.taken ≡ self.old.taken }
+        ensures watched { IfOk result (λ conflict. conflict ≡ None → AreWatchedWell self.new) }
+    {
+        if let Some(conflict) = settle_singles(
+            &mut self.assignment,
+            &self.watching,
+            &mut self.reached.singles,
+        )? {
+            return Ok(Some(conflict));
+        }
+        settle_steps(
+            &mut self.assignment,
+            &mut self.watching,
+            &mut self.reached.steps,
+        )
+    }
+
+    /// The two watched literals of a clause, which are two different literals of it. The condition is
+    /// that the clause with this number was taken over and has two different literals. Takes no
+    /// memory.
+    pub fn watched(&self, number: u64) -> (Lit, Lit)
+        requires { IsWatchable self.now number }
+        ensures { IsWatchedAt self.now number result.0 result.1 }
+    {
+        match self.watching.pair(place_of(number)) {
+            Some(pair) => (pair.first, pair.second),
+            None => (Lit::default(), Lit::default()),
         }
     }
 
@@ -71,14 +188,14 @@ impl Trail {
     pub fn value(&self, var: Var) -> Option<bool>
         ensures { result ≡ value_of self.now.steps var }
     {
-        positive_at(self.literals.as_slice(), self.places.get(&var))
+        self.assignment.value(var)
     }
 
     /// The level: how many literals are assumed. Takes no memory.
     pub fn level(&self) -> u64
         ensures { result ≡ level self.now.steps }
     {
-        self.level as u64
+        self.assignment.level()
     }
 
     /// The literals, in the order in which they came. No variable comes twice. Takes no memory.
@@ -86,7 +203,7 @@ impl Trail {
         ensures value { result.now ≡ literals_of self.now.steps }
         ensures once { IsTrue (once result.now) }
     {
-        self.literals.as_slice()
+        self.assignment.literals()
     }
 
     /// The reasons of the literals, beside them: the number of the clause that forced each, and
@@ -94,7 +211,7 @@ impl Trail {
     pub fn reasons(&self) -> &[Option<u64>]
         ensures { result.now ≡ reasons_in self.now.steps }
     {
-        self.reasons.as_slice()
+        self.assignment.reasons()
     }
 
     /// The level on which a variable got its value. The condition is that it has one. Takes no
@@ -103,10 +220,7 @@ impl Trail {
         requires { IsSome (value_of self.now.steps var) }
         ensures { result ≡ level_of self.now.steps var }
     {
-        match self.places.get(&var) {
-            Some(place) => assumed_to(self.reasons.as_slice(), *place) as u64,
-            None => 0,
-        }
+        self.assignment.level_of(var)
     }
 
     /// The number of the clause that forced a variable. `None` for an assumed one, and for one
@@ -114,77 +228,66 @@ impl Trail {
     pub fn reason(&self, var: Var) -> Option<u64>
         ensures { result ≡ reason_of self.now.steps var }
     {
-        reason_at(self.reasons.as_slice(), self.places.get(&var))
-    }
-
-    // Puts a literal at the end, with its reason. The error is want of memory, and changes nothing.
-    pub(crate) fn put(&mut self, literal: Lit, reason: Option<u64>) -> Result<(), AllocError>
-        requires { value_of self.old.steps literal.var ≡ None }
-        ensures ok { OnOk result (self.new.steps ≡ self.old.steps ++ step literal reason ∷ []) }
-        ensures err { OnErr result (self.new ≡ self.old) }
-    {
-        self.literals.reserve(1)?;
-        self.reasons.reserve(1)?;
-        let place = self.literals.as_slice().len();
-        self.places.insert(literal.var, place)?;
-        self.level += opened_by(reason);
-        self.literals.push_reserved(literal);
-        self.reasons.push_reserved(reason);
-        Ok(())
-    }
-
-    // Takes the last literal away.
-    fn pop(&mut self)
-        requires { 0 < length self.old.steps }
-        ensures { (last : Step) × (self.old.steps ≡ self.new.steps ++ last ∷ []) }
-    {
-        if let (Some(literal), Some(reason)) = (self.literals.pop(), self.reasons.pop()) {
-            self.places.remove(&literal.var);
-            self.level -= opened_by(reason);
-        }
+        self.assignment.reason(var)
     }
 }
 
-// The value that a literal at a place gives its variable.
-fn positive_at(literals: &[Lit], place: Option<&usize>) -> Option<bool>
-    ensures { result ≡ positive_at literals.now (option_copied place.entry) }
+// The place of the clause with a number.
+fn place_of(number: u64) -> usize
+    ensures { result ≡ number - 1 }
 {
-    let literal = literals.get(*place?)?;
-    Some(literal.positive)
+    number.saturating_sub(1) as usize
 }
 
-// The reason at a place.
-fn reason_at(reasons: &[Option<u64>], place: Option<&usize>) -> Option<u64>
-    ensures { result ≡ reason_at reasons.now (option_copied place.entry) }
+// The literals of the clause at a place.
+fn literals_at(clauses: &[Clause], place: usize) -> Option<&[Lit]>
+    ensures value { option_copied result ≡ slice_get clauses.now place }
+    ensures small { IfSome result (λ _. place < usize.MAX) }
 {
-    *reasons.get(*place?)?
-}
-
-// How many of the reasons up to a place are none.
-fn assumed_to(reasons: &[Option<u64>], place: usize) -> usize
-    requires { place < length reasons.now }
-    ensures { result ≡ count_assumed (take (place + 1) reasons.now) }
-{
-    count_assumed(&reasons[..place + 1])
-}
-
-// How many levels a literal opens: one where it has no reason.
-fn opened_by(reason: Option<u64>) -> usize
-    ensures { result ≡ opened_by reason }
-{
-    match reason {
-        None => 1,
-        Some(_) => 0,
+    match clauses.get(place) {
+        None => None,
+        Some(clause) => Some(clause.as_slice()),
     }
 }
 
-// How many of the reasons are none.
-fn count_assumed(reasons: &[Option<u64>]) -> usize
-    ensures { result ≡ count_assumed reasons.now }
+// Brings each place down to the bound, where it is above.
+fn lower(saved: &mut Vec<Reached>, bound: usize)
+    ensures { AreLowered saved.old.items bound saved.new.items }
 {
-    let mut count = 0;
-    for reason in reasons {
-        count += opened_by(*reason);
+    let mut place = 0;
+    'levels: loop {
+        let Some(old) = reached_in(saved.as_slice(), place) else {
+            return;
+        };
+        saved[place] = lowered(old, bound);
+        place += 1;
     }
-    count
+}
+
+// What is saved at a place.
+fn reached_in(saved: &[Reached], place: usize) -> Option<Reached>
+    ensures value { result ≡ slice_get saved.now place }
+    ensures small { IfSome result (λ _. place < usize.MAX) }
+{
+    saved.get(place).copied()
+}
+
+// The same, with its place of steps not above the bound.
+fn lowered(reached: Reached, bound: usize) -> Reached
+    ensures fewer { result.steps ≤ reached.steps }
+    ensures under { result.steps ≤ bound }
+    ensures same { result.singles ≡ reached.singles }
+{
+    Reached {
+        steps: lesser(reached.steps, bound),
+        singles: reached.singles,
+    }
+}
+
+// How far propagation had come when a level was left for the next, and how far it has come where it
+// was not.
+fn reached_at(saved: &[Reached], target: usize, present: Reached) -> Reached
+    ensures { result ≡ unwrap_or (slice_get saved.now target) present }
+{
+    saved.get(target).copied().unwrap_or(present)
 }

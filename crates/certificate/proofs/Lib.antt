@@ -1,3 +1,6 @@
+pub mod Values
+pub mod UseLaws
+pub mod Replayed
 pub mod Completing
 pub mod CompletingAll
 pub mod CompletingEntries

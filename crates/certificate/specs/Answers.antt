@@ -10,7 +10,7 @@ use Rattle.answer_lines.specs.Left.{most_bytes}
 use Rattle.stimulus.specs.Texts.{row_values, present}
 use Rattle.certificate.specs.declared.ends.Accepted.{Accepted}
 use Rattle.certificate.specs.declared.ends.Accepted.TheVariants.{Lasso, Holds}
-use Rattle.certificate.specs.Lines.{Numbered, kept_in, bare}
+use Rattle.certificate.specs.Lines.{kept_in, bare}
 use Rattle.certificate.specs.Certificates.{Certificate, lines_of_certificate, IsGoodCertificate}
 
 -- the line of property n

@@ -1,11 +1,10 @@
 -- The first fault of an answer, by its lines from the first on: what the next line has to be, and what each line makes of
 -- that. The order of the tests is this program's own.
-use Rattle.std.specs.Prelude.{ℕ, ◌+◌, Bool, true, false, List, [], ◌∷◌, ◌++◌, map, length, Option, Some, None, Result, Ok, Err, codes, if◌then◌else◌, ◌==◌, nat_lt, ◌≡◌}
+use Rattle.std.specs.Prelude.{ℕ, ◌+◌, Bool, true, List, [], ◌∷◌, ◌++◌, map, length, Option, Some, None, Result, Ok, Err, codes, if◌then◌else◌, ◌==◌, nat_lt}
 use Rattle.std.specs.List.{list_any}
 use Rattle.std.specs.Str.{bytes_eq}
 use Rattle.aig_semantics.specs.declared.traces.Stimulus.{Stimulus}
 use Rattle.aig_semantics.specs.Circuits.{Circuit}
-use Rattle.aig_semantics.specs.Stimuli.{StandsFor}
 use Rattle.proof_semantics.specs.declared.literals.Lit.{Lit}
 use Rattle.proof_semantics.specs.declared.faults.LratFault.{LratFault}
 use Rattle.proof_semantics.specs.declared.faults.LratFault.TheVariants.{Unfinished}
@@ -18,7 +17,6 @@ use Rattle.fair_semantics.specs.States.{initial_cube}
 use Rattle.fair_semantics.specs.Entries.{Entry, used_entries}
 use Rattle.cnf_unroll.specs.Obligations.{skeleton_clauses}
 use Rattle.stimulus.specs.Texts.{value_of}
-use Rattle.stimulus.specs.Faults.{HasReplayFault}
 use Rattle.certificate_lines.specs.declared.uses.WrittenUse.{WrittenUse}
 use Rattle.certificate_lines.specs.declared.words.Opening.{Opening}
 use Rattle.certificate_lines.specs.declared.words.Refutation.{Refutation as Refuting}
@@ -37,8 +35,6 @@ use Rattle.entry.specs.Clauses.{clause_of}
 use Rattle.entry.specs.Faults.{first_bad_use}
 use Rattle.entry.specs.Proved.{obligation_of}
 use Rattle.certificate.specs.declared.limits.TheConstants.{MAX_ENTRIES}
-use Rattle.certificate.specs.declared.ends.Accepted.{Accepted}
-use Rattle.certificate.specs.declared.ends.Accepted.TheVariants.{Lasso, Holds}
 use Rattle.certificate.specs.declared.ends.AnswerFault.{AnswerFault}
 use Rattle.certificate.specs.declared.ends.AnswerFault.TheVariants as faults
 use Rattle.certificate.specs.Lines.{Numbered}

@@ -1,10 +1,15 @@
 -- Scaffolding of inner functions: the states of code as those of the reading.
-use Rattle.std.specs.Prelude.{◌≡◌, ℕ, ◌<◌, length}
+use Rattle.std.specs.Prelude.{◌≡◌, ℕ, ◌<◌, ◌≤◌, List, length}
+use Rattle.std.specs.List.{All}
 use Rattle.aig_semantics.specs.Circuits.{Circuit}
+use Rattle.fair_semantics.specs.declared.entries.Use.{Use}
 use Rattle.fair_semantics.specs.Entries.{Entry, used_entries}
 use Rattle.cnf_unroll.specs.Blocks.{step_clauses}
 use Rattle.cnf_unroll.specs.Obligations.{shared_clauses}
+use Rattle.entry.specs.declared.list.Listed.{Listed}
+use Rattle.entry.specs.LatchTables.{AreNumbersOf}
 use Rattle.entry.specs.Listing.{entry_of, entries_of}
+use Rattle.certificate.specs.declared.limits.TheConstants.{MAX_ENTRIES}
 use Rattle.certificate.specs.declared.state.Body.{Body as BodyInCode}
 use Rattle.certificate.specs.declared.state.Begun.{Begun as BegunInCode}
 use Rattle.certificate.specs.declared.state.Proving.{Proving as ProvingInCode}
@@ -55,17 +60,43 @@ seen (states.Ended b) = Ended (seen_body b)
 abbrev pub IsEntered : Circuit → BodyInCode → Entry → Type 0
 IsEntered c b e = b.judge.shared ≡ shared_clauses c (used_entries (entries_of b.list) e.uses) e.uses e.clauses
 
--- The judge keeps the circuit's clauses, and has gone to the entry whose proofs are read.
+-- each of the uses is of an entry of the list
+abbrev pub ArePresent : BodyInCode → List Use → Type 0
+ArePresent b uses = All (λ u. u.entry < length b.list) uses
+
+-- the property is one of the circuit's, and there are no more entries than a certificate may have
+pub record IsBody (c : Circuit) (b : BodyInCode) : Type 0 where
+  pub property : b.property < length c.justice
+  pub few : length b.list ≤ MAX_ENTRIES
+
+-- and there is room for one more; the judge keeps the circuit's clauses, and the table is one of its latches
+pub record IsOpen (c : Circuit) (b : BodyInCode) : Type 0 where
+  pub property : b.property < length c.justice
+  pub room : length b.list < MAX_ENTRIES
+  pub block : b.judge.block ≡ step_clauses c
+  pub latches : AreNumbersOf c b.latches
+
+-- the proof of this clause of an entry comes, or is read: the judge has gone to the entry
+pub record IsAtClause (c : Circuit) (b : BodyInCode) (e : Listed) (i : ℕ) : Type 0 where
+  pub ready : IsOpen c b
+  pub entered : IsEntered c b (entry_of e)
+  pub clause : i < length e.set
+
+-- what is kept before a line of a certificate
 abbrev pub IsAhead : Circuit → BodyInCode → WantedInCode → Type 0
-IsAhead c b (wanted.EntryProof e i) = (b.judge.block ≡ step_clauses c) × IsEntered c b (entry_of e)
-IsAhead c b (wanted.EntryLine e i p) = (b.judge.block ≡ step_clauses c) × IsEntered c b (entry_of e)
-IsAhead c b wanted.Last = Unit {0}
-IsAhead c b (wanted.RefutationLine p) = Unit {0}
-IsAhead c b _ = b.judge.block ≡ step_clauses c
+IsAhead c b wanted.Start = IsBody c b × (b.judge.block ≡ step_clauses c) × AreNumbersOf c b.latches
+IsAhead c b (wanted.EntryUses opening) = IsOpen c b
+IsAhead c b (wanted.EntryClause begun) = IsOpen c b × ArePresent b begun.uses
+IsAhead c b (wanted.EntryProof e i) = IsAtClause c b e i
+IsAhead c b (wanted.EntryLine e i p) = IsAtClause c b e i × (p.read < p.count)
+IsAhead c b (wanted.RefutationUses refuting) = IsBody c b
+IsAhead c b (wanted.RefutationLine p) = IsBody c b × (p.read < p.count)
+IsAhead c b wanted.Last = IsBody c b
 
 -- what the code keeps of a state; a property is one of the circuit's
 abbrev pub IsKept : Circuit → StateInCode → Type 0
-IsKept c (states.Certified b w) = (b.property < length c.justice) × IsAhead c b w
+IsKept c (states.Certified b w) = IsAhead c b w
+IsKept c (states.Ended b) = IsBody c b
 IsKept c (states.Versioned n) = n < length c.justice
 IsKept c (states.Latches n) = n < length c.justice
 IsKept c (states.Rows n s) = n < length c.justice

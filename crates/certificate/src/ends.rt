@@ -1,5 +1,8 @@
 //! How the check of an answer ends.
 
+ghost use Rattle.std.specs.Prelude.{◌≡◌};
+ghost use Rattle.certificate.specs.declared.ends.AnswerFault.TheVariants.{Shape};
+
 use answer_lines::LinesEnd;
 use entry::EntryFault;
 use proof_semantics::LratFault;
@@ -71,6 +74,13 @@ pub enum AnswerEnd {
     /// Memory was refused.
     #[error("memory was refused")]
     Memory,
+}
+
+/// The line with this number is not what is wanted there.
+pub(crate) fn misplaced(number: u64) -> AnswerEnd
+    ensures { result ≡ AnswerEnd.Refused (Shape number) }
+{
+    AnswerEnd::Refused(AnswerFault::Shape(number))
 }
 
 impl From<AnswerFault> for AnswerEnd {

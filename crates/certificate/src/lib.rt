@@ -10,11 +10,17 @@
 #![tactic(auto)]
 
 mod checking;
+mod ending;
 mod ends;
+mod entries;
+mod heads;
 mod laws;
 mod limits;
+mod refuting;
+mod rows;
 mod state;
 mod steps;
+mod uses;
 
 pub use checking::check_answer;
 pub use ends::{Accepted, AnswerEnd, AnswerFault};

@@ -3,17 +3,18 @@
 use aig_semantics::Stimulus;
 use certificate_lines::{Opening, Refutation, Version};
 use cnf_unroll::ClauseSet;
-use entry::{Judge, Listed};
+use entry::{Judge, LatchNumbers, Listed};
 use fair_semantics::{Kind, Use};
 use items::Items;
 
-/// What was read of a certificate. The judge keeps the circuit's clauses.
+/// What was read of a certificate. The judge keeps the circuit's clauses, and latches are found by their variables.
 #[derive(Drop)]
 pub(crate) struct Body {
     pub(crate) property: u32,
     pub(crate) version: Version,
     pub(crate) list: Items<Listed>,
     pub(crate) judge: Judge,
+    pub(crate) latches: LatchNumbers,
 }
 
 /// An entry of which some clauses were read, of so many that it has.

@@ -4,46 +4,105 @@ ghost use Rattle.std.specs.Prelude.{◌≡◌, ◌<◌, ◌^◌, Ok, Err, IfOk, 
 ghost use Rattle.unless_memory.specs.Answers.{Gives};
 ghost use Rattle.certificate.specs.declared.ends.Accepted.{Accepted as AcceptedOf};
 ghost use Rattle.certificate.specs.declared.ends.AnswerFault.{AnswerFault as FaultOf};
-ghost use Rattle.certificate.specs.Reading.{step};
+ghost use Rattle.certificate.specs.Reading.{step, certificate_step};
 ghost use Rattle.certificate.specs.Ends.{IsGoodAtEnd, IsFaultAtEnd};
-ghost use Rattle.certificate.specs.Seen.{seen, IsKept};
-ghost use Rattle.certificate.specs.Steps.{OfEnd};
+ghost use Rattle.certificate.specs.Seen.{seen, seen_body, seen_wanted, IsKept};
+ghost use Rattle.certificate.specs.Steps.{OfEnd, Tells};
 
-use crate::ends::{Accepted, AnswerEnd};
-use crate::state::State;
+use crate::ending::end_in;
+use crate::ends::{Accepted, AnswerEnd, AnswerFault};
+use crate::entries::{clause_step, entry_uses_step, line_step, proof_step, start_step};
+use crate::heads::{property_step, status_step, version_step};
+use crate::refuting::{last_step, refutation_uses_step, refuting_step};
+use crate::rows::{latches_step, row_step};
+use crate::state::{Body, State, Wanted};
 use circuit::Circuit;
 use std::alloc::Global;
 
-/// The state behind a line with this number, which is not skipped, or the line's fault.
-pub(crate) fn step(
-    _alloc: Global,
+// The state behind a line of a certificate.
+fn certificate_step(
+    alloc: Global,
     circuit: &Circuit,
-    _state: State,
+    body: Body,
+    wanted: Wanted,
     number: u64,
     line: &[u8],
 ) -> Result<State, AnswerEnd>
-    requires { IsKept circuit.now _state }
-    ensures ok { IfOk result (λ next. step circuit.now (seen _state) number line.now ≡ Ok (seen next)) }
-    ensures kept { IfOk result (IsKept circuit.now) }
-    ensures fault { IfErr result (OfEnd (λ fault. step circuit.now (seen _state) number line.now ≡ Err fault)) }
+    requires { IsKept circuit.now (State.Certified body wanted) }
+    ensures { Tells circuit.now (certificate_step circuit.now (seen_body body) (seen_wanted body wanted) number line.now) result }
 {
-    Err(AnswerEnd::Memory)
+    match wanted {
+        Wanted::Start => start_step(circuit, body, number, line),
+        Wanted::EntryUses(opening) => entry_uses_step(alloc, circuit, body, opening, number, line),
+        Wanted::EntryClause(begun) => clause_step(alloc, circuit, body, begun, number, line),
+        Wanted::EntryProof(entry, i) => proof_step(alloc, circuit, body, entry, i, number, line),
+        Wanted::EntryLine(entry, i, proving) => line_step(circuit, body, entry, i, proving, line),
+        Wanted::RefutationUses(refuting) => {
+            refutation_uses_step(alloc, circuit, body, refuting, number, line)
+        }
+        Wanted::RefutationLine(proving) => refuting_step(circuit, body, proving, line),
+        Wanted::Last => last_step(circuit, body, number, line),
+    }
+}
+
+// The state behind a line.
+fn step_in(
+    alloc: Global,
+    circuit: &Circuit,
+    state: State,
+    number: u64,
+    line: &[u8],
+) -> Result<State, AnswerEnd>
+    requires { IsKept circuit.now state }
+    ensures { Tells circuit.now (step circuit.now (seen state) number line.now) result }
+{
+    match state {
+        State::Status => status_step(circuit, number, line),
+        State::Property(claim) => property_step(circuit, claim, number, line),
+        State::Latches(property) => latches_step(alloc, circuit, property, number, line),
+        State::Rows(property, stimulus) => {
+            row_step(alloc, circuit, property, stimulus, number, line)
+        }
+        State::Versioned(property) => version_step(alloc, circuit, property, number, line),
+        State::Certified(body, wanted) => {
+            certificate_step(alloc, circuit, body, wanted, number, line)
+        }
+        State::Dotted(_, _) | State::Ended(_) => {
+            Err(AnswerEnd::Refused(AnswerFault::Trailing(number)))
+        }
+    }
+}
+
+/// The state behind a line with this number, which is not skipped, or the line's fault.
+pub(crate) fn step(
+    alloc: Global,
+    circuit: &Circuit,
+    state: State,
+    number: u64,
+    line: &[u8],
+) -> Result<State, AnswerEnd>
+    requires { IsKept circuit.now state }
+    ensures ok { IfOk result (λ next. step circuit.now (seen state) number line.now ≡ Ok (seen next)) }
+    ensures kept { IfOk result (IsKept circuit.now) }
+    ensures fault { IfErr result (OfEnd (λ fault. step circuit.now (seen state) number line.now ≡ Err fault)) }
+{
+    step_in(alloc, circuit, state, number, line)
 }
 
 /// How an answer ends in a state, where a line behind the last one would have this number.
 pub(crate) fn finish(
-    _alloc: Global,
+    alloc: Global,
     circuit: &Circuit,
-    _state: State,
+    state: State,
     number: u64,
 ) -> Result<Accepted, AnswerEnd>
-    requires { IsKept circuit.now _state }
-    ensures ok { IfOk result (λ accepted. IsGoodAtEnd circuit.now (seen _state) accepted) }
-    ensures fault { IfErr result (OfEnd (λ fault. IsFaultAtEnd circuit.now (seen _state) number fault)) }
-    ensures every { (accepted : AcceptedOf) → IsGoodAtEnd circuit.now (seen _state) accepted
+    requires { IsKept circuit.now state }
+    ensures ok { IfOk result (λ accepted. IsGoodAtEnd circuit.now (seen state) accepted) }
+    ensures fault { IfErr result (OfEnd (λ fault. IsFaultAtEnd circuit.now (seen state) number fault)) }
+    ensures every { (accepted : AcceptedOf) → IsGoodAtEnd circuit.now (seen state) accepted
         → Gives (Err AnswerEnd.Memory) (Ok accepted) result }
-    ensures each_fault { (fault : FaultOf) → IsFaultAtEnd circuit.now (seen _state) number fault
+    ensures each_fault { (fault : FaultOf) → IsFaultAtEnd circuit.now (seen state) number fault
         → Gives (Err AnswerEnd.Memory) (Err (AnswerEnd.Refused fault)) result }
 {
-    Err(AnswerEnd::Memory)
+    end_in(alloc, circuit, &state, number)
 }

@@ -11,7 +11,7 @@ use Rattle.aig_semantics.specs.Valuations.{conjunction, valuation, IsValuation}
 use Rattle.aig_semantics.proofs.Lists.{AllDiffer-right, All-left, All-right}
 use Rattle.aig_semantics.proofs.Values.{IsRanking, given_variables, gate_variables, conjunction-same, length-valuation, valuation-only, valuation-meets, value-no_gate}
 use Rattle.circuit.specs.Evaluation.{with_gate}
-use Rattle.circuit.specs.Ordering.{HasRightSide, variables_of, IsEvaluationOrder}
+use Rattle.circuit.specs.Orders.{HasRightSide, variables_of, IsEvaluationOrder}
 use Rattle.circuit.proofs.Writing.{given_list, length-given_list, get_or-given_list}
 use Rattle.circuit.proofs.Ranking.{rank_in, order-ranking}
 

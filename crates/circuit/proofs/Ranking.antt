@@ -8,7 +8,7 @@ use Rattle.aig_semantics.specs.Literals.{variable_of}
 use Rattle.aig_semantics.specs.Circuits.{Circuit, Reads, ReadsThrough, IsOnCycle}
 use Rattle.aig_semantics.proofs.Lists.{AllDiffer}
 use Rattle.aig_semantics.proofs.Values.{IsRanking}
-use Rattle.circuit.specs.Ordering.{HasRightSide, variables_of, IsEvaluationOrder}
+use Rattle.circuit.specs.Orders.{HasRightSide, variables_of, IsEvaluationOrder}
 
 -- the rank of a variable from its rank in the rest of the order
 abbrev rank_before : ℕ → Bool → ℕ

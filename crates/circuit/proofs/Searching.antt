@@ -13,7 +13,8 @@ use Rattle.aig_semantics.proofs.Lists.{AllDiffer, AllDiffer-left, All-left}
 use Rattle.circuit.specs.declared.ordering.Progress.{Progress}
 use Rattle.circuit.specs.declared.ordering.Progress.TheVariants.{NoGate, Waiting, Open, Done}
 use Rattle.circuit.specs.declared.ordering.Next.TheVariants.{Begin, Cycle}
-use Rattle.circuit.specs.Ordering.{HasRightSide, variables_of, progress_at, is_settled, AreSettled, IsNext, Tells, is_pending, IsEvaluationOrder, IsSearch, is_waiting, KeepsBegun}
+use Rattle.circuit.specs.Orders.{HasRightSide, variables_of, IsEvaluationOrder}
+use Rattle.circuit.specs.Ordering.{progress_at, is_settled, AreSettled, IsNext, Tells, is_pending, IsSearch, is_waiting, KeepsBegun}
 
 -- what is left to be done, in steps
 abbrev pub steps_left : Progress → ℕ

@@ -13,7 +13,8 @@ use Rattle.circuit.specs.declared.ordering.Progress.TheVariants.{NoGate, Waiting
 use Rattle.circuit.specs.declared.parts.Parts.{Parts}
 use Rattle.circuit.specs.Sections.{circuit_of, AreInRange}
 use Rattle.circuit.specs.Faults.{IsOnce}
-use Rattle.circuit.specs.Ordering.{variables_of, progress_at, Tells, is_pending, IsSearch, IsEvaluationOrder, KeepsBegun, is_waiting}
+use Rattle.circuit.specs.Orders.{variables_of, IsEvaluationOrder}
+use Rattle.circuit.specs.Ordering.{progress_at, Tells, is_pending, IsSearch, KeepsBegun, is_waiting}
 use Rattle.circuit.proofs.Writing.{get_or-replicate_same}
 use Rattle.circuit.proofs.Searching.{sum-changed, is-order}
 use Rattle.circuit.proofs.Marking.{DefinesAll-below}

@@ -13,7 +13,7 @@ use Rattle.circuit.specs.declared.faults.ModelEnd.{ModelEnd}
 use Rattle.circuit.specs.declared.faults.ModelEnd.TheVariants.{Fault, Memory}
 use Rattle.circuit.specs.Sections.{circuit_of, used_by, AreInRange}
 use Rattle.circuit.specs.Faults.{IsLeast, IsTwice, IsFirstTwice, IsUndefined, IsFirstUndefined, IsOnce, IsDefined, HasFault, IsOnlyOnCycle}
-use Rattle.circuit.specs.Ordering.{IsEvaluationOrder}
+use Rattle.circuit.specs.Orders.{IsEvaluationOrder}
 use Rattle.unless_memory.specs.Answers.{GivesExactlyWhere, GivesOneExactlyWhere}
 use Rattle.circuit.proofs.Tables.{gates-apart}
 use Rattle.circuit.proofs.Ranking.{no-cycle}

@@ -2,7 +2,7 @@
 -- evaluated.
 use Rattle.aig_semantics.specs.Circuits.{Circuit, IsChecked, IsWithinLimits}
 use Rattle.circuit.specs.declared.circuits.Circuit.TheInside.{Inside}
-use Rattle.circuit.specs.Ordering.{IsEvaluationOrder}
+use Rattle.circuit.specs.Orders.{IsEvaluationOrder}
 
 -- the circuit that it is seen as, which knows nothing of that order
 abbrev pub seen_as : Inside → Circuit

@@ -5,4 +5,5 @@ pub mod Evaluation
 pub mod Marks
 pub mod Faults
 pub mod Following
+pub mod Orders
 pub mod Ordering

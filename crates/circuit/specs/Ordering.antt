@@ -1,5 +1,5 @@
--- Orders in which gates can be evaluated, and the search for one (scaffolding).
-use Rattle.std.specs.Prelude.{◌≡◌, ◌≢◌, ℕ, suc, ◌+◌, ◌≤◌, ◌<◌, ◌⊎◌, Bool, true, false, List, map, drop, length, slice_index_or, count_by}
+-- The search for an order in which gates can be evaluated (scaffolding).
+use Rattle.std.specs.Prelude.{◌≡◌, ◌≢◌, ℕ, suc, ◌+◌, ◌<◌, Bool, true, false, List, drop, length, slice_index_or, count_by}
 use Rattle.std.specs.List.{All, AllPairs, Contains}
 use Rattle.aig_semantics.specs.declared.parts.Gate.{Gate}
 use Rattle.aig_semantics.specs.Literals.{variable_of}
@@ -12,14 +12,7 @@ use Rattle.circuit.specs.declared.ordering.Ordered.{Ordered}
 use Rattle.circuit.specs.declared.ordering.Ordered.TheVariants.{Order, Cycle as OnCycle}
 use Rattle.circuit.specs.declared.parts.Parts.{Parts}
 use Rattle.circuit.specs.Sections.{circuit_of}
-
--- the gate has this variable on a right side
-abbrev pub HasRightSide : Gate → ℕ → Type 0
-HasRightSide gate w = (variable_of gate.rhs0 ≡ w) ⊎ (variable_of gate.rhs1 ≡ w)
-
--- the variables of gates
-abbrev pub variables_of : List Gate → List ℕ
-variables_of gates = map (λ gate. gate.var) gates
+use Rattle.circuit.specs.Orders.{HasRightSide, variables_of, IsEvaluationOrder}
 
 abbrev pub progress_at : List Progress → ℕ → Progress
 progress_at progress v = slice_index_or progress v NoGate
@@ -54,13 +47,6 @@ is_pending NoGate = false
 is_pending (Waiting k) = true
 is_pending Open = true
 is_pending Done = false
-
--- The gates, so that none reads a variable that it or a later one defines.
-pub record IsEvaluationOrder (gates order : List Gate) : Type 0 where
-  pub members : All (λ gate. Contains gates gate) order
-  pub complete : All (λ gate. Contains (variables_of order) gate.var) gates
-  pub after : (k : ℕ) (d : Gate) → k < length order → (w : ℕ) → HasRightSide (slice_index_or order k d) w → Contains (variables_of (drop k order)) w → ⊥
-  pub count : length order ≤ length gates
 
 -- what holds while an order is sought
 pub record IsSearch (c : Circuit) (progress : List Progress) (path order : List Gate) : Type 0 where

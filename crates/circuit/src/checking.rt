@@ -6,7 +6,7 @@ ghost use Rattle.circuit.specs.declared.faults.ModelFault.{ModelFault};
 ghost use Rattle.circuit.specs.Sections.{circuit_of, used_by, AreInRange};
 ghost use Rattle.circuit.specs.Marks.{first_marks};
 ghost use Rattle.circuit.specs.Faults.{IsDefined, HasFault, IsFirstTwice, IsFirstUndefined, IsOnlyOnCycle, AnswersNoOther};
-ghost use Rattle.circuit.specs.Ordering.{IsEvaluationOrder};
+ghost use Rattle.circuit.specs.Orders.{IsEvaluationOrder};
 ghost use Rattle.unless_memory.specs.Answers.{GivesExactlyWhere, GivesOneExactlyWhere};
 
 use crate::circuits::Circuit;

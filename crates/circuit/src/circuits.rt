@@ -2,6 +2,7 @@
 
 ghost use Rattle.std.specs.Prelude.{◌≡◌, ◌<◌, [], length, slice_index_or};
 ghost use Rattle.aig_semantics.specs.Circuits.{IsChecked, IsWithinLimits};
+ghost use Rattle.circuit.specs.Orders.{IsEvaluationOrder};
 
 use aig_semantics::{Gate, Latch};
 use items::Items;
@@ -62,6 +63,14 @@ impl Circuit {
         ensures { result.now ≡ self.now.gates }
     {
         self.gates.as_slice()
+    }
+
+    /// The gates in an order in which they can be evaluated, each after those that it reads.
+    pub fn evaluation_order(&self) -> &[Gate]
+        ensures order { IsEvaluationOrder self.now.gates result.now }
+        ensures checked { IsChecked self.now }
+    {
+        &self.order
     }
 
     /// The constraint literals.

@@ -8,3 +8,4 @@ pub mod Verdicts
 pub mod Present
 pub mod Over
 pub mod Search
+mod TableLaws

@@ -5,6 +5,7 @@ pub mod Faults
 pub mod Clauses
 pub mod Answers
 pub mod Resets
+pub mod LatchTables
 pub mod Entries
 pub mod Laws
 pub mod Refutations

@@ -1,7 +1,7 @@
 //! What an entry of a certificate is with its proofs, and its check.
 //!
 //! - `first_bad_use`: the first of a line of uses that may not stand where it does;
-//! - `clause_from_aiger`: a clause of an entry, from the literals of its line;
+//! - `clause_from_aiger`: a clause of an entry, from the literals of its line; `LatchNumbers::clause`: the same by a table;
 //! - `holds_initial`, `first_baseless`: what is asked of the clauses of a reach entry;
 //! - `used`: the entries that uses name, as obligations take them;
 //! - `Judge`: the proofs of an entry or a refutation, line by line;
@@ -18,6 +18,7 @@ mod judge;
 mod laws;
 mod list;
 mod refutations;
+mod tables;
 mod uses;
 
 pub use clauses::{clause_from_aiger, first_baseless, holds_initial};
@@ -30,4 +31,5 @@ pub use laws::{
 };
 pub use list::{Listed, used};
 pub use refutations::{Refutation, refutation_fault};
+pub use tables::LatchNumbers;
 pub use uses::{User, first_bad_use};

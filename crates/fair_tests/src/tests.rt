@@ -2,8 +2,9 @@
 
 ghost use Rattle.std.specs.Prelude.{◌≤◌};
 
+use certificate::{Accepted, AnswerEnd, AnswerFault, check_answer};
 use edge::{FreeGate, MemShelf, MemSink};
-use fair_top::{Accepted, AnswerEnd, AnswerFault, Done, Status, check_answer, run};
+use fair_top::{Done, Status, run};
 use std::alloc::Global;
 use std::sync::Wait;
 use std::test::Fail;
@@ -11,15 +12,15 @@ use std::thread::Threads;
 use stimulus::ReplayFault;
 
 // The latch begins with 0 and changes at each step; the property is that it is 1.
-const TOGGLE: &str = "aag 1 0 1 0 0 0 0 1 0\n2 3\n1\n2\n";
+pub(crate) const TOGGLE: &str = "aag 1 0 1 0 0 0 0 1 0\n2 3\n1\n2\n";
 
 // The latch stays at 0.
-const STUCK: &str = "aag 1 0 1 0 0 0 0 1 0\n2 2\n1\n2\n";
+pub(crate) const STUCK: &str = "aag 1 0 1 0 0 0 0 1 0\n2 2\n1\n2\n";
 
 // The latch begins with either value and keeps it; then the same under the constraint that it is 0.
 const FREE: &str = "aag 1 0 1 0 0 0 0 1 0\n2 2 2\n1\n2\n";
 
-const FREE_AT_0: &str = "aag 1 0 1 0 0 0 1 1 0\n2 2 2\n3\n1\n2\n";
+pub(crate) const FREE_AT_0: &str = "aag 1 0 1 0 0 0 1 1 0\n2 2 2\n3\n1\n2\n";
 
 // The latch takes the value of the input, and is to be 0 always.
 const FOLLOWS: &str = "aag 2 1 1 0 0 0 1 1 0\n2\n4 2\n5\n1\n1\n";
@@ -39,16 +40,13 @@ const CYCLE: &str = "aag 2 1 0 0 1 0 0 1 0\n2\n1\n4\n4 4 2\n";
 
 const TWO_POSITIONS: &str = "1\nj0\n0\n\n\n.\n";
 
-const CERTIFICATE: &str =
-    "0\nj0\nversion 1\nreach 1 0\n\n3 0\nproof 1\n6 0 4 2 5 0\nrefute 1 1\n0\n7 0 4 5 0\nend\n";
-
 pub(crate) const USAGE: &str =
     "usage: fairlive check MODEL ANSWER\n       fairlive gen KIND SEED SIZE [--binary]\n";
 
 pub(crate) const TWO_FROM_0: &str = "accepted lasso j0 positions 2 loop 0\n";
 
 // Models and answers, with the text that must be written and the number that the program must end with.
-const ROWS: [(&str, &str, &str, u8); 54] = [
+const ROWS: [(&str, &str, &str, u8); 53] = [
     (TOGGLE, TWO_POSITIONS, TWO_FROM_0, 0),
     (TOGGLE, "1\nj0\nc hello\nx\n\n\n\n.\n", TWO_FROM_0, 0),
     (
@@ -115,8 +113,7 @@ const ROWS: [(&str, &str, &str, u8); 54] = [
         1,
     ),
     (TOGGLE, "2\nj0\n0\n\n\n.\n", "refused unknown status\n", 1),
-    (TOGGLE, CERTIFICATE, "refused unknown status\n", 1),
-    (TOGGLE, "c\nu\n0", "refused unknown status\n", 1),
+    (TOGGLE, "c\nu\n2", "refused unknown status\n", 1),
     (
         TOGGLE,
         "1\nj0\n0\n\n\n.\nzz\n",
@@ -278,7 +275,7 @@ fn answers_of_check(rt: HostRuntime) -> Result<(), Fail> {
     Ok(())
 }
 
-/// The status of an accepted answer tells the lasso.
+/// The status of an accepted stimulus tells the lasso.
 #[test]
 fn status_of_a_lasso(rt: HostRuntime) -> Result<(), Fail> {
     let toggled = check(

@@ -7,10 +7,10 @@ use Rattle.fair_top.specs.declared.requests.GenRequest.{GenRequest}
 use Rattle.fair_top.specs.declared.status.Status.{Status}
 use Rattle.fair_top.specs.declared.status.Status.TheVariants as statuses
 use Rattle.fair_top.specs.declared.status.Done.TheVariants.{Printed}
-use Rattle.fair_top.specs.declared.ends.Accepted.{Accepted}
-use Rattle.fair_top.specs.declared.ends.AnswerEnd.{AnswerEnd}
-use Rattle.fair_top.specs.declared.ends.AnswerEnd.TheVariants as ends
-use Rattle.fair_top.specs.Answers.{DecidesEnd}
+use Rattle.certificate.specs.declared.ends.Accepted.{Accepted}
+use Rattle.certificate.specs.declared.ends.AnswerEnd.{AnswerEnd}
+use Rattle.certificate.specs.declared.ends.AnswerEnd.TheVariants as ends
+use Rattle.certificate.specs.Ends.{DecidesEnd}
 use Rattle.fair_top.specs.ModelGiven.{OfSomeText}
 use Rattle.fair_top.specs.Check.{status_of, JudgesAs}
 use Rattle.fair_top.specs.Asked.{Asked, Check, Gen, names_in}

@@ -7,19 +7,19 @@ use Rattle.aiger_grammar.specs.BothForms.{SameFault}
 use Rattle.circuit.specs.declared.faults.ModelFault.{ModelFault}
 use Rattle.edge.specs.Faults.{Rose}
 use Rattle.edge.specs.Reads.{Reads}
-use Rattle.fair_top.specs.declared.ends.Accepted.{Accepted}
-use Rattle.fair_top.specs.declared.ends.AnswerEnd.{AnswerEnd}
-use Rattle.fair_top.specs.declared.ends.AnswerEnd.TheVariants as ends
+use Rattle.certificate.specs.declared.ends.Accepted.{Accepted}
+use Rattle.certificate.specs.declared.ends.AnswerEnd.{AnswerEnd}
+use Rattle.certificate.specs.declared.ends.AnswerEnd.TheVariants as ends
 use Rattle.fair_top.specs.declared.status.Status.{Status}
 use Rattle.fair_top.specs.declared.status.Status.TheVariants as statuses
-use Rattle.fair_top.specs.Answers.{DecidesEnd}
+use Rattle.certificate.specs.Ends.{DecidesEnd}
 use Rattle.fair_top.specs.ModelTexts.{IsModelText}
 use Rattle.fair_top.specs.ModelGiven.{OfSomeText}
 use Rattle.fair_top.specs.Check.{status_of, JudgesAs, DecidesCheck}
-use Rattle.fair_top.specs.Statuses.{is_read_fault, has_unread}
+use Rattle.fair_top.specs.Statuses.{is_read_fault}
 use Rattle.fair_top.specs.Headline.{IsSilent, IsAnswered, HoldsModel, ReadsModelFirst}
 use Rattle.fair_top.specs.Judged.{IsModelOf, IsFaultOf, EndsWithoutModel}
-use Rattle.fair_top.specs.AnswerEnds.{CheckSays, EndsWith}
+use Rattle.certificate.specs.Ends.{CheckSays, EndsWith, has_unread}
 
 abbrev pub End : Type 0
 End = Result Accepted AnswerEnd

@@ -2,16 +2,17 @@
 use Rattle.std.specs.Prelude.{◌≡◌, ◌⊎◌, ℕ, List, Option, Result, Ok, Err, codes}
 use Rattle.clap.specs.Walk.{Row}
 use Rattle.clap.specs.Simple.{App, new_app, with_rule}
-use Rattle.fair_top.specs.declared.ends.Accepted.{Accepted}
-use Rattle.fair_top.specs.declared.ends.Accepted.TheVariants as accepted
-use Rattle.fair_top.specs.declared.ends.AnswerEnd.{AnswerEnd}
-use Rattle.fair_top.specs.declared.ends.AnswerEnd.TheVariants as ends
+use Rattle.certificate.specs.declared.ends.Accepted.{Accepted}
+use Rattle.certificate.specs.declared.ends.Accepted.TheVariants as accepted
+use Rattle.certificate.specs.declared.ends.AnswerEnd.{AnswerEnd}
+use Rattle.certificate.specs.declared.ends.AnswerEnd.TheVariants as ends
 use Rattle.fair_top.specs.declared.status.Status.{Status}
 use Rattle.fair_top.specs.declared.status.Status.TheVariants as statuses
 use Rattle.fair_top.specs.declared.status.Done.{Done}
 use Rattle.fair_top.specs.declared.status.Done.TheVariants as done
 use Rattle.fair_top.specs.Words.{wanted, IsGiven}
-use Rattle.fair_top.specs.Answers.{DecidesEnd}
+use Rattle.certificate.specs.Answers.{Shows}
+use Rattle.certificate.specs.Ends.{DecidesEnd}
 use Rattle.fair_top.specs.ModelTexts.{OfModel}
 use Rattle.fair_top.specs.ModelGiven.{Taking, OfText, OfSomeText, SaysBadModel}
 use Rattle.fair_top.specs.Texts.{text_of}
@@ -27,6 +28,7 @@ pub record MeansCheck (rows : List Row) (model answer : List ℕ) : Type 0 where
 -- what was done where an answer was accepted
 abbrev pub done_of : Accepted → Done
 done_of (accepted.Lasso property positions from) = done.Lasso property positions from
+done_of (accepted.Holds property entries) = done.Holds property entries
 
 -- the status for the end of the check of an answer
 abbrev pub status_of : Result Accepted AnswerEnd → Status
@@ -49,3 +51,8 @@ GivesCheck model answer status text = JudgesAs OfSomeText model answer status ×
 -- the status that both texts decide, where they are told
 abbrev pub DecidesCheck : Option (List ℕ) → Option (List ℕ) → Status → Type 0
 DecidesCheck model answer status = JudgesAs OfText model answer status
+
+-- MODEL is the text of a model, and of its circuit what the accepted answer shows is true: there is such a fair lasso of
+-- the property, or there is none
+abbrev pub ShownByCheck : Option (List ℕ) → Accepted → Type 0
+ShownByCheck model accepted = OfSomeText model (λ text. OfModel text (λ c. Shows c accepted))

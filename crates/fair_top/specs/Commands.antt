@@ -2,9 +2,10 @@
 use Rattle.std.specs.Prelude.{◌≡◌, ℕ, List, Option, codes, true}
 use Rattle.clap.specs.Walk.{Row}
 use Rattle.clap.specs.Simple.{App, new_app, on_top, with_subcommand}
+use Rattle.certificate.specs.declared.ends.Accepted.{Accepted}
 use Rattle.fair_top.specs.declared.status.Status.{Status}
 use Rattle.fair_top.specs.Asked.{Asked, Check, Gen}
-use Rattle.fair_top.specs.Check.{check_command, MeansCheck, GivesCheck, DecidesCheck}
+use Rattle.fair_top.specs.Check.{check_command, MeansCheck, GivesCheck, DecidesCheck, ShownByCheck}
 use Rattle.fair_top.specs.Gen.{gen_command, MeansGen, GivesGen, DecidesGen}
 
 -- the program, which wants a command
@@ -27,3 +28,8 @@ CommandGives held (Gen request) status text = GivesGen request status text
 abbrev pub Decides : (List ℕ → Option (List ℕ)) → Asked → Status → Type 0
 Decides held (Check model answer) status = DecidesCheck (held model) (held answer) status
 Decides held (Gen request) status = DecidesGen request status
+
+-- what is so of the texts on the shelf where a run that asks for this accepts an answer, which `gen` never does
+abbrev pub ShownBy : (List ℕ → Option (List ℕ)) → Asked → Accepted → Type 0
+ShownBy held (Check model answer) accepted = ShownByCheck (held model) accepted
+ShownBy held (Gen request) accepted = ⊥

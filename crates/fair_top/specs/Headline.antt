@@ -9,11 +9,13 @@ use Rattle.edge.specs.Faults.{Rose}
 use Rattle.edge.specs.Reads.{Reads}
 use Rattle.edge.specs.Writes.{Adds, AddsPart, Writes}
 use Rattle.unless_memory.specs.Answers.{GivesSome}
+use Rattle.certificate.specs.declared.ends.Accepted.{Accepted}
 use Rattle.fair_top.specs.declared.status.Status.{Status}
 use Rattle.fair_top.specs.declared.status.Status.TheVariants as statuses
 use Rattle.fair_top.specs.ModelTexts.{OfModel}
+use Rattle.fair_top.specs.Check.{done_of}
 use Rattle.fair_top.specs.Asked.{Asked, names_in, usage_text}
-use Rattle.fair_top.specs.Commands.{fairlive, Means, CommandGives, Decides}
+use Rattle.fair_top.specs.Commands.{fairlive, Means, CommandGives, Decides, ShownBy}
 use Rattle.fair_top.specs.Statuses.{is_read_fault}
 
 -- What the words ask for.
@@ -95,6 +97,14 @@ IsCut status = (status ≡ statuses.ReadFault) ⊎ (status ≡ statuses.WriteFau
 -- the verdict is answered, unless memory is refused or a read or write fails
 abbrev pub IsAnswered : Status → Status → Type 0
 IsAnswered verdict result = GivesSome statuses.Memory (λ status. SameVerdict verdict status ⊎ IsCut status) result
+
+-- What is true.
+
+-- where the status is that of an accepted answer, the words ask for its check, and what the answer shows is true
+abbrev pub IsShown : (List ℕ → Option (List ℕ)) → List (List ℕ) → Status → Type 0
+IsShown held words status =
+    (accepted : Accepted) → status ≡ statuses.Done (done_of accepted)
+    → (asked : Asked) × AsksFor words asked × ShownBy held asked accepted
 
 -- What a run reads.
 

@@ -1,27 +1,12 @@
--- Scaffolding of inner functions: what the model and the replay of a stimulus say, from which a check is judged.
-use Rattle.std.specs.Prelude.{◌≡◌, ℕ, List, Option, Some, Result, Ok, Err}
-use Rattle.aig_semantics.specs.Circuits.{Circuit}
+-- Scaffolding of inner functions: what the model says, from which a check is judged.
+use Rattle.std.specs.Prelude.{◌≡◌, ℕ, List, Option, Some}
 use Rattle.circuit.specs.declared.faults.ModelFault.{ModelFault}
 use Rattle.aiger_grammar.specs.Models.{Model}
 use Rattle.aiger_grammar.specs.BothForms.{SameFault}
-use Rattle.fair_top.specs.declared.ends.Accepted.{Accepted}
-use Rattle.fair_top.specs.declared.ends.Accepted.TheVariants as accepted
-use Rattle.aig_semantics.specs.declared.traces.Stimulus.{Stimulus}
-use Rattle.aig_semantics.specs.Stimuli.{StandsFor}
-use Rattle.stimulus.specs.Faults.{HasReplayFault}
-use Rattle.fair_top.specs.declared.ends.AnswerFault.TheVariants.{Replay}
-use Rattle.fair_top.specs.declared.ends.AnswerEnd.{AnswerEnd}
-use Rattle.fair_top.specs.declared.ends.AnswerEnd.TheVariants as ends
 use Rattle.fair_top.specs.declared.status.Status.{Status}
 use Rattle.fair_top.specs.declared.status.Status.TheVariants as statuses
 use Rattle.fair_top.specs.ModelTexts.{IsModelText, IsBadModel}
 use Rattle.fair_top.specs.ModelGiven.{OfSomeText}
-
--- the stimulus, of an answer for property n, decides this end of its replay
-abbrev pub ReplayDecides : Circuit → ℕ → Stimulus → Result Accepted AnswerEnd → Type 0
-ReplayDecides c n stimulus (Ok (accepted.Lasso property positions from)) = (property ≡ n) × StandsFor c n stimulus positions from
-ReplayDecides c n stimulus (Err (ends.Refused (Replay fault))) = HasReplayFault c n stimulus fault
-ReplayDecides c n stimulus (Err _) = ⊥
 
 -- m is the one model whose text MODEL is
 pub record IsModelOf (told : Option (List ℕ)) (m : Model) : Type 0 where

@@ -1,5 +1,3 @@
-pub mod Answers
-pub mod AnswerLaws
 pub mod ModelTexts
 pub mod ModelGiven
 pub mod Words
@@ -8,9 +6,7 @@ pub mod Check
 pub mod Gen
 pub mod Commands
 pub mod Asking
-pub mod Walks
 pub mod Statuses
 pub mod Texts
 pub mod Headline
-pub mod AnswerEnds
 pub mod Judged

@@ -3,14 +3,8 @@ use Rattle.std.specs.Prelude.{Bool, true, false, Result, Ok, Err}
 use Rattle.fair_top.specs.declared.texts.Outcome.{Outcome}
 use Rattle.edge.specs.declared.reading.ReadEnd.{ReadEnd}
 use Rattle.edge.specs.declared.reading.ReadEnd.TheVariants as reads
-use Rattle.fair_top.specs.declared.ends.AnswerEnd.{AnswerEnd}
-use Rattle.fair_top.specs.declared.ends.AnswerEnd.TheVariants as ends
 use Rattle.fair_top.specs.declared.status.Status.{Status}
 use Rattle.fair_top.specs.declared.status.Status.TheVariants as statuses
-
-abbrev pub answer_end_of_read : ReadEnd → AnswerEnd
-answer_end_of_read reads.Failed = ends.ReadFault
-answer_end_of_read reads.Memory = ends.Memory
 
 abbrev pub status_of_read : ReadEnd → Status
 status_of_read reads.Failed = statuses.ReadFault
@@ -33,12 +27,6 @@ status_in (Ok outcome) = outcome.status
 status_in (Err status) = status
 
 -- the call ended with a failed read
-abbrev pub has_unread : {T : Type 0} → Result T AnswerEnd → Bool
-has_unread (Ok read) = false
-has_unread (Err (ends.Refused fault)) = false
-has_unread (Err ends.ReadFault) = true
-has_unread (Err ends.Memory) = false
-
 abbrev pub has_read_fault : {T : Type 0} → Result T Status → Bool
 has_read_fault (Ok read) = false
 has_read_fault (Err status) = is_read_fault status

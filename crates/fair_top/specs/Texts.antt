@@ -4,13 +4,17 @@ use Rattle.circuit.specs.declared.faults.ModelFault.{ModelFault}
 use Rattle.circuit.specs.declared.faults.ModelFault.TheVariants.{Header, Number, Range, Undefined, Twice, Cycle, Truncated, Limit, Trailing, Symbol}
 use Rattle.stimulus.specs.declared.ends.ReplayFault.{ReplayFault}
 use Rattle.stimulus.specs.declared.ends.ReplayFault.TheVariants.{Shape, Width, NotInitial, Constraint, NoFairLoop, NoProperty}
+use Rattle.proof_semantics.specs.declared.faults.LratFault.{LratFault}
+use Rattle.proof_semantics.specs.declared.faults.LratFault.TheVariants as proofs
+use Rattle.entry.specs.declared.faults.EntryFault.{EntryFault}
+use Rattle.entry.specs.declared.faults.EntryFault.TheVariants as entries
 use Rattle.fair_top.specs.Asked.{usage_text}
 use Rattle.fair_top.specs.declared.status.Status.{Status}
 use Rattle.fair_top.specs.declared.status.Status.TheVariants as statuses
 use Rattle.fair_top.specs.declared.status.Done.{Done}
-use Rattle.fair_top.specs.declared.status.Done.TheVariants.{Lasso, Printed}
-use Rattle.fair_top.specs.declared.ends.AnswerFault.{AnswerFault}
-use Rattle.fair_top.specs.declared.ends.AnswerFault.TheVariants as answers
+use Rattle.fair_top.specs.declared.status.Done.TheVariants.{Lasso, Holds, Printed}
+use Rattle.certificate.specs.declared.ends.AnswerFault.{AnswerFault}
+use Rattle.certificate.specs.declared.ends.AnswerFault.TheVariants as answers
 
 abbrev pub exit_number : Status → ℕ
 exit_number (statuses.Done done) = 0
@@ -46,10 +50,31 @@ replay_text NoFairLoop = codes "refused no fair loop\n"
 replay_text (Shape line) = line_with (codes "refused shape line ") line
 replay_text NoProperty = codes "refused property\n"
 
+-- one line, of words and what is wrong with a line of a proof
+abbrev pub proof_fault_text : List ℕ → LratFault → List ℕ
+proof_fault_text words proofs.BadLine = words ++ codes "bad line\n"
+proof_fault_text words proofs.IdOrder = words ++ codes "id order\n"
+proof_fault_text words (proofs.NoClause id) = line_with (words ++ codes "no clause ") id
+proof_fault_text words (proofs.NotUnit id) = line_with (words ++ codes "not unit ") id
+proof_fault_text words proofs.NoConflict = words ++ codes "no conflict\n"
+proof_fault_text words proofs.RatRefused = words ++ codes "rat\n"
+proof_fault_text words proofs.Unfinished = words ++ codes "unfinished\n"
+
+-- one line, of words that name an entry and what is wrong with it
+abbrev pub entry_fault_text : List ℕ → EntryFault → List ℕ
+entry_fault_text words (entries.BadUse n) = line_with (words ++ codes " use ") n
+entry_fault_text words (entries.NotLatch literal) = line_with (words ++ codes " literal ") literal
+entry_fault_text words (entries.Base clause) = line_with (words ++ codes " base ") clause
+entry_fault_text words (entries.Proof clause line fault) =
+    proof_fault_text (words ++ codes " clause " ++ decimal clause ++ codes " proof line " ++ decimal line ++ codes " ") fault
+
 abbrev pub refusal_text : AnswerFault → List ℕ
 refusal_text (answers.Shape line) = line_with (codes "refused shape line ") line
 refusal_text (answers.NoProperty n) = line_with (codes "refused property ") n
 refusal_text (answers.Replay fault) = replay_text fault
+refusal_text (answers.Entry entry fault) = entry_fault_text (codes "refused entry " ++ decimal entry) fault
+refusal_text (answers.RefuteUse n) = line_with (codes "refused refutation use ") n
+refusal_text (answers.Refutation line fault) = proof_fault_text (codes "refused refutation line " ++ decimal line ++ codes " ") fault
 refusal_text answers.TooLong = codes "refused too long\n"
 refusal_text (answers.Trailing line) = line_with (codes "refused trailing line ") line
 refusal_text answers.UnknownStatus = codes "refused unknown status\n"
@@ -57,6 +82,8 @@ refusal_text answers.UnknownStatus = codes "refused unknown status\n"
 abbrev pub done_text : Done → List ℕ
 done_text (Lasso property positions from) =
     codes "accepted lasso j" ++ decimal property ++ codes " positions " ++ decimal positions ++ codes " loop " ++ decimal from ++ codes "\n"
+done_text (Holds property entries) =
+    codes "accepted certificate j" ++ decimal property ++ codes " entries " ++ decimal entries ++ codes "\n"
 done_text Printed = []
 
 -- the text of a status; four have none of their own (of a model that is printed it is the model's)

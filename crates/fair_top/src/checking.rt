@@ -3,15 +3,15 @@
 ghost use Rattle.std.specs.Prelude.{◌≡◌, ◌⊎◌, [], ◌∷◌};
 ghost use Rattle.edge.specs.Faults.{NoneFell};
 ghost use Rattle.edge.specs.Reads.{KeepsTexts};
+ghost use Rattle.certificate.specs.declared.ends.Accepted.{Accepted as AcceptedOf};
 ghost use Rattle.fair_top.specs.ModelGiven.{OfSomeText};
-ghost use Rattle.fair_top.specs.Check.{status_of, done_of, JudgesAs, DecidesCheck};
+ghost use Rattle.fair_top.specs.Check.{status_of, done_of, JudgesAs, DecidesCheck, ShownByCheck};
 ghost use Rattle.fair_top.specs.Headline.{IsSilent, IsAnswered, FailedOf, ReadsModelFirst};
 ghost use Rattle.fair_top.specs.Statuses.{is_read_fault};
 
-use crate::answers::check_answer;
-use crate::ends::{Accepted, AnswerEnd};
 use crate::models::model_of;
 use crate::status::{Done, Status};
+use certificate::{Accepted, AnswerEnd, check_answer};
 use edge::Shelf;
 use std::alloc::Global;
 
@@ -19,6 +19,7 @@ use std::alloc::Global;
 pub(crate) fn check<H: Shelf>(alloc: Global, shelf: &mut H, model: &str, answer: &str) -> Status
     ensures found { JudgesAs OfSomeText (H.held shelf.old model.now) (H.held shelf.old answer.now) result ⊎ IsSilent result }
     ensures exactly { (verdict : Status) → DecidesCheck (H.held shelf.old model.now) (H.held shelf.old answer.now) verdict → IsAnswered verdict result }
+    ensures shown { (accepted : AcceptedOf) → result ≡ Status.Done (done_of accepted) → ShownByCheck (H.held shelf.old model.now) accepted }
     ensures read { result ≡ Status.ReadFault → FailedOf (H.held shelf.old) (model.now ∷ answer.now ∷ []) (H.faults shelf.old) (H.faults shelf.new) }
     ensures reads { ReadsModelFirst H.reads (H.held shelf.old) (model.now ∷ answer.now ∷ []) (is_read_fault result) shelf.old shelf.new }
     ensures counts { NoneFell (H.faults shelf.old) (H.faults shelf.new) }
@@ -56,5 +57,6 @@ fn done_of(found: Accepted) -> Done
             positions,
             from,
         },
+        Accepted::Holds { property, entries } => Done::Holds { property, entries },
     }
 }

@@ -5,31 +5,21 @@
 //! | `run` | does what the words ask for, with a runtime at hand |
 //! | `run_alone` | the same with no other threads; it owes its return, and its clauses are those of `run` |
 //! | `Status::number` | the number with which the program ends |
-//! | `check_answer` | judges one answer against a circuit |
-//! | `answer_laws` | does nothing: its contract is what texts of answers are |
 //!
 //! A command is a line in `specs/Asked.antt`, `specs/Commands.antt`, `src/requests.rt`, `src/words.rt` and
 //! `src/commands.rt`, and files of its own, as `specs/Check.antt` and `src/checking.rt` are.
 #![tactic(auto)]
 
-mod answers;
 mod checking;
 mod commands;
-mod ends;
 mod generating;
-mod laws;
-mod lines;
 mod models;
-mod reading;
 mod requests;
 mod running;
 mod status;
 mod texts;
 mod words;
 
-pub use answers::check_answer;
-pub use ends::{Accepted, AnswerEnd, AnswerFault};
-pub use laws::answer_laws;
 pub use requests::{GenKind, GenRequest};
 pub use running::{run, run_alone};
 pub use status::{Done, Status};

@@ -1,6 +1,6 @@
 //! The text of MODEL, read. The main call is `model_of`.
 
-ghost use Rattle.std.specs.Prelude.{◌≡◌, ◌⊎◌, ℕ, ◌+◌, List, Option, Some, Ok, Err, IfOk, IfErr, take};
+ghost use Rattle.std.specs.Prelude.{◌≡◌, ◌⊎◌, ◌↔◌, ℕ, ◌+◌, List, Option, Some, Ok, Err, IsTrue, IfOk, IfErr, take};
 ghost use Rattle.edge.specs.Faults.{Rose, NoneFell};
 ghost use Rattle.edge.specs.Reads.{KeepsTexts, Reads};
 ghost use Rattle.edge.specs.Told.{IfTold};
@@ -11,7 +11,6 @@ ghost use Rattle.fair_top.specs.ModelTexts.{is_binary, IsTextIn, HasFaultIn, IsM
 ghost use Rattle.fair_top.specs.Judged.{IsModelOf, IsFaultOf, EndsWithoutModel};
 ghost use Rattle.fair_top.specs.Statuses.{has_read_fault};
 
-use crate::lines::is_word;
 use crate::status::Status;
 use aig_semantics::MAX_MODEL_BYTES;
 use aiger_names::Model;
@@ -68,4 +67,11 @@ fn is_binary(bytes: &[u8]) -> bool
         return false;
     }
     is_word(&bytes[..2], b"ai")
+}
+
+/// Whether the bytes are this word.
+fn is_word(bytes: &[u8], word: &[u8]) -> bool
+    ensures { IsTrue result ↔ (bytes.now ≡ word.now) }
+{
+    bytes == word
 }

@@ -5,7 +5,7 @@ ghost use Rattle.edge.specs.Faults.{Rose, NoneFell};
 ghost use Rattle.edge.specs.Reads.{KeepsTexts};
 ghost use Rattle.fair_top.specs.Words.{bytes_of};
 ghost use Rattle.fair_top.specs.Asked.Asked.{Gen};
-ghost use Rattle.fair_top.specs.Headline.{AsksFor, IsTakenOrUsage, ReadsNothing, IsFound, IsVerdict, IsAnswered, IsSilent, HasTaken, ReadFailed, HasRead, HasWritten};
+ghost use Rattle.fair_top.specs.Headline.{AsksFor, IsTakenOrUsage, ReadsNothing, IsFound, IsVerdict, IsAnswered, IsShown, IsSilent, HasTaken, ReadFailed, HasRead, HasWritten};
 ghost use Rattle.fair_top.specs.declared.requests.GenRequest.{GenRequest};
 ghost use Rattle.fair_top.specs.declared.status.Done.TheVariants.{Printed};
 
@@ -29,6 +29,7 @@ pub fn run<R: Threads + Wait + Sync, H: Shelf, O: Sink, G: Gate>(
 ) -> Status
     ensures found { IsFound (H.held shelf.old) (bytes_of words.now) result }
     ensures exactly { (verdict : Status) → IsVerdict (H.held shelf.old) (bytes_of words.now) verdict → IsAnswered verdict result }
+    ensures shown { IsShown (H.held shelf.old) (bytes_of words.now) result }
     ensures words { IsTakenOrUsage (bytes_of words.now) }
     ensures printed { (request : GenRequest) → AsksFor (bytes_of words.now) (Gen request) → (result ≡ Status.Done Printed) ⊎ ((result ≡ Status.Memory) ⊎ (result ≡ Status.WriteFault)) }
     ensures text { HasTaken (H.held shelf.old) (bytes_of words.now) (O.taken out.old) (O.taken out.new) result }
@@ -57,6 +58,8 @@ pub fn run_alone<H: Shelf, O: Sink>(
     ensures found { IsFound (H.held shelf.old) (bytes_of words.now) result }
     // and what is decided once is answered, unless memory is refused or a read or write fails.
     ensures exactly { (verdict : Status) → IsVerdict (H.held shelf.old) (bytes_of words.now) verdict → IsAnswered verdict result }
+    // What `check` accepts is true: the circuit of MODEL has such a fair lasso, or has none of the property.
+    ensures shown { IsShown (H.held shelf.old) (bytes_of words.now) result }
     // Words are a command with its values, or are refused; and those of `gen` are answered with a model, unless memory
     // is refused or a write fails.
     ensures words { IsTakenOrUsage (bytes_of words.now) }

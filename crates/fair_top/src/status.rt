@@ -3,7 +3,7 @@
 ghost use Rattle.std.specs.Prelude.{◌≡◌};
 ghost use Rattle.fair_top.specs.Texts.{exit_number};
 
-use crate::ends::AnswerFault;
+use certificate::AnswerFault;
 use circuit::ModelFault;
 use edge::ReadEnd;
 
@@ -35,6 +35,12 @@ pub enum Done {
         property: u32,
         positions: u64,
         from: u64,
+    },
+    /// The certificate of the answer leaves no fair lasso of this property, counted from 0: its number of entries, at
+    /// most 65,536.
+    Holds {
+        property: u32,
+        entries: u32,
     },
     /// `gen`: the text of the model was written.
     Printed,

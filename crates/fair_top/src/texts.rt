@@ -2,12 +2,14 @@
 
 ghost use Rattle.std.specs.Prelude.{◌≡◌, ◌⊎◌, ◌++◌, true, false, IfOk, IfErr, OnOk, codes, decimal};
 ghost use Rattle.fair_top.specs.Statuses.{ends_silently, status_in, is_read_fault};
-ghost use Rattle.fair_top.specs.Texts.{text_of, line_with, bad_model_text, replay_text, refusal_text, done_text};
+ghost use Rattle.fair_top.specs.Texts.{text_of, line_with, bad_model_text, replay_text, proof_fault_text, entry_fault_text, refusal_text, done_text};
 
-use crate::ends::AnswerFault;
 use crate::requests::USAGE;
 use crate::status::{Done, Status};
+use certificate::AnswerFault;
 use circuit::ModelFault;
+use entry::EntryFault;
+use proof_semantics::LratFault;
 use std::alloc::{AllocError, Global};
 use stimulus::ReplayFault;
 use text_grammar::push_number;
@@ -96,6 +98,9 @@ fn text_of_answer(alloc: Global, fault: &AnswerFault) -> Result<Vec<u8>, AllocEr
         AnswerFault::Shape(line) => numbered(alloc, "refused shape line ", *line),
         AnswerFault::NoProperty(property) => numbered(alloc, "refused property ", *property),
         AnswerFault::Replay(fault) => text_of_replay(alloc, fault),
+        AnswerFault::Entry(entry, fault) => text_of_entry(alloc, *entry, fault),
+        AnswerFault::RefuteUse(entry) => numbered(alloc, "refused refutation use ", *entry),
+        AnswerFault::Refutation(line, fault) => text_of_refutation(alloc, *line, fault),
         AnswerFault::TooLong => words(alloc, "refused too long\n"),
         AnswerFault::Trailing(line) => numbered(alloc, "refused trailing line ", *line),
         AnswerFault::UnknownStatus => words(alloc, "refused unknown status\n"),
@@ -115,6 +120,69 @@ fn text_of_replay(alloc: Global, fault: &ReplayFault) -> Result<Vec<u8>, AllocEr
     }
 }
 
+/// Adds a line's last words and its number.
+fn push_numbered(line: &mut Vec<u8>, text: &str, number: u64) -> Result<(), AllocError>
+    ensures { OnOk result (line.new.items ≡ line_with (line.old.items ++ text.now) number) }
+{
+    line.extend_from_slice(text.as_bytes())?;
+    push_number(line, number)?;
+    line.push(b'\n')?;
+    Ok(())
+}
+
+/// Adds what is wrong with a line of a proof.
+fn push_proof_fault(line: &mut Vec<u8>, fault: &LratFault) -> Result<(), AllocError>
+    ensures { OnOk result (line.new.items ≡ proof_fault_text line.old.items fault.now) }
+{
+    match *fault {
+        LratFault::BadLine => line.extend_from_slice(b"bad line\n"),
+        LratFault::IdOrder => line.extend_from_slice(b"id order\n"),
+        LratFault::NoClause(id) => push_numbered(line, "no clause ", id),
+        LratFault::NotUnit(id) => push_numbered(line, "not unit ", id),
+        LratFault::NoConflict => line.extend_from_slice(b"no conflict\n"),
+        LratFault::RatRefused => line.extend_from_slice(b"rat\n"),
+        LratFault::Unfinished => line.extend_from_slice(b"unfinished\n"),
+    }
+}
+
+/// Adds what is wrong with an entry.
+fn push_entry_fault(line: &mut Vec<u8>, fault: &EntryFault) -> Result<(), AllocError>
+    ensures { OnOk result (line.new.items ≡ entry_fault_text line.old.items fault.now) }
+{
+    match fault {
+        EntryFault::BadUse(entry) => push_numbered(line, " use ", *entry),
+        EntryFault::NotLatch(literal) => push_numbered(line, " literal ", *literal),
+        EntryFault::Base(clause) => push_numbered(line, " base ", *clause),
+        EntryFault::Proof(clause, at, fault) => {
+            line.extend_from_slice(b" clause ")?;
+            push_number(line, *clause)?;
+            line.extend_from_slice(b" proof line ")?;
+            push_number(line, *at)?;
+            line.push(b' ')?;
+            push_proof_fault(line, fault)
+        }
+    }
+}
+
+fn text_of_entry(alloc: Global, entry: u64, fault: &EntryFault) -> Result<Vec<u8>, AllocError>
+    ensures { IfOk result (λ line. line.items ≡ entry_fault_text (codes "refused entry " ++ decimal entry) fault.now) }
+{
+    let mut line = words(alloc, "refused entry ")?;
+    push_number(&mut line, entry)?;
+    push_entry_fault(&mut line, fault)?;
+    Ok(line)
+}
+
+fn text_of_refutation(alloc: Global, at: u64, fault: &LratFault) -> Result<Vec<u8>, AllocError>
+    ensures { IfOk result (λ line. line.items ≡ proof_fault_text (codes "refused refutation line " ++ decimal at ++ codes " ") fault.now) }
+{
+    let mut line = words(alloc, "refused refutation line ")?;
+    push_number(&mut line, at)?;
+    line.push(b' ')?;
+    push_proof_fault(&mut line, fault)?;
+    Ok(line)
+}
+
 fn text_of_done(alloc: Global, done: &Done) -> Result<Vec<u8>, AllocError>
     ensures { IfOk result (λ line. line.items ≡ done_text done.now) }
 {
@@ -123,16 +191,37 @@ fn text_of_done(alloc: Global, done: &Done) -> Result<Vec<u8>, AllocError>
             property,
             positions,
             from,
-        } => {
-            let mut line = words(alloc, "accepted lasso j")?;
-            push_number(&mut line, u64::from(property))?;
-            line.extend_from_slice(b" positions ")?;
-            push_number(&mut line, positions)?;
-            line.extend_from_slice(b" loop ")?;
-            push_number(&mut line, from)?;
-            line.push(b'\n')?;
-            Ok(line)
-        }
+        } => text_of_lasso(alloc, property, positions, from),
+        Done::Holds { property, entries } => text_of_certificate(alloc, property, entries),
         Done::Printed => Ok(Vec::new(alloc)),
     }
+}
+
+fn text_of_lasso(
+    alloc: Global,
+    property: u32,
+    positions: u64,
+    from: u64,
+) -> Result<Vec<u8>, AllocError>
+    ensures { IfOk result (λ line. line.items ≡ done_text (Done.Lasso property positions from)) }
+{
+    let mut line = words(alloc, "accepted lasso j")?;
+    push_number(&mut line, u64::from(property))?;
+    line.extend_from_slice(b" positions ")?;
+    push_number(&mut line, positions)?;
+    line.extend_from_slice(b" loop ")?;
+    push_number(&mut line, from)?;
+    line.push(b'\n')?;
+    Ok(line)
+}
+
+fn text_of_certificate(alloc: Global, property: u32, entries: u32) -> Result<Vec<u8>, AllocError>
+    ensures { IfOk result (λ line. line.items ≡ done_text (Done.Holds property entries)) }
+{
+    let mut line = words(alloc, "accepted certificate j")?;
+    push_number(&mut line, u64::from(property))?;
+    line.extend_from_slice(b" entries ")?;
+    push_number(&mut line, u64::from(entries))?;
+    line.push(b'\n')?;
+    Ok(line)
 }

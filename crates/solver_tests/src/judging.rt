@@ -1,7 +1,7 @@
 //! An own look at an answer. The main call is `judge`.
 
 use crate::questions::{clauses, has_model, literal};
-use cdcl::{Answer, Asked, Assignment};
+use cdcl::{Answer, Asked, Assignment, Refuted};
 use cnf::{Db, Lit, ProofLine};
 use lrat::Checker;
 use std::alloc::{AllocError, Global};
@@ -92,6 +92,50 @@ pub(crate) fn judge_asked(
             Ok(fault.map_or(Said::Unsat, Said::Wrong))
         }
     }
+}
+
+/// The same of an answer on clauses and units behind them.
+pub(crate) fn judge_refuted(
+    alloc: Global,
+    asked: &[i64],
+    units: &[i64],
+    answer: &Refuted,
+) -> Result<Said, AllocError> {
+    let is_satisfiable = has_model(alloc, asked, units)?;
+    match answer {
+        Refuted::Sat(assignment) => {
+            let clauses_true = truths_of(alloc, assignment, asked)?;
+            let units_true = truths_of(alloc, assignment, units)?;
+            Ok(judge_truths(is_satisfiable, asked, &clauses_true, &units_true))
+        }
+        Refuted::Unsat(proof) => {
+            if is_satisfiable {
+                return Ok(Said::Wrong(Mistake::HasModel));
+            }
+            judge_refutation(alloc, asked, units, proof.as_slice())
+        }
+    }
+}
+
+fn judge_refutation(
+    alloc: Global,
+    asked: &[i64],
+    units: &[i64],
+    proof: &[ProofLine],
+) -> Result<Said, AllocError> {
+    let mut listed = Vec::new(alloc);
+    listed.extend_from_slice(asked)?;
+    for unit in units {
+        listed.push(*unit)?;
+        listed.push(0)?;
+    }
+    if !adds_last(alloc, listed.as_slice(), &[], proof)? {
+        return Ok(Said::Wrong(Mistake::OtherClause));
+    }
+    if !are_needed(proof) {
+        return Ok(Said::Wrong(Mistake::Needless));
+    }
+    judge_proof(alloc, listed.as_slice(), true, proof)
 }
 
 // Which of the literals are true under values.

@@ -1,8 +1,8 @@
 //! A solver beside a record of what it was given. The main type is `Session`.
 
-use crate::judging::{Said, judge, judge_asked};
+use crate::judging::{Said, judge, judge_asked, judge_refuted};
 use crate::questions::{clauses, literals};
-use cdcl::{Answer, Asked, Solver, are_sized, has_opposites};
+use cdcl::{Answer, Asked, Refuted, Solver, are_sized, has_opposites};
 use cnf::{Clause, Lit};
 use edge::{Meter, SolveEnd};
 use std::alloc::{AllocError, Global};
@@ -17,6 +17,8 @@ pub(crate) enum Way {
     Solve,
     /// `ask`.
     Ask,
+    /// `refute`, of units in place of assumptions.
+    Refute,
 }
 
 /// A solver, and the clauses that were added to it.
@@ -59,6 +61,7 @@ impl Session {
         let said = match self.way {
             Way::Solve => self.solve_one(assumed, assumptions.as_slice(), &mut meter)?,
             Way::Ask => self.ask_one(assumed, assumptions.as_slice(), &mut meter)?,
+            Way::Refute => self.refute_one(assumed, assumptions.as_slice(), &mut meter)?,
         };
         self.conflicts = meter.spending().conflicts();
         Ok(said)
@@ -84,6 +87,18 @@ impl Session {
     ) -> Result<Said, AllocError> {
         match ask_apart(self.alloc, &mut self.solver, assumptions, meter)? {
             Ok(found) => judge_asked(self.alloc, self.added.as_slice(), assumed, &found),
+            Err(end) => Ok(said_at(&end)),
+        }
+    }
+
+    fn refute_one(
+        &mut self,
+        units: &[i64],
+        literals: &[Lit],
+        meter: &mut Meter,
+    ) -> Result<Said, AllocError> {
+        match refute_apart(self.alloc, &mut self.solver, literals, meter)? {
+            Ok(found) => judge_refuted(self.alloc, self.added.as_slice(), units, &found),
             Err(end) => Ok(said_at(&end)),
         }
     }
@@ -132,4 +147,17 @@ fn ask_apart(
         return Err(AllocError);
     }
     Ok(solver.ask(alloc, assumptions, meter))
+}
+
+// The same of units, which may be opposites.
+fn refute_apart(
+    alloc: Global,
+    solver: &mut Solver,
+    units: &[Lit],
+    meter: &mut Meter,
+) -> Result<Result<Refuted, SolveEnd>, AllocError> {
+    if !are_sized(units) {
+        return Err(AllocError);
+    }
+    Ok(solver.refute(alloc, units, meter))
 }

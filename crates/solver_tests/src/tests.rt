@@ -47,6 +47,8 @@ fn drawn_questions(rt: HostRuntime) -> Result<(), Fail> {
         assert!(rt; are_right(said), "of {seed}: {said:?}");
         let asked = ask_drawn(rt.alloc(), Way::Ask, seed)?;
         assert!(rt; are_right(asked), "of {seed}: {asked:?}");
+        let refuted = ask_drawn(rt.alloc(), Way::Refute, seed)?;
+        assert!(rt; are_right(refuted), "of {seed}: {refuted:?}");
         let [_first, limited, assumed, _free] = said;
         sat = sat.saturating_add(u64::from(assumed == Said::Sat));
         unsat = unsat.saturating_add(u64::from(assumed == Said::Unsat));
@@ -136,7 +138,7 @@ const ROWS: [(&[i64], &[i64], Said); 15] = [
 #[test]
 fn special_clauses_and_assumptions(rt: HostRuntime) -> Result<(), Fail> {
     for (numbers, assumed, wanted) in ROWS {
-        for way in [Way::Solve, Way::Ask] {
+        for way in [Way::Solve, Way::Ask, Way::Refute] {
             let said = ask_twice(rt.alloc(), way, numbers, assumed)?;
             assert_eq!(rt;
                 said,
@@ -144,6 +146,27 @@ fn special_clauses_and_assumptions(rt: HostRuntime) -> Result<(), Fail> {
                 "{way:?} of {numbers:?} under {assumed:?}"
             );
         }
+    }
+    Ok(())
+}
+
+// Clauses and units, and what must be said of them together: opposite units, also beside others, and units that are
+// added clauses already.
+const UNIT_ROWS: [(&[i64], &[i64], Said); 7] = [
+    (&[], &[1, -1], Said::Unsat),
+    (&[1, 2, 0], &[-3, 2, -1, 3], Said::Unsat),
+    (&[0], &[2, -2], Said::Unsat),
+    (&[1, 0], &[1, 1], Said::Sat),
+    (&[1, 0, -1, 0], &[1], Said::Unsat),
+    (&[1, 0, -1, 2, 0], &[1, -2], Said::Unsat),
+    (&[1, 2, 0, -1, 2, 0], &[4, -2, 5], Said::Unsat),
+];
+
+#[test]
+fn units_behind_clauses(rt: HostRuntime) -> Result<(), Fail> {
+    for (numbers, units, wanted) in UNIT_ROWS {
+        let said = ask_twice(rt.alloc(), Way::Refute, numbers, units)?;
+        assert_eq!(rt; said, [wanted, wanted], "of {numbers:?} and {units:?}");
     }
     Ok(())
 }

@@ -11,7 +11,7 @@ mod writing;
 
 pub use aig_semantics::Stimulus;
 pub use ends::{ReplayEnd, ReplayFault};
-pub use reading::{is_skipped, read};
+pub use reading::{is_skipped, read, values_of};
 pub use replaying::replay;
 pub use writing::write;
 

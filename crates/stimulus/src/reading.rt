@@ -74,7 +74,7 @@ fn take_line(alloc: Global, line: &[u8], lines: &mut Items<Items<bool>>) -> Resu
     if is_skipped(line) {
         return Ok(true);
     }
-    match read_values(alloc, line)? {
+    match values_of(alloc, line)? {
         Some(values) => {
             lines.push(values)?;
             Ok(true)
@@ -93,8 +93,9 @@ pub fn is_skipped(line: &[u8]) -> bool
     }
 }
 
-// The values that the characters of a line stand for, if each of them does.
-fn read_values(alloc: Global, line: &[u8]) -> Result<Option<Items<bool>>, AllocError>
+/// The values that the characters of a line stand for, 0, 1 and x, which is read as 0. `Ok(None)` where the line has
+/// another character. The error is want of memory.
+pub fn values_of(alloc: Global, line: &[u8]) -> Result<Option<Items<bool>>, AllocError>
     ensures found { IfOk result (λ read. IfSome read (λ values. map value_of line.now ≡ map Some values)) }
     ensures none { IfOk result (λ read. IfNone read (All (λ character. IsSome (value_of character)) line.now → ⊥)) }
 {

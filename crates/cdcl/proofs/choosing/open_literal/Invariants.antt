@@ -1,9 +1,6 @@
 use Rattle.std.proofs.Common.{take}
-use Rattle.cdcl.proofs.SearchLaws.{OpenSoFar, NoneTrue}
+use Rattle.cdcl.proofs.SearchLaws.{OpenSoFar}
 use Rattle.cdcl.proofs.choosing.open_literal.Given as goal
 
 abbrev pub invariant-loop-literal : goal.invariant-loop-literal
-invariant-loop-literal l = record {
-  open_now : OpenSoFar l.trail.steps (take l.literal-index l.clause) l.open;
-  none : NoneTrue l.trail.steps (take l.literal-index l.clause);
-}
+invariant-loop-literal l = OpenSoFar l.trail.steps (take l.literal-index l.clause) l.open

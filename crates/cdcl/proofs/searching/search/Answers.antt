@@ -1,20 +1,26 @@
-use Rattle.std.proofs.Common.{◌≡◌, ◌≤◌, ◌<◌, ℕ, List, length, true, false, sym, subst, ◌∙◌, arith}
+use Rattle.std.proofs.Common.{◌≡◌, ◌≤◌, ◌<◌, ℕ, List, [], ◌∷◌, length, true, false, sym, subst, ◌∙◌, arith}
 use Rattle.proof_semantics.specs.Clauses.{is_subsumed}
 use Rattle.cdcl_trail.specs.Trails.{level, lower_steps}
 use Rattle.cdcl_trail.specs.Propagation.{is_complete, Propagates, IsReasonedTrail}
+use Rattle.cdcl_trail.specs.Watched.{Extends}
 use Rattle.cdcl.specs.Room.{room, variables_of, variables_in}
 use Rattle.cdcl.specs.Searching.{IsOpen, is_satisfied, IsHinted, IsBackLevel, count_open}
 use Rattle.cdcl.proofs.RoomLaws.{all_over, own_over}
 use Rattle.cdcl.proofs.WayLaws.{way_starts, way_propagates, way_decides, way_lower, way_learns, way_back, way_core, way_assumed, work_learned, work_decided, count_open_small, decision_counts}
 use Rattle.cdcl.proofs.ProgressLaws.{first_variables, searched_none, searched_more, first_room_falls, new_spent}
+use Rattle.cdcl_trail.proofs.ExtendLaws.{extends_none, extends_same, extends_all}
 use Rattle.cdcl.proofs.searching.search.Goals as goal
 
 pub decisions-init : goal.decisions-init
 decisions-init c = record {
   log = c.requires.log;
   searched = searched_none c.args.assumptions.now c.args.log.now c.args.meter.now;
-  on_way = way_starts c.args.log.now.clauses c.args.assumptions.now c.level-base.result c.assume_all.new.trail.steps c.in_ok-assume_all.ensures c.level-base.ensures;
+  on_way = way_starts c.args.log.now.clauses c.args.assumptions.now c.level-base.result c.assume_all.new.trail.steps c.in_ok-assume_all.ensures.assumes c.level-base.ensures;
+  extends = extends_none c.assume_all.new.trail.taken c.args.log.now.clauses (c.assume_all.ensures.taken ∙ c.new-trail.ensures.taken);
 }
+
+pub propagate-requires : goal.propagate-requires
+propagate-requires c = subst (λ cs. Extends c.decisions.trail.taken cs) (sym c.clauses.ensures) c.decisions.invariant.extends
 
 pub returns-in_default-choose-clause-found : goal.returns-in_default-choose-clause-found
 returns-in_default-choose-clause-found c =
@@ -47,6 +53,7 @@ decisions-preserved-in_default c =
       searched = c.decisions.invariant.searched;
       on_way = way_decides c.decisions.log.clauses c.args.assumptions.now c.level-base.result c.propagate.new.self.steps c.assume.new.self.steps c.in-Some-choose.literal
           way complete open_one c.in_ok-assume.ensures.ok;
+      extends = extends_same c.assume.new.self.taken c.decisions.log.clauses (c.assume.ensures.watch.taken ∙ c.in_ok-conflict.ensures.taken ∙ c.clauses.ensures);
     }
 
 pub trace-requires-clause-reasons : goal.trace-requires-clause-reasons
@@ -119,4 +126,6 @@ decisions-preserved c =
       on_way = way_back c.decisions.log.clauses c.learn-in-decisions.new.self.clauses c.args.assumptions.now c.in_ok-learned.learned.clause c.level-base.result c.level_after-target.result
           c.propagate.new.self.steps c.back_to.new.self.steps way back c.in_ok-learned.ensures.falsified c.in_ok-learned.ensures.last_level c.in_ok-learn.ensures.clauses
           c.back_to.ensures.steps c.back_to.ensures.level;
+      extends = extends_all c.back_to.new.self.taken c.decisions.log.clauses c.learn-in-decisions.new.self.clauses (c.in_ok-learned.learned.clause ∷ [])
+          (c.back_to.ensures.watch.taken ∙ c.in_ok-conflict.ensures.taken ∙ c.clauses.ensures) c.in_ok-learn.ensures.clauses;
     }

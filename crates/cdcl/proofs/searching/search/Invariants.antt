@@ -1,4 +1,5 @@
 use Rattle.std.proofs.Common.{ℕ, List, length}
+use Rattle.cdcl_trail.specs.Watched.{Extends}
 use Rattle.cdcl.specs.Entries.{IsLog}
 use Rattle.cdcl.specs.Progress.{IsSearched}
 use Rattle.cdcl.specs.Room.{room}
@@ -12,6 +13,7 @@ invariant-decisions l = record {
   log : IsLog l.log;
   searched : IsSearched l.assumptions l.initial.log l.log l.initial.meter l.meter;
   on_way : IsOnWay l.log.clauses l.assumptions l.base l.trail.steps;
+  extends : Extends l.trail.taken l.log.clauses;
 }
 
 abbrev pub decreases-decisions : goal.decreases-decisions

@@ -1,9 +1,7 @@
-use Rattle.std.proofs.Common.{◌≡◌, ◌++◌, ◌+◌, true, length, map, refl, ap, sym, subst, arith, ◌∙◌}
-use Rattle.std.specs.List.{list_all}
+use Rattle.std.proofs.Common.{◌++◌, ◌+◌, length, map, ap, sym, subst, arith, ◌∙◌}
 use Rattle.std.proofs.lemmas.List.{length-append}
 use Rattle.proof_semantics.specs.Clauses.{negation}
 use Rattle.cdcl.specs.UnitClauses.{unit_clauses}
-use Rattle.cdcl.specs.WithUnits.{with_units}
 use Rattle.cdcl.specs.Writing.{count_added, AreBefore, IsClosed}
 use Rattle.cdcl.proofs.WritingLaws.{log-AreBefore, own_below, count_less}
 use Rattle.cdcl.proofs.UnitLaws.{units_start, clause_next, unit_next, units_small, units_prove, long_units}

@@ -6,4 +6,5 @@ abbrev pub invariant-loop-number : goal.invariant-loop-number
 invariant-loop-number l = record {
   reasoned : IsReasonedTrail l.db.clauses l.trail.steps;
   complete : is_complete l.db.clauses l.trail.steps ≡ true;
+  taken : l.trail.taken ≡ l.db.clauses;
 }

@@ -1,6 +1,6 @@
 use Rattle.std.proofs.Common.{subst}
 use Rattle.aig_semantics.specs.Circuits.{IsChecked}
-use Rattle.circuit.specs.Ordering.{IsEvaluationOrder}
+use Rattle.circuit.specs.Orders.{IsEvaluationOrder}
 use Rattle.circuit.proofs.Evaluated.{valuation-law}
 use Rattle.circuit.proofs.evaluating.one_valuation.Goals as goal
 

@@ -1,15 +1,14 @@
-use Rattle.std.proofs.Common.{◌<◌, ◌≤◌, sym, ◌∙◌, arith}
+use Rattle.std.proofs.Common.{◌≤◌, ap, sym, subst, ◌∙◌}
+use Rattle.std.specs.Prelude.{slice_get}
+use Rattle.std.specs.Option.{unwrap_or}
 use Rattle.cdcl_trail.specs.Trails.{level}
-use Rattle.cdcl_trail.proofs.TrailLaws.{step_back, cut_nothing}
+use Rattle.cdcl_trail.specs.Watched.{TrailState}
+use Rattle.cdcl_trail.proofs.SoundLaws.{sound_back}
 use Rattle.cdcl_trail.proofs.trail.Trail.back_to.Goals as goal
 
-pub steps-preserved : goal.steps-preserved
-steps-preserved c =
-    let deep : c.args.target < level c.steps.self.steps = omega (arith, c.level.ensures, c.steps-test.true) in
-    let back = step_back c.args.target c.steps.self.steps c.pop.new.self.steps c.pop.ensures deep in
-    record { answer = back.same ∙ c.steps.invariant.answer; above = back.above }
-
-pub returns-clause-steps : goal.returns-clause-steps
-returns-clause-steps c =
-    let within : level c.steps.self.steps ≤ c.args.target = omega (arith, c.level.ensures, c.steps-test.false) in
-    sym (cut_nothing c.args.target c.steps.self.steps within) ∙ c.steps.invariant.answer
+pub invariant_of-self : goal.invariant_of-self
+invariant_of-self c =
+    let t = c.self.inside in
+    sound_back t.assignment.steps c.back_to.new.self.steps t.watching t.reached c.reached_at-self-inside.result t.saved.items c.truncate.new.self.items c.args.target
+    (subst (λ (s : TrailState). c.args.target ≤ level s.steps) (sym c.self.view_is) c.requires) c.back_to.ensures.steps c.back_to.ensures.level
+    (c.reached_at-self-inside.ensures ∙ ap (λ xs. unwrap_or (slice_get xs c.args.target) t.reached) c.as_slice.ensures.value) c.truncate.ensures.items c.self.invariant

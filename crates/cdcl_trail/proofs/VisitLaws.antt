@@ -1,0 +1,148 @@
+-- Laws of a look at one clause.
+use Rattle.std.proofs.Common.{◌≡◌, ℕ, ◌<◌, Bool, true, false, not, ◌||◌, List, [], ◌∷◌, ◌++◌, take, Option, Some, None, refl, ap, sym, subst, ◌∙◌, inl, inr}
+use Rattle.std.specs.Prelude.{slice_get, is_some}
+use Rattle.std.specs.List.{list_any, list_all}
+use Rattle.std.specs.Option.{option_map, IfNone}
+use Rattle.std.proofs.Math.ListN.{set}
+use Rattle.std.proofs.lemmas.Bool.{false≢true, and_from, or_left}
+use Rattle.std.proofs.lemmas.Option.{none-some, same_Some}
+use Rattle.proof_semantics.specs.Clauses.{lit_eq, has_literal}
+use Rattle.proof_semantics.specs.declared.literals.Lit.{Lit}
+use Rattle.proof_semantics.proofs.LiteralLaws.{lit_eq-true, lit_eq-same, bool_eq-same}
+use Rattle.cdcl_trail.specs.Trails.{Step, step, value_of}
+use Rattle.cdcl_trail.specs.Propagation.{is_value, is_true, is_false, is_falsified, is_unit_for}
+use Rattle.cdcl_trail.specs.Guards.{IsPairOf, IsSingle, IsGuarded, IsDone, IsFront, KeepsGuards}
+use Rattle.cdcl_trail.specs.Lists.{list_for}
+use Rattle.cdcl_trail.specs.Looking.{IsReplacement}
+use Rattle.cdcl_trail.specs.Storing.{held, IsRewatched, IsPairAt, IsOther}
+use Rattle.cdcl_trail.specs.Visiting.{IsVisited}
+use Rattle.cdcl_trail.specs.declared.pairs.Pair.{Pair}
+use Rattle.cdcl_trail.specs.declared.watching.Watching.{Watching}
+use Rattle.cdcl_trail.proofs.TrailLaws.{either}
+use Rattle.cdcl_trail.proofs.ScanLaws.{any_has, all_has}
+use Rattle.cdcl_trail.proofs.PassLaws.{step_comes, no_step, propagates_none}
+use Rattle.cdcl_trail.proofs.PrefixLaws.{all_from}
+use Rattle.cdcl_trail.proofs.ListLaws.{get_set, get_set_other, place_either}
+use Rattle.cdcl_trail.proofs.GuardLaws.{guarded_moved, guarded_swap, keeps_same}
+use Rattle.cdcl_trail.proofs.StoreLaws.{lit_apart}
+
+pub has_other : (clause : List Lit) (pair : Pair) (a b : Lit) → IsPairOf clause pair → IsOther pair a b → has_literal clause b ≡ true
+has_other clause pair a b of (inl e) = subst (λ (x : Lit). has_literal clause x ≡ true) e.1 of.second
+has_other clause pair a b of (inr e) = subst (λ (x : Lit). has_literal clause x ≡ true) e.1 of.first
+
+pub other_apart : (clause : List Lit) (pair : Pair) (a b : Lit) → IsPairOf clause pair → IsOther pair a b → lit_eq b a ≡ false
+other_apart clause pair a b of (inl e) =
+    lit_apart a b (ap (λ (x : Lit). lit_eq x b) (sym e.0) ∙ ap (lit_eq pair.first) (sym e.1) ∙ of.apart)
+other_apart clause pair a b of (inr e) = ap (λ (x : Lit). lit_eq x a) (sym e.1) ∙ ap (lit_eq pair.first) (sym e.0) ∙ of.apart
+
+pub pair_found : (steps : List Step) (clause : List Lit) (b m : Lit) → has_literal clause b ≡ true → IsReplacement steps clause b m
+    → IsPairOf clause (record { first = m; second = b })
+pair_found steps clause b m has found = record { first = found.inside; second = has; apart = lit_apart b m found.apart }
+
+-- a literal that is not false is another one than a false one
+pub unfalse_apart : (steps : List Step) (m a : Lit) → is_false steps m ≡ false → is_false steps a ≡ true → lit_eq m a ≡ false
+unfalse_apart steps m a unfalse gone =
+    elim (either (lit_eq m a)) [
+      | inl same ↦ absurd (false≢true (sym unfalse ∙ ap (is_false steps) (lit_eq-true m a same) ∙ gone))
+      | inr apart ↦ apart
+    ]
+
+-- a pair gives way to another
+other_guarded : (front steps : List Step) (n : ℕ) (before after : Pair) (a : Lit) → IsFront front steps → is_false steps a ≡ true → is_false steps after.first ≡ false
+    → IsOther before a after.second → IsGuarded (take n front) front before.first before.second → IsGuarded (take n front) front after.first after.second
+other_guarded front steps n before after a f gone unfalse (inl e) here =
+    guarded_moved front steps n a after.second after.first f gone unfalse
+    (subst (λ (x : Lit). IsGuarded (take n front) front x after.second) e.0 (subst (λ (x : Lit). IsGuarded (take n front) front before.first x) e.1 here))
+other_guarded front steps n before after a f gone unfalse (inr e) here =
+    guarded_moved front steps n a after.second after.first f gone unfalse
+    (subst (λ (x : Lit). IsGuarded (take n front) front x after.second) e.0
+    (subst (λ (x : Lit). IsGuarded (take n front) front before.second x) e.1 (guarded_swap (take n front) front before.first before.second here)))
+
+pub keeps_moved : (steps : List Step) (pairs : List (Option Pair)) (number : ℕ) (before after : Pair) (a : Lit) → slice_get pairs number ≡ Some (Some before)
+    → is_false steps a ≡ true → is_false steps after.first ≡ false → IsOther before a after.second → KeepsGuards steps pairs (set pairs number (Some after))
+keeps_moved steps pairs number before after a was gone unfalse other n front f all place pair e =
+    elim (place_either number place) [
+      | inl same ↦
+          let now = get_set pairs number (Some after) (Some before) was in
+          let is : after ≡ pair = same_Some after pair (same_Some (Some after) (Some pair) (sym now ∙ ap (slice_get (set pairs number (Some after))) same ∙ e)) in
+          subst (λ (x : Pair). IsGuarded (take n front) front x.first x.second) is (other_guarded front steps n before after a f gone unfalse other (all number before was))
+      | inr differs ↦ all place pair (sym (get_set_other pairs number place (Some after) differs) ∙ e)
+    ]
+
+done_apart : (steps : List Step) (a : Lit) (pair : Pair) → lit_eq pair.first a ≡ false → lit_eq pair.second a ≡ false → IsDone steps a pair
+done_apart steps a pair first second = (λ e. absurd (false≢true (sym first ∙ e)), λ e. absurd (false≢true (sym second ∙ e)))
+
+pub visited_moved : (w u : Watching) (steps : List Step) (a : Lit) (place number : ℕ) (before after : Pair) → IsRewatched w u → u.pairs.items ≡ set w.pairs.items number (Some after)
+    → ((j : ℕ) → j < place → slice_get (list_for u.lists a) j ≡ slice_get (list_for w.lists a) j) → IsPairAt w number before
+    → is_false steps a ≡ true → is_false steps after.first ≡ false → IsOther before a after.second → lit_eq after.second a ≡ false
+    → IsVisited w steps u steps a place
+visited_moved w u steps a place number before after rewatched is below was gone unfalse other apart = record {
+  rewatched = rewatched;
+  steps = propagates_none (held w) steps;
+  keeps = subst (λ xs. KeepsGuards steps w.pairs.items xs) (sym is) (keeps_moved steps w.pairs.items number before after a was gone unfalse other);
+  below = below;
+  done = λ n pair e. elim (place_either number n) [
+    | inl same ↦
+        let now = get_set w.pairs.items number (Some after) (Some before) was in
+        let there : slice_get (set w.pairs.items number (Some after)) n ≡ Some (Some pair) = ap (λ xs. slice_get xs n) (sym is) ∙ e in
+        let is_after : after ≡ pair = same_Some after pair (same_Some (Some after) (Some pair) (sym now ∙ ap (slice_get (set w.pairs.items number (Some after))) same ∙ there)) in
+        inr (subst (λ (x : Pair). IsDone steps a x) is_after (done_apart steps a after (unfalse_apart steps after.first a unfalse gone) apart))
+    | inr differs ↦ inl (sym (get_set_other w.pairs.items number n (Some after) differs) ∙ ap (λ xs. slice_get xs n) (sym is) ∙ e)
+  ];
+}
+
+pub visited_kept : (w u : Watching) (steps : List Step) (a : Lit) (place : ℕ) → IsRewatched w u → u.pairs.items ≡ w.pairs.items
+    → ((j : ℕ) → j < place → slice_get (list_for u.lists a) j ≡ slice_get (list_for w.lists a) j) → IsVisited w steps u steps a place
+visited_kept w u steps a place rewatched is below = record {
+  rewatched = rewatched;
+  steps = propagates_none (held w) steps;
+  keeps = subst (λ xs. KeepsGuards steps w.pairs.items xs) (sym is) (keeps_same steps w.pairs.items);
+  below = below;
+  done = λ n pair e. inl (ap (λ xs. slice_get xs n) (sym is) ∙ e);
+}
+
+-- the literal that came is true
+pub true_comes : (steps : List Step) (a : Lit) (r : Option ℕ) → value_of steps a.var ≡ None → is_true (steps ++ step a r ∷ []) a ≡ true
+true_comes steps a r fresh =
+    ap (λ p. is_value (option_map (λ (s : Step). s.literal.positive) p) a.positive) (step_comes steps (step a r) (no_step _ fresh)) ∙ bool_eq-same a.positive
+
+pub done_true : (steps : List Step) (clause : List Lit) (pair : Pair) (a b : Lit) → IsPairOf clause pair → IsOther pair a b → is_true steps b ≡ true → IsDone steps a pair
+done_true steps clause pair a b of (inl e) holds = (
+  λ f. ap (is_true steps) e.1 ∙ holds,
+  λ f. absurd (false≢true (sym (other_apart clause pair a b of (inl e)) ∙ ap (λ (x : Lit). lit_eq x a) (sym e.1) ∙ f)),
+)
+done_true steps clause pair a b of (inr e) holds = (
+  λ f. absurd (false≢true (sym (other_apart clause pair a b of (inr e)) ∙ ap (λ (x : Lit). lit_eq x a) (sym e.1) ∙ f)),
+  λ f. ap (is_true steps) e.1 ∙ holds,
+)
+
+-- Clauses without two different literals.
+
+pub first_inside : (clause : List Lit) (a : Lit) → slice_get clause 0 ≡ Some a → has_literal clause a ≡ true
+first_inside [] a e = absurd (none-some a e)
+first_inside (b ∷ clause) a e = or_left (lit_eq a b) (list_any (lit_eq a) clause) (ap (lit_eq a) (same_Some b a e) ∙ lit_eq-same a)
+
+pub single_false : (steps : List Step) (clause : List Lit) (a : Lit) → IsSingle clause → has_literal clause a ≡ true → is_false steps a ≡ true → is_falsified steps clause ≡ true
+single_false steps clause a single has gone =
+    all_from (is_false steps) clause (λ b in_b. ap (is_false steps) (lit_eq-true b a (single b a in_b has)) ∙ gone)
+
+true_else : (value : Option Bool) (b : Bool) → is_some value ≡ true → is_value value (not b) ≡ false → is_value value b ≡ true
+true_else None b e f = absurd (false≢true e)
+true_else (Some true) true e f = refl
+true_else (Some true) false e f = absurd (false≢true (sym f))
+true_else (Some false) true e f = absurd (false≢true (sym f))
+true_else (Some false) false e f = refl
+
+pub single_true : (steps : List Step) (clause : List Lit) (a : Lit) → has_literal clause a ≡ true → is_some (value_of steps a.var) ≡ true → is_false steps a ≡ false
+    → list_any (is_true steps) clause ≡ true
+single_true steps clause a has valued unfalse = any_has (is_true steps) clause a has (true_else (value_of steps a.var) a.positive valued unfalse)
+
+pub single_unit : (steps : List Step) (clause : List Lit) (a : Lit) → IsSingle clause → has_literal clause a ≡ true → is_some (value_of steps a.var) ≡ false
+    → is_unit_for steps clause a ≡ true
+single_unit steps clause a single has none =
+    and_from _ _ has (and_from _ _ (ap not none) (all_from (λ b. lit_eq a b || is_false steps b) clause (λ b in_b. or_left _ _ (single a b has in_b))))
+
+pub single_from : (clause : List Lit) (a : Lit) (found : Option Lit) → found ≡ None → IfNone found (list_all (lit_eq a) clause ≡ true) → IsSingle clause
+single_from clause a None e all x y in_x in_y =
+    ap (λ (z : Lit). lit_eq z y) (sym (lit_eq-true a x (all_has (lit_eq a) clause x all in_x))) ∙ all_has (lit_eq a) clause y all in_y
+single_from clause a (Some b) e all x y in_x in_y = absurd (none-some b (sym e))

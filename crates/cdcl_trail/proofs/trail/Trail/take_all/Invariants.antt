@@ -1,0 +1,9 @@
+use Rattle.std.proofs.Common.{◌-◌, length}
+use Rattle.cdcl_trail.specs.TrailOf.{IsTaking}
+use Rattle.cdcl_trail.proofs.trail.Trail.take_all.Given as goal
+
+abbrev pub invariant-takes : goal.invariant-takes
+invariant-takes l = IsTaking l.fn.self.steps l.clauses l.self.steps l.self.taken l.place
+
+abbrev pub decreases-takes : goal.decreases-takes
+decreases-takes l = length l.clauses - l.place

@@ -1,0 +1,44 @@
+-- Scaffolding of inner functions. The steps of a trail, by what an assignment keeps.
+use Rattle.std.specs.Prelude.{◌≡◌, ℕ, ◌+◌, Bool, true, List, [], ◌∷◌, length, Option, None, Some, if◌then◌else◌, ◌==◌, slice_get}
+use Rattle.std.specs.Option.{option_map, option_flatten}
+use Rattle.std.specs.Ordering.{nat_cmp}
+use Rattle.std.specs.BTreeMap as tree
+use Rattle.proof_semantics.specs.declared.literals.Lit.{Lit}
+use Rattle.cdcl_trail.specs.Trails.{Step, Steps, step, opened_by, once, level}
+use Rattle.cdcl_trail.specs.declared.assignment.Assignment.TheInside.{Inside}
+
+-- literals and their reasons, side by side
+abbrev pub steps_from : List Lit → List (Option ℕ) → List Step
+steps_from [] reasons = []
+steps_from (a ∷ lits) [] = []
+steps_from (a ∷ lits) (reason ∷ reasons) = step a reason ∷ steps_from lits reasons
+
+-- where the literal of a variable stands
+abbrev pub place_in : List Lit → ℕ → Option ℕ
+place_in [] var = None
+place_in (a ∷ lits) var = if a.var == var then Some 0 else option_map (λ place. place + 1) (place_in lits var)
+
+abbrev pub state_of : Inside → Steps
+state_of t = record { steps = steps_from t.literals.items t.reasons.items }
+
+-- the value that the literal at a place gives its variable
+abbrev pub positive_at : List Lit → Option ℕ → Option Bool
+positive_at lits None = None
+positive_at lits (Some place) = option_map (λ a. a.positive) (slice_get lits place)
+
+-- the reason at a place
+abbrev pub reason_at : List (Option ℕ) → Option ℕ → Option ℕ
+reason_at reasons None = None
+reason_at reasons (Some place) = option_flatten (slice_get reasons place)
+
+-- how many of the reasons are none
+abbrev pub count_assumed : List (Option ℕ) → ℕ
+count_assumed [] = 0
+count_assumed (reason ∷ reasons) = opened_by reason + count_assumed reasons
+
+-- Each literal has a reason or none beside it, no variable comes twice, and places and level are told right.
+pub record IsOrderly (t : Inside) : Type 0 where
+  pub beside : length t.reasons.items ≡ length t.literals.items
+  pub apart : once t.literals.items ≡ true
+  pub places : (var : ℕ) → tree.get nat_cmp t.places var ≡ place_in t.literals.items var
+  pub depth : t.level ≡ level (steps_from t.literals.items t.reasons.items)

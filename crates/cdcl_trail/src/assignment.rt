@@ -1,0 +1,188 @@
+//! The literals that are true, in the order in which they came. The main type is `Assignment`.
+ghost use Rattle.std.specs.Prelude.{◌≡◌, ◌≤◌, ◌<◌, ◌+◌, ℕ, [], ◌∷◌, ◌++◌, IsTrue, IsSome, OnOk, OnErr, Option, None, length, option_copied, take};
+ghost use Rattle.cdcl_trail.specs.Trails.{Step, step, opened_by, assumed, literals_of, reasons_in, step_of, value_of, reason_of, level, level_of, up_to_level, once};
+ghost use Rattle.cdcl_trail.specs.AssignmentOf.{positive_at, reason_at, count_assumed};
+
+use cnf::{Lit, Var};
+use std::alloc::{AllocError, Global};
+use std::collections::BTreeMap;
+use std::marker::Model;
+
+/// The literals that are true, with their reasons. Contracts see the steps.
+#[derive(Debug, Drop)]
+pub struct Assignment {
+    literals: Vec<Lit>,
+    reasons: Vec<Option<u64>>,
+    places: BTreeMap<u64, usize>,
+    level: usize,
+}
+
+impl Model for Assignment {
+    ghost use Rattle.cdcl_trail.specs.Trails.{Steps};
+
+    ghost Value = { Steps };
+
+    ghost use Rattle.cdcl_trail.specs.AssignmentOf.{state_of, IsOrderly};
+
+    ghost view = { state_of };
+
+    ghost invariant = { IsOrderly };
+}
+
+impl Assignment {
+    /// No literal, on level 0. Takes no memory.
+    pub fn new(alloc: Global) -> Assignment
+        ensures { result.steps ≡ [] }
+    {
+        Assignment {
+            literals: Vec::new(alloc),
+            reasons: Vec::new(alloc),
+            places: BTreeMap::new(alloc),
+            level: 0,
+        }
+    }
+
+    /// Goes back to a level: leaves the literals of it and of those below it. The condition is that
+    /// it is not above the present one. Takes no memory.
+    pub fn back_to(&mut self, target: u64)
+        requires { target ≤ level self.old.steps }
+        ensures steps { self.new.steps ≡ up_to_level target self.old.steps }
+        ensures level { level self.new.steps ≡ target }
+    {
+        'steps: while self.level() > target {
+            self.pop();
+        }
+    }
+
+    /// The value of a variable. `None` where it has none. Takes no memory.
+    pub fn value(&self, var: Var) -> Option<bool>
+        ensures { result ≡ value_of self.now.steps var }
+    {
+        positive_at(self.literals.as_slice(), self.places.get(&var))
+    }
+
+    /// The level: how many literals are assumed. Takes no memory.
+    pub fn level(&self) -> u64
+        ensures { result ≡ level self.now.steps }
+    {
+        self.level as u64
+    }
+
+    /// The literals, in the order in which they came. No variable comes twice. Takes no memory.
+    pub fn literals(&self) -> &[Lit]
+        ensures value { result.now ≡ literals_of self.now.steps }
+        ensures once { IsTrue (once result.now) }
+    {
+        self.literals.as_slice()
+    }
+
+    /// The reasons of the literals, beside them: the number of the clause that forced each, and
+    /// `None` where it was assumed. Takes no memory.
+    pub fn reasons(&self) -> &[Option<u64>]
+        ensures { result.now ≡ reasons_in self.now.steps }
+    {
+        self.reasons.as_slice()
+    }
+
+    /// The level on which a variable got its value. The condition is that it has one. Takes no
+    /// memory.
+    pub fn level_of(&self, var: Var) -> u64
+        requires { IsSome (value_of self.now.steps var) }
+        ensures { result ≡ level_of self.now.steps var }
+    {
+        match self.places.get(&var) {
+            Some(place) => assumed_to(self.reasons.as_slice(), *place) as u64,
+            None => 0,
+        }
+    }
+
+    /// The number of the clause that forced a variable. `None` for an assumed one, and for one
+    /// without a value. Takes no memory.
+    pub fn reason(&self, var: Var) -> Option<u64>
+        ensures { result ≡ reason_of self.now.steps var }
+    {
+        reason_at(self.reasons.as_slice(), self.places.get(&var))
+    }
+
+    /// The place of a variable among the literals, and the end where it has no value. Takes no
+    /// memory.
+    pub fn place(&self, var: Var) -> usize
+        ensures { value_of (take result self.now.steps) var ≡ None }
+    {
+        match self.places.get(&var) {
+            Some(place) => *place,
+            None => self.literals.as_slice().len(),
+        }
+    }
+
+    // Puts a literal at the end, with its reason. The error is want of memory, and changes nothing.
+    pub(crate) fn put(&mut self, literal: Lit, reason: Option<u64>) -> Result<(), AllocError>
+        requires { value_of self.old.steps literal.var ≡ None }
+        ensures ok { OnOk result (self.new.steps ≡ self.old.steps ++ step literal reason ∷ []) }
+        ensures err { OnErr result (self.new ≡ self.old) }
+    {
+        self.literals.reserve(1)?;
+        self.reasons.reserve(1)?;
+        let place = self.literals.as_slice().len();
+        self.places.insert(literal.var, place)?;
+        self.level += opened_by(reason);
+        self.literals.push_reserved(literal);
+        self.reasons.push_reserved(reason);
+        Ok(())
+    }
+
+    // Takes the last literal away.
+    fn pop(&mut self)
+        requires { 0 < length self.old.steps }
+        ensures { (last : Step) × (self.old.steps ≡ self.new.steps ++ last ∷ []) }
+    {
+        if let (Some(literal), Some(reason)) = (self.literals.pop(), self.reasons.pop()) {
+            self.places.remove(&literal.var);
+            self.level -= opened_by(reason);
+        }
+    }
+}
+
+// The value that a literal at a place gives its variable.
+fn positive_at(literals: &[Lit], place: Option<&usize>) -> Option<bool>
+    ensures { result ≡ positive_at literals.now (option_copied place.entry) }
+{
+    let literal = literals.get(*place?)?;
+    Some(literal.positive)
+}
+
+// The reason at a place.
+fn reason_at(reasons: &[Option<u64>], place: Option<&usize>) -> Option<u64>
+    ensures { result ≡ reason_at reasons.now (option_copied place.entry) }
+{
+    *reasons.get(*place?)?
+}
+
+// How many of the reasons up to a place are none.
+fn assumed_to(reasons: &[Option<u64>], place: usize) -> usize
+    requires { place < length reasons.now }
+    ensures { result ≡ count_assumed (take (place + 1) reasons.now) }
+{
+    count_assumed(&reasons[..place + 1])
+}
+
+// How many levels a literal opens: one where it has no reason.
+fn opened_by(reason: Option<u64>) -> usize
+    ensures { result ≡ opened_by reason }
+{
+    match reason {
+        None => 1,
+        Some(_) => 0,
+    }
+}
+
+// How many of the reasons are none.
+fn count_assumed(reasons: &[Option<u64>]) -> usize
+    ensures { result ≡ count_assumed reasons.now }
+{
+    let mut count = 0;
+    for reason in reasons {
+        count += opened_by(*reason);
+    }
+    count
+}

@@ -1,0 +1,24 @@
+//! Two watched literals of a clause. The main type is `Pair`.
+ghost use Rattle.cdcl_trail.specs.Looking.{StandsBeside};
+
+use cnf::Lit;
+
+/// The two watched literals of a clause.
+#[derive(Clone, Copy, Debug)]
+pub struct Pair {
+    pub first: Lit,
+    pub second: Lit,
+}
+
+/// The literal that stands beside the given one. `None` where the given one is neither.
+pub(crate) fn beside(pair: Pair, literal: Lit) -> Option<Lit>
+    ensures { StandsBeside pair literal result }
+{
+    if pair.first.is(literal) {
+        return Some(pair.second);
+    }
+    if pair.second.is(literal) {
+        return Some(pair.first);
+    }
+    None
+}

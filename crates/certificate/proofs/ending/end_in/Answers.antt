@@ -1,0 +1,15 @@
+use Rattle.std.proofs.Common.{sym, subst, Ok}
+use Rattle.certificate.specs.declared.state.State.{State}
+use Rattle.certificate.specs.Seen.{seen}
+use Rattle.certificate.specs.Steps.{TellsEnd}
+use Rattle.certificate.proofs.ending.end_in.Goals as goal
+
+pub returns-in-Dotted : goal.returns-in-Dotted
+returns-in-Dotted c =
+    subst (λ (s : State). TellsEnd c.args.circuit.now (seen s) c.args.number c.replay_stimulus.result) (sym c.in-Dotted.is)
+    (c.replay_stimulus.ensures c.args.number)
+
+pub returns-in-Ended : goal.returns-in-Ended
+returns-in-Ended c =
+    subst (λ (s : State). TellsEnd c.args.circuit.now (seen s) c.args.number (Ok c.held.result)) (sym c.in-Ended.is)
+    (c.held.ensures c.args.number)

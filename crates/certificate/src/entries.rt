@@ -1,0 +1,314 @@
+//! The lines of entries.
+
+ghost use Rattle.std.specs.Prelude.{◌≡◌, ◌<◌, ◌≤◌, ℕ, Some, Ok, length, OnOk};
+ghost use Rattle.std.specs.List.{All};
+ghost use Rattle.proof_semantics.specs.Proofs.{judge};
+ghost use Rattle.fair_semantics.specs.Entries.{used_entries};
+ghost use Rattle.cnf_unroll.specs.Blocks.{step_clauses};
+ghost use Rattle.cnf_unroll.specs.Obligations.{shared_clauses};
+ghost use Rattle.certificate_lines.specs.Words.{word_line_of};
+ghost use Rattle.certificate_lines.specs.Uses.{uses_of};
+ghost use Rattle.certificate_lines.specs.Clauses.{clause_of};
+ghost use Rattle.entry.specs.Listing.{entry_of, entries_of};
+ghost use Rattle.entry.specs.Proved.{obligation_of};
+ghost use Rattle.certificate.specs.declared.ends.AnswerFault.TheVariants.{Entry};
+ghost use Rattle.certificate.specs.Reading.{start_step, entry_uses_step, next_clause, has_base, base_step, clause_step, next_proof, next_line, begin_proof, proof_step, line_step};
+ghost use Rattle.certificate.specs.Seen.{seen_body, seen_begun, seen_proving, IsKept, IsBody, IsOpen, IsEntered, IsAtClause, ArePresent};
+ghost use Rattle.certificate.specs.Steps.{Tells};
+
+use crate::ends::{AnswerEnd, AnswerFault, misplaced};
+use crate::limits::MAX_ENTRIES;
+use crate::state::{Begun, Body, Proving, State, Wanted};
+use crate::uses::{UsesEnd, read_uses};
+use certificate_lines::{Opening, WordLine, clause_of, word_line_of};
+use circuit::Circuit;
+use cnf::Clause;
+use entry::{EntryEnd, EntryFault, Judge, Listed, User, holds_initial, used};
+use fair_semantics::Kind;
+use items::Items;
+use lrat::LratEnd;
+use proof_semantics::LratFault;
+use std::alloc::{AllocError, Global};
+
+// A fault of the entry that comes next.
+fn entry_fault(body: &Body, fault: EntryFault) -> AnswerEnd
+    ensures { result ≡ AnswerEnd.Refused (Entry (length (entries_of body.now.list)) fault) }
+{
+    AnswerEnd::Refused(AnswerFault::Entry(body.list.len() as u64, fault))
+}
+
+// Behind an entry's first line, where there is room for one more.
+fn open_entry(_circuit: &Circuit, body: Body, opening: Opening) -> Result<State, AnswerEnd>
+    requires { IsKept _circuit.now (State.Certified body Wanted.Start) }
+    ensures { (number : ℕ) → Tells _circuit.now (start_step (seen_body body) number (Some (WordLine.Opening opening))) result }
+{
+    if (body.list.len() as u64) < MAX_ENTRIES {
+        return Ok(State::Certified(body, Wanted::EntryUses(opening)));
+    }
+    Err(AnswerEnd::Refused(AnswerFault::TooLong))
+}
+
+/// Behind the first line of an entry or of the refutation.
+pub(crate) fn start_step(
+    circuit: &Circuit,
+    body: Body,
+    number: u64,
+    line: &[u8],
+) -> Result<State, AnswerEnd>
+    requires { IsKept circuit.now (State.Certified body Wanted.Start) }
+    ensures { Tells circuit.now (start_step (seen_body body) number (word_line_of line.now)) result }
+{
+    match word_line_of(line) {
+        Some(WordLine::Opening(opening)) => open_entry(circuit, body, opening),
+        Some(WordLine::Refutation(refuting)) => {
+            Ok(State::Certified(body, Wanted::RefutationUses(refuting)))
+        }
+        _ => Err(misplaced(number)),
+    }
+}
+
+// Goes to the proofs of an entry that is whole.
+fn enter(
+    alloc: Global,
+    circuit: &Circuit,
+    list: &[Listed],
+    judge: &mut Judge,
+    entry: &Listed,
+) -> Result<(), AllocError>
+    requires block { judge.old.block ≡ step_clauses circuit.now }
+    requires present { All (λ u. u.entry < length list.now) entry.now.uses }
+    ensures entered { OnOk result (judge.new.shared ≡ shared_clauses circuit.now (used_entries (entries_of list.now) entry.now.uses) entry.now.uses entry.now.set) }
+    ensures block { judge.new.block ≡ judge.old.block }
+{
+    let used = used(alloc, list, entry.uses.as_slice())?;
+    judge.enter(
+        alloc,
+        circuit,
+        used.as_slice(),
+        entry.uses.as_slice(),
+        &entry.set,
+    )
+}
+
+// Behind the proofs of the first i clauses: the entry has passed where there is no other.
+fn next_proof(_circuit: &Circuit, mut body: Body, entry: Listed, i: u64) -> Result<State, AnswerEnd>
+    requires ready { IsOpen _circuit.now body }
+    requires entered { IsEntered _circuit.now body (entry_of entry) }
+    requires clause { i ≤ length entry.set }
+    ensures { Tells _circuit.now (next_proof (seen_body body) (entry_of entry) i) result }
+{
+    if i == entry.set.len() as u64 {
+        body.list.push(entry)?;
+        return Ok(State::Certified(body, Wanted::Start));
+    }
+    Ok(State::Certified(body, Wanted::EntryProof(entry, i)))
+}
+
+// Behind the last clause.
+fn prove_entry(
+    alloc: Global,
+    circuit: &Circuit,
+    mut body: Body,
+    entry: Listed,
+) -> Result<State, AnswerEnd>
+    requires ready { IsOpen circuit.now body }
+    requires present { ArePresent body entry.uses }
+    ensures { Tells circuit.now (next_proof (seen_body body) (entry_of entry) 0) result }
+{
+    enter(
+        alloc,
+        circuit,
+        body.list.as_slice(),
+        &mut body.judge,
+        &entry,
+    )?;
+    next_proof(circuit, body, entry, 0)
+}
+
+// Behind some clauses: the proofs, where there is no other clause.
+fn next_clause(
+    alloc: Global,
+    circuit: &Circuit,
+    body: Body,
+    begun: Begun,
+) -> Result<State, AnswerEnd>
+    requires ready { IsOpen circuit.now body }
+    requires present { ArePresent body begun.uses }
+    ensures { Tells circuit.now (next_clause (seen_body body) (seen_begun begun)) result }
+{
+    if begun.set.len() as u64 == begun.count {
+        let entry = Listed {
+            kind: begun.kind,
+            set: begun.set,
+            uses: begun.uses,
+        };
+        return prove_entry(alloc, circuit, body, entry);
+    }
+    Ok(State::Certified(body, Wanted::EntryClause(begun)))
+}
+
+/// Behind the uses of an entry.
+pub(crate) fn entry_uses_step(
+    alloc: Global,
+    circuit: &Circuit,
+    body: Body,
+    opening: Opening,
+    number: u64,
+    line: &[u8],
+) -> Result<State, AnswerEnd>
+    requires { IsKept circuit.now (State.Certified body (Wanted.EntryUses opening)) }
+    ensures { Tells circuit.now (entry_uses_step (seen_body body) opening number (uses_of body.version line.now)) result }
+{
+    match read_uses(alloc, &body, User::Entry(opening.kind), opening.uses, line) {
+        Ok(uses) => {
+            let begun = Begun {
+                kind: opening.kind,
+                uses,
+                set: Items::new(alloc),
+                count: opening.clauses,
+            };
+            next_clause(alloc, circuit, body, begun)
+        }
+        Err(UsesEnd::Shape) => Err(misplaced(number)),
+        Err(UsesEnd::Bad(used)) => Err(entry_fault(&body, EntryFault::BadUse(used))),
+        Err(UsesEnd::Memory) => Err(AnswerEnd::Memory),
+    }
+}
+
+// Whether the clause, of a reach entry, holds a literal of the initial cube.
+fn has_base(circuit: &Circuit, kind: Kind, clause: &Clause) -> bool
+    ensures { result ≡ has_base circuit.now kind clause.now }
+{
+    match kind {
+        Kind::Reach => holds_initial(circuit, clause),
+        Kind::Wall => true,
+    }
+}
+
+// Behind a clause over the latches.
+fn base_step(
+    alloc: Global,
+    circuit: &Circuit,
+    body: Body,
+    mut begun: Begun,
+    clause: Clause,
+) -> Result<State, AnswerEnd>
+    requires ready { IsOpen circuit.now body }
+    requires present { ArePresent body begun.uses }
+    ensures { Tells circuit.now (base_step circuit.now (seen_body body) (seen_begun begun) (Ok clause)) result }
+{
+    if !has_base(circuit, begun.kind, &clause) {
+        let number = begun.set.len() as u64;
+        return Err(entry_fault(&body, EntryFault::Base(number)));
+    }
+    begun.set.push(clause)?;
+    next_clause(alloc, circuit, body, begun)
+}
+
+/// Behind a clause of an entry.
+pub(crate) fn clause_step(
+    alloc: Global,
+    circuit: &Circuit,
+    body: Body,
+    begun: Begun,
+    number: u64,
+    line: &[u8],
+) -> Result<State, AnswerEnd>
+    requires { IsKept circuit.now (State.Certified body (Wanted.EntryClause begun)) }
+    ensures { Tells circuit.now (clause_step circuit.now (seen_body body) (seen_begun begun) number (clause_of line.now)) result }
+{
+    let Some(literals) = clause_of(alloc, line)? else {
+        return Err(misplaced(number));
+    };
+    match body.latches.clause(alloc, circuit, literals.as_slice()) {
+        Ok(clause) => base_step(alloc, circuit, body, begun, clause),
+        Err(EntryEnd::Fault(fault)) => Err(entry_fault(&body, fault)),
+        Err(EntryEnd::Memory) => Err(AnswerEnd::Memory),
+    }
+}
+
+// Behind some lines of the proof of clause i: behind the last an empty clause has been given or added.
+fn next_line(
+    circuit: &Circuit,
+    body: Body,
+    entry: Listed,
+    i: u64,
+    proving: Proving,
+) -> Result<State, AnswerEnd>
+    requires at { IsAtClause circuit.now body entry i }
+    requires read { proving.read ≤ proving.count }
+    ensures { Tells circuit.now (next_line (seen_body body) (entry_of entry) i (seen_proving body proving)) result }
+{
+    if proving.read != proving.count {
+        return Ok(State::Certified(body, Wanted::EntryLine(entry, i, proving)));
+    }
+    if !body.judge.is_finished() {
+        let fault = EntryFault::Proof(i, proving.count, LratFault::Unfinished);
+        return Err(entry_fault(&body, fault));
+    }
+    next_proof(circuit, body, entry, i + 1)
+}
+
+// Behind the first line of the proof of clause i.
+fn begin_proof(
+    alloc: Global,
+    circuit: &Circuit,
+    mut body: Body,
+    entry: Listed,
+    i: u64,
+    count: u64,
+) -> Result<State, AnswerEnd>
+    requires { IsAtClause circuit.now body entry i }
+    ensures { Tells circuit.now (next_line (seen_body body) (entry_of entry) i
+        (begin_proof count (obligation_of circuit.now (entries_of body.list) (entry_of entry) i))) result }
+{
+    body.judge
+        .begin(alloc, circuit, &entry.set.as_slice()[i as usize])?;
+    next_line(circuit, body, entry, i, Proving { count, read: 0 })
+}
+
+/// Behind the first line of the proof of clause i.
+pub(crate) fn proof_step(
+    alloc: Global,
+    circuit: &Circuit,
+    body: Body,
+    entry: Listed,
+    i: u64,
+    number: u64,
+    line: &[u8],
+) -> Result<State, AnswerEnd>
+    requires { IsKept circuit.now (State.Certified body (Wanted.EntryProof entry i)) }
+    ensures { Tells circuit.now (proof_step circuit.now (seen_body body) (entry_of entry) i number (word_line_of line.now)) result }
+{
+    match word_line_of(line) {
+        Some(WordLine::Proof(count)) => begin_proof(alloc, circuit, body, entry, i, count),
+        _ => Err(misplaced(number)),
+    }
+}
+
+/// Behind a line of the proof of clause i.
+pub(crate) fn line_step(
+    circuit: &Circuit,
+    mut body: Body,
+    entry: Listed,
+    i: u64,
+    proving: Proving,
+    line: &[u8],
+) -> Result<State, AnswerEnd>
+    requires { IsKept circuit.now (State.Certified body (Wanted.EntryLine entry i proving)) }
+    ensures { Tells circuit.now (line_step (seen_body body) (entry_of entry) i (seen_proving body proving) (judge body.judge.proof line.now)) result }
+{
+    match body.judge.step(line) {
+        Ok(()) => {
+            let later = Proving {
+                count: proving.count,
+                read: proving.read + 1,
+            };
+            next_line(circuit, body, entry, i, later)
+        }
+        Err(LratEnd::Fault(fault)) => {
+            Err(entry_fault(&body, EntryFault::Proof(i, proving.read, fault)))
+        }
+        Err(LratEnd::Memory) => Err(AnswerEnd::Memory),
+    }
+}

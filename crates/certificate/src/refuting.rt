@@ -1,0 +1,135 @@
+//! The lines of the refutation, and the last line.
+
+ghost use Rattle.std.specs.Prelude.{◌≡◌, ◌<◌, ◌≤◌, length, IfOk};
+ghost use Rattle.std.specs.List.{All};
+ghost use Rattle.proof_semantics.specs.Proofs.{start, judge};
+ghost use Rattle.fair_semantics.specs.Entries.{used_entries};
+ghost use Rattle.cnf_unroll.specs.Obligations.{skeleton_clauses};
+ghost use Rattle.certificate_lines.specs.Words.{word_line_of};
+ghost use Rattle.certificate_lines.specs.Uses.{uses_of};
+ghost use Rattle.entry.specs.Listing.{entries_of};
+ghost use Rattle.certificate.specs.Reading.{refutation_uses_step, next_refuting_line, begin_proof, refuting_step, last_step};
+ghost use Rattle.certificate.specs.Seen.{seen_body, seen_proving, IsKept, IsBody, ArePresent};
+ghost use Rattle.certificate.specs.Steps.{Tells};
+
+use crate::ends::{AnswerEnd, AnswerFault, misplaced};
+use crate::state::{Body, Proving, State, Wanted};
+use crate::uses::{UsesEnd, read_uses};
+use certificate_lines::{Refutation, WordLine, word_line_of};
+use circuit::Circuit;
+use entry::{Judge, Listed, User, used};
+use fair_semantics::Use;
+use lrat::LratEnd;
+use proof_semantics::LratFault;
+use std::alloc::{AllocError, Global};
+
+// A judge of the refutation, before its first line.
+fn judge_of(
+    alloc: Global,
+    circuit: &Circuit,
+    property: u32,
+    list: &[Listed],
+    uses: &[Use],
+) -> Result<Judge, AllocError>
+    requires property { property < length circuit.now.justice }
+    requires present { All (λ u. u.entry < length list.now) uses.now }
+    ensures { IfOk result (λ j. j.proof ≡ start (skeleton_clauses circuit.now property (used_entries (entries_of list.now) uses.now))) }
+{
+    let used = used(alloc, list, uses)?;
+    Judge::refutation(alloc, circuit, property, used.as_slice())
+}
+
+// Behind some lines of the proof: behind the last an empty clause has been given or added.
+fn next_refuting_line(_circuit: &Circuit, body: Body, proving: Proving) -> Result<State, AnswerEnd>
+    requires body { IsBody _circuit.now body }
+    requires read { proving.read ≤ proving.count }
+    ensures { Tells _circuit.now (next_refuting_line (seen_body body) (seen_proving body proving)) result }
+{
+    if proving.read != proving.count {
+        return Ok(State::Certified(body, Wanted::RefutationLine(proving)));
+    }
+    if !body.judge.is_finished() {
+        let fault = AnswerFault::Refutation(proving.count, LratFault::Unfinished);
+        return Err(AnswerEnd::Refused(fault));
+    }
+    Ok(State::Certified(body, Wanted::Last))
+}
+
+// Behind the uses, each of which may stand.
+fn begin_refutation(
+    alloc: Global,
+    circuit: &Circuit,
+    mut body: Body,
+    uses: &[Use],
+    count: u64,
+) -> Result<State, AnswerEnd>
+    requires body { IsBody circuit.now body }
+    requires present { ArePresent body uses.now }
+    ensures { Tells circuit.now (next_refuting_line (seen_body body) (begin_proof count
+        (skeleton_clauses circuit.now body.property (used_entries (entries_of body.list) uses.now)))) result }
+{
+    let judge = judge_of(alloc, circuit, body.property, body.list.as_slice(), uses)?;
+    body.judge = judge;
+    next_refuting_line(circuit, body, Proving { count, read: 0 })
+}
+
+/// Behind the uses of the refutation.
+pub(crate) fn refutation_uses_step(
+    alloc: Global,
+    circuit: &Circuit,
+    body: Body,
+    refuting: Refutation,
+    number: u64,
+    line: &[u8],
+) -> Result<State, AnswerEnd>
+    requires { IsKept circuit.now (State.Certified body (Wanted.RefutationUses refuting)) }
+    ensures { Tells circuit.now (refutation_uses_step circuit.now (seen_body body) refuting number (uses_of body.version line.now)) result }
+{
+    match read_uses(alloc, &body, User::Refutation, refuting.uses, line) {
+        Ok(uses) => begin_refutation(alloc, circuit, body, uses.as_slice(), refuting.proof_lines),
+        Err(UsesEnd::Shape) => Err(misplaced(number)),
+        Err(UsesEnd::Bad(used)) => Err(AnswerEnd::Refused(AnswerFault::RefuteUse(used))),
+        Err(UsesEnd::Memory) => Err(AnswerEnd::Memory),
+    }
+}
+
+/// Behind a line of the proof.
+pub(crate) fn refuting_step(
+    circuit: &Circuit,
+    mut body: Body,
+    proving: Proving,
+    line: &[u8],
+) -> Result<State, AnswerEnd>
+    requires { IsKept circuit.now (State.Certified body (Wanted.RefutationLine proving)) }
+    ensures { Tells circuit.now (refuting_step (seen_body body) (seen_proving body proving) (judge body.judge.proof line.now)) result }
+{
+    match body.judge.step(line) {
+        Ok(()) => {
+            let later = Proving {
+                count: proving.count,
+                read: proving.read + 1,
+            };
+            next_refuting_line(circuit, body, later)
+        }
+        Err(LratEnd::Fault(fault)) => {
+            Err(AnswerEnd::Refused(AnswerFault::Refutation(proving.read, fault)))
+        }
+        Err(LratEnd::Memory) => Err(AnswerEnd::Memory),
+    }
+}
+
+/// Behind the last line.
+pub(crate) fn last_step(
+    _circuit: &Circuit,
+    body: Body,
+    number: u64,
+    line: &[u8],
+) -> Result<State, AnswerEnd>
+    requires { IsKept _circuit.now (State.Certified body Wanted.Last) }
+    ensures { Tells _circuit.now (last_step (seen_body body) number (word_line_of line.now)) result }
+{
+    match word_line_of(line) {
+        Some(WordLine::End) => Ok(State::Ended(body)),
+        _ => Err(misplaced(number)),
+    }
+}

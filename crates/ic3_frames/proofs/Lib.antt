@@ -1,0 +1,5 @@
+pub mod Times
+pub mod Putting
+pub mod Meaning
+pub mod Rooms
+pub mod Steps

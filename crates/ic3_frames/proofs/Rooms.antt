@@ -1,0 +1,162 @@
+-- Lemmas and frames take room.
+use Rattle.std.proofs.Common.{◌≡◌, ℕ, zero, suc, ◌+◌, ◌-◌, ◌*◌, ◌^◌, ◌<◌, ◌≤◌, Bool, true, false, ◌&&◌, List, [], ◌∷◌, ◌++◌, length, length-append, refl, sym, ap, ◌∙◌, inl, inr, if◌then◌else◌, arith}
+use Rattle.std.proofs.Math.Nat.{pow-suc}
+use Rattle.std.proofs.lemmas.Bool.{cases_Bool, false≢true}
+use Rattle.proof_semantics.specs.declared.literals.Lit.{Lit}
+use Rattle.proof_semantics.specs.Clauses.{clause_value, values_of}
+use Rattle.ic3_frames.specs.Frames.{has_clause, frame_at, put_at}
+use Rattle.ic3_frames.specs.Room.{count_states, allowed_by, total, room, LemmasTakeRoom, LemmasMakeNoRoom, FramesTakeRoom}
+use Rattle.ic3_frames.proofs.Meaning.{put-within, has-adds-nothing, length-put, opened-stay}
+
+abbrev Levels : Type 0
+Levels = List (List (List Lit))
+
+-- ---- counting states
+
+one-less : (a b : Bool) → (a ≡ true → b ≡ true) → (if a then 1 else 0) ≤ (if b then 1 else 0)
+one-less true true h = omega arith
+one-less true false h = absurd (false≢true (h refl))
+one-less false true h = omega arith
+one-less false false h = omega arith
+
+count-within : (n : ℕ) (f g : List Bool → Bool) → ((s : List Bool) → f s ≡ true → g s ≡ true) → count_states n f ≤ count_states n g
+count-within zero f g h = one-less (f []) (g []) (h [])
+count-within (suc n) f g h =
+    let yes = count-within n (λ s. f (true ∷ s)) (λ s. g (true ∷ s)) (λ s. h (true ∷ s)) in
+    let not_so = count-within n (λ s. f (false ∷ s)) (λ s. g (false ∷ s)) (λ s. h (false ∷ s)) in
+    omega arith
+
+count-less : (n : ℕ) (f g : List Bool → Bool) → ((s : List Bool) → f s ≡ true → g s ≡ true)
+    → (s : List Bool) → length s ≡ n → f s ≡ false → g s ≡ true → count_states n f + 1 ≤ count_states n g
+count-less zero f g h [] size out within = rw (out, within) (omega arith)
+count-less zero f g h (b ∷ s) size out within = absurd (omega arith)
+count-less (suc n) f g h [] size out within = absurd (omega arith)
+count-less (suc n) f g h (true ∷ s) size out within =
+    let yes = count-less n (λ s. f (true ∷ s)) (λ s. g (true ∷ s)) (λ s. h (true ∷ s)) s (omega arith) out within in
+    let not_so = count-within n (λ s. f (false ∷ s)) (λ s. g (false ∷ s)) (λ s. h (false ∷ s)) in
+    omega arith
+count-less (suc n) f g h (false ∷ s) size out within =
+    let yes = count-within n (λ s. f (true ∷ s)) (λ s. g (true ∷ s)) (λ s. h (true ∷ s)) in
+    let not_so = count-less n (λ s. f (false ∷ s)) (λ s. g (false ∷ s)) (λ s. h (false ∷ s)) s (omega arith) out within in
+    omega arith
+
+count-all : (n : ℕ) → count_states n (λ s. true) ≡ 2 ^ n
+count-all zero = refl
+count-all (suc n) =
+    let h = count-all n in
+    let e : 2 ^ suc n ≡ 2 ^ n * 2 = pow-suc 2 n in
+    omega arith
+
+-- ---- a lemma is put into a frame
+
+and-first : (a b : Bool) → (a && b) ≡ true → a ≡ true
+and-first true b e = refl
+and-first false b e = absurd (false≢true e)
+
+and-false : (a b : Bool) → b ≡ false → (a && b) ≡ false
+and-false true b e = e
+and-false false b e = refl
+
+fewer : (levels : Levels) (k : ℕ) (c : List Lit) (s : List Bool) → k < length levels
+    → allowed_by (frame_at (put_at levels k c) 0) s ≡ true → allowed_by (frame_at levels 0) s ≡ true
+fewer levels k c s inside h =
+    and-first (allowed_by (frame_at levels 0) s) (clause_value (values_of s) c)
+    (sym (put-within (values_of s) levels k c 0 inside (omega arith)) ∙ h)
+
+total-within : (n : ℕ) (levels : Levels) (k : ℕ) (c : List Lit) → k < length levels → total n (put_at levels k c) ≤ total n levels
+total-within n [] k c inside = absurd (omega arith)
+total-within n (own ∷ levels) zero c inside =
+    let here = count-within n (allowed_by (frame_at (put_at (own ∷ levels) zero c) 0)) (allowed_by (frame_at (own ∷ levels) 0))
+    (λ s. fewer (own ∷ levels) zero c s inside)
+    in
+    omega arith
+total-within n (own ∷ levels) (suc k) c inside =
+    let here = count-within n (allowed_by (frame_at (put_at (own ∷ levels) (suc k) c) 0)) (allowed_by (frame_at (own ∷ levels) 0))
+    (λ s. fewer (own ∷ levels) (suc k) c s inside)
+    in
+    let above = total-within n levels k c (omega arith) in
+    omega arith
+
+total-less : (n : ℕ) (levels : Levels) (k : ℕ) (c : List Lit) (s : List Bool) → k < length levels → length s ≡ n
+    → allowed_by (frame_at levels k) s ≡ true → clause_value (values_of s) c ≡ false → total n (put_at levels k c) + 1 ≤ total n levels
+total-less n [] k c s inside size allowed out = absurd (omega arith)
+total-less n (own ∷ levels) zero c s inside size allowed out =
+    let gone : allowed_by (frame_at (put_at (own ∷ levels) zero c) 0) s ≡ false =
+    put-within (values_of s) (own ∷ levels) zero c 0 inside (omega arith)
+    ∙ and-false (allowed_by (frame_at (own ∷ levels) 0) s) (clause_value (values_of s) c) out
+    in
+    let here = count-less n (allowed_by (frame_at (put_at (own ∷ levels) zero c) 0)) (allowed_by (frame_at (own ∷ levels) 0))
+    (λ s. fewer (own ∷ levels) zero c s inside) s size gone allowed
+    in
+    omega arith
+total-less n (own ∷ levels) (suc k) c s inside size allowed out =
+    let here = count-within n (allowed_by (frame_at (put_at (own ∷ levels) (suc k) c) 0)) (allowed_by (frame_at (own ∷ levels) 0))
+    (λ s. fewer (own ∷ levels) (suc k) c s inside)
+    in
+    let above = total-less n levels k c s (omega arith) size allowed out in
+    omega arith
+
+room-put : (n : ℕ) (levels : Levels) (k : ℕ) (c : List Lit)
+    → room n (put_at levels k c) ≡ total n (put_at levels k c) + (2 ^ n + 2 - length levels) * (2 ^ n + 1)
+unfolding room
+room-put n levels k c = ap (λ size. total n (put_at levels k c) + (2 ^ n + 2 - size) * (2 ^ n + 1)) (length-put levels k c)
+
+room-is : (n : ℕ) (levels : Levels) → room n levels ≡ total n levels + (2 ^ n + 2 - length levels) * (2 ^ n + 1)
+unfolding room
+room-is n levels = refl
+
+pub lemmas-make-none : LemmasMakeNoRoom
+lemmas-make-none n levels k c inside =
+    elim (cases_Bool (has_clause (frame_at levels k) c)) [
+      | inl there ↦ rw there (omega arith)
+      | inr absent ↦ rw absent (put_less n levels k c inside)
+    ]
+  where
+    put_less : (n : ℕ) (levels : Levels) (k : ℕ) (c : List Lit) → k < length levels → room n (put_at levels k c) ≤ room n levels
+    put_less n levels k c inside =
+        let e = room-put n levels k c in
+        let f = room-is n levels in
+        let h = total-within n levels k c inside in
+        omega arith
+
+pub lemmas-take : LemmasTakeRoom
+lemmas-take n levels k c s inside size allowed out =
+    elim (cases_Bool (has_clause (frame_at levels k) c)) [
+      | inl there ↦
+          let said = has-adds-nothing (values_of s) (frame_at levels k) c there in
+          let none = and-false (allowed_by (frame_at levels k) s) (clause_value (values_of s) c) out in
+          absurd (false≢true (sym none ∙ sym said ∙ allowed))
+      | inr absent ↦ rw absent (put_less n levels k c s inside size allowed out)
+    ]
+  where
+    put_less : (n : ℕ) (levels : Levels) (k : ℕ) (c : List Lit) (s : List Bool) → k < length levels → length s ≡ n
+        → allowed_by (frame_at levels k) s ≡ true → clause_value (values_of s) c ≡ false → room n (put_at levels k c) + 1 ≤ room n levels
+    put_less n levels k c s inside size allowed out =
+        let e = room-put n levels k c in
+        let f = room-is n levels in
+        let h = total-less n levels k c s inside size allowed out in
+        omega arith
+
+-- ---- a frame is opened
+
+total-opened : (n : ℕ) (levels : Levels) → total n (levels ++ [] ∷ []) ≡ total n levels + 2 ^ n
+total-opened n [] = let h = count-all n in omega arith
+total-opened n (own ∷ levels) =
+    let here : count_states n (allowed_by (frame_at ((own ∷ levels) ++ [] ∷ []) 0)) ≡ count_states n (allowed_by (frame_at (own ∷ levels) 0)) =
+    ap (λ lemmas. count_states n (allowed_by lemmas)) (opened-stay (own ∷ levels) 0)
+    in
+    let above = total-opened n levels in
+    omega arith
+
+pub frames-take : FramesTakeRoom
+frames-take n levels few =
+    let width : ℕ = 2 ^ n + 1 in
+    let left : ℕ = 2 ^ n + 2 - (length levels + 1) in
+    let size : length (levels ++ [] ∷ []) ≡ length levels + 1 = length-append levels ([] ∷ []) in
+    let e : room n (levels ++ [] ∷ []) ≡ total n (levels ++ [] ∷ []) + left * width =
+    room-is n (levels ++ [] ∷ []) ∙ ap (λ k. total n (levels ++ [] ∷ []) + (2 ^ n + 2 - k) * width) size
+    in
+    let more : 2 ^ n + 2 - length levels ≡ left + 1 = omega arith in
+    let f : room n levels ≡ total n levels + (left + 1) * width = room-is n levels ∙ ap (λ k. total n levels + k * width) more in
+    let g = total-opened n levels in
+    omega arith

@@ -1,0 +1,6 @@
+pub mod Frames
+pub mod Kept
+pub mod Inside
+pub mod Lent
+pub mod Room
+pub mod Meaning

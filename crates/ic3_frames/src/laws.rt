@@ -1,0 +1,21 @@
+//! The laws of frames: what they mean, and the room that steps take. Each call does nothing; its contract is the laws.
+ghost use Rattle.ic3_frames.specs.Meaning.{FramesGrow, LemmasRestrict, AboveStay, NumberStays, OpenedStay};
+ghost use Rattle.ic3_frames.specs.Room.{LemmasTakeRoom, LemmasMakeNoRoom, FramesTakeRoom};
+
+/// What a frame allows, the next one allows. A lemma that is put into a frame restricts it and those below, and a frame
+/// that is opened restricts none.
+pub fn frames_grow()
+    ensures grow { FramesGrow }
+    ensures restrict { LemmasRestrict }
+    ensures above { AboveStay }
+    ensures number { NumberStays }
+    ensures opened { OpenedStay }
+{}
+
+/// Each step of a search takes room, so that the room at its begin bounds its steps: a lemma that excludes a state which
+/// its frame allowed, and a frame that is opened while there are at most 2^n + 1. Lemmas that are put on make none.
+pub fn steps_take_room()
+    ensures lemmas { LemmasTakeRoom }
+    ensures pushes { LemmasMakeNoRoom }
+    ensures frames { FramesTakeRoom }
+{}

@@ -1,0 +1,28 @@
+//! The frames of IC3: for each level a set of lemmas, each lemma in the highest level in which it stands.
+//!
+//! | Call | Does |
+//! |---|---|
+//! | `Frames::new` | no frames; takes no memory |
+//! | `len` | how many frames there are |
+//! | `add_frame` | opens a frame without lemmas above the others |
+//! | `add` | puts a lemma into a frame and those below |
+//! | `push_on` | puts a lemma of a level into the next frame too |
+//! | `lemma` | lends a lemma of a level that the next level has not |
+//! | `at` | a frame as a list of clauses, for the meter of a search |
+//! | `equal_pair` | a level whose frame has the same lemmas as the next |
+//! | `count_frame` | counts the step of a frame that is to be opened |
+//! | `frames_grow` | nothing: the laws of what frames mean |
+//! | `steps_take_room` | nothing: the laws of the room that bounds the steps of a search |
+//!
+//! Levels and places are counted from 0. Each error but that of `count_frame` is want of memory, and changes nothing.
+#![tactic(auto)]
+
+mod frames;
+mod laws;
+mod levels;
+
+pub use frames::{FrameAt, Frames};
+pub use laws::{frames_grow, steps_take_room};
+
+#[cfg(test)]
+mod tests;

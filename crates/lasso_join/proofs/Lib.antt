@@ -1,0 +1,4 @@
+pub mod Ways
+pub mod Joined
+pub mod Prefixes
+pub mod Seen

@@ -1,6 +1,0 @@
-use Rattle.std.proofs.Common.{◌≡◌, map, take, Some}
-use Rattle.stimulus.specs.Texts.{value_of}
-use Rattle.stimulus.proofs.reading.read_values.Given as goal
-
-abbrev pub invariant-loop-character : goal.invariant-loop-character
-invariant-loop-character l = map value_of (take l.character-index l.line) ≡ map Some l.values
