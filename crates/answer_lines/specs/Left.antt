@@ -29,6 +29,7 @@ left_of reading text = reading.ahead ++ drop (reading.taken + length reading.ahe
 pub record StaysLeft (told : Option (List ℕ)) (old new : Reading) : Type 0 where
   pub taken : new.taken ≡ old.taken
   pub left : IfTold told (λ text. left_of new text ≡ left_of old text)
+  pub last : new.last ≡ old.last
 
 -- the line, where one was given
 abbrev pub given_line : Bool → List ℕ → List (List ℕ)

@@ -33,7 +33,8 @@ pub record IsKept (s : Inside) : Type 0 where
   pub within : s.place ≤ most_bytes
   pub front : Lacks (front_of s.given s.line.items) 10
 
--- as much is given, and the same is in hand
+-- as much is given, the same is in hand, and the line that was given last ended as it did
 pub record SameLeft (old new : Reading) : Type 0 where
   pub taken : new.taken ≡ old.taken
   pub ahead : new.ahead ≡ old.ahead
+  pub last : new.last ≡ old.last

@@ -107,7 +107,7 @@ impl Lines {
             (λ text. IsTooLong (most_bytes - self.old.taken) (left_of self.old text)) }
         ensures within { IfOk result (λ _. IfTold (H.held shelf.old name.now)
             (λ text. ¬ (IsTooLong (most_bytes - self.old.taken) (left_of self.old text)))) }
-        // Where no line is given, what is left stays.
+        // Where no line is given, what is left stays, and so does what is known of the line that was given last.
         ensures stays { OnErr result (StaysLeft (H.held shelf.old name.now) self.old self.new) }
         ensures stays_end { IfOk result (λ given. IsFalse given
             → StaysLeft (H.held shelf.old name.now) self.old self.new) }
@@ -155,6 +155,7 @@ impl Lines {
         requires { Lacks self.old.ahead 10 }
         ensures taken { self.new.taken ≡ self.old.taken }
         ensures left { IfTold (H.held shelf.old name.now) (λ text. left_of self.new text ≡ left_of self.old text) }
+        ensures last { self.new.last ≡ self.old.last }
         ensures more { IfOk result (λ more. IsTrue more → length self.old.ahead < length self.new.ahead) }
         ensures same { IfOk result (λ more. IsFalse more → self.new.ahead ≡ self.old.ahead) }
         ensures end { IfOk result (λ more. IsFalse more → IfTold (H.held shelf.old name.now)
@@ -195,6 +196,7 @@ impl Lines {
         ensures none { IfOk result (λ some. IsFalse some → self.old.ahead ≡ []) }
         ensures ahead { IfOk result (λ _. self.new.ahead ≡ []) }
         ensures last { IfOk result (λ some. IsTrue some → self.new.last ≡ true) }
+        ensures same_last { IfOk result (λ some. IsFalse some → self.new.last ≡ self.old.last) }
         ensures refused { OnErr result (SameLeft self.old self.new) }
         ensures most { self.new.taken + length self.new.ahead ≤ most_bytes }
     {
@@ -205,7 +207,7 @@ impl Lines {
         )?;
         self.start = self.end;
         self.given = !self.line.as_slice().is_empty();
-        self.last = self.given;
+        self.last |= self.given;
         Ok(self.given)
     }
 }

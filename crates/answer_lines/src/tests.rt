@@ -64,6 +64,37 @@ fn spelled(alloc: Global, lengths: &[usize], end: u8) -> Result<Vec<u8>, AllocEr
     Ok(text)
 }
 
+/// A byte for each line of a text: l where it is said to be the last, and else a dash.
+fn lasts(alloc: Global, text: &[u8]) -> Result<Vec<u8>, LinesEnd> {
+    let mut shelf = shelf(alloc, text, 2, &[])?;
+    let mut lines = Lines::new(alloc)?;
+    let mut lasts = Vec::new(alloc);
+    for _ in 0..1000 {
+        if !lines.next(&mut shelf, "answer")? {
+            break;
+        }
+        let byte = if lines.is_last() { b'l' } else { b'-' };
+        lasts.extend_from_slice(&[byte])?;
+    }
+    Ok(lasts)
+}
+
+#[test]
+fn says_that_a_line_is_last(rt: HostRuntime) -> Result<(), Fail> {
+    let cases = [
+        ("", ""),
+        ("a", "l"),
+        ("a\n", "-"),
+        ("a\n\nbc", "--l"),
+        ("a\n\nbc\n", "---"),
+    ];
+    for (text, want) in cases {
+        let given = lasts(rt.alloc(), text.as_bytes())?;
+        assert_eq!(rt; given.as_slice(), want.as_bytes(), "{text:?}");
+    }
+    Ok(())
+}
+
 #[test]
 fn gives_the_lines_of_short_texts(rt: HostRuntime) -> Result<(), Fail> {
     let cases = [

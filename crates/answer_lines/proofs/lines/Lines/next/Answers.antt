@@ -47,6 +47,7 @@ loop-self-preserved g c =
       left = λ x told.
           let held : g.H.Shelf.held c.loop-self.shelf c.args.name.now ≡ Some x = c.loop-self.invariant.kept c.args.name.now ∙ told in
           c.in_ok-read_on.ensures.left x held ∙ same_left c.loop-self.self c.cut.new.self x same ∙ c.loop-self.invariant.left x told;
+      last = c.in_ok-read_on.ensures.last ∙ same.last ∙ c.loop-self.invariant.last;
       counts = λ name. omega (arith, c.loop-self.invariant.counts name, c.in_ok-read_on.ensures.counts name);
       kept = λ name. c.in_ok-read_on.ensures.kept name ∙ c.loop-self.invariant.kept name;
       in_hand = λ some. absurd (some (subst (λ (bytes : List ℕ). Lacks bytes 10) (c.loop-self.invariant.same some) (c.in_ok-cut.ensures.none none)));

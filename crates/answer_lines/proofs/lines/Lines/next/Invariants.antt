@@ -11,6 +11,7 @@ abbrev pub invariant-loop-self : goal.invariant-loop-self
 invariant-loop-self g l = record {
   taken : l.self.taken ≡ l.fn.self.taken;
   left : IfTold (g.H.Shelf.held l.fn.shelf l.name) (λ text. left_of l.self text ≡ left_of l.fn.self text);
+  last : l.self.last ≡ l.fn.self.last;
   counts : NoneFell (g.H.Shelf.faults l.fn.shelf) (g.H.Shelf.faults l.shelf);
   kept : KeepsTexts (g.H.Shelf.held l.fn.shelf) (g.H.Shelf.held l.shelf);
   in_hand : ¬ (Lacks l.fn.self.ahead 10) → l.shelf ≡ l.fn.shelf;
