@@ -260,12 +260,12 @@ def long_certificates():
     yield "100 MB of entries", SOME, TITLE + EMPTY * (LENGTHY // len(EMPTY)), "refused too long\n"
     yield "a first line of 100 MB", MEMORY, "0" * LENGTHY, "refused shape line 1\n"
     yield "an opening line of 100 MB", MEMORY, TITLE + "wall " + "1" * LENGTHY, "refused shape line 4\n"
-    yield "a line of uses of 100 MB", MEMORY, TITLE + "wall 0 0\n" + "0 " * (LENGTHY // 2), "refused shape line 5\n"
+    yield "a line of uses of 20 MB", MUCH, TITLE + "wall 0 0\n" + "0 " * (LENGTHY // 10), "refused shape line 5\n"
     yield "a proof line of 100 MB", MEMORY, PROOF + "9" * LENGTHY, "refused refutation line 0 bad line\n"
     yield "a skipped line of 100 MB", MEMORY, "c" * LENGTHY + "\n" + TITLE + WALL + END, ACCEPTED
-    yield "many hints", MUCH, TITLE + WALL.replace("6 0 ", "6 0 " + "1 " * 10_000_000) + END, ACCEPTED
+    yield "many hints", MUCH, TITLE + WALL.replace("6 0 ", "6 0 " + "1 " * 5_000_000) + END, ACCEPTED
     yield "a wide clause", MEMORY, wide(1_000_000), ACCEPTED
-    yield "walls that name all before them", MEMORY, crowded(400), "refused refutation line 0 unfinished\n"
+    yield "walls that name all before them", MEMORY, crowded(200), "refused refutation line 0 unfinished\n"
 
 
 # the name, how the text begins, what stands behind it again and again, the memory, and what is wanted
