@@ -2,7 +2,7 @@
 """Certificates of small drawn circuits, made from their explicit states, and thousands of texts and models that differ
 from one of them in one place: the program must print of each what the judge beside this file says, with its status.
 
-    certificates.py [SEED [CIRCUITS [CHANGES]]]     CHANGES of each certificate; as many as 60 seconds allow"""
+    certificates.py [SEED [CIRCUITS [CHANGES]]]     CHANGES of each certificate; as many as 240 seconds allow, and 20 at least"""
 import concurrent.futures
 import os
 import random
@@ -19,7 +19,9 @@ from maker import below, pick  # noqa: E402
 TOP = os.path.dirname(os.path.dirname(os.path.abspath(__file__)))
 # the program itself, without the script before it that looks for sources that are newer
 PROGRAM = os.path.join(TOP, "crates", "fair_main", "out", "fair_main")
-CIRCUITS, CHANGES, SECONDS, WORKERS = 50, 80, 60, 4
+CIRCUITS, CHANGES, SECONDS, WORKERS = 50, 80, 240, 4
+# of the drawn circuits, so many have to be done in time
+FEWEST = 20
 
 # ---- what was worked out by hand, so that a mistake of the judge is told from one of the program
 
@@ -241,6 +243,9 @@ def main(words):
             done = sum(run.result() for run in runs)
     if comparison.differing:
         print(f"certificates: {comparison.differing} answers that the judge does not give")
+        return 1
+    if done < min(circuits, FEWEST):
+        print(f"certificates: only {done} of {circuits} drawn circuits in {SECONDS} seconds")
         return 1
     accepted = f"{comparison.accepted} accepted"
     print(f"certificates: {comparison.agreed} texts, on {done} drawn circuits, as the judge says, {accepted}")
