@@ -17,7 +17,7 @@ use aiger_sections::{
     GateLine, InputLine, LatchLine, counts, is_too_long, read_heading, read_lines, read_properties,
     within_limit,
 };
-use circuit::{ModelEnd, ModelFault, Parts, check_circuit};
+use circuit::{ModelEnd, ModelFault, Parts, keep_circuit};
 use std::alloc::Global;
 
 /// The model of an ASCII text, or the first fault with its place. Places are counted in bytes from 0; those of
@@ -44,9 +44,8 @@ fn read_checked(alloc: Global, bytes: &[u8]) -> Result<Model, ModelEnd>
     ensures { IsAnswer IsAsciiTextOf HasAsciiFault bytes.now result }
 {
     let (parts, names) = read_parts(alloc, bytes)?;
-    let circuit = check_circuit(alloc, &parts)?;
-    let Parts { outputs, bad, .. } = parts;
-    Ok(Model::new(circuit, outputs, bad, names))
+    let kept = keep_circuit(alloc, parts)?;
+    Ok(Model::new(kept.circuit, kept.outputs, kept.bad, names))
 }
 
 // What the text says, before it is checked.

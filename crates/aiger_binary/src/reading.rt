@@ -18,7 +18,7 @@ use aiger_names::{Model, read_last_names};
 use aiger_sections::{
     counts, is_too_long, read_heading, read_lines, read_properties, within_limit,
 };
-use circuit::{ModelEnd, ModelFault, Parts, check_circuit};
+use circuit::{ModelEnd, ModelFault, Parts, keep_circuit};
 use items::Items;
 use std::alloc::{AllocError, Global};
 
@@ -47,9 +47,8 @@ fn read_checked(alloc: Global, bytes: &[u8]) -> Result<Model, ModelEnd>
     ensures { IsAnswer IsBinaryTextOf HasBinaryFault bytes.now result }
 {
     let (parts, names) = read_parts(alloc, bytes)?;
-    let circuit = check_circuit(alloc, &parts)?;
-    let Parts { outputs, bad, .. } = parts;
-    Ok(Model::new(circuit, outputs, bad, names))
+    let kept = keep_circuit(alloc, parts)?;
+    Ok(Model::new(kept.circuit, kept.outputs, kept.bad, names))
 }
 
 // What the text says, before it is checked.

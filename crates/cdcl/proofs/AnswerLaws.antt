@@ -1,7 +1,7 @@
 -- Laws of answers, by what a search found.
-use Rattle.std.proofs.Common.{◌≡◌, ℕ, Bool, true, false, eqb, List, [], ◌∷◌, map, Option, Some, None, refl, ap, sym, subst, ◌∙◌, inl, inr}
+use Rattle.std.proofs.Common.{◌≡◌, ℕ, zero, suc, ◌+◌, ◌<◌, Bool, true, false, eqb, cond, List, [], ◌∷◌, ◌++◌, length, get_or, take, arith, map, Option, Some, None, refl, ap, sym, subst, ◌∙◌, inl, inr}
 use Rattle.std.specs.Option.{unwrap_or, option_map}
-use Rattle.std.proofs.lemmas.Bool.{false≢true, cond-true, cond-false}
+use Rattle.std.proofs.lemmas.Bool.{false≢true, and_parts, and_from, cond-true, cond-false}
 use Rattle.proof_semantics.specs.Clauses.{bool_eq, negation, literal_value, clause_value, cube_value, clauses_value, values_of, is_part}
 use Rattle.proof_semantics.specs.declared.literals.Lit.{Lit}
 use Rattle.proof_semantics.proofs.LiteralLaws.{bool_eq-true, bool_eq-same}
@@ -9,7 +9,12 @@ use Rattle.proof_semantics.proofs.Soundness.{hints_refute}
 use Rattle.cnf.specs.Clauses.{clause_numbered}
 use Rattle.cdcl_trail.specs.Trails.{Step, literals_of, step_of, value_of}
 use Rattle.cdcl_trail.specs.Propagation.{is_value, is_true}
-use Rattle.cdcl_trail.proofs.TrailLaws.{either}
+use Rattle.cdcl_trail.specs.AssignmentOf.{place_in, positive_at}
+use Rattle.cdcl_trail.specs.Trails.{once}
+use Rattle.cdcl_trail.proofs.TrailLaws.{either, once_pop, place_push, or_both, or_neither, not-true, not-false}
+use Rattle.std.proofs.lemmas.List.{take_more, length-take-le}
+use Rattle.std.specs.Prelude.{slice_get}
+use Rattle.std.specs.List.{list_any}
 use Rattle.cdcl_trail.proofs.PrefixLaws.{all_from}
 use Rattle.cdcl_learn.specs.declared.learning.Learned.{Learned}
 use Rattle.cdcl.specs.Asking.{assigned, IsCore, IsAsked}
@@ -23,7 +28,8 @@ use Rattle.cdcl.specs.Searching.{AreTrue}
 use Rattle.cdcl.specs.Solving.{IsModel, HasNoModel}
 use Rattle.cdcl.proofs.EntryLaws.{numbered_true}
 use Rattle.cdcl.proofs.ProgressLaws.{added_all}
-use Rattle.cdcl.proofs.SearchLaws.{model_holds, true_stands}
+use Rattle.cdcl.proofs.SearchLaws.{model_holds}
+use Rattle.cdcl_learn.proofs.LiteralTraceLaws.{true_stands}
 use Rattle.cdcl.proofs.WritingLaws.{part_negations, core_holds}
 
 -- the assignment gives each variable its value on the trail
@@ -82,10 +88,34 @@ core_from entries added assumptions core traced same log r is =
     }
 
 -- What is told of a search is true.
-pub asked_from : (entries : Entries) (added : List (List Lit)) (assumptions : List Lit) (found : Found) (asked : Asked) → added ≡ added_of entries → IsLog entries
-    → IsFound entries.clauses assumptions found → IsTold found asked → IsAsked added assumptions asked
-asked_from entries added assumptions (Satisfied trail) (Sat assignment) same log is told =
-    subst (λ ls. IsModel added assumptions (assigned ls)) (sym told) (assigned_model entries added assumptions trail.steps same is)
-asked_from entries added assumptions (Satisfied trail) (Unsat core) same log is told = absurd told
-asked_from entries added assumptions (Refused traced) (Sat assignment) same log is told = absurd told
-asked_from entries added assumptions (Refused traced) (Unsat core) same log is told = core_from entries added assumptions core.items traced same log is told
+pub asked_from : (entries : Entries) (added : List (List Lit)) (assumptions : List Lit) (steps : List Step) (found : Found) (asked : Asked) → added ≡ added_of entries → IsLog entries
+    → IsFound entries.clauses assumptions steps found → IsTold steps found asked → IsAsked added assumptions asked
+asked_from entries added assumptions steps Satisfied (Sat assignment) same log is told =
+    subst (λ ls. IsModel added assumptions (assigned ls)) (sym told) (assigned_model entries added assumptions steps same is)
+asked_from entries added assumptions steps Satisfied (Unsat core) same log is told = absurd told
+asked_from entries added assumptions steps (Refused traced) (Sat assignment) same log is told = absurd told
+asked_from entries added assumptions steps (Refused traced) (Unsat core) same log is told = core_from entries added assumptions core.items traced same log is told
+
+-- The values at places.
+
+behind : (a : Lit) (lits : List Lit) (o : Option ℕ) → positive_at (a ∷ lits) (option_map (λ place. place + 1) o) ≡ positive_at lits o
+behind a lits None = refl
+behind a lits (Some p) = ap (λ n. option_map (λ (b : Lit). b.positive) (slice_get (a ∷ lits) n)) (one_more_is p)
+  where
+    one_more_is : (p : ℕ) → p + 1 ≡ suc p
+    one_more_is p = omega arith
+
+-- the value at a variable's place is the assigned one
+pub assigned_at : (lits : List Lit) (v : ℕ) → unwrap_or (positive_at lits (place_in lits v)) false ≡ assigned lits v
+assigned_at [] v = refl
+assigned_at (a ∷ lits) v =
+    elim (either (eqb a.var v)) [
+      | inl here ↦
+          ap (λ o. unwrap_or (positive_at (a ∷ lits) o) false) (cond-true (eqb a.var v) (Some 0) (option_map (λ place. place + 1) (place_in lits v)) here)
+          ∙ sym (cond-true (eqb a.var v) a.positive (assigned lits v) here)
+      | inr differs ↦
+          ap (λ o. unwrap_or (positive_at (a ∷ lits) o) false) (cond-false (eqb a.var v) (Some 0) (option_map (λ place. place + 1) (place_in lits v)) differs)
+          ∙ ap (λ o. unwrap_or o false) (behind a lits (place_in lits v))
+          ∙ assigned_at lits v
+          ∙ sym (cond-false (eqb a.var v) a.positive (assigned lits v) differs)
+    ]

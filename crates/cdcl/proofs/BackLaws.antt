@@ -168,7 +168,7 @@ forced_more clauses more before step f = record {
   left = f.left;
 }
 
-reasons_more : (clauses more : List (List Lit)) (before xs : List Step) → HaveReasons clauses before xs → HaveReasons (clauses ++ more) before xs
+pub reasons_more : (clauses more : List (List Lit)) (before xs : List Step) → HaveReasons clauses before xs → HaveReasons (clauses ++ more) before xs
 reasons_more clauses more before [] all = tt
 reasons_more clauses more before (x ∷ xs) all = (
   elim all.0 [
@@ -216,7 +216,7 @@ none_opens : (r : Option ℕ) → is_none r ≡ true → opened_by r ≡ 1
 none_opens None e = refl
 none_opens (Some n) e = absurd (false≢true e)
 
-no_assumed : (xs : List Step) (b : Lit) → level xs ≡ 0 → is_assumed xs b ≡ true → ⊥
+pub no_assumed : (xs : List Step) (b : Lit) → level xs ≡ 0 → is_assumed xs b ≡ true → ⊥
 no_assumed [] b deep e = false≢true e
 no_assumed (x ∷ xs) b deep e =
     elim (or_cases (lit_eq x.literal b && is_none x.reason) (is_assumed xs b) e) [
@@ -225,12 +225,10 @@ no_assumed (x ∷ xs) b deep e =
     ]
 
 -- what is assumed stands before the steps that open no level
-pub assumed_first : (xs ys : List Step) (b : Lit) → level ys ≡ 0 → is_assumed (xs ++ ys) b ≡ true → Has (literals_of xs) b
+pub assumed_first : (xs ys : List Step) (b : Lit) → level ys ≡ 0 → is_assumed (xs ++ ys) b ≡ true → is_assumed xs b ≡ true
 assumed_first [] ys b deep e = absurd (no_assumed ys b deep e)
 assumed_first (x ∷ xs) ys b deep e =
     elim (or_cases (lit_eq x.literal b && is_none x.reason) (is_assumed (xs ++ ys) b) e) [
-      | inl here ↦
-          let same : x.literal ≡ b = lit_eq-true x.literal b (and_parts (lit_eq x.literal b) (is_none x.reason) here).0 in
-          or_left _ _ (ap (lit_eq b) same ∙ lit_eq-same b)
+      | inl here ↦ or_left _ _ here
       | inr later ↦ or_right _ _ (assumed_first xs ys b deep later)
     ]

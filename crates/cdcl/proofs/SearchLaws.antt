@@ -1,6 +1,6 @@
 -- Laws of what a search decides and assumes.
 use Rattle.std.proofs.Common.{◌≡◌, ℕ, zero, suc, ◌+◌, ◌-◌, ◌<◌, ◌≤◌, Bool, true, false, not, cond, eqb, List, [], ◌∷◌, ◌++◌, length, get_or, take, Option, Some, None, refl, ap, sym, subst, ◌∙◌, ◌⊎◌, inl, inr, arith, eqb-true, eq-eqb}
-use Rattle.std.specs.Prelude.{is_some, slice_get, IfNone, IfSome, nat_eq}
+use Rattle.std.specs.Prelude.{is_none, slice_get, IfNone, IfSome, nat_eq, ◌&&◌}
 use Rattle.std.specs.List.{list_any, list_all}
 use Rattle.std.specs.Option.{option_map}
 use Rattle.std.proofs.lemmas.List.{take_all, take_more}
@@ -15,43 +15,15 @@ use Rattle.cdcl_trail.proofs.TrailLaws.{either, not-true, or_neither}
 use Rattle.cdcl_trail.proofs.ScanLaws.{all_has, any_gives, any_has, untrue, one_value}
 use Rattle.cdcl_trail.proofs.PassLaws.{step_comes, no_step, complete_at, held_at}
 use Rattle.cdcl_trail.proofs.PrefixLaws.{all_from, true_more, none_before, reasoned_assumed}
-use Rattle.cdcl.specs.Searching.{IsOpen, IsOpenIn, has_variable, open_by, count_open, is_satisfied, is_over, are_over, AreTrue, AssumesSoFar}
+use Rattle.cdcl_learn.proofs.LiteralTraceLaws.{step_found, valued_step, true_stands, false_stands}
+use Rattle.cdcl.specs.Searching.{IsOpen, IsOpenIn, has_variable, open_by, count_open, is_satisfied, is_over, are_over, AreTrue, AssumesSome, AssumesAll, IsRefusedAt}
+use Rattle.cdcl_trail.specs.Trails.{opened_by, level}
+use Rattle.cdcl_trail.specs.Propagation.{HaveReasons}
+use Rattle.cdcl_learn.specs.Learning.{is_assumed}
+use Rattle.cdcl.proofs.BackLaws.{no_assumed}
 
 abbrev Has : List Lit → Lit → Type 0
 Has lits a = has_literal lits a ≡ true
-
--- Steps and their values.
-
-pub step_found : (steps : List Step) (v : ℕ) (x : Step) → step_of steps v ≡ Some x → (x.literal.var ≡ v) × Has (literals_of steps) x.literal
-step_found [] v x e = absurd (none-some x e)
-step_found (y ∷ steps) v x e =
-    elim (either (eqb y.literal.var v)) [
-      | inl same ↦
-          let is : y ≡ x = same_Some y x (sym (cond-true (eqb y.literal.var v) (Some y) (step_of steps v) same) ∙ e) in (
-            sym (ap (λ (s : Step). s.literal.var) is) ∙ eqb-true y.literal.var v same,
-            or_left _ _ (ap (λ (s : Step). lit_eq x.literal s.literal) is ∙ lit_eq-same x.literal),
-          )
-      | inr differs ↦
-          let later = step_found steps v x (sym (cond-false (eqb y.literal.var v) (Some y) (step_of steps v) differs) ∙ e) in
-          (later.0, or_right _ _ later.1)
-    ]
-
-pub valued_step : (o : Option Step) (b : Bool) → is_value (option_map (λ (s : Step). s.literal.positive) o) b ≡ true → (x : Step) × (o ≡ Some x) × (x.literal.positive ≡ b)
-valued_step None b e = absurd (false≢true e)
-valued_step (Some x) b e = (x, refl, bool_eq-true x.literal.positive b e)
-
--- what is true stands on the trail
-pub true_stands : (steps : List Step) (a : Lit) → is_true steps a ≡ true → Has (literals_of steps) a
-true_stands steps a e =
-    let found = valued_step (step_of steps a.var) a.positive e in
-    let x = found.0 in
-    let stands = step_found steps a.var x found.1 in
-    let same : x.literal ≡ a = same_lit x.literal a stands.0 found.2 in
-    subst (λ b. Has (literals_of steps) b) same stands.1
-
--- what is false stands there negated
-pub false_stands : (steps : List Step) (a : Lit) → is_false steps a ≡ true → Has (literals_of steps) (negation a)
-false_stands steps a e = true_stands steps (negation a) e
 
 -- Values.
 
@@ -238,6 +210,19 @@ over_forced vars clauses before (x ∷ xs) all forced =
     (over_at vars clauses (f.number - 1) f.clause (held_at clauses f.number f.clause f.held) all) (and_parts _ _ f.left).0)
     (over_forced vars clauses (before ++ x ∷ []) xs all forced.1)
 
+pub over_reasoned : (vars : List ℕ) (clauses : List (List Lit)) (before xs : List Step) → are_over vars clauses ≡ true → level xs ≡ 0 → HaveReasons clauses before xs
+    → is_over vars (literals_of xs) ≡ true
+over_reasoned vars clauses before [] all flat reasoned = refl
+over_reasoned vars clauses before (x ∷ xs) all flat reasoned =
+    elim reasoned.0 [
+      | inl none ↦ absurd (omega (arith, flat, ap opened_by none))
+      | inr f ↦
+          and_from _ _
+          (all_has (λ a. list_any (nat_eq a.var) vars) f.clause x.literal
+          (over_at vars clauses (f.number - 1) f.clause (held_at clauses f.number f.clause f.held) all) (and_parts _ _ f.left).0)
+          (over_reasoned vars clauses (before ++ x ∷ []) xs all (omega (arith, flat)) reasoned.1)
+    ]
+
 pub over_propagated : (vars : List ℕ) (clauses : List (List Lit)) (steps later : List Step) → Propagates clauses steps later → are_over vars clauses ≡ true
     → is_over vars (literals_of steps) ≡ true → is_over vars (literals_of later) ≡ true
 over_propagated vars clauses steps later p all first =
@@ -271,72 +256,97 @@ seen_more lits i a below has =
       | inr here ↦ inr here
     ]
 
-valued_some : (steps : List Step) (v : ℕ) (o : Option Step) → step_of steps v ≡ o → is_some (option_map (λ (s : Step). s.literal.positive) o) ≡ true
-    → (x : Step) × (step_of steps v ≡ Some x)
-valued_some steps v None is e = absurd (false≢true e)
-valued_some steps v (Some x) is e = (x, is)
-
-consistent_true : (assumptions : List Lit) (steps : List Step) (d : Lit) (x : Step) → has_opposites assumptions ≡ false → Has assumptions d → Has assumptions x.literal
-    → step_of steps d.var ≡ Some x → x.literal.var ≡ d.var → is_true steps d ≡ true
-consistent_true assumptions steps d x consistent has has_x is same =
-    ap (λ o. is_value (option_map (λ (s : Step). s.literal.positive) o) d.positive) is
-    ∙ elim (either (bool_eq x.literal.positive d.positive)) [
-      | inl agrees ↦ agrees
-      | inr differs ↦
-          let negated : x.literal ≡ negation d = same_lit x.literal (negation d) same (other_sign x.literal.positive d.positive differs) in
-          absurd (false≢true (sym consistent ∙ any_has (λ a. has_literal assumptions (negation a)) assumptions d has (ap (has_literal assumptions) (sym negated) ∙ has_x)))
-    ]
-  where
-    other_sign : (b c : Bool) → bool_eq b c ≡ false → b ≡ not c
-    other_sign true true e = absurd (false≢true (sym e))
-    other_sign true false e = refl
-    other_sign false true e = refl
-    other_sign false false e = absurd (false≢true (sym e))
-
-pub assumed_already : (assumptions : List Lit) (steps : List Step) (i : ℕ) (value : Option Bool) (some : Bool) → i < length assumptions → has_opposites assumptions ≡ false
-    → value ≡ value_of steps (get_or assumptions i no_literal).var → some ≡ is_some value → some ≡ true
-    → AssumesSoFar assumptions (take i assumptions) steps → AssumesSoFar assumptions (take (i + 1) assumptions) steps
-assumed_already assumptions steps i value some below consistent told is_some_told has_value so_far =
-    let d = get_or assumptions i no_literal in
-    let found = valued_some steps d.var (step_of steps d.var) refl (ap is_some (sym told) ∙ sym is_some_told ∙ has_value) in
-    let stands = step_found steps d.var found.0 found.1 in
-    let holds : is_true steps d ≡ true =
-    consistent_true assumptions steps d found.0 consistent (get_at assumptions i below) (so_far.only found.0.literal stands.1) found.1 stands.0 in
-    record {
-      reasoned = so_far.reasoned;
-      true_all = λ a has. elim (seen_more assumptions i a below has) [
-        | inl before ↦ so_far.true_all a before
-        | inr here ↦ ap (is_true steps) (lit_eq-true a d here) ∙ holds
-      ];
-      only = so_far.only;
-    }
-
-pub none_told : (o : Option Bool) (some : Bool) → some ≡ is_some o → some ≡ false → o ≡ None
-none_told None some told is = refl
-none_told (Some b) some told is = absurd (false≢true (sym is ∙ told))
-
 literals_push : (steps : List Step) (s : Step) → literals_of (steps ++ s ∷ []) ≡ literals_of steps ++ s.literal ∷ []
 literals_push [] s = refl
 literals_push (x ∷ steps) s = ap (λ xs. x.literal ∷ xs) (literals_push steps s)
 
-pub assumed_now : (assumptions : List Lit) (steps later : List Step) (i : ℕ) (value : Option Bool) (some : Bool) → i < length assumptions
-    → value ≡ value_of steps (get_or assumptions i no_literal).var → some ≡ is_some value → some ≡ false → later ≡ steps ++ assumed (get_or assumptions i no_literal) ∷ []
-    → AssumesSoFar assumptions (take i assumptions) steps → AssumesSoFar assumptions (take (i + 1) assumptions) later
-assumed_now assumptions steps later i value some below told is_some_told lacks is so_far =
+assumed_push : (steps : List Step) (d a : Lit) → is_assumed (steps ++ assumed d ∷ []) a ≡ true → (is_assumed steps a ≡ true) ⊎ (a ≡ d)
+assumed_push [] d a e =
+    elim (or_cases (lit_eq d a && true) false e) [
+      | inl here ↦ inr (sym (lit_eq-true d a (and_parts (lit_eq d a) true here).0))
+      | inr nothing ↦ absurd (false≢true nothing)
+    ]
+assumed_push (x ∷ steps) d a e =
+    elim (or_cases (lit_eq x.literal a && is_none x.reason) (is_assumed (steps ++ assumed d ∷ []) a) e) [
+      | inl here ↦ inl (or_left _ _ here)
+      | inr later ↦ elim (assumed_push steps d a later) [ inl found ↦ inl (or_right _ _ found) | inr same ↦ inr same ]
+    ]
+
+over_push : (vars : List ℕ) (lits : List Lit) (a : Lit) → is_over vars lits ≡ true → list_any (nat_eq a.var) vars ≡ true → is_over vars (lits ++ a ∷ []) ≡ true
+over_push vars [] a all here = and_from _ _ here refl
+over_push vars (b ∷ lits) a all here = let parts = and_parts _ _ all in and_from _ _ parts.0 (over_push vars lits a parts.1 here)
+
+-- None of the assumptions is assumed yet.
+pub assumes_none : (assumptions : List Lit) (start : List Step) → AssumesSome assumptions start start
+assumes_none assumptions start = record {
+  reasoned = λ clauses reasoned. reasoned;
+  only = λ a e. inl e;
+  over = λ vars before over. before;
+}
+
+-- one more of them
+pub assumes_more : (assumptions : List Lit) (start steps later : List Step) (i : ℕ) → i < length assumptions → later ≡ steps ++ assumed (get_or assumptions i no_literal) ∷ []
+    → AssumesSome assumptions start steps → AssumesSome assumptions start later
+assumes_more assumptions start steps later i below is so_far =
     let d = get_or assumptions i no_literal in
-    let fresh : value_of steps d.var ≡ None = sym told ∙ none_told value some is_some_told lacks in
     record {
-      reasoned = λ clauses. reasoned_assumed clauses steps later d is (so_far.reasoned clauses);
-      true_all = λ a has. ap (λ xs. is_true xs a) is ∙ elim (seen_more assumptions i a below has) [
-        | inl before ↦ true_more steps (assumed d ∷ []) a (so_far.true_all a before)
-        | inr here ↦ ap (is_true (steps ++ assumed d ∷ [])) (lit_eq-true a d here) ∙ true_last steps d fresh
+      reasoned = λ clauses before. reasoned_assumed clauses steps later d is (so_far.reasoned clauses before);
+      only = λ a e. elim (assumed_push steps d a (ap (λ xs. is_assumed xs a) (sym is) ∙ e)) [
+        | inl before ↦ so_far.only a before
+        | inr here ↦ inr (ap (has_literal assumptions) here ∙ get_at assumptions i below)
       ];
-      only = λ a has. elim (or_cases (has_literal (literals_of steps) a) (lit_eq a d)
-          (sym (ap (λ xs. has_literal (literals_of xs) a) is ∙ ap (λ ls. has_literal ls a) (literals_push steps (assumed d)) ∙ has_literal-push (literals_of steps) d a) ∙ has)) [
-            | inl before ↦ so_far.only a before
-            | inr here ↦ ap (has_literal assumptions) (lit_eq-true a d here) ∙ get_at assumptions i below
-          ];
+      over = λ vars before over.
+          ap (λ xs. is_over vars (literals_of xs)) is ∙ ap (is_over vars) (literals_push steps (assumed d))
+          ∙ over_push vars (literals_of steps) d (so_far.over vars before over)
+          (all_has (λ a. list_any (nat_eq a.var) vars) assumptions d over (get_at assumptions i below));
     }
+
+-- The assumptions that were seen are true.
+abbrev pub AreTrueSoFar : List Lit → List Step → Type 0
+AreTrueSoFar seen steps = (a : Lit) → has_literal seen a ≡ true → is_true steps a ≡ true
+
+pub true_already : (assumptions : List Lit) (steps : List Step) (i : ℕ) (value : Bool) → i < length assumptions
+    → value_of steps (get_or assumptions i no_literal).var ≡ Some value → value ≡ (get_or assumptions i no_literal).positive
+    → AreTrueSoFar (take i assumptions) steps → AreTrueSoFar (take (i + 1) assumptions) steps
+true_already assumptions steps i value below told same so_far a has =
+    let d = get_or assumptions i no_literal in
+    elim (seen_more assumptions i a below has) [
+      | inl before ↦ so_far a before
+      | inr here ↦ ap (is_true steps) (lit_eq-true a d here) ∙ right_value (value_of steps d.var) value d.positive told same
+    ]
+
+pub true_now : (assumptions : List Lit) (steps later : List Step) (i : ℕ) → i < length assumptions → value_of steps (get_or assumptions i no_literal).var ≡ None
+    → later ≡ steps ++ assumed (get_or assumptions i no_literal) ∷ [] → AreTrueSoFar (take i assumptions) steps → AreTrueSoFar (take (i + 1) assumptions) later
+true_now assumptions steps later i below fresh is so_far a has =
+    let d = get_or assumptions i no_literal in
+    ap (λ xs. is_true xs a) is
+    ∙ elim (seen_more assumptions i a below has) [
+      | inl before ↦ true_more steps (assumed d ∷ []) a (so_far a before)
+      | inr here ↦ ap (is_true (steps ++ assumed d ∷ [])) (lit_eq-true a d here) ∙ true_last steps d fresh
+    ]
+
+-- all were seen
+pub assumes_all : (assumptions : List Lit) (start steps : List Step) (i : ℕ) → length assumptions ≤ i → AssumesSome assumptions start steps → AreTrueSoFar (take i assumptions) steps
+    → AssumesAll assumptions start steps
+assumes_all assumptions start steps i past some so_far =
+    record { some = some; true_all = λ a has. so_far a (ap (λ xs. has_literal xs a) (take_all i assumptions past) ∙ has) }
+
+-- one is false
+pub refused_here : (assumptions : List Lit) (steps : List Step) (i : ℕ) (value : Bool) → i < length assumptions
+    → value_of steps (get_or assumptions i no_literal).var ≡ Some value → (value ≡ (get_or assumptions i no_literal).positive → ⊥)
+    → IsRefusedAt assumptions steps (get_or assumptions i no_literal)
+refused_here assumptions steps i value below told differs =
+    let d = get_or assumptions i no_literal in
+    (get_at assumptions i below, (wrong_value (value_of steps d.var) value d.positive told differs).1)
+
+-- The negation of a false assumption was not assumed.
+pub not_assumed : (assumptions : List Lit) (start steps : List Step) (d : Lit) → has_opposites assumptions ≡ false → level start ≡ 0 → AssumesSome assumptions start steps
+    → has_literal assumptions d ≡ true → is_assumed steps (negation d) ≡ false
+not_assumed assumptions start steps d consistent flat some has = untrue _ (λ e.
+    elim (some.only (negation d) e) [
+      | inl before ↦ no_assumed start (negation d) flat before
+      | inr other ↦ false≢true (sym consistent ∙ any_has (λ a. has_literal assumptions (negation a)) assumptions d has other)
+    ])
 
 -- Values of literals.
 

@@ -17,26 +17,33 @@ use Rattle.cdcl_trail.proofs.PassLaws.{step_comes, no_step, unit_unvalued, propa
 use Rattle.cdcl_trail.proofs.PrefixLaws.{all_from, true_more, none_before, reasoned_assumed, reasoned_propagated, lower_assumed}
 use Rattle.cdcl_learn.specs.declared.learning.Learned.{Learned}
 use Rattle.cdcl_learn.specs.Learning.{is_assumed}
-use Rattle.cdcl.specs.Searching.{IsOpen, open_by, count_open, is_over, are_over, AssumesAll, IsOnWay, IsBackLevel, IsHinted, IsNewClause, NegatesOnly}
-use Rattle.cdcl.proofs.SearchLaws.{count_open_more, count_open_falls, over_append, over_at, over_variable, over_propagated, falsified_no_tautology, falsified_over, valued_step}
-use Rattle.cdcl.proofs.BackLaws.{cut_is_first, cut_behind, cut_early, cut_twice, late_step, early_step, reasoned_back, open_two, complete_more, assumed_first}
+use Rattle.cdcl.specs.Searching.{IsOpen, open_by, count_open, is_over, are_over, AssumesSome, AssumesAll, IsHeld, IsOnWay, IsBackLevel, IsHinted, IsNewClause, NegatesOnly}
+use Rattle.cdcl.proofs.SearchLaws.{count_open_more, count_open_falls, over_append, over_at, over_variable, over_propagated, falsified_no_tautology, falsified_over, over_reasoned}
+use Rattle.cdcl_learn.proofs.LiteralTraceLaws.{valued_step}
+use Rattle.cdcl_trail.specs.Watched.{Extends, TrailState}
+use Rattle.cdcl.proofs.BackLaws.{cut_is_first, cut_behind, cut_early, cut_twice, late_step, early_step, reasoned_back, reasons_more, open_two, complete_more, no_assumed, assumed_first}
 
 abbrev Has : List Lit → Lit → Type 0
 Has lits a = has_literal lits a ≡ true
 
 -- right after the assumptions
-pub way_starts : (clauses : List (List Lit)) (assumptions : List Lit) (base : ℕ) (opened : List Step) → AssumesAll assumptions opened → base ≡ level opened
-    → IsOnWay clauses assumptions base opened
-way_starts clauses assumptions base opened assumes is = record {
+pub way_starts : (clauses : List (List Lit)) (assumptions : List Lit) (start opened : List Step) → IsReasonedTrail clauses start → level start ≡ 0
+    → AssumesAll assumptions start opened → IsOnWay clauses assumptions (level opened) opened
+way_starts clauses assumptions start opened reasoned flat all = record {
   opened = opened;
-  assumes = assumes;
-  deep = sym is;
+  assumes = record {
+    only = λ a e. elim (all.some.only a e) [
+      | inl before ↦ absurd (no_assumed start a flat before)
+      | inr has ↦ has
+    ];
+    true_all = all.true_all;
+  };
+  deep = refl;
   rest = [];
   begun = sym (append-nil opened);
-  reasoned = assumes.reasoned clauses;
-  below = λ k from above. absurd (omega (arith, is, from, above));
-  over = λ vars all over. all_from (λ a. list_any (nat_eq a.var) vars) (literals_of opened)
-      (λ a has. all_has (λ b. list_any (nat_eq b.var) vars) assumptions a over (assumes.only a has));
+  reasoned = all.some.reasoned clauses reasoned;
+  below = λ k from above. absurd (omega (arith, from, above));
+  over = λ vars own over. all.some.over vars (over_reasoned vars clauses [] start own flat reasoned) over;
 }
 
 -- behind propagation
@@ -169,6 +176,14 @@ way_core clauses assumptions clause base now w within traced a has =
     let flat : level w.rest ≡ 0 = omega (arith, within, w.deep, ap level w.begun, level-append w.opened w.rest) in
     w.assumes.only (negation a) (assumed_first w.opened w.rest (negation a) flat (ap (λ xs. is_assumed xs (negation a)) (sym w.begun) ∙ traced a has))
 
+-- what is held of the trail, right behind propagation
+pub held_propagated : (clauses same : List (List Lit)) (assumptions : List Lit) (base : ℕ) (now : List Step) (t : TrailState) → IsOnWay clauses assumptions base now → same ≡ clauses
+    → Propagates same now t.steps → Extends t.taken same → IsHeld clauses t
+held_propagated clauses same assumptions base now t w is p e = record {
+  extends = subst (λ cs. Extends t.taken cs) is e;
+  reasoned = (way_propagates clauses assumptions base now t.steps w (subst (λ cs. Propagates cs now t.steps) is p)).reasoned;
+}
+
 -- the assumptions are true on the way
 pub way_assumed : (clauses : List (List Lit)) (assumptions : List Lit) (base : ℕ) (now : List Step) → IsOnWay clauses assumptions base now
     → (a : Lit) → Has assumptions a → is_true now a ≡ true
@@ -206,3 +221,48 @@ decision_counts vars clauses start now later a all o p is =
     (ap (option_map (λ (s : Step). s.literal.positive)) (step_comes now (assumed a) (no_step _ o.unvalued))) in
     let before : count_open vars (start ++ p.added) ≤ count_open vars start = count_open_more vars start p.added in
     omega (arith, less, before, ap (count_open vars) is, ap (count_open vars) p.behind)
+
+-- Between questions.
+
+pub held_back : (clauses : List (List Lit)) (t later : TrailState) → IsHeld clauses t → later.taken ≡ t.taken → later.steps ≡ up_to_level 0 t.steps → IsHeld clauses later
+held_back clauses t later held taken is = record {
+  extends = subst (λ cs. Extends cs clauses) (sym taken) held.extends;
+  reasoned = subst (λ xs. IsReasonedTrail clauses xs) (sym is)
+      (subst (λ cs. IsReasonedTrail cs (up_to_level 0 t.steps)) (append-nil clauses) (reasoned_back clauses [] 0 t.steps held.reasoned));
+}
+
+pub held_settled : (clauses same : List (List Lit)) (t later : TrailState) → IsHeld clauses t → same ≡ clauses → Propagates same t.steps later.steps → Extends later.taken same
+    → IsHeld clauses later
+held_settled clauses same t later held is p e = record {
+  extends = subst (λ cs. Extends later.taken cs) is e;
+  reasoned = reasoned_propagated clauses t.steps later.steps (subst (λ cs. Propagates cs t.steps later.steps) is p) held.reasoned;
+}
+
+pub held_opened : (clauses : List (List Lit)) (assumptions : List Lit) (t later : TrailState) → IsHeld clauses t → later.taken ≡ t.taken → AssumesSome assumptions t.steps later.steps
+    → IsHeld clauses later
+held_opened clauses assumptions t later held taken some =
+    record { extends = subst (λ cs. Extends cs clauses) (sym taken) held.extends; reasoned = some.reasoned clauses held.reasoned }
+
+-- what a solver holds of its trail stays where clauses come
+pub held_more : (clauses later more : List (List Lit)) (t : TrailState) → IsHeld clauses t → later ≡ clauses ++ more → IsHeld later t
+held_more clauses later more t held is = record {
+  extends = (held.extends.0 ++ more, is ∙ ap (λ cs. cs ++ more) held.extends.1 ∙ append_assoc t.taken held.extends.0 more);
+  reasoned = subst (λ cs. IsReasonedTrail cs t.steps) (sym is) (reasons_more clauses more [] t.steps held.reasoned);
+}
+
+-- The clause of an assumption that is false.
+pub refused_among : (assumptions : List Lit) (start steps : List Step) (d : Lit) (clause : List Lit) → level start ≡ 0 → AssumesSome assumptions start steps → Has assumptions d
+    → ((a : Lit) → Has clause a → (is_assumed steps (negation a) ≡ true) ⊎ (negation a ≡ d)) → NegatesOnly assumptions clause
+refused_among assumptions start steps d clause flat some has traced a inside =
+    elim (traced a inside) [
+      | inl assumed_there ↦ elim (some.only (negation a) assumed_there) [
+        | inl before ↦ absurd (no_assumed start (negation a) flat before)
+        | inr among ↦ among
+      ]
+      | inr same ↦ ap (has_literal assumptions) same ∙ has
+    ]
+
+-- and of a conflict where nothing is assumed
+pub conflict_among : (assumptions : List Lit) (steps : List Step) (clause : List Lit) → level steps ≡ 0 → ((a : Lit) → Has clause a → is_assumed steps (negation a) ≡ true)
+    → NegatesOnly assumptions clause
+conflict_among assumptions steps clause flat traced a inside = absurd (no_assumed steps (negation a) flat (traced a inside))

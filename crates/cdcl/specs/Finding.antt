@@ -21,13 +21,13 @@ pub record Refuses (clauses : List (List Lit)) (assumptions : List Lit) (traced 
   pub among : NegatesOnly assumptions traced.clause
   pub hinted : IsHinted clauses traced
 
-abbrev pub IsFound : List (List Lit) → List Lit → Found → Type 0
-IsFound clauses assumptions (Satisfied trail) = Satisfies clauses assumptions trail.steps
-IsFound clauses assumptions (Refused traced) = Refuses clauses assumptions traced
+abbrev pub IsFound : List (List Lit) → List Lit → List Step → Found → Type 0
+IsFound clauses assumptions steps Satisfied = Satisfies clauses assumptions steps
+IsFound clauses assumptions steps (Refused traced) = Refuses clauses assumptions traced
 
 -- The answer has the literals of the trail, or the negations of the clause's.
-abbrev pub IsTold : Found → Asked → Type 0
-IsTold (Satisfied trail) (Sat assignment) = assignment ≡ literals_of trail.steps
-IsTold (Satisfied trail) (Unsat core) = ⊥
-IsTold (Refused traced) (Sat assignment) = ⊥
-IsTold (Refused traced) (Unsat core) = core.items ≡ map negation traced.clause
+abbrev pub IsTold : List Step → Found → Asked → Type 0
+IsTold steps Satisfied (Sat assignment) = assignment ≡ literals_of steps
+IsTold steps Satisfied (Unsat core) = ⊥
+IsTold steps (Refused traced) (Sat assignment) = ⊥
+IsTold steps (Refused traced) (Unsat core) = core.items ≡ map negation traced.clause

@@ -5,7 +5,8 @@ use Rattle.proof_semantics.specs.Clauses.{is_subsumed, has_opposites}
 use Rattle.proof_semantics.specs.declared.literals.Lit.{Lit}
 use Rattle.cdcl.specs.Entries.{Entries, IsLog, added_of, learned_of}
 use Rattle.cdcl.specs.Room.{room}
-use Rattle.cdcl.specs.Searching.{is_over, are_over}
+use Rattle.cdcl_trail.specs.Watched.{TrailState}
+use Rattle.cdcl.specs.Searching.{is_over, are_over, IsHeld}
 use Rattle.cdcl.specs.Solving.{Learns, with_conflicts}
 
 -- how many clauses were learned between the two
@@ -34,3 +35,8 @@ AreApart before (clause ∷ more) =
 pub record IsKept (entries : Entries) : Type 0 where
   pub log : IsLog entries
   pub apart : AreApart [] (learned_of entries)
+
+-- with its trail
+pub record IsStanding (entries : Entries) (t : TrailState) : Type 0 where
+  pub kept : IsKept entries
+  pub trail : IsHeld entries.clauses t

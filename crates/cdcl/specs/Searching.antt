@@ -1,11 +1,13 @@
 -- Scaffolding of inner functions. What a search for values that satisfy clauses finds, and where it stands.
-use Rattle.std.specs.Prelude.{◌≡◌, ◌≢◌, ℕ, ◌+◌, ◌<◌, ◌≤◌, Bool, true, false, List, [], ◌∷◌, ◌++◌, Option, None, Some, map, slice_get, nat_eq, ◌⊎◌}
+use Rattle.std.specs.Prelude.{◌≡◌, ◌≢◌, ℕ, ◌+◌, ◌<◌, ◌≤◌, Bool, true, false, List, [], ◌∷◌, ◌++◌, Option, None, Some, IfSome, map, slice_get, nat_eq, ◌⊎◌}
 use Rattle.std.specs.List.{list_any, list_all}
 use Rattle.proof_semantics.specs.Clauses.{negation, literal_value, values_of, has_literal, is_subsumed, has_opposites}
 use Rattle.proof_semantics.specs.Propagation.{hints_fault}
 use Rattle.proof_semantics.specs.declared.literals.Lit.{Lit}
 use Rattle.cdcl_trail.specs.Trails.{Step, value_of, literals_of, level, level_of, up_to_level}
-use Rattle.cdcl_trail.specs.Propagation.{is_true, is_complete, IsReasonedTrail}
+use Rattle.cdcl_trail.specs.Propagation.{is_true, is_false, is_complete, IsConflict, IsReasonedTrail}
+use Rattle.cdcl_trail.specs.Watched.{Extends, TrailState}
+use Rattle.cdcl_learn.specs.Learning.{is_assumed}
 use Rattle.cnf.specs.Clauses.{clause_numbered}
 use Rattle.cdcl_learn.specs.declared.learning.Learned.{Learned}
 pub use Rattle.cdcl.specs.Variables.{is_over, are_over}
@@ -60,23 +62,42 @@ AreTrue values lits = (a : Lit) → has_literal lits a ≡ true → literal_valu
 abbrev pub NegatesOnly : List Lit → List Lit → Type 0
 NegatesOnly lits clause = (a : Lit) → has_literal clause a ≡ true → has_literal lits (negation a) ≡ true
 
--- What stands on a trail right after the assumptions.
-pub record AssumesAll (assumptions : List Lit) (steps : List Step) : Type 0 where
-  pub reasoned : (clauses : List (List Lit)) → IsReasonedTrail clauses steps
-  pub true_all : (a : Lit) → has_literal assumptions a ≡ true → is_true steps a ≡ true
-  pub only : (a : Lit) → has_literal (literals_of steps) a ≡ true → has_literal assumptions a ≡ true
+-- The trail of a solver: it took over a beginning of the clauses, and each of its literals was assumed or is forced by
+-- one.
+pub record IsHeld (clauses : List (List Lit)) (t : TrailState) : Type 0 where
+  pub extends : Extends t.taken clauses
+  pub reasoned : IsReasonedTrail clauses t.steps
 
--- What stands on the trail while assumptions are made, the ones that were seen among them.
-pub record AssumesSoFar (assumptions seen : List Lit) (steps : List Step) : Type 0 where
-  pub reasoned : (clauses : List (List Lit)) → IsReasonedTrail clauses steps
-  pub true_all : (a : Lit) → has_literal seen a ≡ true → is_true steps a ≡ true
-  pub only : (a : Lit) → has_literal (literals_of steps) a ≡ true → has_literal assumptions a ≡ true
+-- Nothing is assumed, and where a number is told, that clause is false.
+pub record IsSettledBase (clauses : List (List Lit)) (steps : List Step) (conflict : Option ℕ) : Type 0 where
+  pub flat : level steps ≡ 0
+  pub told : IfSome conflict (IsConflict clauses steps)
+
+-- Steps after some of the assumptions were assumed.
+pub record AssumesSome (assumptions : List Lit) (start steps : List Step) : Type 0 where
+  pub reasoned : (clauses : List (List Lit)) → IsReasonedTrail clauses start → IsReasonedTrail clauses steps
+  pub only : (a : Lit) → is_assumed steps a ≡ true → (is_assumed start a ≡ true) ⊎ (has_literal assumptions a ≡ true)
+  pub over : (vars : List ℕ) → is_over vars (literals_of start) ≡ true → is_over vars assumptions ≡ true → is_over vars (literals_of steps) ≡ true
+
+-- after all of them were
+pub record AssumesAll (assumptions : List Lit) (start steps : List Step) : Type 0 where
+  pub some : AssumesSome assumptions start steps
+  pub true_all : (a : Lit) → has_literal assumptions a ≡ true → is_true steps a ≡ true
+
+-- the literal is one of the assumptions, and false
+abbrev pub IsRefusedAt : List Lit → List Step → Lit → Type 0
+IsRefusedAt assumptions steps a = (has_literal assumptions a ≡ true) × (is_false steps a ≡ true)
+
+-- All that is assumed is among the assumptions, and these are true.
+pub record IsOpened (assumptions : List Lit) (steps : List Step) : Type 0 where
+  pub only : (a : Lit) → is_assumed steps a ≡ true → has_literal assumptions a ≡ true
+  pub true_all : (a : Lit) → has_literal assumptions a ≡ true → is_true steps a ≡ true
 
 -- What stands on the trail while a search decides, learns and goes back: what the assumptions opened and more, each
 -- literal with its reason, and from the base on no clause is unit or false on a level below the last.
 pub record IsOnWay (clauses : List (List Lit)) (assumptions : List Lit) (base : ℕ) (steps : List Step) : Type 0 where
   pub opened : List Step
-  pub assumes : AssumesAll assumptions opened
+  pub assumes : IsOpened assumptions opened
   pub deep : level opened ≡ base
   pub rest : List Step
   pub begun : steps ≡ opened ++ rest

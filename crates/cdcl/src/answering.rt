@@ -6,6 +6,7 @@ ghost use Rattle.cdcl.specs.Asking.{IsAsked};
 ghost use Rattle.cdcl.specs.Entries.{IsLog, added_of};
 ghost use Rattle.cdcl.specs.Finding.{IsFound, IsTold};
 ghost use Rattle.cdcl.specs.Progress.{IsSearched};
+ghost use Rattle.cdcl.specs.Searching.{IsHeld};
 ghost use Rattle.cdcl.specs.Solving.{IsAnswer, IsEnd};
 
 use crate::asking::{Asked, Assignment};
@@ -16,6 +17,7 @@ use crate::refusing::{negations, refusal};
 use crate::searching::search;
 use crate::solving::Answer;
 use crate::values::values_from;
+use cdcl_trail::Trail;
 use cnf::Lit;
 use edge::{Meter, SolveEnd};
 use std::alloc::{AllocError, Global};
@@ -25,55 +27,62 @@ pub(crate) fn search_answer(
     alloc: Global,
     log: &mut Log,
     order: &mut Order,
+    trail: &mut Trail,
     assumptions: &[Lit],
     meter: &mut Meter,
 ) -> Result<Answer, SolveEnd>
     requires log { IsLog log.old }
+    requires trail { IsHeld log.old.clauses trail.old }
     requires apart { has_opposites assumptions.now ≡ false }
     requires sizes { AreSized assumptions.now }
     ensures log { IsLog log.new }
+    ensures trail { IsHeld log.new.clauses trail.new }
     ensures answer { IfOk result (IsAnswer (added_of log.old) assumptions.now) }
     ensures end { IfErr result (IsEnd meter.new) }
     ensures searched { IsSearched assumptions.now log.old log.new meter.old meter.new }
 {
-    let found = search(alloc, log, order, assumptions, meter)?;
-    Ok(answer_of(alloc, log, assumptions, found)?)
+    let found = search(alloc, log, order, trail, assumptions, meter)?;
+    Ok(answer_of(alloc, log, trail, assumptions, found)?)
 }
 
-/// Searches, and keeps the trail or writes the core.
+/// Searches, and takes the values or writes the core.
 pub(crate) fn search_asked(
     alloc: Global,
     log: &mut Log,
     order: &mut Order,
+    trail: &mut Trail,
     assumptions: &[Lit],
     meter: &mut Meter,
 ) -> Result<Asked, SolveEnd>
     requires log { IsLog log.old }
+    requires trail { IsHeld log.old.clauses trail.old }
     requires apart { has_opposites assumptions.now ≡ false }
     requires sizes { AreSized assumptions.now }
     ensures log { IsLog log.new }
+    ensures trail { IsHeld log.new.clauses trail.new }
     ensures answer { IfOk result (IsAsked (added_of log.old) assumptions.now) }
     ensures end { IfErr result (IsEnd meter.new) }
     ensures searched { IsSearched assumptions.now log.old log.new meter.old meter.new }
 {
-    let found = search(alloc, log, order, assumptions, meter)?;
-    Ok(asked_of(alloc, found)?)
+    let found = search(alloc, log, order, trail, assumptions, meter)?;
+    Ok(asked_of(alloc, trail, found)?)
 }
 
 // The values of the trail, or the core with its proof.
 fn answer_of(
     alloc: Global,
     log: &Log,
+    trail: &Trail,
     assumptions: &[Lit],
     found: Found,
 ) -> Result<Answer, AllocError>
     requires log { IsLog log.now }
     requires sizes { AreSized assumptions.now }
-    requires found { IsFound log.now.clauses assumptions.now found }
+    requires found { IsFound log.now.clauses assumptions.now trail.now.steps found }
     ensures { IfOk result (IsAnswer (added_of log.now) assumptions.now) }
 {
     match found {
-        Found::Satisfied(trail) => {
+        Found::Satisfied => {
             let values = values_from(alloc, trail.literals())?;
             Ok(Answer::Sat(values.into_vec()))
         }
@@ -81,12 +90,12 @@ fn answer_of(
     }
 }
 
-// The trail, or the core.
-fn asked_of(alloc: Global, found: Found) -> Result<Asked, AllocError>
-    ensures { IfOk result (IsTold found) }
+// The values of the trail, each to be read for itself, or the core.
+fn asked_of(alloc: Global, trail: &Trail, found: Found) -> Result<Asked, AllocError>
+    ensures { IfOk result (IsTold trail.now.steps found) }
 {
     match found {
-        Found::Satisfied(trail) => Ok(Asked::Sat(Assignment::from_trail(trail))),
+        Found::Satisfied => Ok(Asked::Sat(Assignment::of_trail(alloc, trail)?)),
         Found::Refused(traced) => {
             let core = negations(alloc, traced.clause.as_slice())?;
             Ok(Asked::Unsat(core))

@@ -1,11 +1,14 @@
 //! What a solver answers without values or a proof being written. The main types are `Asked`,
 //! `Refuted` and `Assignment`.
-ghost use Rattle.std.specs.Prelude.{◌≡◌};
+ghost use Rattle.std.specs.Prelude.{◌≡◌, IfOk};
+ghost use Rattle.cdcl_trail.specs.AssignmentOf.{positive_at};
 ghost use Rattle.cdcl.specs.Asking.{assigned};
 ghost use Rattle.cdcl_trail.specs.Trails.{literals_of};
 
-use cdcl_trail::Trail;
+use cdcl_learn::places_of;
+use cdcl_trail::{Table, Trail};
 use cnf::{Lit, Proof, Var};
+use std::alloc::{AllocError, Global};
 use std::marker::Model;
 
 /// What a solver answers to a question without a proof.
@@ -30,31 +33,46 @@ pub enum Refuted {
 /// true; a variable of none of them is false.
 #[derive(Debug, Drop)]
 pub struct Assignment {
-    trail: Trail,
+    literals: Vec<Lit>,
+    places: Table,
 }
 
 impl Model for Assignment {
-    ghost use Rattle.std.specs.Prelude.{List};
+    ghost use Rattle.std.specs.Prelude.{◌≡◌, ℕ, List};
     ghost use Rattle.proof_semantics.specs.declared.literals.Lit.{Lit};
-    ghost use Rattle.cdcl_trail.specs.Trails.{literals_of};
+    ghost use Rattle.cdcl_trail.specs.AssignmentOf.{place_in};
+    ghost use Rattle.cdcl_trail.specs.Tables.{told};
 
     ghost Value = { List Lit };
 
-    ghost view = { λ a. literals_of a.trail.steps };
+    ghost view = { λ a. a.literals.items };
+
+    ghost invariant = { λ a. (var : ℕ) → told a.places var ≡ place_in a.literals.items var };
 }
 
 impl Assignment {
-    // The values that a trail gives.
-    pub(crate) fn from_trail(trail: Trail) -> Assignment
-        ensures { result ≡ literals_of trail.steps }
+    // The values that a trail gives. The error is want of memory.
+    pub(crate) fn of_trail(alloc: Global, trail: &Trail) -> Result<Assignment, AllocError>
+        ensures { IfOk result (λ assignment. assignment ≡ literals_of trail.now.steps) }
     {
-        Assignment { trail }
+        let mut literals = Vec::new(alloc);
+        literals.extend_from_slice(trail.literals())?;
+        let places = places_of(alloc, trail.literals())?;
+        Ok(Assignment { literals, places })
     }
 
     /// The value of a variable. Takes no memory.
     pub fn value(&self, var: Var) -> bool
         ensures { result ≡ assigned self.now var }
     {
-        self.trail.value(var).unwrap_or(false)
+        positive_at(self.literals.as_slice(), self.places.get(var)).unwrap_or(false)
     }
+}
+
+// The value that a literal at a place gives its variable.
+fn positive_at(literals: &[Lit], place: Option<usize>) -> Option<bool>
+    ensures { result ≡ positive_at literals.now place }
+{
+    let literal = literals.get(place?)?;
+    Some(literal.positive)
 }

@@ -68,7 +68,7 @@ impl Order {
         }
     }
 
-    /// Meets the variables of the clauses that are new, and lets each variable be decided.
+    /// Meets the variables of the clauses that are new, and lets them be decided.
     pub(crate) fn begin(&mut self, log: &Log) -> Result<(), AllocError> {
         let clauses = log.clauses().as_slice();
         for place in self.met..clauses.len() {
@@ -77,9 +77,6 @@ impl Order {
             }
         }
         self.met = clauses.len();
-        for number in 0..self.ranks.len() {
-            self.insert(number)?;
-        }
         Ok(())
     }
 
@@ -103,6 +100,7 @@ impl Order {
                 place: NOWHERE,
             })?;
             self.numbers.insert(literal.var, number)?;
+            self.insert(number)?;
         }
         Ok(())
     }

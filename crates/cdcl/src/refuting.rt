@@ -10,6 +10,7 @@ ghost use Rattle.cdcl.specs.Entries.{IsLog, added_of};
 ghost use Rattle.cdcl.specs.Finding.{IsFound};
 ghost use Rattle.cdcl.specs.Progress.{IsSearched};
 ghost use Rattle.cdcl.specs.Refuting.{IsRefuted};
+ghost use Rattle.cdcl.specs.Searching.{IsHeld};
 ghost use Rattle.cdcl.specs.Solving.{IsEnd};
 ghost use Rattle.cdcl.specs.UnitClauses.{unit_clauses};
 ghost use Rattle.cdcl.specs.WithUnits.{place_of, unit_number};
@@ -22,22 +23,26 @@ use crate::order::Order;
 use crate::refusing::negations;
 use crate::searching::search;
 use crate::writing::{MOST_CLAUSES, proof_of};
+use cdcl_trail::Trail;
 use cnf::{Lit, Proof};
 use edge::{Meter, SolveEnd};
 use std::alloc::{AllocError, Global};
 
-/// Searches under the units, and keeps the trail or writes the proof. Where two units are opposites
+/// Searches under the units, and takes the values or writes the proof. Where two units are opposites
 /// it is one line, and nothing is searched.
 pub(crate) fn search_refuted(
     alloc: Global,
     log: &mut Log,
     order: &mut Order,
+    trail: &mut Trail,
     units: &[Lit],
     meter: &mut Meter,
 ) -> Result<Refuted, SolveEnd>
     requires log { IsLog log.old }
+    requires trail { IsHeld log.old.clauses trail.old }
     requires sizes { AreSized units.now }
     ensures log { IsLog log.new }
+    ensures trail { IsHeld log.new.clauses trail.new }
     ensures answer { IfOk result (IsRefuted (added_of log.old) units.now) }
     ensures end { IfErr result (IsEnd meter.new) }
     ensures searched { IsSearched units.now log.old log.new meter.old meter.new }
@@ -46,20 +51,26 @@ pub(crate) fn search_refuted(
         let proof = opposites_refuted(alloc, log, units, literal)?;
         return Ok(Refuted::Unsat(proof));
     }
-    let found = search(alloc, log, order, units, meter)?;
-    Ok(refuted_of(alloc, log, units, found)?)
+    let found = search(alloc, log, order, trail, units, meter)?;
+    Ok(refuted_of(alloc, log, trail, units, found)?)
 }
 
 // The values of the trail, or the proof of the core with the core's units.
-fn refuted_of(alloc: Global, log: &Log, units: &[Lit], found: Found) -> Result<Refuted, AllocError>
+fn refuted_of(
+    alloc: Global,
+    log: &Log,
+    trail: &Trail,
+    units: &[Lit],
+    found: Found,
+) -> Result<Refuted, AllocError>
     requires log { IsLog log.now }
     requires sizes { AreSized units.now }
     requires apart { has_opposites units.now ≡ false }
-    requires found { IsFound log.now.clauses units.now found }
+    requires found { IsFound log.now.clauses units.now trail.now.steps found }
     ensures { IfOk result (IsRefuted (added_of log.now) units.now) }
 {
     match found {
-        Found::Satisfied(trail) => Ok(Refuted::Sat(Assignment::from_trail(trail))),
+        Found::Satisfied => Ok(Refuted::Sat(Assignment::of_trail(alloc, trail)?)),
         Found::Refused(traced) => {
             let core = negations(alloc, traced.clause.as_slice())?;
             let proof = refutation(alloc, log, units, core.as_slice(), traced.hints.as_slice())?;

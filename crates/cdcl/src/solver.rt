@@ -12,30 +12,33 @@ use crate::log::Log;
 use crate::order::Order;
 use crate::refuting::search_refuted;
 use crate::solving::Answer;
+use cdcl_trail::Trail;
 use cnf::{Clause, Lit};
 use edge::{Meter, SolveEnd};
 use std::alloc::{AllocError, Global};
 use std::marker::Model;
 
 /// A solver. Contracts see the clauses that were added and those that it learned, in their order.
-/// It never forgets a clause.
+/// It never forgets a clause, and keeps its trail from question to question: what is true without
+/// assumptions is propagated once.
 #[derive(Debug, Drop)]
 pub struct Solver {
     log: Log,
     order: Order,
+    trail: Trail,
     alloc: Global,
 }
 
 impl Model for Solver {
     ghost use Rattle.cdcl.specs.Solving.{Solving};
     ghost use Rattle.cdcl.specs.Entries.{added_of, learned_of};
-    ghost use Rattle.cdcl.specs.Progress.{IsKept};
+    ghost use Rattle.cdcl.specs.Progress.{IsStanding};
 
     ghost Value = { Solving };
 
     ghost view = { λ s. record { added = added_of s.log; learned = learned_of s.log } };
 
-    ghost invariant = { λ s. IsKept s.log };
+    ghost invariant = { λ s. IsStanding s.log s.trail };
 }
 
 impl Solver {
@@ -47,6 +50,7 @@ impl Solver {
         Ok(Solver {
             log: Log::new(alloc),
             order: Order::new(alloc),
+            trail: Trail::new(alloc),
             alloc,
         })
     }
@@ -80,6 +84,7 @@ impl Solver {
             self.alloc,
             &mut self.log,
             &mut self.order,
+            &mut self.trail,
             assumptions,
             meter,
         )
@@ -101,7 +106,14 @@ impl Solver {
         ensures bounded { IsBounded self.old assumptions.now self.new.learned }
         ensures counted { meter.new ≡ with_conflicts meter.old (length self.new.learned - length self.old.learned) }
     {
-        search_asked(alloc, &mut self.log, &mut self.order, assumptions, meter)
+        search_asked(
+            alloc,
+            &mut self.log,
+            &mut self.order,
+            &mut self.trail,
+            assumptions,
+            meter,
+        )
     }
 
     /// Whether the added clauses, and behind them these literals as unit clauses, have a model; and
@@ -121,6 +133,13 @@ impl Solver {
         ensures bounded { IsBounded self.old units.now self.new.learned }
         ensures counted { meter.new ≡ with_conflicts meter.old (length self.new.learned - length self.old.learned) }
     {
-        search_refuted(alloc, &mut self.log, &mut self.order, units, meter)
+        search_refuted(
+            alloc,
+            &mut self.log,
+            &mut self.order,
+            &mut self.trail,
+            units,
+            meter,
+        )
     }
 }

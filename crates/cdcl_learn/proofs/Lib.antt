@@ -3,3 +3,5 @@ pub mod ExplainLaws
 pub mod AddingLaws
 pub mod WalkLaws
 pub mod TraceLaws
+pub mod LiteralTraceLaws
+pub mod MarkLaws

@@ -1,5 +1,5 @@
 -- Scaffolding of inner functions. The way back over a trail, from its last literal to the one that opened the last level.
-use Rattle.std.specs.Prelude.{◌≡◌, ℕ, suc, ◌<◌, true, false, not, ◌&&◌, ◌||◌, List, length, take, drop, Option, Some, None, is_some, slice_get, map, ◌⊎◌}
+use Rattle.std.specs.Prelude.{◌≡◌, ℕ, suc, ◌<◌, Bool, true, false, not, ◌&&◌, ◌||◌, ◌==◌, if◌then◌else◌, slice_index_or, List, [], ◌∷◌, length, take, drop, Option, Some, None, is_some, slice_get, map, ◌⊎◌}
 use Rattle.std.specs.List.{list_all}
 use Rattle.proof_semantics.specs.Clauses.{lit_eq, negation, has_literal}
 use Rattle.proof_semantics.specs.Propagation.{hints_fault}
@@ -50,3 +50,18 @@ pub record IsLearned (clauses : List (List Lit)) (steps : List Step) (clause : L
 pub record IsTraced (clauses : List (List Lit)) (steps : List Step) (place : ℕ) (clause : List Lit) (hints : List ℕ) : Type 0 where
   pub sources : (a : Lit) → has_literal clause a ≡ true → (is_assumed steps (negation a) ≡ true) ⊎ (is_false (take place steps) a ≡ true)
   pub explained : Explains clauses steps clause hints
+
+-- the place is marked
+abbrev pub is_marked : List Bool → ℕ → Bool
+is_marked marks q = slice_index_or marks q false
+
+-- the place is told, and is this one
+abbrev pub is_at : Option ℕ → ℕ → Bool
+is_at None q = false
+is_at (Some place) q = place == q
+
+-- the negations of the marked literals
+abbrev pub marked : List Bool → List Lit → List Lit
+marked [] lits = []
+marked (m ∷ marks) [] = []
+marked (m ∷ marks) (a ∷ lits) = if m then negation a ∷ marked marks lits else marked marks lits

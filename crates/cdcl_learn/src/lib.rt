@@ -3,10 +3,12 @@
 #![tactic(auto)]
 
 mod learning;
+mod marking;
 mod resolution;
 #[cfg(test)]
 mod tests;
 mod tracing;
 
 pub use learning::{Learned, learn};
-pub use tracing::trace;
+pub use marking::places_of;
+pub use tracing::{trace, trace_literal};

@@ -3,7 +3,8 @@ use Rattle.std.proofs.Common.{◌≡◌, ℕ, zero, suc, ◌<◌, ◌≤◌, Lis
 use Rattle.std.specs.Prelude.{slice_get}
 use Rattle.std.proofs.Math.ListN.{set, length-set}
 use Rattle.std.proofs.lemmas.Option.{none-some, same_Some, slice_get_within}
-use Rattle.cdcl_trail.specs.Lists.{IsIn, IsWithout}
+use Rattle.std.specs.Global.{Vec}
+use Rattle.cdcl_trail.specs.Lists.{IsIn, IsWithout, items_of, near_list}
 
 pub get_in_append : {A : Type 0} (xs ys : List A) (i : ℕ) (x : A) → slice_get xs i ≡ Some x → slice_get (xs ++ ys) i ≡ Some x
 get_in_append [] ys i x e = absurd (none-some x e)
@@ -86,3 +87,19 @@ without_last list rest place last is within past =
         | inr at_last ↦ inl (ap (slice_get (rest ++ last ∷ [])) (at ∙ sym at_last.0) ∙ e.1)
       ];
     })
+
+-- Rows of lists.
+
+pub row_more : (rows : List (Vec ℕ)) (empty : Vec ℕ) (v : ℕ) → empty.items ≡ [] → near_list (rows ++ empty ∷ []) v ≡ near_list rows v
+row_more [] empty zero is = is
+row_more [] empty (suc v) is = refl
+row_more (x ∷ rows) empty zero is = refl
+row_more (x ∷ rows) empty (suc v) is = row_more rows empty v is
+
+pub row_set : (rows : List (Vec ℕ)) (var : ℕ) (list : Vec ℕ) → var < length rows → near_list (set rows var list) var ≡ list.items
+row_set [] var list below = absurd (omega (arith, below))
+row_set (x ∷ rows) zero list below = refl
+row_set (x ∷ rows) (suc var) list below = row_set rows var list (omega (arith, below))
+
+pub row_other : (rows : List (Vec ℕ)) (var : ℕ) (list : Vec ℕ) (v : ℕ) → (v ≡ var → ⊥) → near_list (set rows var list) v ≡ near_list rows v
+row_other rows var list v apart = ap items_of (get_set_other rows var v list (λ e. apart (sym e)))

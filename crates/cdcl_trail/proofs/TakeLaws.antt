@@ -5,6 +5,7 @@ use Rattle.std.specs.Option.{IfSome}
 use Rattle.std.specs.Result.{IfOk}
 use Rattle.std.proofs.Math.ListN.{set, length-set}
 use Rattle.std.proofs.lemmas.Bool.{false≢true, and_from}
+use Rattle.std.proofs.lemmas.List.{append-nil, append_assoc}
 use Rattle.std.proofs.lemmas.Option.{none-some, same_Some, slice_get_within}
 use Rattle.clause_arena.specs.Lending.{lent}
 use Rattle.proof_semantics.specs.declared.literals.Lit.{Lit}
@@ -50,18 +51,23 @@ take_rest xs zero = (xs, refl)
 take_rest [] (suc n) = ([], refl)
 take_rest (x ∷ xs) (suc n) = let later = take_rest xs n in (later.0, ap (λ ys. x ∷ ys) later.1)
 
-pub taking_start : (steps : List Step) (clauses taken : List (List Lit)) (place : ℕ) → Extends taken clauses → place ≡ length taken → IsTaking steps clauses steps taken place
+pub taking_start : (steps : List Step) (clauses taken : List (List Lit)) (place : ℕ) → Extends taken clauses → place ≡ length taken → IsTaking steps taken clauses steps taken place
 taking_start steps clauses taken place ext at = record {
   same = refl;
+  grown = ([], sym (append-nil taken));
   fronts = sym (ap (λ n. take n clauses) at ∙ ap (take (length taken)) ext.1 ∙ take_front_of taken ext.0);
 }
 
-pub taking_next : (earlier : List Step) (clauses : List (List Lit)) (s t : List Step) (taken more : List (List Lit)) (place : ℕ) (clause : List Lit) → IsTaking earlier clauses s taken place
-    → slice_get clauses place ≡ Some clause → t ≡ s → more ≡ taken ++ clause ∷ [] → IsTaking earlier clauses t more (place + 1)
-taking_next earlier clauses s t taken more place clause v at same came = record {
+pub taking_next : (earlier : List Step) (first clauses : List (List Lit)) (s t : List Step) (taken more : List (List Lit)) (place : ℕ) (clause : List Lit) → IsTaking earlier first clauses s taken place
+    → slice_get clauses place ≡ Some clause → t ≡ s → more ≡ taken ++ clause ∷ [] → IsTaking earlier first clauses t more (place + 1)
+taking_next earlier first clauses s t taken more place clause v at same came = record {
   same = same ∙ v.same;
   fronts = came ∙ ap (λ xs. xs ++ clause ∷ []) v.fronts ∙ sym (take_one_more clauses place clause at);
+  grown = (v.grown.0 ++ clause ∷ [], came ∙ ap (λ xs. xs ++ clause ∷ []) v.grown.1 ∙ append_assoc first v.grown.0 (clause ∷ []));
 }
+
+pub extends_same : (first taken later : List (List Lit)) → Extends first taken → later ≡ taken → Extends first later
+extends_same first taken later grown same = (grown.0, same ∙ grown.1)
 
 pub taking_end : (clauses taken : List (List Lit)) (place : ℕ) → taken ≡ take place clauses → slice_get clauses place ≡ None → taken ≡ clauses
 taking_end clauses taken place v e = v ∙ take_past clauses place e

@@ -3,16 +3,15 @@ use Rattle.std.proofs.Common.{◌≡◌, ℕ, zero, suc, ◌+◌, ◌-◌, ◌<�
 use Rattle.std.specs.Prelude.{Result, Ok, Err}
 use Rattle.std.specs.List.{list_any}
 use Rattle.std.specs.Option.{option_map, option_flatten, IsSome}
-use Rattle.std.specs.Ordering.{is_eq, nat_cmp}
-use Rattle.std.specs.BTreeMap as tree
 use Rattle.std.specs.Result.{OnOk}
 use Rattle.std.proofs.lemmas.Bool.{false≢true, and_parts, and_from, cond-true, cond-false, ne_eqb, leb-true, le-leb}
 use Rattle.std.proofs.lemmas.List.{length_push}
 use Rattle.std.proofs.lemmas.Option.{none-some, same_Some, slice_get-get_or}
-use Rattle.std.proofs.lemmas.Bool.Decides.{leb_tells, nat_tests}
+use Rattle.std.proofs.lemmas.Bool.Decides.{leb_tells}
 use Rattle.std.proofs.Math.Dec.{leb}
 use Rattle.proof_semantics.specs.declared.literals.Lit.{Lit}
 use Rattle.cdcl_trail.specs.Trails.{Step, step, assumed, opened_by, literals_of, reasons_in, step_of, value_of, reason_in, reason_of, level, up_to_variable, level_of, up_to_level, once}
+use Rattle.cdcl_trail.specs.Tables.{told}
 use Rattle.cdcl_trail.specs.AssignmentOf.{steps_from, place_in, positive_at, reason_at, count_assumed, state_of, IsOrderly}
 use Rattle.cdcl_trail.specs.declared.assignment.Assignment.TheInside.{Inside}
 
@@ -269,9 +268,6 @@ on_ok (Err e) P Q p f = p
 
 -- What the fields tell.
 
-at_eqb : (k v : ℕ) → is_eq (nat_cmp k v) ≡ eqb k v
-at_eqb k v = grind (arith, nat_tests)
-
 flat : (o : Option ℕ) → option_flatten (Some o) ≡ o
 flat None = refl
 flat (Some n) = refl
@@ -343,7 +339,7 @@ popped_steps t u a r orderly literals reasons =
 
 pub pushed : (t u : Inside) (a : Lit) (r : Option ℕ) → IsOrderly t → value_of (state_of t).steps a.var ≡ None
     → u.literals.items ≡ t.literals.items ++ a ∷ [] → u.reasons.items ≡ t.reasons.items ++ r ∷ []
-    → ((v : ℕ) → tree.get nat_cmp u.places v ≡ cond (is_eq (nat_cmp a.var v)) (Some (length t.literals.items)) (tree.get nat_cmp t.places v))
+    → ((v : ℕ) → told u.places v ≡ cond (eqb a.var v) (Some (length t.literals.items)) (told t.places v))
     → u.level ≡ t.level + opened_by r → IsOrderly u
 pushed t u a r orderly fresh literals reasons places deep =
     let none_there = without_value t.literals.items t.reasons.items a.var (place_in t.literals.items a.var) orderly.beside refl fresh in
@@ -353,7 +349,6 @@ pushed t u a r orderly fresh literals reasons places deep =
       apart = ap once literals ∙ once_push t.literals.items a orderly.apart none_there;
       places = λ v.
           places v
-          ∙ ap (λ b. cond b (Some (length t.literals.items)) (tree.get nat_cmp t.places v)) (at_eqb a.var v)
           ∙ ap (cond (eqb a.var v) (Some (length t.literals.items))) (orderly.places v)
           ∙ sym (place_push t.literals.items a v none_there)
           ∙ ap (λ lits. place_in lits v) (sym literals);
@@ -362,7 +357,7 @@ pushed t u a r orderly fresh literals reasons places deep =
 
 pub popped : (t u : Inside) (a : Lit) (r : Option ℕ) → IsOrderly t
     → t.literals.items ≡ u.literals.items ++ a ∷ [] → t.reasons.items ≡ u.reasons.items ++ r ∷ []
-    → ((v : ℕ) → tree.get nat_cmp u.places v ≡ cond (is_eq (nat_cmp a.var v)) None (tree.get nat_cmp t.places v))
+    → ((v : ℕ) → told u.places v ≡ cond (eqb a.var v) None (told t.places v))
     → u.level ≡ t.level - opened_by r → IsOrderly u
 popped t u a r orderly literals reasons places deep =
     let beside : length u.reasons.items ≡ length u.literals.items = popped_beside t u a r orderly literals reasons in
@@ -373,7 +368,6 @@ popped t u a r orderly literals reasons places deep =
       apart = parts.0;
       places = λ v.
           places v
-          ∙ ap (λ b. cond b None (tree.get nat_cmp t.places v)) (at_eqb a.var v)
           ∙ ap (cond (eqb a.var v) None) (orderly.places v ∙ ap (λ lits. place_in lits v) literals)
           ∙ place_pop u.literals.items a v parts.1;
       depth = omega (arith, deep, orderly.depth, ap level steps, level_push (state_of u).steps (step a r));

@@ -1,9 +1,8 @@
 -- Scaffolding of inner functions. The steps of a trail, by what an assignment keeps.
 use Rattle.std.specs.Prelude.{◌≡◌, ℕ, ◌+◌, Bool, true, List, [], ◌∷◌, length, Option, None, Some, if◌then◌else◌, ◌==◌, slice_get}
 use Rattle.std.specs.Option.{option_map, option_flatten}
-use Rattle.std.specs.Ordering.{nat_cmp}
-use Rattle.std.specs.BTreeMap as tree
 use Rattle.proof_semantics.specs.declared.literals.Lit.{Lit}
+use Rattle.cdcl_trail.specs.Tables.{told}
 use Rattle.cdcl_trail.specs.Trails.{Step, Steps, step, opened_by, once, level}
 use Rattle.cdcl_trail.specs.declared.assignment.Assignment.TheInside.{Inside}
 
@@ -40,5 +39,5 @@ count_assumed (reason ∷ reasons) = opened_by reason + count_assumed reasons
 pub record IsOrderly (t : Inside) : Type 0 where
   pub beside : length t.reasons.items ≡ length t.literals.items
   pub apart : once t.literals.items ≡ true
-  pub places : (var : ℕ) → tree.get nat_cmp t.places var ≡ place_in t.literals.items var
+  pub places : (var : ℕ) → told t.places var ≡ place_in t.literals.items var
   pub depth : t.level ≡ level (steps_from t.literals.items t.reasons.items)

@@ -1,6 +1,7 @@
 pub mod Trails
 pub mod Propagation
 pub mod Guards
+pub mod Tables
 pub mod AssignmentOf
 pub mod Lists
 pub mod Looking

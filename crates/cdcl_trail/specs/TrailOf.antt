@@ -4,7 +4,7 @@ use Rattle.proof_semantics.specs.declared.literals.Lit.{Lit}
 use Rattle.cdcl_trail.specs.Trails.{Step, level, up_to_level}
 use Rattle.cdcl_trail.specs.Guards.{AreGuarded, AreSure}
 use Rattle.cdcl_trail.specs.Storing.{held, IsStored}
-use Rattle.cdcl_trail.specs.Watched.{TrailState}
+use Rattle.cdcl_trail.specs.Watched.{Extends, TrailState}
 use Rattle.cdcl_trail.specs.declared.trail.Reached.{Reached}
 use Rattle.cdcl_trail.specs.declared.trail.Trail.TheInside.{Inside}
 use Rattle.cdcl_trail.specs.declared.watching.Watching.{Watching}
@@ -39,10 +39,11 @@ pub record AreLowered (earlier : List Reached) (bound : ℕ) (later : List Reach
   pub as_many : length later ≡ length earlier
   pub lowered : (n : ℕ) (r : Reached) → slice_get later n ≡ Some r → IsLowered earlier n bound r
 
--- the clauses before the place were taken over
-pub record IsTaking (earlier : List Step) (clauses : List (List Lit)) (steps : List Step) (taken : List (List Lit)) (place : ℕ) : Type 0 where
+-- the clauses before the place were taken over, behind those that were so at first
+pub record IsTaking (earlier : List Step) (first clauses : List (List Lit)) (steps : List Step) (taken : List (List Lit)) (place : ℕ) : Type 0 where
   pub same : steps ≡ earlier
   pub fronts : taken ≡ take place clauses
+  pub grown : Extends first taken
 
 -- the places before this one came down, and the others are as they were
 pub record IsLowering (earlier : List Reached) (bound : ℕ) (later : List Reached) (place : ℕ) : Type 0 where

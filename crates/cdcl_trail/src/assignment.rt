@@ -1,11 +1,11 @@
 //! The literals that are true, in the order in which they came. The main type is `Assignment`.
-ghost use Rattle.std.specs.Prelude.{◌≡◌, ◌≤◌, ◌<◌, ◌+◌, ℕ, [], ◌∷◌, ◌++◌, IsTrue, IsSome, OnOk, OnErr, Option, None, length, option_copied, take};
+ghost use Rattle.std.specs.Prelude.{◌≡◌, ◌≤◌, ◌<◌, ◌+◌, ℕ, [], ◌∷◌, ◌++◌, IsTrue, IsSome, OnOk, OnErr, Option, None, length, take};
 ghost use Rattle.cdcl_trail.specs.Trails.{Step, step, opened_by, assumed, literals_of, reasons_in, step_of, value_of, reason_of, level, level_of, up_to_level, once};
 ghost use Rattle.cdcl_trail.specs.AssignmentOf.{positive_at, reason_at, count_assumed};
 
+use crate::table::Table;
 use cnf::{Lit, Var};
 use std::alloc::{AllocError, Global};
-use std::collections::BTreeMap;
 use std::marker::Model;
 
 /// The literals that are true, with their reasons. Contracts see the steps.
@@ -13,7 +13,7 @@ use std::marker::Model;
 pub struct Assignment {
     literals: Vec<Lit>,
     reasons: Vec<Option<u64>>,
-    places: BTreeMap<u64, usize>,
+    places: Table,
     level: usize,
 }
 
@@ -37,7 +37,7 @@ impl Assignment {
         Assignment {
             literals: Vec::new(alloc),
             reasons: Vec::new(alloc),
-            places: BTreeMap::new(alloc),
+            places: Table::new(alloc),
             level: 0,
         }
     }
@@ -58,7 +58,7 @@ impl Assignment {
     pub fn value(&self, var: Var) -> Option<bool>
         ensures { result ≡ value_of self.now.steps var }
     {
-        positive_at(self.literals.as_slice(), self.places.get(&var))
+        positive_at(self.literals.as_slice(), self.places.get(var))
     }
 
     /// The level: how many literals are assumed. Takes no memory.
@@ -90,8 +90,8 @@ impl Assignment {
         requires { IsSome (value_of self.now.steps var) }
         ensures { result ≡ level_of self.now.steps var }
     {
-        match self.places.get(&var) {
-            Some(place) => assumed_to(self.reasons.as_slice(), *place) as u64,
+        match self.places.get(var) {
+            Some(place) => assumed_to(self.reasons.as_slice(), place) as u64,
             None => 0,
         }
     }
@@ -101,7 +101,7 @@ impl Assignment {
     pub fn reason(&self, var: Var) -> Option<u64>
         ensures { result ≡ reason_of self.now.steps var }
     {
-        reason_at(self.reasons.as_slice(), self.places.get(&var))
+        reason_at(self.reasons.as_slice(), self.places.get(var))
     }
 
     /// The place of a variable among the literals, and the end where it has no value. Takes no
@@ -109,8 +109,8 @@ impl Assignment {
     pub fn place(&self, var: Var) -> usize
         ensures { value_of (take result self.now.steps) var ≡ None }
     {
-        match self.places.get(&var) {
-            Some(place) => *place,
+        match self.places.get(var) {
+            Some(place) => place,
             None => self.literals.as_slice().len(),
         }
     }
@@ -137,25 +137,25 @@ impl Assignment {
         ensures { (last : Step) × (self.old.steps ≡ self.new.steps ++ last ∷ []) }
     {
         if let (Some(literal), Some(reason)) = (self.literals.pop(), self.reasons.pop()) {
-            self.places.remove(&literal.var);
+            self.places.remove(literal.var);
             self.level -= opened_by(reason);
         }
     }
 }
 
 // The value that a literal at a place gives its variable.
-fn positive_at(literals: &[Lit], place: Option<&usize>) -> Option<bool>
-    ensures { result ≡ positive_at literals.now (option_copied place.entry) }
+fn positive_at(literals: &[Lit], place: Option<usize>) -> Option<bool>
+    ensures { result ≡ positive_at literals.now place }
 {
-    let literal = literals.get(*place?)?;
+    let literal = literals.get(place?)?;
     Some(literal.positive)
 }
 
 // The reason at a place.
-fn reason_at(reasons: &[Option<u64>], place: Option<&usize>) -> Option<u64>
-    ensures { result ≡ reason_at reasons.now (option_copied place.entry) }
+fn reason_at(reasons: &[Option<u64>], place: Option<usize>) -> Option<u64>
+    ensures { result ≡ reason_at reasons.now place }
 {
-    *reasons.get(*place?)?
+    *reasons.get(place?)?
 }
 
 // How many of the reasons up to a place are none.

@@ -8,6 +8,7 @@
 //! | `Trail::propagate` | takes over the clauses that are new, and adds what the clauses force, or tells a false one |
 //! | `Trail::back_to` | leaves the literals of a level and of those below it |
 //! | `Trail::watched` | the two watched literals of a clause |
+//! | `Table::new`, `insert`, `remove`, `get` | numbers of variables |
 //! | `Trail::value`, `level`, `level_of`, `reason` | the value of a variable; the level; the level and the reason of a variable |
 //! | `Trail::literals`, `Trail::reasons` | the literals in the order in which they came; beside each the clause that forced it |
 #![tactic(auto)]
@@ -18,9 +19,11 @@ mod lists;
 mod looking;
 mod pairs;
 mod propagation;
+mod table;
 #[cfg(test)]
 mod tests;
 mod trail;
 mod watching;
 
+pub use table::Table;
 pub use trail::Trail;

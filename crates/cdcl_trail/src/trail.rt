@@ -94,8 +94,8 @@ impl Trail {
     /// Takes over the clauses that the list has more than at the call before, and puts the literals
     /// that the clauses force on the trail, until no clause is unit or false, and answers `None`; or
     /// until a clause is false, and answers its number. The condition is that the list begins with
-    /// the clauses that were taken over. The error is want of memory: some clauses may have been
-    /// taken over, and some literals may have come, each of them forced.
+    /// the clauses that were taken over. The error is want of memory: those that were taken over
+    /// stay, some more may have come, and some literals, each of them forced.
     pub fn propagate(&mut self, db: &Db) -> Result<Option<u64>, AllocError>
         requires { Extends self.old.taken db.now.clauses }
         ensures complete { IfOk result (λ conflict. (conflict ≡ None) ↔ IsTrue (is_complete db.now.clauses self.new.steps)) }
@@ -103,6 +103,7 @@ impl Trail {
         ensures reasons { Propagates db.now.clauses self.old.steps self.new.steps }
         ensures level { level self.new.steps ≡ level self.old.steps }
         ensures taken { OnOk result (self.new.taken ≡ db.now.clauses) }
+        ensures grows { Extends self.old.taken self.new.taken }
         ensures extends { Extends self.new.taken db.now.clauses }
         ensures watched { IfOk result (λ conflict. conflict ≡ None → AreWatchedWell self.new) }
     {
@@ -115,6 +116,7 @@ impl Trail {
         requires { Extends self.old.taken clauses.now }
         ensures steps { self.new.steps ≡ self.old.steps }
         ensures taken { OnOk result (self.new.taken ≡ clauses.now) }
+        ensures grows { Extends self.old.taken self.new.taken }
         ensures extends { Extends self.new.taken clauses.now }
     {
         let mut place = self.count_taken();

@@ -1,9 +1,9 @@
 -- What the lines of a text say of its end.
-use Rattle.std.proofs.Common.{◌≡◌, ℕ, suc, ◌+◌, ◌≤◌, ◌<◌, ◌⊎◌, inl, inr, List, [], ◌∷◌, ◌++◌, length, refl, ap, sym, ◌∙◌, subst, arith, Option, Some, None, Result, Ok, Err}
+use Rattle.std.proofs.Common.{◌≡◌, ℕ, ◌≤◌, ◌<◌, inl, inr, List, length, refl, ap, sym, subst, arith, Option, Some, Result, Ok, Err}
 use Rattle.std.specs.Prelude.{IfOk, IfErr}
 use Rattle.aig_semantics.specs.Circuits.{Circuit}
 use Rattle.answer_lines.specs.Left.{most_bytes}
-use Rattle.edge.specs.Told.{IfTold, MayBe}
+use Rattle.edge.specs.Told.{MayBe}
 use Rattle.unless_memory.specs.Answers.{Gives, GivesSome}
 use Rattle.certificate.specs.declared.ends.Accepted.{Accepted}
 use Rattle.certificate.specs.declared.ends.AnswerFault.{AnswerFault}
@@ -14,7 +14,7 @@ use Rattle.certificate.specs.Lines.{end_of, kept_readable}
 use Rattle.certificate.specs.Reading.{State, Status, Stepped, read_lines}
 use Rattle.certificate.specs.Ends.{IsGoodAtEnd, IsFaultAtEnd, IsFirstFault, ReadsAs, EndsWith}
 use Rattle.certificate.specs.Steps.{OfEnd}
-use Rattle.certificate.specs.Texts.{SaysOfText, ReadingSays}
+use Rattle.certificate.specs.Texts.{ReadingSays}
 
 -- the reading of the text ends so, and in no other way, want of memory aside
 pub record Decided (c : Circuit) (result : Result Accepted AnswerEnd) (text : List ℕ) : Type 0 where

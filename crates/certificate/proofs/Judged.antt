@@ -1,8 +1,7 @@
 -- What the reading of a text says of the answer that it is.
-use Rattle.std.proofs.Common.{◌≡◌, ℕ, ◌⊎◌, inl, inr, List, Option, Some, Result, Ok, Err}
+use Rattle.std.proofs.Common.{◌≡◌, ℕ, inl, inr, List, Option, Some, Result, Ok, Err}
 use Rattle.std.specs.Prelude.{IfOk}
 use Rattle.aig_semantics.specs.Circuits.{Circuit}
-use Rattle.edge.specs.Told.{MayBe}
 use Rattle.certificate.specs.declared.ends.Accepted.{Accepted}
 use Rattle.certificate.specs.declared.ends.AnswerEnd.{AnswerEnd}
 use Rattle.certificate.specs.declared.ends.AnswerEnd.TheVariants as ends

@@ -16,3 +16,8 @@ mod Reached
 mod Readable
 pub mod WrittenGood
 pub mod EachEnd
+mod Staying
+mod Playing
+mod AddedLines
+mod PlainLines
+mod WrittenCertificates

@@ -1,5 +1,5 @@
 -- How far a text was read, line by line.
-use Rattle.std.proofs.Common.{◌≡◌, ◌≢◌, ℕ, zero, suc, ◌+◌, ◌-◌, ◌≤◌, ◌<◌, ◌⊎◌, inl, inr, Bool, true, false, if◌then◌else◌, List, [], ◌∷◌, ◌++◌, length, take, refl, ap, sym, ◌∙◌, subst, arith, append_assoc, append-nil, length-append, Option, Some, None, Result, Ok, Err}
+use Rattle.std.proofs.Common.{◌≡◌, ◌≢◌, ℕ, zero, suc, ◌+◌, ◌-◌, ◌≤◌, inl, inr, Bool, true, false, if◌then◌else◌, List, [], ◌∷◌, ◌++◌, length, take, refl, ap, sym, ◌∙◌, subst, arith, append_assoc, append-nil, length-append, Option, Some, None, Result, Ok, Err}
 use Rattle.std.specs.List.{All}
 use Rattle.std.specs.Prelude.{IfErr}
 use Rattle.std.proofs.lemmas.List.Elements.{All-append, All-cons, All-nil, All-take}
@@ -16,7 +16,7 @@ use Rattle.certificate.specs.declared.ends.AnswerFault.{AnswerFault}
 use Rattle.certificate.specs.declared.ends.AnswerFault.TheVariants.{TooLong}
 use Rattle.certificate.specs.declared.ends.AnswerEnd.{AnswerEnd}
 use Rattle.certificate.specs.declared.ends.AnswerEnd.TheVariants as ends
-use Rattle.certificate.specs.Lines.{Numbered, kept_from, end_of, readable}
+use Rattle.certificate.specs.Lines.{Numbered, kept_from, readable}
 use Rattle.certificate.specs.Ends.{ReadsAs, EndsWith, has_unread}
 use Rattle.certificate.specs.Steps.{OfEnd}
 use Rattle.certificate.specs.Texts.{OfLines, ReadingSays}

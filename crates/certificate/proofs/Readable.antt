@@ -1,15 +1,16 @@
 -- The lines of a text that begins with given lines, each with its line feed.
-use Rattle.std.proofs.Common.{◌≡◌, ◌≢◌, ℕ, zero, suc, ◌+◌, ◌-◌, ◌≤◌, ◌<◌, Bool, true, false, cond, if◌then◌else◌, eqb, leb, List, [], ◌∷◌, ◌++◌, length, take, refl, ap, sym, ◌∙◌, subst, arith, append_assoc, append-nil, length-append}
+use Rattle.std.proofs.Common.{◌≡◌, ℕ, ◌+◌, ◌-◌, ◌≤◌, ◌<◌, Bool, true, false, cond, if◌then◌else◌, eqb, List, [], ◌∷◌, ◌++◌, length, take, refl, ap, sym, ◌∙◌, arith, append_assoc, append-nil, length-append}
 use Rattle.std.specs.List.{onto_first, All}
 use Rattle.std.specs.Prelude.{nat_le}
 use Rattle.std.proofs.lemmas.Bool.{le-leb, lt-leb}
-use Rattle.std.proofs.lemmas.List.Elements.{All-head, All-tail, All-cons, All-nil}
+use Rattle.std.proofs.lemmas.List.{take-append-le}
+use Rattle.std.proofs.lemmas.List.Elements.{All-head, All-tail}
 use Rattle.std.proofs.Math.Seq.{take-append-add}
 use Rattle.text_grammar.specs.Pieces.{Lacks, cut_at}
 use Rattle.text_grammar.specs.Lines.{lines_of, ended_lines}
 use Rattle.text_grammar.proofs.PieceLaws.{cuts_first, cuts_none}
 use Rattle.text_grammar.proofs.LineLaws.{first_line}
-use Rattle.certificate.specs.Lines.{but_last, readable}
+use Rattle.certificate.specs.Lines.{but_last}
 
 -- the first line stands in front of its line feed, and the others follow
 spelled_first : (line : List ℕ) (lines : List (List ℕ)) (rest : List ℕ) → ended_lines (line ∷ lines) ++ rest ≡ line ++ 10 ∷ (ended_lines lines ++ rest)
@@ -95,6 +96,21 @@ begins most given left lack within = begins_by most given left lack within (nat_
 -- a text within the limit
 pub all_readable : (most : ℕ) (text : List ℕ) → length text ≤ most → readable_to most text ≡ lines_of text
 all_readable most text within = short most text within
+
+-- the given lines, as a text within the limit, are its readable lines
+pub given_readable : (most : ℕ) (given : List (List ℕ)) → All (λ line. Lacks line 10) given → length (ended_lines given) ≤ most → readable_to most (ended_lines given) ≡ given
+given_readable most given lack within =
+    short most (ended_lines given) within
+    ∙ ap lines_of (sym (append-nil (ended_lines given)))
+    ∙ lines_ended given [] lack
+    ∙ append-nil given
+
+-- what stands behind the limit is not read
+pub past_limit : (most : ℕ) (text rest : List ℕ) → most < length text → readable_to most (text ++ rest) ≡ readable_to most text
+past_limit most text rest more =
+    long most (text ++ rest) (omega (arith, more, length-append text rest))
+    ∙ ap (λ (bytes : List ℕ). but_last (cut_at 10 bytes)) (take-append-le most text rest (omega (arith, more)))
+    ∙ sym (long most text more)
 
 -- The given lines are all that is readable where the next one is too long.
 pub no_more : (most : ℕ) (given : List (List ℕ)) (left : List ℕ) → All (λ line. Lacks line 10) given → length (ended_lines given) ≤ most → most < length (ended_lines given ++ left) → Lacks (take (most - length (ended_lines given)) left) 10 → readable_to most (ended_lines given ++ left) ≡ given

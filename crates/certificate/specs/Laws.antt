@@ -1,15 +1,24 @@
 -- The laws of answers.
-use Rattle.std.specs.Prelude.{◌≡◌, ◌⊎◌, ◌↔◌, ◌≤◌, ◌<◌, ◌^◌, ℕ, List, length}
+use Rattle.std.specs.Prelude.{◌≡◌, ◌≢◌, ◌⊎◌, ◌↔◌, ◌≤◌, ◌<◌, ◌^◌, ◌++◌, ℕ, List, length, All}
+use Rattle.text_grammar.specs.Lines.{ended_lines}
+use Rattle.text_grammar.specs.Pieces.{Lacks}
 use Rattle.aig_semantics.specs.declared.traces.Stimulus.{Stimulus}
 use Rattle.aig_semantics.specs.Circuits.{Circuit}
 use Rattle.aig_semantics.specs.Stimuli.{StandsFor}
 use Rattle.answer_lines.specs.Left.{most_bytes}
+use Rattle.stimulus.specs.declared.ends.ReplayFault.{ReplayFault}
+use Rattle.stimulus.specs.declared.ends.ReplayFault.TheVariants as replays
 use Rattle.stimulus.specs.Texts.{answer_text}
+use Rattle.entry.specs.declared.refutations.Refutation.{Refutation}
+use Rattle.entry.specs.CheckedEntries.{CheckedEntry}
 use Rattle.certificate.specs.declared.ends.Accepted.{Accepted}
-use Rattle.certificate.specs.declared.ends.Accepted.TheVariants.{Lasso}
+use Rattle.certificate.specs.declared.ends.Accepted.TheVariants.{Lasso, Holds}
 use Rattle.certificate.specs.declared.ends.AnswerFault.{AnswerFault}
-use Rattle.certificate.specs.Answers.{IsGood, Shows}
+use Rattle.certificate.specs.declared.ends.AnswerFault.TheVariants.{Shape, Replay}
+use Rattle.certificate.specs.Lines.{end_of}
+use Rattle.certificate.specs.Answers.{HasCertificate, IsGood, Shows}
 use Rattle.certificate.specs.Ends.{IsRefused, ReadsWell}
+use Rattle.certificate.specs.Writing.{certificate_of, certificate_text, IsRefutedBy}
 
 -- a text is read as a good answer exactly where it is one
 abbrev pub ReadsGood : Circuit → Type 0
@@ -35,8 +44,36 @@ GoodHasNoFault c = (text : List ℕ) (accepted : Accepted) (fault : AnswerFault)
 abbrev pub OneFault : Circuit → Type 0
 OneFault c = (text : List ℕ) (f g : AnswerFault) → IsRefused c text f → IsRefused c text g → f ≡ g
 
+-- The fault is one of the text's end: a line is still wanted there, or the stimulus, which is whole, is no fair lasso.
+abbrev pub IsOfTheEnd : List ℕ → AnswerFault → Type 0
+IsOfTheEnd text (Shape line) = line ≡ end_of text
+IsOfTheEnd text (Replay fault) = Unit {0}
+IsOfTheEnd text _ = ⊥
+
+-- Where lines, each with its line feed, have a fault, it is one of their end, or each text that begins with them has it.
+abbrev pub FaultsStay : Circuit → Type 0
+FaultsStay c =
+    (lines : List (List ℕ)) (rest : List ℕ) (fault : AnswerFault) → All (λ line. Lacks line 10) lines
+    → IsRefused c (ended_lines lines) fault
+    → IsOfTheEnd (ended_lines lines) fault ⊎ IsRefused c (ended_lines lines ++ rest) fault
+
+-- An answer is never refused for the form or the property of its stimulus: its own lines are judged before.
+abbrev pub JudgedBefore : Circuit → Type 0
+JudgedBefore c =
+    (text : List ℕ) (fault : ReplayFault) → IsRefused c text (Replay fault)
+    → (fault ≢ replays.NoProperty) × ((line : ℕ) → fault ≢ replays.Shape line)
+
 -- what is written of a stimulus that stands for a lasso is a good answer, where number and text are within the limits
 abbrev pub WrittenIsGood : Circuit → Type 0
 WrittenIsGood c =
     (n : ℕ) (s : Stimulus) (positions from : ℕ) → n < 2 ^ 63 → StandsFor c n s positions from → length (answer_text n s) ≤ most_bytes
     → IsGood c (answer_text n s) (Lasso n positions from)
+
+-- What is written of entries and a refutation that refute a property has their certificate, and is a good answer, where
+-- it is within the limit.
+abbrev pub WrittenCertificatesAreGood : Circuit → Type 0
+WrittenCertificatesAreGood c =
+    (n : ℕ) (list : List CheckedEntry) (refutation : Refutation)
+    → IsRefutedBy c n list refutation → length (certificate_text n (certificate_of list refutation)) ≤ most_bytes
+    → HasCertificate n (certificate_of list refutation) (certificate_text n (certificate_of list refutation))
+    × IsGood c (certificate_text n (certificate_of list refutation)) (Holds n (length list))

@@ -2,9 +2,11 @@
 pub mod Lines
 pub mod Certificates
 pub mod Answers
+pub mod Writing
 pub mod Reading
 pub mod Ends
 pub mod Laws
 pub mod Seen
 pub mod Steps
 pub mod Texts
+pub mod Adding

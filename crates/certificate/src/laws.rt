@@ -1,6 +1,6 @@
 //! The laws of answers. Each call does nothing; its contract is the law.
 
-ghost use Rattle.certificate.specs.Laws.{ReadsGood, GoodIsTrue, EachHasEnd, OneIsGood, GoodHasNoFault, OneFault, WrittenIsGood};
+ghost use Rattle.certificate.specs.Laws.{ReadsGood, GoodIsTrue, EachHasEnd, OneIsGood, GoodHasNoFault, OneFault, FaultsStay, JudgedBefore, WrittenIsGood, WrittenCertificatesAreGood};
 
 use circuit::Circuit;
 use entry::{good_lists_grow, refutations_leave_no_lasso};
@@ -27,8 +27,23 @@ pub fn answers_have_one_end(c: &Circuit)
     ensures refused { OneFault c.now }
 {}
 
+/// A fault depends on the lines up to it: where lines have one that is not of their end, each text that begins with them
+/// has the same; so none such is good. A stimulus is never refused for its form or its property, which are judged before.
+pub fn first_faults_stay(c: &Circuit)
+    ensures stay { FaultsStay c.now }
+    ensures before { JudgedBefore c.now }
+{}
+
 /// What `stimulus::write` writes of a stimulus that stands for a fair lasso is a good answer, where the text is within
 /// the limit on its length.
 pub fn written_stimuli_are_good(c: &Circuit)
     ensures { WrittenIsGood c.now }
 {}
+
+/// What `write` writes of entries and a refutation that refute a property of the circuit is a good answer, where the text
+/// is within the limit on its length.
+pub fn written_certificates_are_good(c: &Circuit)
+    ensures { WrittenCertificatesAreGood c.now }
+{
+    let _greatest = c.max();
+}

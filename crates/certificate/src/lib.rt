@@ -3,10 +3,13 @@
 //! | Call | What it does |
 //! |---|---|
 //! | `check_answer` | judges the answer that a shelf holds: a stimulus, or a certificate of version 1 or 2 |
+//! | `write` | writes the answer with the certificate of checked entries and a refutation |
 //! | `answers_are_read_as_good` | a law: what is read as a good answer is one, and every good answer is so read |
 //! | `good_answers_are_true` | a law: a good answer shows a fair lasso, or that there is none |
 //! | `answers_have_one_end` | a law: any text is good for one thing, or has one first fault, never both |
+//! | `first_faults_stay` | a law: a fault that is not one of the text's end stays, whatever follows |
 //! | `written_stimuli_are_good` | a law: what `stimulus::write` writes is good, where the stimulus is |
+//! | `written_certificates_are_good` | a law: what `write` writes is good, where entries and refutation are |
 #![tactic(auto)]
 
 mod checking;
@@ -21,10 +24,13 @@ mod rows;
 mod state;
 mod steps;
 mod uses;
+mod writing;
 
 pub use checking::check_answer;
 pub use ends::{Accepted, AnswerEnd, AnswerFault};
 pub use laws::{
-    answers_are_read_as_good, answers_have_one_end, good_answers_are_true, written_stimuli_are_good,
+    answers_are_read_as_good, answers_have_one_end, first_faults_stay, good_answers_are_true,
+    written_certificates_are_good, written_stimuli_are_good,
 };
 pub use limits::MAX_ENTRIES;
+pub use writing::write;

@@ -5,6 +5,8 @@ pub mod Marking
 pub mod Verdicts
 pub mod Following
 pub mod Searching
+pub mod Ascending
+pub mod Copied
 pub mod Tables
 pub mod Ranking
 pub mod Evaluated

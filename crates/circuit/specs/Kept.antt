@@ -1,8 +1,8 @@
--- What a `Circuit` keeps (scaffolding): a checked circuit, and its gates once more in an order in which they can be
--- evaluated.
+-- What a `Circuit` keeps (scaffolding): a checked circuit, and an order in which its gates can be evaluated.
 use Rattle.aig_semantics.specs.Circuits.{Circuit, IsChecked, IsWithinLimits}
 use Rattle.circuit.specs.declared.circuits.Circuit.TheInside.{Inside}
 use Rattle.circuit.specs.Orders.{IsEvaluationOrder}
+use Rattle.circuit.specs.Ordering.{gates_in}
 
 -- the circuit that it is seen as, which knows nothing of that order
 abbrev pub seen_as : Inside → Circuit
@@ -19,4 +19,4 @@ seen_as s = record {
 pub record IsKept (s : Inside) : Type 0 where
   pub checked : IsChecked (seen_as s)
   pub limits : IsWithinLimits (seen_as s)
-  pub order : IsEvaluationOrder s.gates s.order.items
+  pub order : IsEvaluationOrder s.gates (gates_in s.gates s.order)

@@ -1,6 +1,7 @@
 pub mod Sections
 pub mod Fitting
 pub mod Kept
+pub mod Keeping
 pub mod Evaluation
 pub mod Marks
 pub mod Faults

@@ -1,5 +1,5 @@
 -- The search for an order in which gates can be evaluated (scaffolding).
-use Rattle.std.specs.Prelude.{◌≡◌, ◌≢◌, ℕ, suc, ◌+◌, ◌<◌, Bool, true, false, List, drop, length, slice_index_or, count_by}
+use Rattle.std.specs.Prelude.{◌≡◌, ◌≢◌, ℕ, suc, ◌+◌, ◌<◌, Bool, true, false, ◌&&◌, nat_lt, List, [], ◌∷◌, drop, length, slice_index_or, count_by}
 use Rattle.std.specs.List.{All, AllPairs, Contains}
 use Rattle.aig_semantics.specs.declared.parts.Gate.{Gate}
 use Rattle.aig_semantics.specs.Literals.{variable_of}
@@ -9,7 +9,9 @@ use Rattle.circuit.specs.declared.ordering.Progress.TheVariants.{NoGate, Waiting
 use Rattle.circuit.specs.declared.ordering.Next.{Next}
 use Rattle.circuit.specs.declared.ordering.Next.TheVariants.{Begin, Close, Cycle}
 use Rattle.circuit.specs.declared.ordering.Ordered.{Ordered}
-use Rattle.circuit.specs.declared.ordering.Ordered.TheVariants.{Order, Cycle as OnCycle}
+use Rattle.circuit.specs.declared.ordering.Order.{Order}
+use Rattle.circuit.specs.declared.ordering.Order.TheVariants.{Given, Listed}
+use Rattle.circuit.specs.declared.ordering.Ordered.TheVariants.{Order as InOrder, Cycle as OnCycle}
 use Rattle.circuit.specs.declared.parts.Parts.{Parts}
 use Rattle.circuit.specs.Sections.{circuit_of}
 use Rattle.circuit.specs.Orders.{HasRightSide, variables_of, IsEvaluationOrder}
@@ -72,7 +74,21 @@ is_waiting Done = false
 abbrev pub KeepsBegun : List Progress → List Progress → Type 0
 KeepsBegun old new = (v : ℕ) → is_waiting (progress_at old v) ≡ false → is_waiting (progress_at new v) ≡ false
 
+-- the gate reads lower variables alone
+abbrev pub reads_below : Gate → Bool
+reads_below gate = nat_lt (variable_of gate.rhs0) gate.var && nat_lt (variable_of gate.rhs1) gate.var
+
+-- the variables of the gates ascend from above this one, and each gate reads lower ones alone
+abbrev pub ascend_from : ℕ → List Gate → Bool
+ascend_from last [] = true
+ascend_from last (gate ∷ gates) = nat_lt last gate.var && reads_below gate && ascend_from gate.var gates
+
+-- these gates in an order
+abbrev pub gates_in : List Gate → Order → List Gate
+gates_in gates Given = gates
+gates_in gates (Listed order) = order.items
+
 -- what a search for an order comes to
 abbrev pub IsOrdered : Parts → Ordered → Type 0
-IsOrdered parts (Order order) = IsEvaluationOrder parts.gates order.items
+IsOrdered parts (InOrder order) = IsEvaluationOrder parts.gates (gates_in parts.gates order)
 IsOrdered parts (OnCycle v) = IsOnCycle (circuit_of parts) v

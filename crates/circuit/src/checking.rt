@@ -6,13 +6,15 @@ ghost use Rattle.circuit.specs.declared.faults.ModelFault.{ModelFault};
 ghost use Rattle.circuit.specs.Sections.{circuit_of, used_by, AreInRange};
 ghost use Rattle.circuit.specs.Marks.{first_marks};
 ghost use Rattle.circuit.specs.Faults.{IsDefined, HasFault, IsFirstTwice, IsFirstUndefined, IsOnlyOnCycle, AnswersNoOther};
+ghost use Rattle.circuit.specs.Keeping.{IsKeptOf, HasCircuitOf};
 ghost use Rattle.circuit.specs.Orders.{IsEvaluationOrder};
+ghost use Rattle.circuit.specs.Ordering.{gates_in};
 ghost use Rattle.unless_memory.specs.Answers.{GivesExactlyWhere, GivesOneExactlyWhere};
 
 use crate::circuits::Circuit;
 use crate::faults::{ModelEnd, ModelFault};
 use crate::marks::{Mark, first_marked, mark_definitions, mark_uses};
-use crate::ordering::{Ordered, order_gates};
+use crate::ordering::{Order, Ordered, order_gates};
 use crate::parts::Parts;
 use aig_semantics::{Gate, MAX_VARIABLE};
 use items::Items;
@@ -55,27 +57,86 @@ fn copy_lists(alloc: Global, lists: &Items<Items<u64>>) -> Result<Items<Items<u6
     Ok(copy)
 }
 
-/// Keeps the circuit of a model that was checked.
-fn keep(alloc: Global, parts: &Parts, order: Vec<Gate>) -> Result<Circuit, AllocError>
-    requires checked { IsChecked (circuit_of parts.now) }
-    requires limits { IsWithinLimits (circuit_of parts.now) }
-    requires order { IsEvaluationOrder parts.now.gates order.items }
-    ensures { IfOk result (λ c. c ≡ circuit_of parts.now) }
+fn copy_parts(alloc: Global, parts: &Parts) -> Result<Parts, AllocError>
+    ensures { IfOk result (λ copy. copy ≡ parts.now) }
 {
-    Ok(Circuit {
-        greatest: parts.max,
+    Ok(Parts {
+        max: parts.max,
         inputs: parts.inputs.try_copy(alloc)?,
         latches: parts.latches.try_copy(alloc)?,
         gates: parts.gates.try_copy(alloc)?,
+        outputs: parts.outputs.try_copy(alloc)?,
+        bad: parts.bad.try_copy(alloc)?,
         constraints: parts.constraints.try_copy(alloc)?,
         justice: copy_lists(alloc, &parts.justice)?,
         fairness: parts.fairness.try_copy(alloc)?,
-        order,
     })
 }
 
-/// Checks the circuit of a model, and keeps it. Its faults are `Twice`, then `Undefined`, each with the least such
-/// variable, then `Cycle` with a variable of a gate on a cycle. The work is in proportion to the lists and `max`.
+/// What is kept of the sections of a model: its circuit, and the two lists that are no part of one.
+#[derive(Debug, Drop)]
+pub struct Kept {
+    pub circuit: Circuit,
+    pub outputs: Items<u64>,
+    pub bad: Items<u64>,
+}
+
+// Keeps the circuit of a model that was checked.
+fn keep(parts: Parts, order: Order) -> Kept
+    requires checked { IsChecked (circuit_of parts) }
+    requires limits { IsWithinLimits (circuit_of parts) }
+    requires order { IsEvaluationOrder parts.gates (gates_in parts.gates order) }
+    ensures { IsKeptOf parts result }
+{
+    let circuit = Circuit {
+        greatest: parts.max,
+        inputs: parts.inputs,
+        latches: parts.latches,
+        gates: parts.gates,
+        constraints: parts.constraints,
+        justice: parts.justice,
+        fairness: parts.fairness,
+        order,
+    };
+    Kept {
+        circuit,
+        outputs: parts.outputs,
+        bad: parts.bad,
+    }
+}
+
+/// Checks the circuit of a model, and keeps it with the model's outputs and bad state literals; the lists are not
+/// copied. The faults are those of `check_circuit`.
+pub fn keep_circuit(alloc: Global, parts: Parts) -> Result<Kept, ModelEnd>
+    requires { AreInRange parts }
+
+    ensures ok { IfOk result (IsKeptOf parts) }
+    ensures checked { OnOk result (IsChecked (circuit_of parts)) }
+    ensures defined { OnOk result (AreDefined (circuit_of parts) (used_by parts)) }
+
+    ensures faulty { (fault : ModelFault) → result ≡ Err (ModelEnd.Fault fault)
+        → IsChecked (circuit_of parts) → AreDefined (circuit_of parts) (used_by parts) → ⊥ }
+
+    ensures twice { (v : ℕ) → GivesExactlyWhere (Err ModelEnd.Memory) (Err (ModelEnd.Fault (ModelFault.Twice v)))
+        (IsFirstTwice parts v) result }
+    ensures undefined { (v : ℕ) → GivesExactlyWhere (Err ModelEnd.Memory)
+        (Err (ModelEnd.Fault (ModelFault.Undefined v))) (IsFirstUndefined parts v) result }
+    ensures cycle { GivesOneExactlyWhere (Err ModelEnd.Memory) (λ v. Err (ModelEnd.Fault (ModelFault.Cycle v)))
+        (IsOnlyOnCycle parts) result }
+    ensures no_other { AnswersNoOther result }
+{
+    let mut marks = make_marks(alloc, parts.max)?;
+    if let Some(fault) = fault_of(&parts, &mut marks) {
+        return Err(ModelEnd::Fault(fault));
+    }
+    match order_gates(alloc, &parts)? {
+        Ordered::Order(order) => Ok(keep(parts, order)),
+        Ordered::Cycle(v) => Err(ModelEnd::Fault(ModelFault::Cycle(v))),
+    }
+}
+
+/// Checks the circuit of a model, and keeps a copy of it. Its faults are `Twice`, then `Undefined`, each with the least
+/// such variable, then `Cycle` with a variable of a gate on a cycle. The work is in proportion to the lists and `max`.
 pub fn check_circuit(alloc: Global, parts: &Parts) -> Result<Circuit, ModelEnd>
     requires { AreInRange parts.now }
 
@@ -94,12 +155,13 @@ pub fn check_circuit(alloc: Global, parts: &Parts) -> Result<Circuit, ModelEnd>
         (IsOnlyOnCycle parts.now) result }
     ensures no_other { AnswersNoOther result }
 {
-    let mut marks = make_marks(alloc, parts.max)?;
-    if let Some(fault) = fault_of(parts, &mut marks) {
-        return Err(ModelEnd::Fault(fault));
-    }
-    match order_gates(alloc, parts)? {
-        Ordered::Order(order) => Ok(keep(alloc, parts, order)?),
-        Ordered::Cycle(v) => Err(ModelEnd::Fault(ModelFault::Cycle(v))),
-    }
+    let copy = copy_parts(alloc, parts)?;
+    circuit_in(keep_circuit(alloc, copy))
+}
+
+// The circuit that was kept.
+fn circuit_in(kept: Result<Kept, ModelEnd>) -> Result<Circuit, ModelEnd>
+    ensures { HasCircuitOf kept result }
+{
+    Ok(kept?.circuit)
 }

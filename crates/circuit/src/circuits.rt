@@ -4,6 +4,7 @@ ghost use Rattle.std.specs.Prelude.{◌≡◌, ◌<◌, [], length, slice_index_
 ghost use Rattle.aig_semantics.specs.Circuits.{IsChecked, IsWithinLimits};
 ghost use Rattle.circuit.specs.Orders.{IsEvaluationOrder};
 
+use crate::ordering::Order;
 use aig_semantics::{Gate, Latch};
 use items::Items;
 use std::marker::Model;
@@ -18,8 +19,8 @@ pub struct Circuit {
     pub(crate) constraints: Items<u64>,
     pub(crate) justice: Items<Items<u64>>,
     pub(crate) fairness: Items<u64>,
-    /// The gates in an order in which they can be evaluated.
-    pub(crate) order: Vec<Gate>,
+    /// An order in which the gates can be evaluated.
+    pub(crate) order: Order,
 }
 
 impl Model for Circuit {
@@ -70,7 +71,10 @@ impl Circuit {
         ensures order { IsEvaluationOrder self.now.gates result.now }
         ensures checked { IsChecked self.now }
     {
-        &self.order
+        match &self.order {
+            Order::Given => self.gates.as_slice(),
+            Order::Listed(order) => order,
+        }
     }
 
     /// The constraint literals.

@@ -80,7 +80,7 @@ pub fn eval_into(c: &Circuit, latches: &[bool], inputs: &[bool], out: &mut [bool
     clear(out);
     put_inputs(c.inputs.as_slice(), inputs, out);
     put_latches(c.latches.as_slice(), latches, out);
-    put_gates(&c.order, out);
+    put_gates(c.evaluation_order(), out);
 }
 
 /// Writes the next value of each latch, where `values` is the valuation of a position.

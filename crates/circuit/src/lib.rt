@@ -12,7 +12,7 @@ mod ordering;
 mod parts;
 
 pub use aig_semantics::{Gate, Lasso, Latch, Position, Reset, Stimulus};
-pub use checking::check_circuit;
+pub use checking::{Kept, check_circuit, keep_circuit};
 pub use circuits::Circuit;
 pub use evaluating::{eval_into, literal_value, next_into, one_valuation};
 pub use faults::{ModelEnd, ModelFault};

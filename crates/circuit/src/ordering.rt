@@ -1,13 +1,14 @@
 //! An order in which the gates of a model can be evaluated, or a variable on a cycle. The main call is `order_gates`:
-//! it goes from gate to gate that is read, keeps the path on a stack, and puts a gate into the order once all that it
-//! reads is there. Each gate is begun and closed once, so the work is in proportion to the gates.
+//! where each gate reads lower variables alone, and the gates stand in the order of their variables, they are in order as
+//! they stand. Else it goes from gate to gate that is read, keeps the path on a stack, and puts a gate into the order once
+//! all that it reads is there. Each gate is begun and closed once, so the work is in proportion to the gates.
 
 ghost use Rattle.std.specs.Prelude.{◌≡◌, ◌-◌, ◌<◌, ◌∷◌, ◌++◌, [], length, OnOk, IfOk, IfNone, IfSome, slice_set, vec_len, take, false, Contains};
 ghost use Rattle.circuit.specs.declared.ordering.Progress.TheVariants.{Open, Done};
 ghost use Rattle.aig_semantics.specs.Circuits.{IsOnCycle};
 ghost use Rattle.circuit.specs.Sections.{circuit_of, AreInRange};
 ghost use Rattle.circuit.specs.Faults.{IsOnce};
-ghost use Rattle.circuit.specs.Ordering.{IsNext, IsSearch, KeepsBegun, IsOrdered, is_waiting, progress_at};
+ghost use Rattle.circuit.specs.Ordering.{IsNext, IsSearch, KeepsBegun, IsOrdered, ascend_from, is_waiting, progress_at, reads_below};
 
 use crate::parts::Parts;
 use aig_semantics::Gate;
@@ -145,17 +146,58 @@ fn table_of(alloc: Global, parts: &Parts) -> Result<Vec<Progress>, AllocError>
     Ok(table)
 }
 
+/// An order of the gates of a model.
+#[derive(Debug, Drop)]
+pub(crate) enum Order {
+    /// As they stand.
+    Given,
+    /// This one.
+    Listed(Vec<Gate>),
+}
+
 /// What the search comes to.
 #[derive(Drop)]
 pub(crate) enum Ordered {
-    /// The gates in an order in which they can be evaluated.
-    Order(Vec<Gate>),
+    /// An order in which they can be evaluated.
+    Order(Order),
     /// A variable of a gate that depends on itself.
     Cycle(u64),
 }
 
+/// Whether the gate reads lower variables alone.
+fn reads_below(gate: &Gate) -> bool
+    ensures { result ≡ reads_below gate.now }
+{
+    gate.rhs0 / 2 < gate.var && gate.rhs1 / 2 < gate.var
+}
+
+/// Whether the variables of the gates ascend, and each gate reads lower ones alone.
+fn ascend(gates: &[Gate]) -> bool
+    ensures { result ≡ ascend_from 0 gates.now }
+{
+    let mut last = 0;
+    for gate in gates {
+        if gate.var <= last || !reads_below(gate) {
+            return false;
+        }
+        last = gate.var;
+    }
+    true
+}
+
 /// An order in which the gates can be evaluated, or a variable on a cycle.
 pub(crate) fn order_gates(alloc: Global, parts: &Parts) -> Result<Ordered, AllocError>
+    requires in_range { AreInRange parts.now }
+    requires once { IsOnce parts.now }
+    ensures { IfOk result (IsOrdered parts.now) }
+{
+    if ascend(parts.gates.as_slice()) {
+        return Ok(Ordered::Order(Order::Given));
+    }
+    search_order(alloc, parts)
+}
+
+fn search_order(alloc: Global, parts: &Parts) -> Result<Ordered, AllocError>
     requires in_range { AreInRange parts.now }
     requires once { IsOnce parts.now }
     ensures { IfOk result (IsOrdered parts.now) }
@@ -177,5 +219,5 @@ pub(crate) fn order_gates(alloc: Global, parts: &Parts) -> Result<Ordered, Alloc
     } = search;
     drop(progress);
     drop(path);
-    Ok(Ordered::Order(order))
+    Ok(Ordered::Order(Order::Listed(order)))
 }

@@ -81,7 +81,7 @@ pub record WrittenUses (v : ℕ → Bool) (sets : ℕ → State → Bool) (n : N
   pub more : List ℕ
   pub agrees : Agrees v (sets_after sets us) (after_uses places n us).sides more (walls_among walls us) places
 
-write_uses : (v : ℕ → Bool) (len : ℕ) (sets : ℕ → State → Bool) (n : Numbering) (seen walls : List ℕ) (place : List ℕ) (places : List (List ℕ)) (us : List Numbered) → AreReadable len seen walls us → AllByRecursion (λ p. length p ≡ len) (place ∷ places) → Agrees v sets n.sides seen walls (place ∷ places) → all_allow (sets_after sets us) us (states_at v (place ∷ places)) ≡ true → HasFrom v n.free (uses_values sets us (states_at v (place ∷ places))) → WrittenUses v sets n walls (place ∷ places) us
+pub write_uses : (v : ℕ → Bool) (len : ℕ) (sets : ℕ → State → Bool) (n : Numbering) (seen walls : List ℕ) (place : List ℕ) (places : List (List ℕ)) (us : List Numbered) → AreReadable len seen walls us → AllByRecursion (λ p. length p ≡ len) (place ∷ places) → Agrees v sets n.sides seen walls (place ∷ places) → all_allow (sets_after sets us) us (states_at v (place ∷ places)) ≡ true → HasFrom v n.free (uses_values sets us (states_at v (place ∷ places))) → WrittenUses v sets n walls (place ∷ places) us
 write_uses v len sets n seen walls place places [] readable long agrees allowed has = record { holds = refl; more = seen; agrees = agrees }
 write_uses v len sets n seen walls place places (u ∷ us) readable long agrees allowed has =
     let kind = u.entry.kind in

@@ -4,6 +4,7 @@ pub mod Uses
 pub mod Obligations
 pub mod Situations
 pub mod Lending
+pub mod Placing
 pub mod Sides
 pub mod Laws
 pub mod Examples

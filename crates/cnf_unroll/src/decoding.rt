@@ -5,27 +5,11 @@ ghost use Rattle.proof_semantics.specs.Clauses.{values_of};
 ghost use Rattle.cnf_unroll.specs.Numbers.{number};
 ghost use Rattle.cnf_unroll.specs.Situations.{situation_in, situation_of_block};
 
-use crate::numbers::{state_place, successor_place};
+use crate::places::{state_place, successor_place, value_of};
 use circuit::{Circuit, Position};
 use fair_semantics::Situation;
 use items::Items;
 use std::alloc::{AllocError, Global};
-
-fn value_of(model: &[bool], number: u64) -> bool
-    ensures { result ≡ values_of model.now number }
-{
-    model.get(number as usize).copied().unwrap_or(false)
-}
-
-fn values_at(alloc: Global, model: &[bool], place: &[u64]) -> Result<Items<bool>, AllocError>
-    ensures { IfOk result (λ values. values ≡ map (values_of model.now) place.now) }
-{
-    let mut values = Items::new(alloc);
-    for number in place {
-        values.push(value_of(model, *number))?;
-    }
-    Ok(values)
-}
 
 fn input_values(
     alloc: Global,
@@ -49,9 +33,9 @@ fn decode_at(alloc: Global, c: &Circuit, model: &[bool], base: u64) -> Result<Si
     ensures { IfOk result (λ situation. situation ≡ situation_in c.now base (values_of model.now)) }
 {
     let _greatest = c.max();
-    let latches = values_at(alloc, model, state_place(alloc, c, base)?.as_slice())?;
+    let latches = state_place(c, base).values(alloc, model)?;
     let inputs = input_values(alloc, model, base, c.inputs())?;
-    let successor = values_at(alloc, model, successor_place(alloc, c, base)?.as_slice())?;
+    let successor = successor_place(c, base).values(alloc, model)?;
     Ok(Situation {
         position: Position { latches, inputs },
         successor,

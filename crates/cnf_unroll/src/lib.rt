@@ -24,6 +24,7 @@ mod decoding;
 mod laws;
 mod numbers;
 mod obligations;
+mod places;
 mod sides;
 mod skeletons;
 mod used;

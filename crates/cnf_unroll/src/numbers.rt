@@ -1,11 +1,10 @@
 //! The numbers of variables, and clauses of literals over them.
 
-ghost use Rattle.std.specs.Prelude.{◌≡◌, ◌+◌, ◌^◌, ◌<◌, [], ◌∷◌, ◌++◌, map, OnOk, IfOk};
-ghost use Rattle.cnf_unroll.specs.Numbers.{plus, minus, literal_in_block, literal_at_place, clause_at_place, set_at_place, state_place, successor_place};
+ghost use Rattle.std.specs.Prelude.{◌≡◌, ◌+◌, ◌^◌, ◌<◌, [], ◌∷◌, ◌++◌, OnOk, IfOk};
+ghost use Rattle.cnf_unroll.specs.Numbers.{plus, minus, literal_in_block, literal_at_place, clause_at_place, set_at_place};
 
-use circuit::Circuit;
+use crate::places::Place;
 use cnf::{Clause, Db};
-use items::Items;
 use proof_semantics::Lit;
 use std::alloc::{AllocError, Global};
 
@@ -58,51 +57,22 @@ pub(crate) fn push_clause(alloc: Global, db: &mut Db, literals: &[Lit]) -> Resul
     Ok(())
 }
 
-// The numbers of the latches, where variable 0 would have the number `start`.
-fn place_from(alloc: Global, c: &Circuit, start: u64) -> Result<Items<u64>, AllocError>
-    requires { start < 2 ^ 63 }
-    ensures { IfOk result (λ place. place ≡ map (λ latch. start + latch.var) c.now.latches) }
-{
-    let _greatest = c.max();
-    let mut place = Items::new(alloc);
-    for latch in c.latches() {
-        place.push(start + latch.var)?;
-    }
-    Ok(place)
-}
-
-// The state's place of the block with this base.
-pub(crate) fn state_place(alloc: Global, c: &Circuit, base: u64) -> Result<Items<u64>, AllocError>
-    requires { base < 2 ^ 62 }
-    ensures { IfOk result (λ place. place ≡ state_place c.now base) }
-{
-    place_from(alloc, c, base + 1)
-}
-
-// The successor's place of the block with this base.
-pub(crate) fn successor_place(
-    alloc: Global,
-    c: &Circuit,
-    base: u64,
-) -> Result<Items<u64>, AllocError>
-    requires { base < 2 ^ 62 }
-    ensures { IfOk result (λ place. place ≡ successor_place c.now base) }
-{
-    place_from(alloc, c, base + c.max() + 2)
-}
-
 // A literal over latch numbers at a place.
-pub(crate) fn literal_at_place(place: &[u64], literal: Lit) -> Lit
+pub(crate) fn literal_at_place(place: &Place<'_>, literal: Lit) -> Lit
     ensures { result ≡ literal_at_place place.now literal }
 {
     Lit {
-        var: place.get(literal.var as usize).copied().unwrap_or(0),
+        var: place.number(literal.var),
         positive: literal.positive,
     }
 }
 
 // Puts a clause at a place behind the literals of another.
-pub(crate) fn extend_at(out: &mut Clause, place: &[u64], clause: &Clause) -> Result<(), AllocError>
+pub(crate) fn extend_at(
+    out: &mut Clause,
+    place: &Place<'_>,
+    clause: &Clause,
+) -> Result<(), AllocError>
     ensures { OnOk result (out.new ≡ out.old ++ clause_at_place place.now clause.now) }
 {
     for literal in clause.as_slice() {
@@ -115,7 +85,7 @@ pub(crate) fn extend_at(out: &mut Clause, place: &[u64], clause: &Clause) -> Res
 pub(crate) fn push_set_at(
     alloc: Global,
     db: &mut Db,
-    place: &[u64],
+    place: &Place<'_>,
     set: &[Clause],
 ) -> Result<(), AllocError>
     ensures { OnOk result (db.new.clauses ≡ db.old.clauses ++ set_at_place place.now set.now) }

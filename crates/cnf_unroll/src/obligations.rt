@@ -10,7 +10,8 @@ ghost use Rattle.cnf_unroll.specs.Sides.{counted};
 ghost use Rattle.cnf_unroll.specs.Lending.{lent_all};
 
 use crate::blocks::push_block;
-use crate::numbers::{literal_at_place, push_clause, push_set_at, state_place, successor_place};
+use crate::numbers::{literal_at_place, push_clause, push_set_at};
+use crate::places::{Place, state_place, successor_place};
 use crate::used::{ClauseSet, Used};
 use crate::uses::{Numbering, named_sides, push_uses};
 use circuit::Circuit;
@@ -28,17 +29,16 @@ pub struct Begun {
 }
 
 // The places of the block with this base.
-pub(crate) fn push_places(
-    alloc: Global,
-    places: &mut Items<Items<u64>>,
-    c: &Circuit,
+pub(crate) fn push_places<'a>(
+    places: &mut Items<Place<'a>>,
+    c: &'a Circuit,
     base: u64,
 ) -> Result<(), AllocError>
     requires { base < 2 ^ 62 }
     ensures { OnOk result (places.new ≡ places.old ++ block_places c.now base) }
 {
-    places.push(state_place(alloc, c, base)?)?;
-    places.push(successor_place(alloc, c, base)?)
+    places.push(state_place(c, base))?;
+    places.push(successor_place(c, base))
 }
 
 fn push_step(
@@ -93,8 +93,7 @@ pub fn shared(
     let numbering = push_step(alloc, &mut clauses, c, uses)?;
     let names = named_sides(alloc, &numbering.sides, own)?;
     push_units(alloc, &mut clauses, names.as_slice())?;
-    let place = state_place(alloc, c, 0)?;
-    push_set_at(alloc, &mut clauses, place.as_slice(), set.as_slice())?;
+    push_set_at(alloc, &mut clauses, &state_place(c, 0), set.as_slice())?;
     Ok(Begun {
         clauses,
         free: numbering.free,
@@ -112,7 +111,7 @@ fn push_step_uses(
     ensures numbering { IfOk result (λ n. counted n ≡ after_step c.now (lent_all uses.now)) }
 {
     let mut places = Items::new(alloc);
-    push_places(alloc, &mut places, c, 0)?;
+    push_places(&mut places, c, 0)?;
     push_uses(alloc, db, places.as_slice(), 2 * c.max() + 3, uses)
 }
 
@@ -130,12 +129,11 @@ pub fn shared_behind(
     let numbering = push_step_uses(alloc, &mut clauses, c, uses)?;
     let names = named_sides(alloc, &numbering.sides, own)?;
     push_units(alloc, &mut clauses, names.as_slice())?;
-    let place = state_place(alloc, c, 0)?;
-    push_set_at(alloc, &mut clauses, place.as_slice(), set.as_slice())?;
+    push_set_at(alloc, &mut clauses, &state_place(c, 0), set.as_slice())?;
     Ok(clauses)
 }
 
-fn negated_at(alloc: Global, place: &[u64], clause: &Clause) -> Result<Items<Lit>, AllocError>
+fn negated_at(alloc: Global, place: &Place<'_>, clause: &Clause) -> Result<Items<Lit>, AllocError>
     ensures { IfOk result (λ literals. literals ≡ map (λ l. negation (literal_at_place place.now l)) clause.now) }
 {
     let mut literals = Items::new(alloc);
@@ -150,8 +148,7 @@ fn negated_at(alloc: Global, place: &[u64], clause: &Clause) -> Result<Items<Lit
 pub fn broken(alloc: Global, c: &Circuit, clause: &Clause) -> Result<Items<Lit>, AllocError>
     ensures { IfOk result (λ literals. literals ≡ broken_literals c.now clause.now) }
 {
-    let place = successor_place(alloc, c, 0)?;
-    negated_at(alloc, place.as_slice(), clause)
+    negated_at(alloc, &successor_place(c, 0), clause)
 }
 
 /// The obligation of the clause with the number `i`, counted from 0, of an entry with this set and these uses: no step

@@ -8,6 +8,7 @@ ghost use Rattle.cnf_unroll.specs.Lending.{lent_all};
 use crate::blocks::push_block;
 use crate::numbers::{literal_in_block, push_clause};
 use crate::obligations::push_places;
+use crate::places::Place;
 use crate::used::Used;
 use crate::uses::push_uses;
 use circuit::Circuit;
@@ -26,11 +27,11 @@ fn fair_literals(alloc: Global, c: &Circuit, j: usize) -> Result<Items<u64>, All
     Ok(literals)
 }
 
-fn push_blocks(
+fn push_blocks<'a>(
     alloc: Global,
     db: &mut Db,
-    places: &mut Items<Items<u64>>,
-    c: &Circuit,
+    places: &mut Items<Place<'a>>,
+    c: &'a Circuit,
     count: u64,
 ) -> Result<u64, AllocError>
     requires { count < 2 ^ 32 }
@@ -43,7 +44,7 @@ fn push_blocks(
     let mut base = 0;
     for _block in 0..count {
         push_block(alloc, db, c, base)?;
-        push_places(alloc, places, c, base)?;
+        push_places(places, c, base)?;
         base += size;
     }
     Ok(base)

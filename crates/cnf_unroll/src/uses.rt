@@ -11,6 +11,7 @@ ghost use Rattle.cnf_unroll.specs.Lending.{lent, lent_all};
 use crate::numbers::{
     extend_at, literal_at_place, minus, next_free, plus, push_clause, push_set_at,
 };
+use crate::places::Place;
 use crate::sides::Sides;
 use crate::used::Used;
 use cnf::{Clause, Db};
@@ -23,7 +24,7 @@ fn push_denials(
     alloc: Global,
     db: &mut Db,
     d: u64,
-    place: &[u64],
+    place: &Place<'_>,
     clause: &Clause,
 ) -> Result<(), AllocError>
     ensures { OnOk result (db.new.clauses ≡ db.old.clauses ++ denials d (clause_at_place place.now clause.now)) }
@@ -43,7 +44,7 @@ fn push_marked(
     db: &mut Db,
     z: u64,
     d: u64,
-    place: &[u64],
+    place: &Place<'_>,
     clause: &Clause,
 ) -> Result<(), AllocError>
     ensures { OnOk result (db.new.clauses ≡ db.old.clauses ++ marked z d (clause_at_place place.now clause.now)) }
@@ -59,7 +60,7 @@ fn push_wall_at(
     alloc: Global,
     db: &mut Db,
     z: u64,
-    place: &[u64],
+    place: &Place<'_>,
     first: u64,
     set: &[Clause],
 ) -> Result<u64, AllocError>
@@ -119,14 +120,14 @@ fn push_wall_over(
     names: &[Lit],
     set: &[Clause],
     first: u64,
-    places: &[Items<u64>],
+    places: &[Place<'_>],
 ) -> Result<u64, AllocError>
     ensures clauses { OnOk result (db.new.clauses ≡ db.old.clauses ++ wall_over z names.now set.now first places.now) }
     ensures free { IfOk result (λ free. free ≡ after_marks set.now first places.now) }
 {
     let mut d = first;
     for place in places {
-        let free = push_wall_at(alloc, db, z, place.as_slice(), d, set)?;
+        let free = push_wall_at(alloc, db, z, place, d, set)?;
         push_closing(alloc, db, z, d, set, names)?;
         d = free;
     }
@@ -149,7 +150,7 @@ fn push_wall(
     z: u64,
     names: &[Lit],
     set: &[Clause],
-    places: &[Items<u64>],
+    places: &[Place<'_>],
 ) -> Result<u64, AllocError>
     ensures clauses { OnOk result (db.new.clauses ≡ db.old.clauses ++ wall_clauses z names.now set.now places.now) }
     ensures free { IfOk result (λ free. free ≡ after_marks set.now (z + 1) places.now) }
@@ -163,12 +164,12 @@ fn push_reach(
     alloc: Global,
     db: &mut Db,
     set: &[Clause],
-    places: &[Items<u64>],
+    places: &[Place<'_>],
 ) -> Result<(), AllocError>
     ensures { OnOk result (db.new.clauses ≡ db.old.clauses ++ reach_clauses set.now places.now) }
 {
     for place in places {
-        push_set_at(alloc, db, place.as_slice(), set)?;
+        push_set_at(alloc, db, place, set)?;
     }
     Ok(())
 }
@@ -209,7 +210,7 @@ pub(crate) struct Numbering {
 fn push_use(
     alloc: Global,
     db: &mut Db,
-    places: &[Items<u64>],
+    places: &[Place<'_>],
     numbering: &mut Numbering,
     used: &Used,
 ) -> Result<(), AllocError>
@@ -226,7 +227,7 @@ fn push_use(
 fn push_wall_of(
     alloc: Global,
     db: &mut Db,
-    places: &[Items<u64>],
+    places: &[Place<'_>],
     numbering: &mut Numbering,
     used: &Used,
 ) -> Result<(), AllocError>
@@ -246,7 +247,7 @@ fn push_wall_of(
 pub(crate) fn push_uses(
     alloc: Global,
     db: &mut Db,
-    places: &[Items<u64>],
+    places: &[Place<'_>],
     free: u64,
     uses: &[Used],
 ) -> Result<Numbering, AllocError>

@@ -4,3 +4,4 @@ pub mod Reads
 pub mod Writes
 pub mod InMemory
 pub mod Units
+pub mod Ends

@@ -81,6 +81,11 @@ abbrev pub fault_from : ℕ → ProofState → List (List ℕ) → Option (ℕ �
 fault_from line s [] = unfinished_at line s.finished
 fault_from line s (bytes ∷ lines) = line_fault line (judge s bytes) (λ t. fault_from (line + 1) t lines)
 
+-- how many lines stand before the fault: all of them where there is none
+abbrev pub lines_before : List (List ℕ) → Option (ℕ × LratFault) → ℕ
+lines_before lines None = length lines
+lines_before lines (Some (line, fault)) = line
+
 -- the first fault of a proof of these clauses
 abbrev pub proof_fault : List (List Lit) → List (List ℕ) → Option (ℕ × LratFault)
 proof_fault given lines = fault_from 0 (start given) lines

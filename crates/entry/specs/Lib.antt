@@ -9,3 +9,5 @@ pub mod LatchTables
 pub mod Entries
 pub mod Laws
 pub mod Refutations
+pub mod CheckedEntries
+pub mod Keeping

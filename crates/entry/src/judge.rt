@@ -1,14 +1,14 @@
 //! A judge of the proofs of entries, clause by clause and line by line. The main type is `Judge`.
 
-ghost use Rattle.std.specs.Prelude.{◌≡◌, ◌<◌, ◌++◌, [], ◌∷◌, map, length, OnOk, OnErr, IfOk};
+ghost use Rattle.std.specs.Prelude.{◌≡◌, ℕ, ◌<◌, ◌++◌, [], ◌∷◌, map, take, length, Ok, OnOk, OnErr, IfOk};
 ghost use Rattle.proof_semantics.specs.Clauses.{negation};
-ghost use Rattle.proof_semantics.specs.Proofs.{start, judge};
+ghost use Rattle.proof_semantics.specs.Proofs.{start, judge, judge_all};
 ghost use Rattle.lrat.specs.Judging.{Judges};
 ghost use Rattle.cnf_unroll.specs.Numbers.{successor_place, literal_at_place};
 ghost use Rattle.cnf_unroll.specs.Obligations.{units, shared_clauses, broken_literals, skeleton_clauses};
 ghost use Rattle.cnf_unroll.specs.Blocks.{step_clauses};
 ghost use Rattle.cnf_unroll.specs.Lending.{lent_all};
-ghost use Rattle.entry.specs.Faults.{fault_from};
+ghost use Rattle.entry.specs.Faults.{fault_from, lines_before};
 
 use circuit::Circuit;
 use cnf::{Clause, ProofLine};
@@ -40,9 +40,12 @@ impl Model for Judge {
 }
 
 impl Judge {
-    /// A judge of the proofs of entries, before the first of them. The error is want of memory.
+    /// A judge of the proofs of entries, before the first of them. Until it goes to one it has the circuit's clauses
+    /// alone. The error is want of memory.
     pub fn new(alloc: Global, c: &Circuit) -> Result<Judge, AllocError>
-        ensures { IfOk result (λ j. j.block ≡ step_clauses c.now) }
+        ensures block { IfOk result (λ j. j.block ≡ step_clauses c.now) }
+        ensures shared { IfOk result (λ j. j.shared ≡ step_clauses c.now) }
+        ensures proof { IfOk result (λ j. j.proof ≡ start (step_clauses c.now)) }
     {
         let clauses = step_cnf(alloc, c)?;
         let count = clauses.len();
@@ -66,6 +69,7 @@ impl Judge {
     ) -> Result<(), AllocError>
         requires { self.old.block ≡ step_clauses c.now }
         ensures ok { OnOk result (self.new.shared ≡ shared_clauses c.now (lent_all used.now) own.now set.now) }
+        ensures proof { OnOk result (self.new.proof ≡ start self.new.shared) }
         ensures block { self.new.block ≡ self.old.block }
         ensures err { OnErr result (self.new ≡ self.old) }
     {
@@ -84,7 +88,9 @@ impl Judge {
         used: &[Used],
     ) -> Result<Judge, AllocError>
         requires { j < length c.now.justice }
-        ensures { IfOk result (λ judge. judge.proof ≡ start (skeleton_clauses c.now j (lent_all used.now))) }
+        ensures proof { IfOk result (λ judge. judge.proof ≡ start (skeleton_clauses c.now j (lent_all used.now))) }
+        ensures block { IfOk result (λ judge. judge.block ≡ skeleton_clauses c.now j (lent_all used.now)) }
+        ensures shared { IfOk result (λ judge. judge.shared ≡ skeleton_clauses c.now j (lent_all used.now)) }
     {
         let clauses = skeleton_cnf(alloc, c, j, used)?;
         let count = clauses.len();
@@ -125,13 +131,17 @@ impl Judge {
         self.checker.proved_empty()
     }
 
-    /// The first fault of a whole proof from where the judge stands, with the number of its line. The error is want of
-    /// memory.
+    /// The first fault of a whole proof from where the judge stands, with the number of its line. The judge then stands
+    /// behind the lines that passed. The error is want of memory: the judge then stands behind some first lines.
+    #[tactic(auto, using(crate::proofs::Passing::passed_whole))]
     pub fn proof_fault(
         &mut self,
         lines: &[ProofLine],
     ) -> Result<Option<(u64, LratFault)>, AllocError>
         ensures fault { IfOk result (λ fault. fault ≡ fault_from 0 self.old.proof lines.now) }
+        ensures passed { IfOk result (λ fault.
+            judge_all self.old.proof (take (lines_before lines.now fault) lines.now) ≡ Ok self.new.proof) }
+        ensures some { OnErr result ((n : ℕ) × (judge_all self.old.proof (take n lines.now) ≡ Ok self.new.proof)) }
         ensures block { self.new.block ≡ self.old.block }
         ensures shared { self.new.shared ≡ self.old.shared }
     {

@@ -1,5 +1,6 @@
 //! What proved entries and good refutations mean. Each call does nothing; its contract is the law.
 
+ghost use Rattle.entry.specs.CheckedEntries.{StandOn, ClosedUsesStand, RefutationsStay};
 ghost use Rattle.entry.specs.Laws.{FaultlessIsProved, FaultlessIsGood, ProvedIsValid, GoodListsGrow, RefutedAllowsNone, RefutedHasNoLasso};
 
 use circuit::Circuit;
@@ -33,3 +34,12 @@ pub fn refutations_leave_no_lasso(c: &Circuit)
 {
     skeleton_clauses_tell(c);
 }
+
+/// Entries that stand in a list, as those that closed uses name do, stand in each list that goes on from it. So an entry
+/// that was checked behind an older view holds behind a newer one, and a refutation that is good over the older is good
+/// over the newer.
+pub fn older_views(_c: &Circuit)
+    ensures stand { StandOn }
+    ensures uses { ClosedUsesStand }
+    ensures refutations { RefutationsStay _c.now }
+{}

@@ -6,30 +6,41 @@
 //! - `used`: the entries that uses name, as obligations take them;
 //! - `Judge`: the proofs of an entry or a refutation, line by line;
 //! - `check_entry`, `refutation_fault`: an entry or a refutation as a whole;
+//! - `Checked`: an entry that was checked behind a view, and holds wherever the entries that it uses stand;
+//! - `threads_share_checked`: nothing: threads may share a checked entry;
+//! - `side`, `excludes`: on which side of an entry of a view a state lies, and which skeletons the entry excludes;
 //! - `faultless_is_proved`: no fault is found exactly where an entry is proved;
 //! - `proved_entries_are_valid`, `good_lists_grow`: a proved entry is valid behind valid ones;
+//! - `older_views`: what stands in a list stands in each list that goes on from it;
 //! - `refutations_leave_no_lasso`: over valid entries a good refutation leaves no fair lasso.
 #![tactic(auto)]
 
+mod checked;
 mod clauses;
 mod entries;
 mod faults;
 mod judge;
 mod laws;
 mod list;
+mod origins;
 mod refutations;
+mod sides;
 mod tables;
 mod uses;
 
+pub use checked::{Checked, threads_share_checked};
 pub use clauses::{clause_from_aiger, first_baseless, holds_initial};
 pub use entries::{Entry, check_entry};
 pub use fair_semantics::{Kind, Side, Use};
 pub use faults::{EntryEnd, EntryFault, RefutationFault};
 pub use judge::Judge;
 pub use laws::{
-    faultless_is_proved, good_lists_grow, proved_entries_are_valid, refutations_leave_no_lasso,
+    faultless_is_proved, good_lists_grow, older_views, proved_entries_are_valid,
+    refutations_leave_no_lasso,
 };
-pub use list::{Listed, used};
+pub use list::{Listed, UsedEntry, used};
+pub use origins::{Origin, Work};
 pub use refutations::{Refutation, refutation_fault};
+pub use sides::{excludes, side};
 pub use tables::LatchNumbers;
 pub use uses::{User, first_bad_use};

@@ -9,6 +9,7 @@ use cnf_unroll::{ClauseSet, Used};
 use fair_semantics::{Kind, Use};
 use items::Items;
 use std::alloc::{AllocError, Global};
+use std::sync::Arc;
 
 /// An entry as a list of entries keeps it: its kind, its clauses over latch numbers, and its uses of entries before it.
 #[derive(Debug, Drop)]
@@ -16,6 +17,13 @@ pub struct Listed {
     pub kind: Kind,
     pub set: ClauseSet,
     pub uses: Items<Use>,
+}
+
+/// An entry that is used, shared with whoever else keeps it, with its number in the list, counted from 0.
+#[derive(Debug, Drop)]
+pub struct UsedEntry {
+    pub number: u32,
+    pub entry: Arc<Listed>,
 }
 
 /// The entries that these uses name, each of which is there. The error is want of memory.

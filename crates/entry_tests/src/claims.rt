@@ -68,8 +68,8 @@ pub(crate) fn list_of(
     Ok(list)
 }
 
-// A proof of one line, or of none where it is empty.
-fn proof_of(alloc: Global, line: &str) -> Result<Proof, AllocError> {
+/// A proof of one line, or of none where it is empty.
+pub(crate) fn proof_of(alloc: Global, line: &str) -> Result<Proof, AllocError> {
     let mut proof = Items::new(alloc);
     if !line.is_empty() {
         proof.push(Items::from_slice(alloc, line.as_bytes())?)?;
@@ -95,8 +95,13 @@ fn entry_of(alloc: Global, c: &Circuit, claim: &Claim, lines: &[&str]) -> Result
     })
 }
 
-// A row has a line for each clause.
-fn judged(alloc: Global, c: &Circuit, list: &[Listed], e: &Entry) -> Result<(), EntryEnd> {
+/// What is said of an entry that has a proof for each clause, as a row has a line.
+pub(crate) fn judged(
+    alloc: Global,
+    c: &Circuit,
+    list: &[Listed],
+    e: &Entry,
+) -> Result<(), EntryEnd> {
     if e.proofs.len() != e.set.len() {
         return Err(EntryEnd::Memory);
     }

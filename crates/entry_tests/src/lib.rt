@@ -2,8 +2,12 @@
 #![tactic(auto)]
 
 #[cfg(test)]
+mod checked;
+#[cfg(test)]
 mod claims;
 #[cfg(test)]
 mod parts;
 #[cfg(test)]
 mod tests;
+#[cfg(test)]
+mod written;

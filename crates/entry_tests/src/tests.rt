@@ -7,7 +7,7 @@ use std::alloc::Global;
 use std::test::Fail;
 
 // The latch stays at 0; the property is that it is 1.
-const STUCK: &str = "aag 1 0 1 0 0 0 0 1 0\n2 2\n1\n2\n";
+pub(crate) const STUCK: &str = "aag 1 0 1 0 0 0 0 1 0\n2 2\n1\n2\n";
 
 // The latch rises, from 0 to 1; the property is that it is 0.
 pub(crate) const RISES: &str = "aag 1 0 1 0 0 0 0 1 0\n2 1\n1\n3\n";

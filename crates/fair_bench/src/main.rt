@@ -8,6 +8,7 @@ mod hints;
 mod lines;
 mod lrat_run;
 mod outside;
+mod questions_run;
 mod rewrite_run;
 mod sat_run;
 mod stamps;
@@ -16,6 +17,7 @@ mod verdict;
 use crate::failure::Failure;
 use crate::lrat_run::run_lrat;
 use crate::outside::print_text;
+use crate::questions_run::run_questions;
 use crate::rewrite_run::run_rewrite;
 use crate::sat_run::run_sat;
 use std::process::ExitCode;
@@ -23,6 +25,7 @@ use std::{env, io};
 
 const USAGE: &str = "\
 usage: fair_bench lrat CNF PROOF
+       fair_bench questions CNF QUESTIONS
        fair_bench rewrite MODEL
        fair_bench sat CNF
 ";
@@ -38,8 +41,11 @@ fn main(rt: HostRuntime) -> ExitCode {
 /// Runs the subcommand that the words name, and gives the number with which the program ends.
 fn run(rt: &HostRuntime) -> Result<u8, Failure> {
     let words = words_of(rt)?;
-    if let Some((formula, proof)) = lrat_names(&words) {
+    if let Some((formula, proof)) = two_names(&words, "lrat") {
         return run_lrat(rt, formula, proof);
+    }
+    if let Some((formula, questions)) = two_names(&words, "questions") {
+        return run_questions(rt, formula, questions);
     }
     if let Some(model) = file_name(&words, "rewrite") {
         return run_rewrite(rt, model);
@@ -55,15 +61,15 @@ fn print_usage(rt: &HostRuntime) -> Result<u8, Failure> {
     Ok(64)
 }
 
-/// The names of CNF and PROOF, where the words are the subcommand `lrat`.
-fn lrat_names(words: &[String]) -> Option<(&str, &str)> {
-    let [_, command, formula, proof] = words else {
+/// The names of two files, where the words are this subcommand and two names.
+fn two_names<'a>(words: &'a [String], wanted: &str) -> Option<(&'a str, &'a str)> {
+    let [_, command, first, second] = words else {
         return None;
     };
-    if command.as_str() != "lrat" {
+    if command.as_str() != wanted {
         return None;
     }
-    Some((formula.as_str(), proof.as_str()))
+    Some((first.as_str(), second.as_str()))
 }
 
 /// The name of the file, where the words are this subcommand and one name.

@@ -12,10 +12,10 @@ use std::alloc::{AllocError, Global};
 use std::io;
 
 // The greatest length of a file, in bytes. No text in memory is longer.
-const MAX_BYTES: u64 = 9_223_372_036_854_775_807;
+pub(crate) const MAX_BYTES: u64 = 9_223_372_036_854_775_807;
 
 // No limit of conflicts.
-const NO_LIMIT: u64 = 4_294_967_295;
+pub(crate) const NO_LIMIT: u64 = 4_294_967_295;
 
 /// What an answer took: conflicts, and nanoseconds by the clock and of processor time.
 #[derive(Clone, Copy, Debug)]
@@ -55,7 +55,8 @@ fn solve(alloc: Global, clauses: Db) -> Result<(Answer, u64), Failure> {
     Ok((answer, meter.spending().conflicts()))
 }
 
-fn solver_of(alloc: Global, clauses: Db) -> Result<Solver, Failure> {
+/// A solver with these clauses.
+pub(crate) fn solver_of(alloc: Global, clauses: Db) -> Result<Solver, Failure> {
     let mut solver = Solver::new(alloc)?;
     for clause in clauses.into_vec() {
         add_one(&mut solver, clause)?;

@@ -1,5 +1,5 @@
 -- How a run ends, from what is asked for and from what its command gives.
-use Rattle.std.proofs.Common.{◌≡◌, ◌⊎◌, inl, inr, ℕ, Bool, false, List, refl, sym, subst, Ok, Err}
+use Rattle.std.proofs.Common.{◌≡◌, ◌⊎◌, inl, inr, ℕ, Bool, false, List, refl, sym, ap, subst, Ok, Err}
 use Rattle.std.specs.Prelude.{Option, Result}
 use Rattle.aig_semantics.specs.Circuits.{Circuit}
 use Rattle.edge.specs.Writes.{Adds, AddsPart, Writes}
@@ -13,9 +13,11 @@ use Rattle.certificate.specs.declared.ends.AnswerEnd.TheVariants as ends
 use Rattle.certificate.specs.Ends.{DecidesEnd}
 use Rattle.fair_top.specs.ModelGiven.{OfSomeText}
 use Rattle.fair_top.specs.Check.{status_of, JudgesAs}
-use Rattle.fair_top.specs.Asked.{Asked, Check, Gen, names_in}
+use Rattle.fair_top.specs.declared.requests.SolveRequest.{SolveRequest}
+use Rattle.fair_top.specs.Asked.{Asked, Solve, Check, Gen, names_in}
+use Rattle.fair_top.specs.Solve.{GivesSolve}
 use Rattle.fair_top.specs.Commands.{CommandGives, Decides}
-use Rattle.fair_top.specs.Headline.{AsksFor, IsUsage, Ends, IsVerdict, IsAnswered, HasTaken, HasWritten, FailedOf, ReadFailed, ReadsModelFirst, HasRead}
+use Rattle.fair_top.specs.Headline.{AsksFor, IsUsage, Ends, IsVerdict, IsAnswered, IsTakenOrUsage, HasTaken, HasWritten, FailedOf, ReadFailed, ReadsModelFirst, HasRead}
 use Rattle.fair_top.specs.Statuses.{is_read_fault}
 use Rattle.fair_top.proofs.Taken.{one_asked, not_usage}
 
@@ -61,6 +63,23 @@ read_before Read held words status old new none (inl (usage, same, e)) = inl (us
 read_before Read held words status old new none (inr (asked, asks, reads)) =
     inr (asked, asks, subst (λ (failed : Bool). ReadsModelFirst Read held (names_in asked) failed old new) none reads)
 
+-- where words are refused, or memory is, nothing was read
+none_of : {Shelf : Type 0} (Read : Shelf → List ℕ → Bool → Shelf → Type 0) (held : List ℕ → Option (List ℕ)) (asked : Asked) (old : Shelf)
+    → ReadsModelFirst Read held (names_in asked) false old old
+none_of Read held (Solve model request) old = inl (0, refl)
+none_of Read held (Check model answer) old = inl (0, refl)
+none_of Read held (Gen request) old = (refl, refl)
+
+pub nothing_read : {Shelf : Type 0} (Read : Shelf → List ℕ → Bool → Shelf → Type 0) (held : List ℕ → Option (List ℕ)) (words : List (List ℕ)) (status : Status) (old : Shelf)
+    → IsTakenOrUsage words → is_read_fault status ≡ false → HasRead Read held words status old old
+nothing_read Read held words status old (inl usage) none = inl (usage, refl, none)
+nothing_read Read held words status old (inr (asked, asks)) none =
+    inr (asked, asks, subst (λ (failed : Bool). ReadsModelFirst Read held (names_in asked) failed old old) (sym none) (none_of Read held asked old))
+
+pub not_a_read : (words : List (List ℕ)) (status : Status) → ((status ≡ statuses.Usage) × IsUsage words) ⊎ (status ≡ statuses.Memory) → is_read_fault status ≡ false
+not_a_read words status (inl usage) = ap is_read_fault usage.0
+not_a_read words status (inr memory) = ap is_read_fault memory
+
 -- What the sink took.
 
 pub written : (held : List ℕ → Option (List ℕ)) (words : List (List ℕ)) (old new : Option (List ℕ)) (status : Status) (text bytes : List ℕ)
@@ -88,8 +107,17 @@ of_check Write model answer status old new (inl (fault, e, bad)) writes =
 of_check Write model answer status old new (inr (end, e, (_, _, (claimed, _, (m, _, said))))) writes =
     subst (λ (s : Status). HasWritten Write s old new) (sym e) (of_answer Write m.circuit claimed end old new said writes)
 
+of_solve : {Sink : Type 0} (Write : Sink → Bool → Sink → Type 0) (model : Option (List ℕ)) (request : SolveRequest) (status : Status)
+    (text : List ℕ) (old new : Sink) → GivesSolve model request status text → Writes Write false old new → HasWritten Write status old new
+of_solve Write model request status text old new (inl ((fault, e, bad), t)) writes = subst (λ (s : Status). HasWritten Write s old new) (sym e) writes
+of_solve Write model request status text old new (inr (inl ((e, none), t))) writes = subst (λ (s : Status). HasWritten Write s old new) (sym e) writes
+of_solve Write model request status text old new (inr (inr (inl p))) writes = subst (λ (s : Status). HasWritten Write s old new) (sym p.1) writes
+of_solve Write model request status text old new (inr (inr (inr (r, t)))) writes = subst (λ (s : Status). HasWritten Write s old new) (sym r.1) writes
+
 of_command : {Sink : Type 0} (Write : Sink → Bool → Sink → Type 0) (held : List ℕ → Option (List ℕ)) (asked : Asked)
     (status : Status) (text : List ℕ) (old new : Sink) → CommandGives held asked status text → Writes Write false old new → HasWritten Write status old new
+of_command Write held (Solve model request) status text old new gives writes =
+    of_solve Write (held model) request status text old new gives writes
 of_command Write held (Check model answer) status text old new gives writes =
     of_check Write (held model) (held answer) status old new gives.0 writes
 of_command Write held (Gen request) status text old new gives writes =

@@ -77,8 +77,10 @@ without_model model answer (statuses.Done done) h = absurd h
 without_model model answer (statuses.Refused fault) h = absurd h
 without_model model answer statuses.WriteFault h = absurd h
 without_model model answer statuses.Usage h = absurd h
+without_model model answer (statuses.Unknown report) h = absurd h
+without_model model answer (statuses.NoProperty n) h = absurd h
 
-same_bad : (f g : ModelFault) → SameFault f g → IsAnswered (statuses.BadModel g) (statuses.BadModel f)
+pub same_bad : (f g : ModelFault) → SameFault f g → IsAnswered (statuses.BadModel g) (statuses.BadModel f)
 same_bad f g h = elim h [
   | inl e ↦ inl (inl (inl (ap statuses.BadModel e)))
   | inr two ↦ inl (inl (inr (two.0, two.1, ap statuses.BadModel two.2, ap statuses.BadModel two.3)))
@@ -99,6 +101,8 @@ without_model_exact model answer (statuses.Done done) h verdict d = absurd h
 without_model_exact model answer (statuses.Refused fault) h verdict d = absurd h
 without_model_exact model answer statuses.WriteFault h verdict d = absurd h
 without_model_exact model answer statuses.Usage h verdict d = absurd h
+without_model_exact model answer (statuses.Unknown report) h verdict d = absurd h
+without_model_exact model answer (statuses.NoProperty n) h verdict d = absurd h
 
 -- Reads and faults.
 

@@ -1,5 +1,6 @@
 mod TextsRead
 mod Judging
+mod Decided
 mod Values
 mod Taken
 mod Ending

@@ -1,6 +1,6 @@
 -- Words that `clap` takes are a command, with values that are a request of it or none.
 use Rattle.std.proofs.Common.{◌≡◌, inl, inr, Bool, true, false, List, [], ◌∷◌, refl, sym, ap, ◌∙◌, subst}
-use Rattle.std.specs.Prelude.{Option, None, Some, is_some, not, ◌&&◌}
+use Rattle.std.specs.Prelude.{Option, None, Some, is_some, not, ◌&&◌, IfNone}
 use Rattle.std.proofs.lemmas.Bool.{false≢true}
 use Rattle.std.specs.List.{list_any}
 use Rattle.clap.specs.Facts.{explicit_source}
@@ -101,6 +101,14 @@ same_taken name other rows others e =
 moved : (name other : Text) (rows others : List Row) (asked : Asked) → (name ≡ other) × (rows ≡ others) → Means asked other others → Means asked name rows
 moved name other rows others asked same h =
     subst (λ (n : Text). Means asked n rows) (sym same.0) (subst (λ (r : List Row). Means asked other r) (sym same.1) h)
+
+pub none_weaker : {T : Type 0} (o : Option T) (P Q : Type 0) → (P → Q) → IfNone o P → IfNone o Q
+none_weaker None P Q from h = from h
+none_weaker (Some x) P Q from h = tt
+
+pub none_met : (met : Option (Text × List Row)) (name : Text) (rows : List Row) → met ≡ Some (name, rows) → ((asked : Asked) → Means asked name rows → ⊥)
+    → (asked : Asked) → MetFor met asked → ⊥
+none_met met name rows e none asked (n, r, f, means) = none asked (moved name n rows r asked (same_taken name n rows r (sym e ∙ f)) means)
 
 pub one_asked : (words : List Text) (a b : Asked) → AsksFor words a → AsksFor words b → a ≡ b
 one_asked words a b h k =

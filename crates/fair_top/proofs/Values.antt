@@ -13,9 +13,11 @@ use Rattle.clap.proofs.ValueTestLemmas.{accepts-Accepts, Accepts-accepts}
 use Rattle.fair_top.specs.declared.requests.GenKind.{GenKind}
 use Rattle.fair_top.specs.declared.requests.GenKind.TheVariants.{Ring, Scramble}
 use Rattle.fair_top.specs.declared.requests.GenRequest.{GenRequest}
-use Rattle.fair_top.specs.Asked.{Asked, Check, Gen}
-use Rattle.fair_top.specs.Words.{IsGiven, IsNumberIn, IsNumberGiven, flag_in}
+use Rattle.fair_top.specs.declared.requests.SolveRequest.{SolveRequest}
+use Rattle.fair_top.specs.Asked.{Asked, Solve, Check, Gen}
+use Rattle.fair_top.specs.Words.{IsGiven, IsNumberIn, IsNumberGiven, IsNumberOr, flag_in}
 use Rattle.fair_top.specs.Check.{MeansCheck}
+use Rattle.fair_top.specs.Solve.{MeansSolve}
 use Rattle.fair_top.specs.Gen.{name_of_kind, MeansGen}
 use Rattle.fair_top.specs.Commands.{Means}
 
@@ -115,29 +117,104 @@ names_or_none rows = by (first_of (codes "MODEL") rows) (first_of (codes "ANSWER
     by None a e f = inr (λ names h. (let wrong : None ≡ Some names.0 = sym e ∙ h.model_name in cc))
     by (Some model) None e f = inr (λ names h. (let wrong : None ≡ Some names.1 = sym f ∙ h.answer_name in cc))
 
+-- ---- `solve`
+
+-- a number that is given, or its default
+number_or_none_given : (rows : List Row) (name : List ℕ) (low high default : ℕ) → high < 2 ^ 64 → SomeOrNone (IsNumberOr rows name low high default)
+number_or_none_given rows name low high default small = by (first_of name rows) refl
+  where
+    of_text : (text : List ℕ) → first_of name rows ≡ Some text → SomeOrNone (IsNumberIn low high text) → SomeOrNone (IsNumberOr rows name low high default)
+    of_text text e (inl found) = inl (found.0, inr (text, e, found.1))
+    of_text text e (inr none) = inr (λ n h. elim h [
+      | inl absent ↦ (let wrong : Some text ≡ None = sym e ∙ absent.0 in cc)
+      | inr given ↦ none n (subst (λ (t : List ℕ). IsNumberIn low high t n) (one_text (first_of name rows) given.0 text given.1 e) given.2)
+    ])
+
+    by : (given : Option (List ℕ)) → first_of name rows ≡ given → SomeOrNone (IsNumberOr rows name low high default)
+    by None e = inl (default, inl (e, refl))
+    by (Some text) e = of_text text e (number_or_none low high text small)
+
+one_number_or : (rows : List Row) (name : List ℕ) (low high default n m : ℕ) → IsNumberOr rows name low high default n → IsNumberOr rows name low high default m → n ≡ m
+one_number_or rows name low high default n m (inl a) (inl b) = a.1 ∙ sym b.1
+one_number_or rows name low high default n m (inl a) (inr b) = let wrong : None ≡ Some b.0 = sym a.0 ∙ b.1 in cc
+one_number_or rows name low high default n m (inr a) (inl b) = let wrong : Some a.0 ≡ None = sym a.1 ∙ b.0 in cc
+one_number_or rows name low high default n m (inr a) (inr b) = one_number rows name low high n m a b
+
+-- the name and the request of `solve`
+abbrev Asks : Type 0
+Asks = List ℕ × SolveRequest
+
+pub solve_or_none : (rows : List Row) → SomeOrNone (λ (asks : Asks). MeansSolve rows asks.0 asks.1)
+solve_or_none rows =
+    by (first_of (codes "MODEL") rows) refl (number_or_none_given rows (codes "property") 0 4294967295 0 (omega arith))
+    (number_or_none_given rows (codes "workers") 1 64 1 (omega arith)) (number_or_none_given rows (codes "conflicts") 0 4294967295 1000000 (omega arith))
+    (number_or_none_given rows (codes "steps") 0 4294967295 100000 (omega arith)) (number_or_none_given rows (codes "skeletons") 0 65536 10000 (omega arith))
+  where
+    by : (m : Option (List ℕ)) → first_of (codes "MODEL") rows ≡ m → SomeOrNone (IsNumberOr rows (codes "property") 0 4294967295 0)
+        → SomeOrNone (IsNumberOr rows (codes "workers") 1 64 1) → SomeOrNone (IsNumberOr rows (codes "conflicts") 0 4294967295 1000000)
+        → SomeOrNone (IsNumberOr rows (codes "steps") 0 4294967295 100000) → SomeOrNone (IsNumberOr rows (codes "skeletons") 0 65536 10000)
+        → SomeOrNone (λ (asks : Asks). MeansSolve rows asks.0 asks.1)
+    by (Some model) e (inl p) (inl w) (inl c) (inl s) (inl k) = inl (
+      (model, record { property = p.0; workers = w.0; conflicts = c.0; steps = s.0; skeletons = k.0 }),
+      record { model_name = e; property = p.1; workers = w.1; conflicts = c.1; steps = s.1; skeletons = k.1 },
+    )
+    by None e p w c s k = inr (λ asks h. (let wrong : None ≡ Some asks.0 = sym e ∙ h.model_name in cc))
+    by (Some model) e (inr none) w c s k = inr (λ asks h. none asks.1.property h.property)
+    by (Some model) e (inl p) (inr none) c s k = inr (λ asks h. none asks.1.workers h.workers)
+    by (Some model) e (inl p) (inl w) (inr none) s k = inr (λ asks h. none asks.1.conflicts h.conflicts)
+    by (Some model) e (inl p) (inl w) (inl c) (inr none) k = inr (λ asks h. none asks.1.steps h.steps)
+    by (Some model) e (inl p) (inl w) (inl c) (inl s) (inr none) = inr (λ asks h. none asks.1.skeletons h.skeletons)
+
+same_solve : (m n : List ℕ) (a b : SolveRequest) → m ≡ n → a.property ≡ b.property → a.workers ≡ b.workers → a.conflicts ≡ b.conflicts
+    → a.steps ≡ b.steps → a.skeletons ≡ b.skeletons → Solve m a ≡ Solve n b
+same_solve m n a b e p w c s k =
+    λ i. Solve (e i) (record { property = p i; workers = w i; conflicts = c i; steps = s i; skeletons = k i })
+
+one_solve : (rows : List Row) (m n : List ℕ) (a b : SolveRequest) → MeansSolve rows m a → MeansSolve rows n b → Solve m a ≡ Solve n b
+one_solve rows m n a b h k =
+    same_solve m n a b (one_text (first_of (codes "MODEL") rows) m n h.model_name k.model_name)
+    (one_number_or rows (codes "property") 0 4294967295 0 a.property b.property h.property k.property)
+    (one_number_or rows (codes "workers") 1 64 1 a.workers b.workers h.workers k.workers)
+    (one_number_or rows (codes "conflicts") 0 4294967295 1000000 a.conflicts b.conflicts h.conflicts k.conflicts)
+    (one_number_or rows (codes "steps") 0 4294967295 100000 a.steps b.steps h.steps k.steps)
+    (one_number_or rows (codes "skeletons") 0 65536 10000 a.skeletons b.skeletons h.skeletons k.skeletons)
+
 -- ---- any of them
 
-two_names : (name : List ℕ) → name ≡ codes "check" → name ≡ codes "gen" → ⊥
-two_names name e f = apart (codes "check") (codes "gen") refl (sym e ∙ f)
+two_names : (name a b : List ℕ) → bytes_eq a b ≡ false → name ≡ a → name ≡ b → ⊥
+two_names name a b differ e f = apart a b differ (sym e ∙ f)
 
-no_check : (name : List ℕ) (rows : List Row) → name ≡ codes "check" → ((names : List ℕ × List ℕ) → MeansCheck rows names.0 names.1 → ⊥)
+pub no_solve : (name : List ℕ) (rows : List Row) → name ≡ codes "solve" → ((asks : Asks) → MeansSolve rows asks.0 asks.1 → ⊥)
     → (asked : Asked) → Means asked name rows → ⊥
+no_solve name rows e none (Solve model request) h = none (model, request) h.1
+no_solve name rows e none (Check model answer) h = two_names name (codes "solve") (codes "check") refl e h.0
+no_solve name rows e none (Gen request) h = two_names name (codes "solve") (codes "gen") refl e h.0
+
+pub no_check : (name : List ℕ) (rows : List Row) → name ≡ codes "check" → ((names : List ℕ × List ℕ) → MeansCheck rows names.0 names.1 → ⊥)
+    → (asked : Asked) → Means asked name rows → ⊥
+no_check name rows e none (Solve model request) h = two_names name (codes "solve") (codes "check") refl h.0 e
 no_check name rows e none (Check model answer) h = none (model, answer) h.1
-no_check name rows e none (Gen request) h = two_names name e h.0
+no_check name rows e none (Gen request) h = two_names name (codes "check") (codes "gen") refl e h.0
 
 no_gen : (name : List ℕ) (rows : List Row) → name ≡ codes "gen" → ((request : GenRequest) → MeansGen rows request → ⊥)
     → (asked : Asked) → Means asked name rows → ⊥
-no_gen name rows e none (Check model answer) h = two_names name h.0 e
+no_gen name rows e none (Solve model request) h = two_names name (codes "solve") (codes "gen") refl h.0 e
+no_gen name rows e none (Check model answer) h = two_names name (codes "check") (codes "gen") refl h.0 e
 no_gen name rows e none (Gen request) h = none request h.1
 
-no_other : (name : List ℕ) (rows : List Row) → bytes_eq name (codes "check") ≡ false → bytes_eq name (codes "gen") ≡ false
-    → (asked : Asked) → Means asked name rows → ⊥
-no_other name rows e f (Check model answer) h = apart name (codes "check") e h.0
-no_other name rows e f (Gen request) h = apart name (codes "gen") f h.0
+no_other : (name : List ℕ) (rows : List Row) → bytes_eq name (codes "solve") ≡ false → bytes_eq name (codes "check") ≡ false
+    → bytes_eq name (codes "gen") ≡ false → (asked : Asked) → Means asked name rows → ⊥
+no_other name rows d e f (Solve model request) h = apart name (codes "solve") d h.0
+no_other name rows d e f (Check model answer) h = apart name (codes "check") e h.0
+no_other name rows d e f (Gen request) h = apart name (codes "gen") f h.0
 
 pub asked_or_none : (name : List ℕ) (rows : List Row) → SomeOrNone (λ (asked : Asked). Means asked name rows)
-asked_or_none name rows = by (bytes_eq name (codes "check")) (bytes_eq name (codes "gen")) refl refl
+asked_or_none name rows = by (bytes_eq name (codes "solve")) (bytes_eq name (codes "check")) (bytes_eq name (codes "gen")) refl refl refl
   where
+    of_solve : name ≡ codes "solve" → SomeOrNone (λ (asks : Asks). MeansSolve rows asks.0 asks.1) → SomeOrNone (λ (asked : Asked). Means asked name rows)
+    of_solve e (inl found) = inl (Solve found.0.0 found.0.1, (e, found.1))
+    of_solve e (inr none) = inr (no_solve name rows e none)
+
     of_check : name ≡ codes "check" → SomeOrNone (λ (names : List ℕ × List ℕ). MeansCheck rows names.0 names.1) → SomeOrNone (λ (asked : Asked). Means asked name rows)
     of_check e (inl found) = inl (Check found.0.0 found.0.1, (e, found.1))
     of_check e (inr none) = inr (no_check name rows e none)
@@ -146,17 +223,24 @@ asked_or_none name rows = by (bytes_eq name (codes "check")) (bytes_eq name (cod
     of_gen e (inl found) = inl (Gen found.0, (e, found.1))
     of_gen e (inr none) = inr (no_gen name rows e none)
 
-    by : (a b : Bool) → bytes_eq name (codes "check") ≡ a → bytes_eq name (codes "gen") ≡ b → SomeOrNone (λ (asked : Asked). Means asked name rows)
-    by true b e f = of_check ((bytes_eq-Decides name (codes "check")).0 e) (names_or_none rows)
-    by false true e f = of_gen ((bytes_eq-Decides name (codes "gen")).0 f) (request_or_none rows)
-    by false false e f = inr (no_other name rows e f)
+    by : (a b d : Bool) → bytes_eq name (codes "solve") ≡ a → bytes_eq name (codes "check") ≡ b → bytes_eq name (codes "gen") ≡ d
+        → SomeOrNone (λ (asked : Asked). Means asked name rows)
+    by true b d e f g = of_solve ((bytes_eq-Decides name (codes "solve")).0 e) (solve_or_none rows)
+    by false true d e f g = of_check ((bytes_eq-Decides name (codes "check")).0 f) (names_or_none rows)
+    by false false true e f g = of_gen ((bytes_eq-Decides name (codes "gen")).0 g) (request_or_none rows)
+    by false false false e f g = inr (no_other name rows e f g)
 
 -- the values are of one request at most
 pub one_meant : (name : List ℕ) (rows : List Row) (a b : Asked) → Means a name rows → Means b name rows → a ≡ b
+one_meant name rows (Solve m r) (Solve n s) h k = one_solve rows m n r s h.1 k.1
+one_meant name rows (Solve m r) (Check p q) h k = absurd (two_names name (codes "solve") (codes "check") refl h.0 k.0)
+one_meant name rows (Solve m r) (Gen s) h k = absurd (two_names name (codes "solve") (codes "gen") refl h.0 k.0)
+one_meant name rows (Check m n) (Solve p s) h k = absurd (two_names name (codes "solve") (codes "check") refl k.0 h.0)
 one_meant name rows (Check m n) (Check p q) h k = one_check (one_text (first_of (codes "MODEL") rows) m p h.1.model_name k.1.model_name) (one_text (first_of (codes "ANSWER") rows) n q h.1.answer_name k.1.answer_name)
   where
     one_check : m ≡ p → n ≡ q → Check m n ≡ Check p q
     one_check e f = cc
-one_meant name rows (Check m n) (Gen r) h k = absurd (two_names name h.0 k.0)
-one_meant name rows (Gen r) (Check m n) h k = absurd (two_names name k.0 h.0)
+one_meant name rows (Check m n) (Gen r) h k = absurd (two_names name (codes "check") (codes "gen") refl h.0 k.0)
+one_meant name rows (Gen r) (Solve p s) h k = absurd (two_names name (codes "solve") (codes "gen") refl k.0 h.0)
+one_meant name rows (Gen r) (Check m n) h k = absurd (two_names name (codes "check") (codes "gen") refl k.0 h.0)
 one_meant name rows (Gen r) (Gen s) h k = ap (λ (request : GenRequest). Gen request) (one_request rows r s h.1 k.1)

@@ -100,7 +100,8 @@ IsAnswered verdict result = GivesSome statuses.Memory (λ status. SameVerdict ve
 
 -- What is true.
 
--- where the status is that of an accepted answer, the words ask for its check, and what the answer shows is true
+-- where the status is that of an accepted answer, the words ask for its check or for its search, and what the answer shows
+-- is true
 abbrev pub IsShown : (List ℕ → Option (List ℕ)) → List (List ℕ) → Status → Type 0
 IsShown held words status =
     (accepted : Accepted) → status ≡ statuses.Done (done_of accepted)

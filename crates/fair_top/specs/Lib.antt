@@ -3,10 +3,12 @@ pub mod ModelGiven
 pub mod Words
 pub mod Asked
 pub mod Check
+pub mod Solve
 pub mod Gen
 pub mod Commands
 pub mod Asking
 pub mod Statuses
 pub mod Texts
+pub mod Solved
 pub mod Headline
 pub mod Judged

@@ -1,5 +1,8 @@
 -- What each status writes, and the number with which the program ends.
-use Rattle.std.specs.Prelude.{ℕ, List, [], ◌++◌, decimal, codes}
+use Rattle.std.specs.Prelude.{ℕ, ◌+◌, List, [], ◌∷◌, ◌++◌, length, Option, None, Some, decimal, codes}
+use Rattle.edge.specs.Units.{Spendings}
+use Rattle.wall_store.specs.declared.outcomes.Served.{Served}
+use Rattle.fair_workers.specs.declared.limits.Report.{Report}
 use Rattle.circuit.specs.declared.faults.ModelFault.{ModelFault}
 use Rattle.circuit.specs.declared.faults.ModelFault.TheVariants.{Header, Number, Range, Undefined, Twice, Cycle, Truncated, Limit, Trailing, Symbol}
 use Rattle.stimulus.specs.declared.ends.ReplayFault.{ReplayFault}
@@ -19,10 +22,12 @@ use Rattle.certificate.specs.declared.ends.AnswerFault.TheVariants as answers
 abbrev pub exit_number : Status → ℕ
 exit_number (statuses.Done done) = 0
 exit_number (statuses.Refused fault) = 1
+exit_number (statuses.Unknown report) = 2
 exit_number (statuses.BadModel fault) = 3
 exit_number statuses.ReadFault = 4
 exit_number statuses.WriteFault = 5
 exit_number statuses.Memory = 6
+exit_number (statuses.NoProperty n) = 8
 exit_number statuses.Usage = 64
 
 -- one line, of words, a number and a line feed
@@ -86,12 +91,43 @@ done_text (Holds property entries) =
     codes "accepted certificate j" ++ decimal property ++ codes " entries " ++ decimal entries ++ codes "\n"
 done_text Printed = []
 
+-- the limit of a count, as a number: one that says that there is none where there is none
+abbrev pub limit_number : Option ℕ → ℕ
+limit_number None = 4294967295
+limit_number (Some n) = n
+
+-- what the worker with this number has spent
+abbrev pub worker_text : ℕ → Spendings → List ℕ
+worker_text w spent =
+    codes "c worker " ++ decimal w ++ codes " conflicts " ++ decimal spent.conflicts ++ codes " of "
+    ++ decimal (limit_number spent.conflict_limit) ++ codes " steps " ++ decimal spent.steps ++ codes " of "
+    ++ decimal (limit_number spent.step_limit) ++ codes "\n"
+
+-- the workers from this number on
+abbrev pub workers_text : ℕ → List Spendings → List ℕ
+workers_text w [] = []
+workers_text w (spent ∷ more) = worker_text w spent ++ workers_text (w + 1) more
+
+-- the first property that a board serves
+abbrev pub first_property : List Served → ℕ
+first_property [] = 0
+first_property (s ∷ served) = s.property
+
+-- an answer of status 2: the property, how many entries the list has of those that it may have, and what each worker has
+-- spent
+abbrev pub unknown_text : Report → List ℕ
+unknown_text report =
+    codes "2\nj" ++ decimal (first_property report.board.served) ++ codes "\nc entries " ++ decimal (length report.board.entries)
+    ++ codes " of " ++ decimal report.board.limit ++ codes "\n" ++ workers_text 0 report.workers ++ codes ".\n"
+
 -- the text of a status; four have none of their own (of a model that is printed it is the model's)
 abbrev pub text_of : Status → List ℕ
 text_of (statuses.Done done) = done_text done
 text_of (statuses.Refused fault) = refusal_text fault
+text_of (statuses.Unknown report) = unknown_text report
 text_of (statuses.BadModel fault) = bad_model_text fault
 text_of statuses.ReadFault = []
 text_of statuses.WriteFault = []
 text_of statuses.Memory = []
+text_of (statuses.NoProperty n) = line_with (codes "no property ") n
 text_of statuses.Usage = usage_text

@@ -1,5 +1,5 @@
 -- The words of the command line, by what `clap` makes of them. The first word is the program's own name.
-use Rattle.std.specs.Prelude.{◌≡◌, ◌≤◌, ℕ, Bool, false, List, map, codes, Some, unwrap_or, option_map, String, string_bytes, true}
+use Rattle.std.specs.Prelude.{◌≡◌, ◌≤◌, ◌⊎◌, ℕ, Bool, false, List, map, codes, None, Some, unwrap_or, option_map, String, string_bytes, true}
 use Rattle.std.specs.Str.{bytes_eq}
 use Rattle.std.specs.Str.Parse.{IsNumeral, digits_value, without_leading_plus}
 use Rattle.std.specs.declared.alloc.Global.{Global}
@@ -21,6 +21,10 @@ wanted name = record (new_rule name) { required = true }
 abbrev pub wanted_number : List ℕ → ℕ → ℕ → Rule
 wanted_number name low high = record (wanted name) { parser = Some (Unsigned low high) }
 
+-- an option that has a number, from the low one to the high one
+abbrev pub number_option : List ℕ → ℕ → ℕ → Rule
+number_option name low high = record (new_rule name) { long = Some name; parser = Some (Unsigned low high) }
+
 -- an option without a value
 abbrev pub flag : List ℕ → Rule
 flag name = record (new_rule name) { long = Some name; action = Some SetTrue }
@@ -41,6 +45,11 @@ pub record IsNumberIn (low high : ℕ) (text : List ℕ) (n : ℕ) : Type 0 wher
 -- this number, from the low one to the high one, is given under the name
 abbrev pub IsNumberGiven : List Row → List ℕ → ℕ → ℕ → ℕ → Type 0
 IsNumberGiven rows name low high n = (text : List ℕ) × IsGiven rows name text × IsNumberIn low high text n
+
+-- the number that is given under the name, from the low one to the high one, or the default where none is given
+abbrev pub IsNumberOr : List Row → List ℕ → ℕ → ℕ → ℕ → ℕ → Type 0
+IsNumberOr rows name low high default n =
+    ((first_of name rows ≡ None) × (n ≡ default)) ⊎ IsNumberGiven rows name low high n
 
 -- the flag is on, for which `clap` gives the text `true`
 abbrev pub flag_in : List Row → List ℕ → Bool

@@ -14,6 +14,7 @@ ghost use Rattle.fair_top.specs.Statuses.{status_in, is_read_fault};
 use crate::checking::check;
 use crate::generating::generate;
 use crate::requests::Asked;
+use crate::solving::solve;
 use crate::status::Status;
 use crate::texts::{Outcome, with_text};
 use crate::words::asked_of;
@@ -59,6 +60,7 @@ fn outcome_for<H: Shelf>(alloc: Global, asked: Asked, shelf: &mut H) -> Result<O
     ensures kept { KeepsTexts (H.held shelf.old) (H.held shelf.new) }
 {
     match asked {
+        Asked::Solve { model, request } => solve(alloc, shelf, model, &request),
         Asked::Check { model, answer } => with_text(alloc, check(alloc, shelf, model, answer)),
         Asked::Gen(request) => generate(alloc, &request),
     }

@@ -14,12 +14,14 @@ mod checking;
 mod commands;
 mod generating;
 mod models;
+mod reports;
 mod requests;
 mod running;
+mod solving;
 mod status;
 mod texts;
 mod words;
 
-pub use requests::{GenKind, GenRequest};
+pub use requests::{GenKind, GenRequest, SolveRequest};
 pub use running::{run, run_alone};
 pub use status::{Done, Status};

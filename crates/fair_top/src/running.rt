@@ -58,7 +58,8 @@ pub fn run_alone<H: Shelf, O: Sink>(
     ensures found { IsFound (H.held shelf.old) (bytes_of words.now) result }
     // and what is decided once is answered, unless memory is refused or a read or write fails.
     ensures exactly { (verdict : Status) → IsVerdict (H.held shelf.old) (bytes_of words.now) verdict → IsAnswered verdict result }
-    // What `check` accepts is true: the circuit of MODEL has such a fair lasso, or has none of the property.
+    // What `check` accepts or `solve` prints is true: the circuit of MODEL has such a fair lasso, or has none of the
+    // property.
     ensures shown { IsShown (H.held shelf.old) (bytes_of words.now) result }
     // Words are a command with its values, or are refused; and those of `gen` are answered with a model, unless memory
     // is refused or a write fails.

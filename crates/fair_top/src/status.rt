@@ -6,14 +6,17 @@ ghost use Rattle.fair_top.specs.Texts.{exit_number};
 use certificate::AnswerFault;
 use circuit::ModelFault;
 use edge::ReadEnd;
+use fair_workers::Report;
 
 /// How a run of the program ended.
-#[derive(Debug, PartialEq, Eq, Drop)]
+#[derive(Drop)]
 pub enum Status {
     /// The command did its work.
     Done(Done),
     /// `check`: the answer is not a good one, and this is its first failing item.
     Refused(AnswerFault),
+    /// `solve`: the workers have spent what they may, and this is what they leave.
+    Unknown(Report),
     /// The bytes of MODEL are the text of no model, and this is their first fault.
     BadModel(ModelFault),
     /// A read of MODEL or ANSWER failed. Nothing was written.
@@ -22,6 +25,8 @@ pub enum Status {
     WriteFault,
     /// Memory was refused. Nothing was written.
     Memory,
+    /// `solve`: the model has no property with this number, counted from 0.
+    NoProperty(u32),
     /// The words are no command, or ask `gen` for no model that there is. Nothing was read.
     Usage,
 }
@@ -29,14 +34,14 @@ pub enum Status {
 /// What a command did.
 #[derive(Debug, PartialEq, Eq, Drop)]
 pub enum Done {
-    /// The stimulus of the answer stands for a fair lasso of this property, counted from 0: its number of positions,
+    /// The stimulus of the answer, judged or printed, stands for a fair lasso of this property, counted from 0: its number of positions,
     /// and the place, counted from 0, that its last position steps back to.
     Lasso {
         property: u32,
         positions: u64,
         from: u64,
     },
-    /// The certificate of the answer leaves no fair lasso of this property, counted from 0: its number of entries, at
+    /// The certificate of the answer, judged or printed, leaves no fair lasso of this property, counted from 0: its number of entries, at
     /// most 65,536.
     Holds {
         property: u32,
@@ -47,18 +52,21 @@ pub enum Done {
 }
 
 impl Status {
-    /// The number with which the program ends: 0 for work done, 1 for a refused answer, 3 for a bad model, 4 and 5 for
-    /// failed reads and writes, 6 for want of memory, and 64 for words that are no command or ask for no model.
+    /// The number with which the program ends: 0 for work done, 1 for a refused answer, 2 for a search that has
+    /// spent what it may, 3 for a bad model, 4 and 5 for failed reads and writes, 6 for want of memory, 8 for a property
+    /// that is not there, and 64 for words that are no command or ask for no model.
     pub fn number(&self) -> u8
         ensures { result ≡ exit_number self.now }
     {
         match self {
             Status::Done(_) => 0,
             Status::Refused(_) => 1,
+            Status::Unknown(_) => 2,
             Status::BadModel(_) => 3,
             Status::ReadFault => 4,
             Status::WriteFault => 5,
             Status::Memory => 6,
+            Status::NoProperty(_) => 8,
             Status::Usage => 64,
         }
     }

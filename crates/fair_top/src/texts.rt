@@ -4,6 +4,7 @@ ghost use Rattle.std.specs.Prelude.{◌≡◌, ◌⊎◌, ◌++◌, true, false,
 ghost use Rattle.fair_top.specs.Statuses.{ends_silently, status_in, is_read_fault};
 ghost use Rattle.fair_top.specs.Texts.{text_of, line_with, bad_model_text, replay_text, proof_fault_text, entry_fault_text, refusal_text, done_text};
 
+use crate::reports::text_of_report;
 use crate::requests::USAGE;
 use crate::status::{Done, Status};
 use certificate::AnswerFault;
@@ -52,7 +53,9 @@ fn status_text(alloc: Global, status: &Status) -> Result<Vec<u8>, AllocError>
     match status {
         Status::Done(done) => text_of_done(alloc, done),
         Status::Refused(fault) => text_of_answer(alloc, fault),
+        Status::Unknown(report) => text_of_report(alloc, report),
         Status::BadModel(fault) => text_of_model(alloc, fault),
+        Status::NoProperty(n) => numbered(alloc, "no property ", u64::from(*n)),
         Status::Usage => words(alloc, USAGE),
         Status::ReadFault | Status::WriteFault | Status::Memory => Ok(Vec::new(alloc)),
     }

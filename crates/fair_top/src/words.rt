@@ -2,22 +2,24 @@
 
 ghost use Rattle.std.specs.Prelude.{◌≡◌, ◌⊎◌, ◌≤◌, ◌<◌, ◌^◌, ℕ, List, Some, option_map, IfOk, IfErr, IfSome, IfNone, codes, false};
 ghost use Rattle.clap.specs.Simple.{app_of, subcommand_rows_of, subcommand_of};
-ghost use Rattle.clap.specs.Walk.{Row, rows_of, first_of};
+ghost use Rattle.clap.specs.Walk.{Row, rows_of, rule_of, first_of};
 ghost use Rattle.clap.specs.Matches.{found_of};
 ghost use Rattle.clap.specs.Kinds.{FailsBy};
 ghost use Rattle.clap.specs.declared.builder.command.Command.TheViews.{out-Command as fields_of};
 ghost use Rattle.clap.specs.Faults.{fault_of};
 ghost use Rattle.fair_top.specs.declared.requests.GenKind.{GenKind as KindOf};
 ghost use Rattle.fair_top.specs.declared.requests.GenRequest.{GenRequest as RequestOf};
-ghost use Rattle.fair_top.specs.Words.{bytes_of, flag_in, IsGiven, IsNumberIn, IsNumberGiven};
+ghost use Rattle.fair_top.specs.declared.requests.SolveRequest.{SolveRequest as SolveRequestOf};
+ghost use Rattle.fair_top.specs.Words.{bytes_of, flag_in, number_option, IsGiven, IsNumberIn, IsNumberGiven, IsNumberOr};
 ghost use Rattle.fair_top.specs.Asked.{Asked as AskedFor, meant};
 ghost use Rattle.fair_top.specs.Check.{check_command, MeansCheck};
+ghost use Rattle.fair_top.specs.Solve.{solve_command, MeansSolve};
 ghost use Rattle.fair_top.specs.Gen.{gen_command, name_of_kind, MeansGen};
 ghost use Rattle.fair_top.specs.Commands.{fairlive, Means};
 ghost use Rattle.fair_top.specs.Headline.{AsksFor, IsUsage, IsTakenOrUsage};
 ghost use Rattle.fair_top.specs.Asking.{MetFor};
 
-use crate::requests::{Asked, GenKind, GenRequest};
+use crate::requests::{Asked, GenKind, GenRequest, SolveRequest};
 use crate::status::Status;
 use clap::builder::ValueParser;
 use clap::error::ErrorKind;
@@ -59,6 +61,7 @@ fn program<'a>(alloc: Global) -> Result<Command<'a>, AllocError>
     Command::new(alloc, "fairlive")
         .subcommand_required(true)
         .disable_help_subcommand(true)
+        .subcommand(solve_command(alloc)?)?
         .subcommand(check_command(alloc)?)?
         .subcommand(gen_command(alloc)?)
 }
@@ -68,6 +71,9 @@ fn asked_by<'a>(matches: &ArgMatches<'a>) -> Option<Asked<'a>>
     ensures found { IfSome result (λ asked. MetFor (subcommand_rows_of matches.now) (meant asked)) }
     ensures none { IfNone result ((asked : AskedFor) → MetFor (subcommand_rows_of matches.now) asked → ⊥) }
 {
+    if let Some(given) = matches.subcommand_matches("solve") {
+        return solve_of(given);
+    }
     if let Some(given) = matches.subcommand_matches("check") {
         return check_of(given);
     }
@@ -75,6 +81,62 @@ fn asked_by<'a>(matches: &ArgMatches<'a>) -> Option<Asked<'a>>
         return gen_of(given);
     }
     None
+}
+
+/// An option that has a number.
+fn number_option<'a>(alloc: Global, name: &'a str, low: u64, high: u64) -> Arg<'a>
+    ensures rule { rule_of result ≡ number_option name.now low high }
+    ensures local { result.global ≡ false }
+{
+    Arg::new(alloc, name)
+        .long(name)
+        .value_parser(ValueParser::unsigned(low, high))
+}
+
+fn solve_command<'a>(alloc: Global) -> Result<Command<'a>, AllocError>
+    ensures shape { IfOk result (λ command. app_of command ≡ solve_command) }
+    ensures local { IfOk result (λ command. (fields_of command).has_globals ≡ false) }
+{
+    let model = Arg::new(alloc, "MODEL").required(true);
+    Command::new(alloc, "solve")
+        .arg(model)?
+        .arg(number_option(alloc, "property", 0, 4_294_967_295))?
+        .arg(number_option(alloc, "workers", 1, 64))?
+        .arg(number_option(alloc, "conflicts", 0, 4_294_967_295))?
+        .arg(number_option(alloc, "steps", 0, 4_294_967_295))?
+        .arg(number_option(alloc, "skeletons", 0, 65_536))
+}
+
+/// The name and the numbers that `solve` is given, with their defaults.
+fn solve_of<'a>(given: &ArgMatches<'a>) -> Option<Asked<'a>>
+    ensures found { IfSome result (λ asked. Means (meant asked) (codes "solve") (rows_of (found_of given.now))) }
+    ensures none { IfNone result ((model : List ℕ) (request : SolveRequestOf) → MeansSolve (rows_of (found_of given.now)) model request → ⊥) }
+{
+    let model = value_of(given, "MODEL")?;
+    let property = number_or(given, "property", 0, 4_294_967_295, 0)?;
+    let workers = number_or(given, "workers", 1, 64, 1)?;
+    let conflicts = number_or(given, "conflicts", 0, 4_294_967_295, 1_000_000)?;
+    let steps = number_or(given, "steps", 0, 4_294_967_295, 100_000)?;
+    let skeletons = number_or(given, "skeletons", 0, 65_536, 10_000)?;
+    let request = SolveRequest {
+        property: property as u32,
+        workers: workers as u32,
+        conflicts,
+        steps,
+        skeletons: skeletons as u32,
+    };
+    Some(Asked::Solve { model, request })
+}
+
+/// The number that is given for a name, if it is from the low one to the high one, or the default where none is given.
+fn number_or(given: &ArgMatches, name: &str, low: u64, high: u64, default: u64) -> Option<u64>
+    ensures found { IfSome result (IsNumberOr (rows_of (found_of given.now)) name.now low high default) }
+    ensures none { IfNone result ((n : ℕ) → IsNumberOr (rows_of (found_of given.now)) name.now low high default n → ⊥) }
+{
+    match value_of(given, name) {
+        Some(text) => number_in(text, low, high),
+        None => Some(default),
+    }
 }
 
 fn check_command<'a>(alloc: Global) -> Result<Command<'a>, AllocError>

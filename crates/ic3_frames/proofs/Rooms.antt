@@ -1,12 +1,12 @@
 -- Lemmas and frames take room.
 use Rattle.std.proofs.Common.{◌≡◌, ℕ, zero, suc, ◌+◌, ◌-◌, ◌*◌, ◌^◌, ◌<◌, ◌≤◌, Bool, true, false, ◌&&◌, List, [], ◌∷◌, ◌++◌, length, length-append, refl, sym, ap, ◌∙◌, inl, inr, if◌then◌else◌, zero-add, arith}
-use Rattle.std.proofs.Math.Nat.{pow-suc}
+use Rattle.std.proofs.Math.Nat.{pow-suc, lt_of_not-le}
 use Rattle.std.proofs.lemmas.Bool.{cases_Bool, false≢true}
 use Rattle.proof_semantics.specs.declared.literals.Lit.{Lit}
 use Rattle.proof_semantics.specs.Clauses.{clause_value, values_of}
 use Rattle.ic3_frames.specs.Frames.{has_clause, frame_at, put_at}
-use Rattle.ic3_frames.specs.Room.{count_states, allowed_by, total, room, LemmasTakeRoom, LemmasMakeNoRoom, FramesTakeRoom, FirstRoom}
-use Rattle.ic3_frames.proofs.Meaning.{put-within, has-adds-nothing, length-put, opened-stay}
+use Rattle.ic3_frames.specs.Room.{count_states, allowed_by, total, room, LemmasTakeRoom, LemmasMakeNoRoom, FramesTakeRoom, NeighboursDiffer, DifferingAreFew, FirstRoom}
+use Rattle.ic3_frames.proofs.Meaning.{frames-grow, put-within, has-adds-nothing, length-put, opened-stay}
 
 abbrev Levels : Type 0
 Levels = List (List (List Lit))
@@ -46,6 +46,22 @@ count-all (suc n) =
     let h = count-all n in
     let e : 2 ^ suc n ≡ 2 ^ n * 2 = pow-suc 2 n in
     omega arith
+
+-- two answers of which the second is yes where the first is, and would add to a count where the first is no
+same-test : (f g : Bool) (m k : ℕ) → (f ≡ true → g ≡ true) → (f ≡ false → g ≡ true → m + 1 ≤ k) → k ≤ m → f ≡ g
+same-test true true m k within less few = refl
+same-test true false m k within less few = absurd (false≢true (within refl))
+same-test false true m k within less few = absurd (no_more (less refl refl) few)
+  where
+    no_more : m + 1 ≤ k → k ≤ m → ⊥
+    no_more h few = omega (arith, h, few)
+same-test false false m k within less few = refl
+
+-- what passes one test passes the other, and no more do: the two are alike
+count-same : (n : ℕ) (f g : List Bool → Bool) → ((s : List Bool) → f s ≡ true → g s ≡ true) → count_states n g ≤ count_states n f
+    → (s : List Bool) → length s ≡ n → f s ≡ g s
+count-same n f g within few s size =
+    same-test (f s) (g s) (count_states n f) (count_states n g) (within s) (λ out inside. count-less n f g within s size out inside) few
 
 -- ---- a lemma is put into a frame
 
@@ -160,6 +176,43 @@ frames-take n levels few =
     let f : room n levels ≡ total n levels + (left + 1) * width = room-is n levels ∙ ap (λ k. total n levels + k * width) more in
     let g = total-opened n levels in
     omega arith
+
+-- ---- frames that differ
+
+next-differ : (n : ℕ) (own : List (List Lit)) (levels : Levels) → NeighboursDiffer n (own ∷ levels) → NeighboursDiffer n levels
+next-differ n own levels differ k inside same =
+    differ (suc k) (omega arith)
+    (λ s size. same s size ∙ ap (λ m. allowed_by (frame_at (own ∷ levels) m) s) (turn k))
+  where
+    turn : (k : ℕ) → suc (k + 1) ≡ suc k + 1
+    turn k = omega arith
+
+below-next : (m k : ℕ) → (k ≤ m → ⊥) → m + 1 ≤ k
+below-next m k h = let more : m < k = lt_of_not-le h in omega (arith, more)
+
+first-differs : (n : ℕ) (own next : List (List Lit)) (levels : Levels) → NeighboursDiffer n (own ∷ next ∷ levels)
+    → count_states n (allowed_by (frame_at (own ∷ next ∷ levels) 0)) + 1 ≤ count_states n (allowed_by (frame_at (next ∷ levels) 0))
+first-differs n own next levels differ =
+    let all : Levels = own ∷ next ∷ levels in
+    below-next (count_states n (allowed_by (frame_at all 0))) (count_states n (allowed_by (frame_at (next ∷ levels) 0)))
+    (λ few. differ 0 (omega arith)
+    (count-same n (allowed_by (frame_at all 0)) (allowed_by (frame_at all 1)) (λ s h. frames-grow all 0 (values_of s) h) few))
+
+-- the states that the first frame allows, and a frame for each state that it does not
+few-above : (n : ℕ) (own : List (List Lit)) (levels : Levels) → NeighboursDiffer n (own ∷ levels)
+    → length (own ∷ levels) + count_states n (allowed_by (frame_at (own ∷ levels) 0)) ≤ 2 ^ n + 1
+few-above n own [] differ =
+    let most = count-within n (allowed_by (frame_at (own ∷ []) 0)) (λ s. true) (λ s h. refl) in
+    let all = count-all n in
+    omega (arith, most, all)
+few-above n own (next ∷ levels) differ =
+    let above = few-above n next levels (next-differ n own (next ∷ levels) differ) in
+    let here = first-differs n own next levels differ in
+    omega (arith, above, here)
+
+pub differing-few : DifferingAreFew
+differing-few n [] differ = omega arith
+differing-few n (own ∷ levels) differ = let h = few-above n own levels differ in omega (arith, h)
 
 pub first-room : FirstRoom
 first-room n =

@@ -10,7 +10,7 @@ FramesGrow =
     (levels : List (List (List Lit))) (k : ℕ) (v : ℕ → Bool)
     → clauses_value v (frame_at levels k) ≡ true → clauses_value v (frame_at levels (k + 1)) ≡ true
 
--- A lemma that is put into frame n restricts this frame and those below, and nothing else does.
+-- A lemma that is put into frame n restricts this frame and those below.
 abbrev pub LemmasRestrict : Type 0
 LemmasRestrict =
     (levels : List (List (List Lit))) (n : ℕ) (lemma : List Lit) (k : ℕ) (v : ℕ → Bool)

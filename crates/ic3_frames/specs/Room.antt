@@ -42,6 +42,19 @@ FramesTakeRoom =
     (n : ℕ) (levels : List (List (List Lit)))
     → length levels < 2 ^ n + 2 → room n (levels ++ [] ∷ []) + 1 ≤ room n levels
 
+-- two lists of clauses allow the same states of n latches
+abbrev pub AllowTheSame : ℕ → List (List Lit) → List (List Lit) → Type 0
+AllowTheSame n these those = (s : List Bool) → length s ≡ n → allowed_by these s ≡ allowed_by those s
+
+-- no two neighbouring frames allow the same states
+abbrev pub NeighboursDiffer : ℕ → List (List (List Lit)) → Type 0
+NeighboursDiffer n levels =
+    (k : ℕ) → k + 1 < length levels → AllowTheSame n (frame_at levels k) (frame_at levels (k + 1)) → ⊥
+
+-- Where no two neighbouring frames allow the same states, there are at most 2^n + 1 frames.
+abbrev pub DifferingAreFew : Type 0
+DifferingAreFew = (n : ℕ) (levels : List (List (List Lit))) → NeighboursDiffer n levels → length levels ≤ 2 ^ n + 1
+
 -- The room before any frame.
 abbrev pub FirstRoom : Type 0
 FirstRoom = (n : ℕ) → room n [] ≡ (2 ^ n + 2) * (2 ^ n + 1)

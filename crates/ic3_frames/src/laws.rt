@@ -1,6 +1,6 @@
-//! The laws of frames: what they mean, and the room that steps take. Each call does nothing; its contract is the laws.
+//! The laws of frames: what they mean, and what takes room. Each call does nothing; its contract is the laws.
 ghost use Rattle.ic3_frames.specs.Meaning.{FramesGrow, LemmasRestrict, AboveStay, NumberStays, OpenedStay};
-ghost use Rattle.ic3_frames.specs.Room.{LemmasTakeRoom, LemmasMakeNoRoom, FramesTakeRoom, FirstRoom};
+ghost use Rattle.ic3_frames.specs.Room.{LemmasTakeRoom, LemmasMakeNoRoom, FramesTakeRoom, DifferingAreFew, FirstRoom};
 
 /// What a frame allows, the next one allows. A lemma that is put into a frame restricts it and those below, and a frame
 /// that is opened restricts none.
@@ -12,11 +12,12 @@ pub fn frames_grow()
     ensures opened { OpenedStay }
 {}
 
-/// Each step of a search takes room, so that the room at its begin bounds its steps: a lemma that excludes a state which
-/// its frame allowed, and a frame that is opened while there are at most 2^n + 1. Lemmas that are put on make none.
+/// What takes room: a lemma that excludes a state which its frame allowed, and a frame that is opened while there are
+/// at most 2^n + 1. There are no more where no two neighbours allow the same states. Lemmas that are put on make none.
 pub fn steps_take_room()
     ensures lemmas { LemmasTakeRoom }
     ensures pushes { LemmasMakeNoRoom }
     ensures frames { FramesTakeRoom }
+    ensures few { DifferingAreFew }
     ensures first { FirstRoom }
 {}

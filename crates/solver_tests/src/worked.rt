@@ -96,7 +96,12 @@ fn answers(rt: HostRuntime) -> Result<(), Fail> {
         let mut meter = Meter::new(limit, 0);
         let (said, core) = ask(alloc, numbers, &mut asked, assumed, &mut meter)?;
         assert_eq!(rt; said, wanted, "of {numbers:?} under {assumed:?}");
-        assert_eq!(rt; core.as_slice(), literals(alloc, wanted_core)?.as_slice());
+        // the order of a core is free
+        let wanted_core = literals(alloc, wanted_core)?;
+        assert_eq!(rt; core.len(), wanted_core.len(), "of {numbers:?} under {assumed:?}");
+        for literal in wanted_core.as_slice() {
+            assert!(rt; core.as_slice().contains(literal));
+        }
         assert_eq!(rt; meter.spending().conflicts(), conflicts);
         // after a limit was reached it can be asked again
         let (again, _core) = ask(alloc, numbers, &mut asked, assumed, &mut Meter::new(9, 0))?;

@@ -117,6 +117,16 @@ tells-at n (suc u) w (One ∷ xs) e = tells-other n w true (literals_from (suc n
 tells-at n zero w (X ∷ xs) e = tells-before (suc n) w xs (omega arith)
 tells-at n (suc u) w (X ∷ xs) e = tells-at (suc n) u w xs (omega arith)
 
+-- the state that a cube tells is the one of which it was made
+pub state-told : (xs : List Value3) → state_of (length xs) (literals_from 0 xs) ≡ xs
+state-told xs =
+    let cube : List Lit = literals_from 0 xs in
+    ext_get_or X (values3_below (length xs) (told_by cube)) xs
+    (length-values3_below (length xs) (told_by cube))
+    (λ v inside.
+    get_or-values3_below (length xs) (told_by cube) v X (omega (arith, length-values3_below (length xs) (told_by cube)))
+    ∙ tells-at 0 v v xs (omega arith))
+
 -- ---- without a literal
 
 without-before : (n w k : ℕ) (xs : List Value3) → w < n → told_by (without k (literals_from n xs)) w ≡ X

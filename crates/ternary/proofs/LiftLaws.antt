@@ -11,11 +11,11 @@ use Rattle.ternary.specs.declared.values.Value3.{Value3}
 use Rattle.ternary.specs.declared.values.Value3.TheVariants.{Zero, One, X}
 use Rattle.ternary.specs.Values.{known, literal3_in, IsCompletion}
 use Rattle.ternary.specs.Simulation.{simulation}
-use Rattle.ternary.specs.Cubes.{IsOverLatches, LiesIn, KeepsTrue, state_of, without, NeedsEachLiteral}
-use Rattle.ternary.specs.Lifting.{SomeIsX, IsLiftedTo, literals_from}
+use Rattle.ternary.specs.Cubes.{IsOverLatches, LiesIn, ShowsTrue, KeepsTrue, state_of, without, NeedsEachLiteral}
+use Rattle.ternary.specs.Lifting.{AreOne, SomeIsX, IsLiftedTo, literals_from}
 use Rattle.ternary.proofs.Refined.{completion-becomes, simulation-sound}
 use Rattle.ternary.proofs.Forgetting.{known-completes, becomes-literal, known-literal_in}
-use Rattle.ternary.proofs.CubeLaws.{over-from, lies-from, completes-from, state-without}
+use Rattle.ternary.proofs.CubeLaws.{over-from, lies-from, completes-from, state-told, state-without}
 
 -- what holds while values are forgotten, all that are left being latches from i on
 pub record IsLifting (c : Circuit) (at : Position) (keep : List ℕ) (i : ℕ) (state : List Value3) : Type 0 where
@@ -68,6 +68,13 @@ module _ (c : Circuit) (at : Position) (keep : List ℕ) (fits : IsPosition c at
   lifted-keeps =
       λ s size lies k d below.
       literal-true s (completes-from (values_of s) 0 state s (size ∙ sym long) lies (from-first s)) (get_or keep k d) (h.keeps k d below)
+
+  pub lifted-told : ShowsTrue c at.inputs keep (literals_from 0 state)
+  lifted-told =
+      let told : state_of (length c.latches) (literals_from 0 state) ≡ state =
+      ap (λ n. state_of n (literals_from 0 state)) (sym long) ∙ state-told state
+      in
+      subst (λ xs. AreOne (simulation c xs (map known at.inputs)) keep) (sym told) h.keeps
 
   pub lifted-needed : NeedsEachLiteral c at.inputs keep (literals_from 0 state)
   lifted-needed =

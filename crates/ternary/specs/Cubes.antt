@@ -9,7 +9,7 @@ use Rattle.aig_semantics.specs.Runs.{position_of, literal_at}
 use Rattle.proof_semantics.specs.declared.literals.Lit.{Lit}
 use Rattle.proof_semantics.specs.Clauses.{cube_value, values_of}
 use Rattle.ternary.specs.declared.values.Value3.{Value3}
-use Rattle.ternary.specs.declared.values.Value3.TheVariants.{X}
+use Rattle.ternary.specs.declared.values.Value3.TheVariants.{One, X}
 use Rattle.ternary.specs.Values.{known, literal3_in}
 use Rattle.ternary.specs.Simulation.{values3_below, simulation}
 
@@ -43,6 +43,11 @@ state_of n cube = values3_below n (told_by cube)
 -- the cube without its literal at place k
 abbrev pub without : ℕ → List Lit → List Lit
 without k cube = take k cube ++ drop (suc k) cube
+
+-- with these inputs, and of the latches what the cube tells, ternary simulation gives 1 for each of the literals
+abbrev pub ShowsTrue : Circuit → List Bool → List ℕ → List Lit → Type 0
+ShowsTrue c inputs keep cube =
+    All (λ literal. literal3_in (simulation c (state_of (length c.latches) cube) (map known inputs)) literal ≡ One) keep
 
 -- with these inputs, and of the latches what the cube tells, ternary simulation gives X for one of the literals
 abbrev pub LeavesOpen : Circuit → List Bool → List ℕ → List Lit → Type 0

@@ -5,7 +5,7 @@ ghost use Rattle.std.specs.Prelude.{◌≡◌, ◌↔◌, ℕ, ◌+◌, ◌<◌,
 ghost use Rattle.std.specs.Int.{bit_at};
 ghost use Rattle.aig_semantics.specs.Runs.{IsPosition};
 ghost use Rattle.ternary.specs.Values.{known};
-ghost use Rattle.ternary.specs.Cubes.{IsOverLatches, LiesIn, MakesTrue, KeepsTrue, NeedsEachLiteral};
+ghost use Rattle.ternary.specs.Cubes.{IsOverLatches, LiesIn, MakesTrue, ShowsTrue, KeepsTrue, NeedsEachLiteral};
 ghost use Rattle.ternary.specs.Lanes.{lane_of, in_lane};
 ghost use Rattle.ternary.specs.Simulation.{simulation};
 ghost use Rattle.ternary.specs.Lifting.{AreOne, IsLiftedTo, forgotten, hidden_at, hidden_one, literals_from};
@@ -255,13 +255,14 @@ fn cube_of(alloc: Global, state: &[Value3]) -> Result<Cube, AllocError>
 }
 
 /// A cube of states that, with the inputs of the position, make the same literals true: the position's state lies in
-/// it, and without any one of its literals ternary simulation cannot tell that all are true. A literal of the cube has
-/// the number of a latch, from 0, as its variable.
+/// it, ternary simulation tells from it that all are true, and without any one of its literals it cannot tell so. A
+/// literal of the cube has the number of a latch, from 0, as its variable.
 pub fn lift(alloc: Global, c: &Circuit, at: &Position, keep: &[u64]) -> Result<Cube, AllocError>
     requires position { IsPosition c.now at.now }
     requires keep { MakesTrue c.now at.now keep.now }
     ensures latches { IfOk result (λ cube. IsOverLatches c.now cube) }
     ensures holds { IfOk result (λ cube. LiesIn at.now.latches cube) }
+    ensures told { IfOk result (λ cube. ShowsTrue c.now at.now.inputs keep.now cube) }
     ensures keeps { IfOk result (λ cube. KeepsTrue c.now at.now.inputs keep.now cube) }
     ensures needed { IfOk result (λ cube. NeedsEachLiteral c.now at.now.inputs keep.now cube) }
 {

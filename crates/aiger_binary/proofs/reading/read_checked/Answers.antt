@@ -3,15 +3,15 @@ use Rattle.aiger_sections.proofs.FormLaws.{read_model, read_stands}
 use Rattle.aiger_binary.proofs.TextLaws.{binary_reads}
 use Rattle.aiger_binary.proofs.reading.read_checked.Goals as goal
 
-pub check_circuit-requires : goal.check_circuit-requires
-check_circuit-requires c = binary_reads.range c.args.bytes.now c.in_ok-parts.parts c.in_ok-parts.names c.in_ok-parts.ensures
+pub keep_circuit-requires : goal.keep_circuit-requires
+keep_circuit-requires c = binary_reads.range c.args.bytes.now c.in_ok-parts.parts c.in_ok-parts.names c.in_ok-parts.ensures
 
 pub new-requires : goal.new-requires
 new-requires c =
-    let e = c.in_ok-circuit.ensures in
-    rw e.ok (read_model IsBinaryTextOf binary_at binary_reads c.args.bytes.now c.in_ok-parts.parts c.in_ok-parts.names c.in_ok-parts.ensures e.checked e.defined)
+    let e = c.in_ok-kept.ensures in
+    rw (e.ok.circuit, e.ok.outputs, e.ok.bad) (read_model IsBinaryTextOf binary_at binary_reads c.args.bytes.now c.in_ok-parts.parts c.in_ok-parts.names c.in_ok-parts.ensures e.checked e.defined)
 
 pub returns : goal.returns
 returns c =
-    let e = c.in_ok-circuit.ensures in
-    rw (c.new.ensures, e.ok) (read_stands IsBinaryTextOf binary_at binary_reads c.args.bytes.now c.in_ok-parts.parts c.in_ok-parts.names c.in_ok-parts.ensures e.checked e.defined)
+    let e = c.in_ok-kept.ensures in
+    rw (c.new.ensures, e.ok.circuit, e.ok.outputs, e.ok.bad) (read_stands IsBinaryTextOf binary_at binary_reads c.args.bytes.now c.in_ok-parts.parts c.in_ok-parts.names c.in_ok-parts.ensures e.checked e.defined)

@@ -10,5 +10,5 @@ use Rattle.cdcl.proofs.answering.answer_of.Goals as goal
 pub returns-in_ok-values-in-Satisfied : goal.returns-in_ok-values-in-Satisfied
 returns-in_ok-values-in-Satisfied c =
     subst (λ vs. IsModel (added_of c.args.log.now) c.args.assumptions.now (values_of vs)) (sym c.into_vec.ensures)
-    (listed_model c.args.log.now c.args.assumptions.now c.in-Satisfied.trail.steps c.in_ok-values-in-Satisfied.values (subst (IsFound c.args.log.now.clauses c.args.assumptions.now) c.in-Satisfied.is c.requires.found)
+    (listed_model c.args.log.now c.args.assumptions.now c.args.trail.now.steps c.in_ok-values-in-Satisfied.values (subst (IsFound c.args.log.now.clauses c.args.assumptions.now c.args.trail.now.steps) c.in-Satisfied.is c.requires.found)
     (subst (λ ls. AreTrue c.in_ok-values-in-Satisfied.values ls) c.literals.ensures.value c.in_ok-values-in-Satisfied.ensures))

@@ -5,5 +5,5 @@ use Rattle.cdcl.proofs.answering.search_asked.Goals as goal
 
 pub returns-clause-answer : goal.returns-clause-answer
 returns-clause-answer c =
-    asked_from c.search.new.log (added_of c.args.log.now) c.args.assumptions.now c.in_ok-found.found c.in_ok-asked_of.field-0 (sym c.search.ensures.searched.added)
+    asked_from c.search.new.log (added_of c.args.log.now) c.args.assumptions.now c.search.new.trail.steps c.in_ok-found.found c.in_ok-asked_of.field-0 (sym c.search.ensures.searched.added)
     c.search.ensures.log c.in_ok-found.ensures.found c.in_ok-asked_of.ensures

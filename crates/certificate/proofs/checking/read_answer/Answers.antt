@@ -1,18 +1,18 @@
-use Rattle.std.proofs.Common.{rules, ◌≡◌, ◌∙◌, ◌+◌, ◌≤◌, ℕ, Bool, true, false, List, [], ◌∷◌, Option, Some, Result, Ok, Err, inl, inr, refl, sym, ap, subst, arith}
+use Rattle.std.proofs.Common.{rules, ◌≡◌, ◌∙◌, ℕ, Bool, false, List, [], ◌∷◌, Option, Result, Err, inr, refl, sym, ap, subst, arith}
 use Rattle.std.specs.Prelude.{IsTrue, IsFalse}
 use Rattle.edge.specs.Reads.{Reads}
 use Rattle.edge.specs.Told.{IfTold}
-use Rattle.answer_lines.specs.Left.{Reading, left_of, most_bytes, Took}
+use Rattle.answer_lines.specs.Left.{Reading, left_of, Took}
 use Rattle.answer_lines.proofs.ReadLaws.{reads_after}
 use Rattle.certificate.specs.declared.ends.Accepted.{Accepted}
 use Rattle.certificate.specs.declared.ends.AnswerEnd.{AnswerEnd}
 use Rattle.certificate.specs.declared.ends.AnswerEnd.TheVariants as ends
-use Rattle.certificate.specs.Ends.{ReadsAs, EndsWith, IsFaultAtEnd, has_unread}
+use Rattle.certificate.specs.Ends.{EndsWith, IsFaultAtEnd, has_unread}
 use Rattle.certificate.specs.Lines.{kept_from}
 use Rattle.certificate.specs.Reading.{Status, read_lines}
 use Rattle.certificate.specs.Seen.{seen}
 use Rattle.certificate.specs.Texts.{OfLines, ReadingSays}
-use Rattle.certificate.proofs.Ended.{Says, says_found, says_exactly}
+use Rattle.certificate.proofs.Ended.{says_found, says_exactly}
 use Rattle.certificate.proofs.Reached.{Reached, reached_start, reached_next, lines_found, lines_exactly, step_found, step_exactly, at_line, step_unread, end_unread, end_said}
 use Rattle.certificate.proofs.checking.read_answer.Goals as goal
 

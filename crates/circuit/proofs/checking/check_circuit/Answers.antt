@@ -1,44 +1,24 @@
-use Rattle.circuit.proofs.Verdicts.{IsChecked-from, refused-faulty, refused-twice, refused-undefined, refused-cycle, kept-twice, kept-undefined, kept-cycle, cyclic-twice, cyclic-undefined, cyclic-cycle, cyclic-faulty}
+use Rattle.std.proofs.Common.{subst}
+use Rattle.circuit.specs.declared.parts.Parts.{Parts}
+use Rattle.circuit.specs.declared.faults.ModelEnd.TheVariants.{Fault}
+use Rattle.circuit.specs.declared.faults.ModelFault.TheVariants.{Cycle}
+use Rattle.circuit.specs.Sections.{circuit_of, used_by}
+use Rattle.circuit.specs.Faults.{IsOnlyOnCycle}
+use Rattle.aig_semantics.specs.Circuits.{AreDefined, IsChecked}
+use Rattle.circuit.proofs.Copied.{err-of, one-of, defined-of}
 use Rattle.circuit.proofs.checking.check_circuit.Goals as goal
 
-pub returns-in-Some-clause-faulty : goal.returns-in-Some-clause-faulty
-returns-in-Some-clause-faulty c = refused-faulty _ c.args.parts.now c.in-Some.fault c.in-Some.ensures
-
-pub returns-in-Some-clause-twice : goal.returns-in-Some-clause-twice
-returns-in-Some-clause-twice c = refused-twice _ c.args.parts.now c.in-Some.fault c.in-Some.ensures
-
-pub returns-in-Some-clause-undefined : goal.returns-in-Some-clause-undefined
-returns-in-Some-clause-undefined c = refused-undefined _ c.args.parts.now c.in-Some.fault c.in-Some.ensures
-
-pub returns-in-Some-clause-cycle : goal.returns-in-Some-clause-cycle
-returns-in-Some-clause-cycle c = refused-cycle _ c.args.parts.now c.in-Some.fault c.in-Some.ensures
-
-pub keep-requires-clause-checked : goal.keep-requires-clause-checked
-keep-requires-clause-checked c =
-    IsChecked-from c.args.parts.now c.in-Order.order.items c.requires c.in_default.ensures (rw c.in-Order.is at c.in_ok-order.ensures)
-
-pub returns-in-Order-clause-twice : goal.returns-in-Order-clause-twice
-returns-in-Order-clause-twice c = kept-twice _ _ c.args.parts.now c.in_default.ensures
-
-pub returns-in-Order-clause-undefined : goal.returns-in-Order-clause-undefined
-returns-in-Order-clause-undefined c = kept-undefined _ _ c.args.parts.now c.in_default.ensures
-
-pub returns-in-Order-clause-cycle : goal.returns-in-Order-clause-cycle
-returns-in-Order-clause-cycle c =
-    kept-cycle _ _ c.args.parts.now c.in-Order.order.items c.in_default.ensures (rw c.in-Order.is at c.in_ok-order.ensures)
+pub returns-clause-defined : goal.returns-clause-defined
+returns-clause-defined c =
+    defined-of c.keep_circuit.result c.circuit_in.result (AreDefined (circuit_of c.args.parts.now) (used_by c.args.parts.now)) c.circuit_in.ensures
+    (rw c.in_ok-copy.ensures at c.keep_circuit.ensures.defined)
 
 pub returns-clause-faulty : goal.returns-clause-faulty
 returns-clause-faulty c =
-    cyclic-faulty _ c.args.parts.now c.in-Cycle.v c.in_default.ensures (rw c.in-Cycle.is at c.in_ok-order.ensures)
-
-pub returns-clause-twice : goal.returns-clause-twice
-returns-clause-twice c =
-    cyclic-twice _ c.args.parts.now c.in-Cycle.v c.in_default.ensures (rw c.in-Cycle.is at c.in_ok-order.ensures)
-
-pub returns-clause-undefined : goal.returns-clause-undefined
-returns-clause-undefined c =
-    cyclic-undefined _ c.args.parts.now c.in-Cycle.v c.in_default.ensures (rw c.in-Cycle.is at c.in_ok-order.ensures)
+    λ fault e. (rw c.in_ok-copy.ensures at c.keep_circuit.ensures.faulty) fault
+    (err-of c.keep_circuit.result c.circuit_in.result (Fault fault) c.circuit_in.ensures e)
 
 pub returns-clause-cycle : goal.returns-clause-cycle
 returns-clause-cycle c =
-    cyclic-cycle _ c.args.parts.now c.in-Cycle.v c.in_default.ensures (rw c.in-Cycle.is at c.in_ok-order.ensures)
+    one-of c.keep_circuit.result c.circuit_in.result (λ v. Fault (Cycle v)) (IsOnlyOnCycle c.args.parts.now) c.circuit_in.ensures
+    (rw c.in_ok-copy.ensures at c.keep_circuit.ensures.cycle)

@@ -15,18 +15,16 @@ put_latches-requires-clause-inside c =
 pub put_gates-requires : goal.put_gates-requires
 put_gates-requires c =
     let checked = subst (λ x. IsChecked x) c.c.view_is c.c.invariant.checked in
-    let order = subst (λ x. IsEvaluationOrder x.gates c.c.inside.order.items) c.c.view_is c.c.invariant.order in
-    subst (λ xs. All (λ gate. gate.var < length c.put_latches.new.out) xs) (sym c.deref.ensures.value)
-    (λ k d below.
-    let range = order-in_range c.args.c.now c.c.inside.order.items c.args.latches.now c.args.inputs.now checked order c.requires.latches c.requires.inputs k d below in
-    omega arith)
+    let order = c.evaluation_order.ensures.order in
+    λ k d below.
+    let range = order-in_range c.args.c.now c.evaluation_order.result.now c.args.latches.now c.args.inputs.now checked order c.requires.latches c.requires.inputs k d below in
+    omega arith
 
 pub returns : goal.returns
 returns c =
     let checked = subst (λ x. IsChecked x) c.c.view_is c.c.invariant.checked in
-    let order = subst (λ x. IsEvaluationOrder x.gates c.c.inside.order.items) c.c.view_is c.c.invariant.order in
-    let law = evaluated-is_valuation c.args.c.now c.c.inside.order.items c.args.latches.now c.args.inputs.now checked order c.requires.latches c.requires.inputs in
+    let order = c.evaluation_order.ensures.order in
+    let law = evaluated-is_valuation c.args.c.now c.evaluation_order.result.now c.args.latches.now c.args.inputs.now checked order c.requires.latches c.requires.inputs in
     let latches = c.as_slice-2.ensures ∙ ap (λ x. x.latches) c.c.view_is in
     let inputs = c.as_slice.ensures ∙ ap (λ x. x.inputs) c.c.view_is in
-    let gates = c.deref.ensures.value in
     cc

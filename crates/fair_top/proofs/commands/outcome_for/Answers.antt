@@ -10,3 +10,7 @@ pub returns-in-Check-clause-exactly : goal.returns-in-Check-clause-exactly
 returns-in-Check-clause-exactly g c = λ verdict d.
     still_answered verdict c.check.result (status_in c.with_text.result) c.with_text.ensures.status
     (c.check.ensures.exactly verdict (subst (λ (a : AskedInCode). Decides (g.H.Shelf.held c.args.shelf.now) (meant a) verdict) c.in-Check.is d))
+
+pub returns-in-Solve-clause-exactly : goal.returns-in-Solve-clause-exactly
+returns-in-Solve-clause-exactly g c = λ verdict d.
+    c.solve.ensures.exactly verdict (subst (λ (a : AskedInCode). Decides (g.H.Shelf.held c.args.shelf.now) (meant a) verdict) c.in-Solve.is d)

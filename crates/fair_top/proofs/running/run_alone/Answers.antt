@@ -12,13 +12,13 @@ returns-in-Ok-write_all-clause-text g c =
     written (g.H.Shelf.held c.args.shelf.now) (bytes_of c.args.words.now) (g.O.Sink.taken c.args.out.now) (g.O.Sink.taken c.write_all.new.sink)
     c.in-Ok.field-0.status c.in-Ok.field-0.text.items c.deref.result.now c.deref.ensures.value c.in-Ok.ensures.found c.in-Ok-write_all.ensures.all
 
-pub returns-in-Ok-clause-text : goal.returns-in-Ok-clause-text
-returns-in-Ok-clause-text g c =
+pub returns-in-Err-write_all-clause-text : goal.returns-in-Err-write_all-clause-text
+returns-in-Err-write_all-clause-text g c =
     part_written (g.H.Shelf.held c.args.shelf.now) (bytes_of c.args.words.now) (g.O.Sink.taken c.args.out.now) (g.O.Sink.taken c.write_all.new.sink)
     c.in-Ok.field-0.status c.in-Ok.field-0.text.items c.deref.result.now c.deref.ensures.value c.in-Ok.ensures.found c.in-Err-write_all.ensures.part
 
-pub returns-in-Ok-clause-reads : goal.returns-in-Ok-clause-reads
-returns-in-Ok-clause-reads g c =
+pub returns-in-Err-write_all-clause-reads : goal.returns-in-Err-write_all-clause-reads
+returns-in-Err-write_all-clause-reads g c =
     read_before g.H.Shelf.reads (g.H.Shelf.held c.args.shelf.now) (bytes_of c.args.words.now) c.in-Ok.field-0.status c.args.shelf.now c.outcome_of.new.shelf
     c.in-Ok.ensures.aloud c.in-Ok.ensures.reads
 

@@ -1,8 +1,8 @@
 use Rattle.std.proofs.Common.{subst, sym, length}
 use Rattle.std.proofs.lemmas.Result.{IfOk-weaker}
-use Rattle.ternary.specs.Cubes.{IsOverLatches, LiesIn, KeepsTrue, NeedsEachLiteral}
+use Rattle.ternary.specs.Cubes.{IsOverLatches, LiesIn, ShowsTrue, KeepsTrue, NeedsEachLiteral}
 use Rattle.ternary.specs.Lifting.{IsLiftedTo}
-use Rattle.ternary.proofs.LiftLaws.{lifted-over, lifted-holds, lifted-keeps, lifted-needed}
+use Rattle.ternary.proofs.LiftLaws.{lifted-over, lifted-holds, lifted-told, lifted-keeps, lifted-needed}
 use Rattle.ternary.proofs.lifting.lift.Goals as goal
 
 pub returns-clause-latches : goal.returns-clause-latches
@@ -21,6 +21,15 @@ returns-clause-holds c =
     in
     IfOk-weaker c.cube_of.result _ _
     (λ cube e. subst (λ x. LiesIn c.args.at.now.latches x) (sym e) (lifted-holds c.args.c.now c.args.at.now c.args.keep.now c.requires.position c.deref.result.now lifted))
+    c.cube_of.ensures
+
+pub returns-clause-told : goal.returns-clause-told
+returns-clause-told c =
+    let lifted : IsLiftedTo c.args.c.now c.args.at.now.latches c.args.at.now.inputs c.args.keep.now (length c.args.at.now.latches) c.deref.result.now =
+    subst (λ xs. IsLiftedTo c.args.c.now c.args.at.now.latches c.args.at.now.inputs c.args.keep.now (length c.args.at.now.latches) xs) (sym c.deref.ensures.value) c.in_ok-state.ensures
+    in
+    IfOk-weaker c.cube_of.result _ _
+    (λ cube e. subst (λ x. ShowsTrue c.args.c.now c.args.at.now.inputs c.args.keep.now x) (sym e) (lifted-told c.args.c.now c.args.at.now c.args.keep.now c.requires.position c.deref.result.now lifted))
     c.cube_of.ensures
 
 pub returns-clause-keeps : goal.returns-clause-keeps

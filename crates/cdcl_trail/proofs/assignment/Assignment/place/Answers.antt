@@ -7,9 +7,9 @@ use Rattle.cdcl_trail.proofs.assignment.Assignment.place.Goals as goal
 pub returns-in-Some : goal.returns-in-Some
 returns-in-Some c =
     let t = c.self.inside in
-    subst (λ (s : Steps). value_of (take c.in-Some.place.now s.steps) c.args.var ≡ None) c.self.view_is
+    subst (λ (s : Steps). value_of (take c.in-Some.place s.steps) c.args.var ≡ None) c.self.view_is
     (ap (option_map (λ (s : Step). s.literal.positive))
-    (none_to_place t.literals.items t.reasons.items c.args.var c.in-Some.place.now (sym (c.in-Some.ensures.value ∙ c.self.invariant.places c.args.var))))
+    (none_to_place t.literals.items t.reasons.items c.args.var c.in-Some.place (sym (c.in-Some.ensures ∙ c.self.invariant.places c.args.var))))
 
 pub returns-in-None : goal.returns-in-None
 returns-in-None c =
@@ -17,4 +17,4 @@ returns-in-None c =
     subst (λ (s : Steps). value_of (take (length c.as_slice.result.now) s.steps) c.args.var ≡ None) c.self.view_is
     (ap (option_map (λ (s : Step). s.literal.positive))
     (none_take _ (length c.as_slice.result.now) c.args.var
-    (no_place t.literals.items t.reasons.items c.args.var (sym (c.in-None.ensures.value ∙ c.self.invariant.places c.args.var)))))
+    (no_place t.literals.items t.reasons.items c.args.var (sym (c.in-None.ensures ∙ c.self.invariant.places c.args.var)))))

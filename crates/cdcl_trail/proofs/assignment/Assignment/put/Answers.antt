@@ -1,6 +1,5 @@
-use Rattle.std.proofs.Common.{◌≡◌, ◌+◌, ◌++◌, ◌∷◌, [], Some, None, length, cond, ap, sym, subst, ◌∙◌, arith}
-use Rattle.std.specs.Ordering.{is_eq, nat_cmp}
-use Rattle.std.specs.BTreeMap as tree
+use Rattle.std.proofs.Common.{◌≡◌, ◌+◌, ◌++◌, ◌∷◌, [], Some, None, length, cond, eqb, ap, sym, subst, ◌∙◌, arith}
+use Rattle.cdcl_trail.specs.Tables.{told}
 use Rattle.cdcl_trail.specs.Trails.{Steps, step, value_of}
 use Rattle.cdcl_trail.specs.AssignmentOf.{state_of}
 use Rattle.cdcl_trail.proofs.TrailLaws.{pushed, pushed_steps, level_length, length_beside, opened_small}
@@ -22,7 +21,7 @@ invariant_of-self-2 c =
     (subst (λ (s : Steps). value_of s.steps c.args.literal.var ≡ None) (sym c.self.view_is) c.requires)
     (c.push_reserved.ensures.items ∙ ap (λ xs. xs ++ c.args.literal ∷ []) c.in_ok-reserve.ensures.items)
     (c.push_reserved-2.ensures.items ∙ ap (λ xs. xs ++ c.args.reason ∷ []) c.in_ok-reserve-2.ensures.items)
-    (λ v. c.in_ok-insert.ensures.updates.0 v ∙ ap (λ n. cond (is_eq (nat_cmp c.args.literal.var v)) (Some n) (tree.get nat_cmp t.places v)) same)
+    (λ v. c.in_ok-insert.ensures.updates v ∙ ap (λ n. cond (eqb c.args.literal.var v) (Some n) (told t.places v)) same)
     (ap (λ n. t.level + n) c.opened_by.ensures)
 
 pub returns-clause-ok : goal.returns-clause-ok

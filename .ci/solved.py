@@ -1,0 +1,172 @@
+#!/usr/bin/env python3
+"""What `solve` prints: of models worked out by hand, and of small drawn circuits beside a search of all their states. Each
+verdict must be the right one, and an answer that the judge beside this file and `check` accept; each report must show what
+was spent.
+
+    solved.py [SEED [CIRCUITS]]     as many as 240 seconds allow, and 60 at least"""
+import concurrent.futures
+import os
+import random
+import re
+import subprocess
+import sys
+import tempfile
+import time
+
+sys.dont_write_bytecode = True
+import judge  # noqa: E402
+import maker  # noqa: E402
+
+TOP = os.path.dirname(os.path.dirname(os.path.abspath(__file__)))
+# the program itself, without the script before it that looks for sources that are newer
+PROGRAM = [os.path.join(TOP, "crates", "fair_main", "out", "fair_main")]
+CIRCUITS, SECONDS, WORKERS, FEWEST = 300, 240, 4, 60
+
+# ---- what was worked out by hand: a model, options, the status, and the text or how it begins
+
+ONE = "aag 1 0 1 0 0 0 0 1 0\n"
+CHANGING, STUCK, RISING = ONE + "2 3\n1\n2\n", ONE + "2 2\n1\n2\n", ONE + "2 1\n1\n3\n"
+COUNTER = "aag 6 0 2 0 4 0 0 1 0\n2 3\n4 11\n1\n12\n6 5 2\n8 4 3\n10 9 7\n12 4 2\n"
+# a property whose literal is the conjunction of two formulas that exclude each other
+APART = "aag 9 2 0 0 7 0 0 1 0\n2\n4\n1\n18\n6 5 3\n8 5 2\n10 4 3\n12 4 2\n14 9 7\n16 13 11\n18 16 14\n"
+TWICE = "1\nj0\n0\n\n\n.\n"
+REPORT = "2\nj0\nc entries {}\nc worker 0 conflicts {} steps {}\n.\n"
+USAGE = "usage: fairlive solve MODEL"
+KNOWN = [
+    (CHANGING, "", 0, TWICE),
+    (STUCK, "", 0, "0\nj0\nversion 2\n"),
+    (RISING, "", 0, "0\nj0\nversion 2\n"),
+    (ONE + "2 2 2\n1\n2\n", "", 0, "1\nj0\n1\n\n.\n"),
+    ("aag 1 0 1 0 0 0 1 1 0\n2 2 2\n3\n1\n2\n", "", 0, "0\nj0\nversion 2\n"),
+    (COUNTER, "", 0, "1\nj0\n00\n\n\n\n\n.\n"),
+    ("aag 1 1 0 0 0 0 0 1 0\n2\n1\n2\n", "", 0, "1\nj0\n\n1\n.\n"),
+    ("aig 1 0 1 0 0 0 0 1 0\n3\n1\n2\n", "", 0, TWICE),
+    ("aig 3 1 1 0 1 0 0 1 0\n6\n1\n4\n\x02\x02l0 t\nc\nany", "", 0, "0\nj0\nversion 2\n"),
+    (ONE + "2 3\n0\n", "", 0, TWICE),
+    (ONE + "2 3\n1\n0\n", "--conflicts 0", 0, "0\nj0\nversion 2\n"),
+    (STUCK, "--skeletons 0", 2, "2\nj0\nc entries 0 of 0\nc worker 0 conflicts "),
+    (CHANGING, "--skeletons 0", 0, TWICE),
+    (CHANGING, "--property 1", 8, "no property 1\n"),
+    ("aag 1048576 0 0 0 0\n", "", 8, "no property 0\n"),
+    ("aag 2 1 0 0 1 0 0 1 0\n2\n1\n4\n4 4 2\n", "", 3, "model refused cycle 2\n"),
+    (APART, "--conflicts 0", 2, REPORT.format("0 of 10000", "0 of 0", "0 of 100000")),
+    (STUCK, "--steps 0", 2, REPORT.format("0 of 10000", "0 of 1000000", "0 of 0")),
+    (COUNTER, "--workers 4", 0, "1\nj0\n00\n\n\n\n\n.\n"),
+    (COUNTER, "--workers 0", 64, USAGE),
+    (COUNTER, "--workers 65", 64, USAGE),
+    (COUNTER, "--skeletons 65537", 64, USAGE),
+    (COUNTER, "--steps 1 --steps 2", 64, USAGE),
+    ("aag 4 0 4 0 0 0 0 1\n2 8 1\n4 2\n6 4\n8 6\n4\n2\n4\n6\n8\n", "", 0, "1\nj0\n1000\n\n\n\n\n.\n"),
+]
+# the search spends its budgets on questions that serve
+SMALL = "--conflicts 1000 --steps 1000"
+
+
+def ran(*words):
+    done = subprocess.run([*PROGRAM, *words], stdout=subprocess.PIPE, stderr=subprocess.STDOUT, timeout=120)
+    return done.stdout.decode("latin1"), done.returncode
+
+
+class Cases:
+    """Models in a folder, and what was wrong."""
+
+    def __init__(self, folder):
+        self.folder, self.wrong, self.answers, self.reports = folder, [], 0, 0
+
+    def path(self, name, text):
+        path = os.path.join(self.folder, name)
+        with open(path, "wb") as file:
+            file.write(text.encode("latin1"))
+        return path
+
+    def solve(self, name, model, options):
+        return ran("solve", self.path(name + ".aag", model), *options.split())
+
+    def verdict(self, name, model, text):
+        """What the judge and `check` say of a printed answer; None where they differ or one refuses it."""
+        answer = self.path(name + ".answer", text)
+        circuit = judge.read_circuit(model.encode("latin1"))
+        wanted = judge.judge(circuit, text.encode("latin1"))
+        if wanted[1] != 0 or ran("check", os.path.join(self.folder, name + ".aag"), answer) != wanted:
+            return None
+        self.answers += 1
+        return wanted[0]
+
+    def complain(self, what, model, options):
+        self.wrong.append(f"solve {options} of {model!r}: {what}")
+
+
+def compare_known(cases, place, row):
+    model, options, status, text = row
+    for more in ["", SMALL] if status == 0 and not options else [""]:
+        words = f"{options} {more}".strip()
+        said, code = cases.solve(f"known{place}", model, words)
+        whole = text.endswith("\n") and not text.startswith("0\n")
+        if code != status or (said != text if whole else not said.startswith(text)):
+            cases.complain(f"status {code}, printed {said[:300]!r}, not {status} and {text!r}", model, words)
+        elif status == 0 and cases.verdict(f"known{place}", model, said) is None:
+            cases.complain(f"its answer {said[:300]!r} is not accepted", model, words)
+
+
+def is_report(text, workers, conflicts, steps, entries):
+    """Whether a report has its form, and each worker has spent its conflicts or its steps, or the list is full."""
+    lines = text.split("\n")
+    head = re.fullmatch(r"c entries (\d+) of (\d+)", lines[2]) if len(lines) == workers + 5 else None
+    if lines[:2] != ["2", "j0"] or lines[-2:] != [".", ""] or not head or int(head[2]) != entries:
+        return False
+    spent = []
+    for w in range(workers):
+        said = re.fullmatch(rf"c worker {w} conflicts (\d+) of {conflicts} steps (\d+) of {steps}", lines[3 + w])
+        if not said or int(said[1]) > conflicts or int(said[2]) > steps:
+            return False
+        spent.append(int(said[1]) == conflicts or int(said[2]) == steps)
+    return all(spent) or head[1] == head[2]
+
+
+def compare_drawn(cases, seed, number, deadline):
+    """Each answer and report of a drawn circuit, with budgets from none up until none is spent."""
+    if time.monotonic() > deadline:
+        return 0
+    chance = random.Random(f"{seed} {number}")
+    model = maker.draw_model(chance)
+    is_broken = maker.States(judge.read_circuit(model.encode("latin1"))).has_fair_lasso(0)
+    workers = 1 + number % 4
+    for budget in [0, 1, 2, 3, 5, 8, 13, 1000]:
+        kind = ["conflicts", "steps", "skeletons"][(number + budget) % 3]
+        limits = {"conflicts": 1000, "steps": 1000, "skeletons": 1000, kind: budget}
+        options = f"--workers {workers} " + " ".join(f"--{name} {limit}" for name, limit in limits.items())
+        said, code = cases.solve(f"drawn{number}", model, options)
+        if code == 2:
+            if not is_report(said, workers, limits["conflicts"], limits["steps"], limits["skeletons"]) or budget == 1000:
+                cases.complain(f"the report {said!r}", model, options)
+            cases.reports += 1
+            continue
+        verdict = cases.verdict(f"drawn{number}", model, said) if code == 0 else None
+        if verdict is None or verdict.startswith("accepted lasso j0 ") != is_broken:
+            cases.complain(f"status {code}, printed {said[:300]!r}, and a fair lasso is there: {is_broken}", model, options)
+    return 1
+
+
+def main(words):
+    seed, circuits = [int(word) for word in words] + [1, CIRCUITS][len(words) :]
+    # a first run without words, which builds the program where it is not built
+    subprocess.run([os.path.join(TOP, "fairlive")], stdout=subprocess.DEVNULL)
+    deadline = time.monotonic() + SECONDS
+    with tempfile.TemporaryDirectory() as folder:
+        cases = Cases(folder)
+        with concurrent.futures.ThreadPoolExecutor(WORKERS) as pool:
+            for run in [pool.submit(compare_known, cases, place, row) for place, row in enumerate(KNOWN)]:
+                run.result()
+            runs = [pool.submit(compare_drawn, cases, seed, number, deadline) for number in range(circuits)]
+            done = sum(run.result() for run in runs)
+    for wrong in cases.wrong[:10]:
+        print(wrong)
+    if cases.wrong or done < min(circuits, FEWEST):
+        print(f"solved: {len(cases.wrong)} wrong, {done} of {circuits} drawn circuits in {SECONDS} seconds")
+        return 1
+    print(f"solved: {len(KNOWN)} models by hand, {done} drawn circuits: {cases.answers} answers, {cases.reports} reports")
+    return 0
+
+
+if __name__ == "__main__":
+    sys.exit(main(sys.argv[1:]))

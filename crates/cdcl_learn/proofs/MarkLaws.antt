@@ -1,0 +1,388 @@
+-- Laws of marked literals.
+use Rattle.std.proofs.Common.{◌≡◌, ℕ, zero, suc, ◌+◌, ◌-◌, ◌<◌, ◌≤◌, Bool, true, false, not, ◌&&◌, ◌||◌, cond, eqb, List, [], ◌∷◌, ◌++◌, length, get_or, take, drop, replicate, Option, Some, None, refl, ap, sym, subst, ◌∙◌, ◌⊎◌, inl, inr, arith, eqb-true, eq-eqb}
+use Rattle.std.proofs.Math.Dec.{leb}
+use Rattle.std.specs.Prelude.{slice_get, slice_set}
+use Rattle.std.specs.List.{list_any}
+use Rattle.std.specs.Option.{option_map}
+use Rattle.std.proofs.lemmas.List.{take_more, take_all, length-take-le, take-append-drop, get_or-replicate, get_or_past, length-replicate}
+use Rattle.std.proofs.lemmas.Bool.{false≢true, and_parts, and_from, or_cases, or_left, or_right, cond-true, cond-false, leb-true, leb-false}
+use Rattle.std.proofs.lemmas.Option.{none-some, same_Some}
+use Rattle.proof_semantics.specs.Clauses.{lit_eq, negation, has_literal}
+use Rattle.proof_semantics.specs.declared.literals.Lit.{Lit}
+use Rattle.proof_semantics.proofs.LiteralLaws.{lit_eq-true, lit_eq-same, negation_twice}
+use Rattle.cdcl_trail.specs.AssignmentOf.{place_in}
+use Rattle.cdcl_trail.specs.Trails.{Step, literals_of, value_of, once}
+use Rattle.cdcl_trail.specs.Propagation.{is_false, is_falsified, is_unit_for}
+use Rattle.cdcl_trail.proofs.TrailLaws.{either, or_both, or_neither, not-true, not-false, once_pop, place_push}
+use Rattle.cdcl_trail.proofs.ScanLaws.{all_has, any_has, any_gives, untrue, no_value, unit_others}
+use Rattle.cdcl_trail.proofs.PassLaws.{unit_unvalued}
+use Rattle.cdcl_trail.proofs.PrefixLaws.{false_more}
+use Rattle.cdcl_learn.specs.Walking.{is_at, is_marked, marked, IsResolvent}
+use Rattle.cdcl_learn.proofs.LiteralTraceLaws.{false_stands}
+use Rattle.cdcl_learn.proofs.WalkLaws.{no_literal, no_step_there, reads, reads_reason}
+use Rattle.cdcl_learn.proofs.FreshLaws.{IsFreshTrail}
+use Rattle.cdcl_trail.specs.Trails.{reasons_in}
+use Rattle.cnf.specs.Clauses.{clause_numbered}
+use Rattle.std.proofs.lemmas.Option.{slice_get-get_or}
+
+abbrev Has : List Lit → Lit → Type 0
+Has lits a = has_literal lits a ≡ true
+
+both_ways : (b c : Bool) → (b ≡ true → c ≡ true) → (c ≡ true → b ≡ true) → b ≡ c
+both_ways true c f g = sym (f refl)
+both_ways false true f g = g refl
+both_ways false false f g = refl
+
+-- Places.
+
+one_more_is : (p : ℕ) → p + 1 ≡ suc p
+one_more_is p = omega arith
+
+any_at : (f : Lit → Bool) (lits : List Lit) (q : ℕ) (x : Lit) → slice_get lits q ≡ Some x → list_any f lits ≡ false → f x ≡ false
+any_at f [] q x e none = absurd (none-some x e)
+any_at f (a ∷ lits) zero x e none = ap f (sym (same_Some a x e)) ∙ (or_neither _ _ none).0
+any_at f (a ∷ lits) (suc q) x e none = any_at f lits q x e (or_neither _ _ none).1
+
+-- the place of what stands at a place
+pub place_own : (lits : List Lit) (q : ℕ) (x : Lit) → once lits ≡ true → slice_get lits q ≡ Some x → place_in lits x.var ≡ Some q
+place_own [] q x apart e = absurd (none-some x e)
+place_own (a ∷ lits) zero x apart e =
+    cond-true (eqb a.var x.var) (Some 0) (option_map (λ place. place + 1) (place_in lits x.var)) (eq-eqb a.var x.var (ap (λ (b : Lit). b.var) (same_Some a x e)))
+place_own (a ∷ lits) (suc q) x apart e =
+    let parts = and_parts _ _ apart in
+    let differs : eqb x.var a.var ≡ false = any_at (λ b. eqb b.var a.var) lits q x e (not-true _ parts.0) in
+    cond-false (eqb a.var x.var) (Some 0) (option_map (λ place. place + 1) (place_in lits x.var))
+    (untrue _ (λ same. false≢true (sym differs ∙ eq-eqb x.var a.var (sym (eqb-true a.var x.var same)))))
+    ∙ ap (option_map (λ place. place + 1)) (place_own lits q x parts.1 e) ∙ ap Some (one_more_is q)
+
+one_place : (lits : List Lit) (p q : ℕ) (x : Lit) → once lits ≡ true → slice_get lits p ≡ Some x → slice_get lits q ≡ Some x → p ≡ q
+one_place lits p q x apart e f = same_Some p q (sym (place_own lits p x apart e) ∙ place_own lits q x apart f)
+
+has_place : (lits : List Lit) (a : Lit) → Has lits a → (q : ℕ) × (slice_get lits q ≡ Some a)
+has_place [] a has = absurd (false≢true has)
+has_place (b ∷ lits) a has =
+    elim (or_cases (lit_eq a b) (has_literal lits a) has) [
+      | inl here ↦ (0, ap Some (sym (lit_eq-true a b here)))
+      | inr later ↦ let found = has_place lits a later in (suc found.0, found.1)
+    ]
+
+-- the negation of a false literal stands at the place of its variable
+pub false_place : (steps : List Step) (lits : List Lit) (a : Lit) → lits ≡ literals_of steps → once lits ≡ true → is_false steps a ≡ true
+    → (q : ℕ) × (place_in lits a.var ≡ Some q) × (slice_get lits q ≡ Some (negation a))
+false_place steps lits a same apart e =
+    let found = has_place lits (negation a) (ap (λ ls. has_literal ls (negation a)) same ∙ false_stands steps a e) in
+    (found.0, place_own lits found.0 (negation a) apart found.1, found.1)
+
+-- What is marked.
+
+marked_has : (marks : List Bool) (lits : List Lit) (q : ℕ) (a : Lit) → is_marked marks q ≡ true → slice_get lits q ≡ Some (negation a) → Has (marked marks lits) a
+marked_has [] lits q a e f = absurd (false≢true e)
+marked_has (m ∷ marks) [] q a e f = absurd (none-some (negation a) f)
+marked_has (true ∷ marks) (b ∷ lits) zero a e f =
+    or_left _ _ (ap (lit_eq a) (ap negation (same_Some b (negation a) f) ∙ negation_twice a) ∙ lit_eq-same a)
+marked_has (false ∷ marks) (b ∷ lits) zero a e f = absurd (false≢true e)
+marked_has (true ∷ marks) (b ∷ lits) (suc q) a e f = or_right _ _ (marked_has marks lits q a e f)
+marked_has (false ∷ marks) (b ∷ lits) (suc q) a e f = marked_has marks lits q a e f
+
+marked_from : (marks : List Bool) (lits : List Lit) (a : Lit) → Has (marked marks lits) a → (q : ℕ) × (is_marked marks q ≡ true) × (slice_get lits q ≡ Some (negation a))
+marked_from [] lits a has = absurd (false≢true has)
+marked_from (m ∷ marks) [] a has = absurd (false≢true has)
+marked_from (true ∷ marks) (b ∷ lits) a has =
+    elim (or_cases (lit_eq a (negation b)) (has_literal (marked marks lits) a) has) [
+      | inl here ↦ (0, refl, ap Some (sym (negation_twice b) ∙ ap negation (sym (lit_eq-true a (negation b) here))))
+      | inr later ↦ let found = marked_from marks lits a later in (suc found.0, found.1, found.2)
+    ]
+marked_from (false ∷ marks) (b ∷ lits) a has = let found = marked_from marks lits a has in (suc found.0, found.1, found.2)
+
+-- the mark of a place tells whether the clause has the negation of its literal
+pub mark_tells : (marks : List Bool) (lits : List Lit) (p : ℕ) (u : Lit) → once lits ≡ true → slice_get lits p ≡ Some u
+    → is_marked marks p ≡ has_literal (marked marks lits) (negation u)
+mark_tells marks lits p u apart at =
+    both_ways (is_marked marks p) (has_literal (marked marks lits) (negation u))
+    (λ e. marked_has marks lits p (negation u) e (at ∙ ap Some (sym (negation_twice u))))
+    (λ has.
+    let found = marked_from marks lits (negation u) has in
+    let same : found.0 ≡ p = one_place lits found.0 p u apart (found.2 ∙ ap Some (negation_twice u)) at in
+    ap (is_marked marks) (sym same) ∙ found.1)
+
+at_is : (o : Option ℕ) (q : ℕ) → is_at o q ≡ true → o ≡ Some q
+at_is None q e = absurd (false≢true e)
+at_is (Some p) q e = ap Some (eqb-true p q e)
+
+is_at-own : (o : Option ℕ) (q : ℕ) → o ≡ Some q → is_at o q ≡ true
+is_at-own o q e = ap (λ r. is_at r q) e ∙ eq-eqb q q refl
+
+-- a marked place of a clause's variable, where the literal is false
+one_of : (steps : List Step) (lits : List Lit) (a b : Lit) (q : ℕ) → lits ≡ literals_of steps → once lits ≡ true → is_false steps b ≡ true → place_in lits b.var ≡ Some q
+    → slice_get lits q ≡ Some (negation a) → a ≡ b
+one_of steps lits a b q same apart falsified told at =
+    let found = false_place steps lits b same apart falsified in
+    let here : found.0 ≡ q = same_Some found.0 q (sym found.1 ∙ told) in
+    let negations : negation a ≡ negation b = same_Some (negation a) (negation b) (sym at ∙ ap (slice_get lits) (sym here) ∙ found.2) in
+    sym (negation_twice a) ∙ ap negation negations ∙ negation_twice b
+
+within : (lits : List Lit) (q : ℕ) (x : Lit) → slice_get lits q ≡ Some x → q < length lits
+within [] q x e = absurd (none-some x e)
+within (a ∷ lits) zero x e = omega arith
+within (a ∷ lits) (suc q) x e = omega (arith, within lits q x e)
+
+-- The marks of a false clause.
+pub marked_start : (steps : List Step) (lits held : List Lit) (marks : List Bool) (places : ℕ → Option ℕ) → lits ≡ literals_of steps → once lits ≡ true → is_falsified steps held ≡ true
+    → ((v : ℕ) → places v ≡ place_in lits v) → ((q : ℕ) → q < length lits → is_marked marks q ≡ list_any (λ (b : Lit). is_at (places b.var) q) held)
+    → (a : Lit) → has_literal (marked marks lits) a ≡ has_literal held a
+marked_start steps lits held marks places same apart falsified told marking a =
+    both_ways (has_literal (marked marks lits) a) (has_literal held a)
+    (λ has.
+    let found = marked_from marks lits a has in
+    let q = found.0 in
+    let from = any_gives (λ b. is_at (places b.var) q) held (sym (marking q (within lits q (negation a) found.2)) ∙ found.1) in
+    let b = from.0 in
+    let is : a ≡ b = one_of steps lits a b q same apart (all_has (is_false steps) held b falsified from.1) (sym (told b.var) ∙ at_is (places b.var) q from.2) found.2 in
+    ap (has_literal held) is ∙ from.1)
+    (λ has.
+    let found = false_place steps lits a same apart (all_has (is_false steps) held a falsified has) in
+    let q = found.0 in
+    marked_has marks lits q a
+    (marking q (within lits q (negation a) found.2) ∙ any_has (λ b. is_at (places b.var) q) held a has (is_at-own (places a.var) q (told a.var ∙ found.1))) found.2)
+
+-- Resolution by marks: the reason's literals are marked, and the mark of the place is taken away.
+pub marked_resolvent : (steps : List Step) (lits reason : List Lit) (old new : List Bool) (places : ℕ → Option ℕ) (p : ℕ) (u : Lit) → lits ≡ literals_of steps → once lits ≡ true
+    → slice_get lits p ≡ Some u → ((v : ℕ) → places v ≡ place_in lits v)
+    → ((b : Lit) → Has reason b → (lit_eq u b ≡ true) ⊎ ((is_false steps b ≡ true) × (b.var ≡ u.var → ⊥)))
+    → ((q : ℕ) → q < length lits → (q ≡ p → ⊥) → is_marked new q ≡ (is_marked old q || list_any (λ (b : Lit). is_at (places b.var) q) reason))
+    → is_marked new p ≡ false
+    → IsResolvent (marked old lits) u reason (marked new lits)
+marked_resolvent steps lits reason old new places p u same apart at told others marking cleared a =
+    both_ways (has_literal (marked new lits) a) ((has_literal (marked old lits) a && not (lit_eq a (negation u))) || (has_literal reason a && not (lit_eq a u)))
+    (λ has.
+    let found = marked_from new lits a has in
+    let q = found.0 in
+    let other : q ≡ p → ⊥ = λ e. false≢true (sym cleared ∙ ap (is_marked new) (sym e) ∙ found.1) in
+    elim (or_cases _ _ (sym (marking q (within lits q (negation a) found.2) other) ∙ found.1)) [
+      | inl before ↦ or_left _ _ (and_from _ _ (marked_has old lits q a before found.2)
+          (not-false _ (untrue _ (λ e. other (one_place lits q p u apart (found.2 ∙ ap Some (ap negation (lit_eq-true a (negation u) e) ∙ negation_twice u)) at)))))
+      | inr came ↦
+          let from = any_gives (λ b. is_at (places b.var) q) reason came in
+          let b = from.0 in
+          let there : place_in lits b.var ≡ Some q = sym (told b.var) ∙ at_is (places b.var) q from.2 in
+          elim (others b from.1) [
+            | inl here ↦ absurd (other (same_Some q p (sym there ∙ ap (λ (c : Lit). place_in lits c.var) (sym (lit_eq-true u b here)) ∙ place_own lits p u apart at)))
+            | inr falsified ↦
+                let is : a ≡ b = one_of steps lits a b q same apart falsified.0 there found.2 in
+                or_right _ _ (and_from _ _ (ap (has_literal reason) is ∙ from.1)
+                (not-false _ (untrue _ (λ e. falsified.1 (ap (λ (c : Lit). c.var) (sym is) ∙ ap (λ (c : Lit). c.var) (lit_eq-true a u e))))))
+          ]
+    ])
+    (λ e. elim (or_cases _ _ e) [
+      | inl kept ↦
+          let parts = and_parts _ _ kept in
+          let found = marked_from old lits a parts.0 in
+          let q = found.0 in
+          let other : q ≡ p → ⊥ = λ is. false≢true (sym (not-true _ parts.1)
+          ∙ ap (λ c. lit_eq c (negation u)) (sym (negation_twice a) ∙ ap negation (same_Some (negation a) u (sym found.2 ∙ ap (slice_get lits) is ∙ at))) ∙ lit_eq-same (negation u)) in
+          marked_has new lits q a (marking q (within lits q (negation a) found.2) other ∙ or_left _ _ found.1) found.2
+      | inr came ↦
+          let parts = and_parts _ _ came in
+          elim (others a parts.0) [
+            | inl here ↦ absurd (false≢true (sym (not-true _ parts.1) ∙ ap (λ c. lit_eq a c) (lit_eq-true u a here) ∙ lit_eq-same a))
+            | inr falsified ↦
+                let found = false_place steps lits a same apart falsified.0 in
+                let q = found.0 in
+                let other : q ≡ p → ⊥ = λ is. falsified.1 (ap (λ (c : Lit). c.var) (same_Some (negation a) u (sym found.2 ∙ ap (slice_get lits) is ∙ at))) in
+                marked_has new lits q a
+                (marking q (within lits q (negation a) found.2) other ∙ or_right _ _ (any_has (λ b. is_at (places b.var) q) reason a parts.0 (is_at-own (places a.var) q (told a.var ∙ found.1))))
+                found.2
+          ]
+    ])
+
+-- The clause of the marked literals, one literal after another.
+
+marked_push : (marks : List Bool) (lits : List Lit) (m : Bool) (d : Lit) → length marks ≡ length lits
+    → marked (marks ++ m ∷ []) (lits ++ d ∷ []) ≡ cond m (marked marks lits ++ negation d ∷ []) (marked marks lits)
+marked_push [] [] true d same = refl
+marked_push [] [] false d same = refl
+marked_push [] (b ∷ lits) m d same = absurd (omega (arith, same))
+marked_push (x ∷ marks) [] m d same = absurd (omega (arith, same))
+marked_push (true ∷ marks) (b ∷ lits) true d same = ap (λ xs. negation b ∷ xs) (marked_push marks lits true d (omega (arith, same)))
+marked_push (true ∷ marks) (b ∷ lits) false d same = ap (λ xs. negation b ∷ xs) (marked_push marks lits false d (omega (arith, same)))
+marked_push (false ∷ marks) (b ∷ lits) m d same = marked_push marks lits m d (omega (arith, same))
+
+marked_more : (marks : List Bool) (lits : List Lit) (i : ℕ) → i < length lits → length marks ≡ length lits
+    → marked (take (i + 1) marks) (take (i + 1) lits)
+    ≡ cond (get_or marks i false) (marked (take i marks) (take i lits) ++ negation (get_or lits i no_literal) ∷ []) (marked (take i marks) (take i lits))
+marked_more marks lits i below same =
+    ap (λ ms. marked ms (take (i + 1) lits)) (take_more marks i false (omega (arith, below, same)))
+    ∙ ap (marked (take i marks ++ get_or marks i false ∷ [])) (take_more lits i no_literal below)
+    ∙ marked_push (take i marks) (take i lits) (get_or marks i false) (get_or lits i no_literal)
+    (length-take-le i marks (omega (arith, below, same)) ∙ sym (length-take-le i lits (omega (arith, below))))
+
+pub marked_skips : (marks : List Bool) (lits : List Lit) (i : ℕ) (clause : List Lit) → i < length lits → length marks ≡ length lits → is_marked marks i ≡ false
+    → clause ≡ marked (take i marks) (take i lits) → clause ≡ marked (take (i + 1) marks) (take (i + 1) lits)
+marked_skips marks lits i clause below same lacks is =
+    is ∙ sym (marked_more marks lits i below same
+    ∙ cond-false (get_or marks i false) (marked (take i marks) (take i lits) ++ negation (get_or lits i no_literal) ∷ []) (marked (take i marks) (take i lits)) lacks)
+
+pub marked_takes : (marks : List Bool) (lits : List Lit) (i : ℕ) (clause later : List Lit) → i < length lits → length marks ≡ length lits → is_marked marks i ≡ true
+    → clause ≡ marked (take i marks) (take i lits) → later ≡ clause ++ negation (get_or lits i no_literal) ∷ [] → later ≡ marked (take (i + 1) marks) (take (i + 1) lits)
+marked_takes marks lits i clause later below same has is comes =
+    comes ∙ ap (λ xs. xs ++ negation (get_or lits i no_literal) ∷ []) is
+    ∙ sym (marked_more marks lits i below same
+    ∙ cond-true (get_or marks i false) (marked (take i marks) (take i lits) ++ negation (get_or lits i no_literal) ∷ []) (marked (take i marks) (take i lits)) has)
+
+pub marked_whole : (marks : List Bool) (lits : List Lit) (i : ℕ) → length lits ≤ i → length marks ≡ length lits → marked (take i marks) (take i lits) ≡ marked marks lits
+marked_whole marks lits i past same =
+    ap (λ ms. marked ms (take i lits)) (take_all i marks (omega (arith, past, same))) ∙ ap (marked marks) (take_all i lits past)
+
+-- The places of variables among literals.
+
+any_take : (f : Lit → Bool) (lits : List Lit) (i : ℕ) → list_any f lits ≡ false → list_any f (take i lits) ≡ false
+any_take f [] zero e = refl
+any_take f [] (suc i) e = refl
+any_take f (x ∷ lits) zero e = refl
+any_take f (x ∷ lits) (suc i) e = let parts = or_neither _ _ e in or_both _ _ parts.0 (any_take f lits i parts.1)
+
+once_take : (lits : List Lit) (i : ℕ) → once lits ≡ true → once (take i lits) ≡ true
+once_take [] zero e = refl
+once_take [] (suc i) e = refl
+once_take (x ∷ lits) zero e = refl
+once_take (x ∷ lits) (suc i) e =
+    let parts = and_parts _ _ e in
+    and_from _ _ (not-false _ (any_take (λ b. eqb b.var x.var) lits i (not-true _ parts.0))) (once_take lits i parts.1)
+
+pub places_more : (lits : List Lit) (i : ℕ) (d : Lit) (old new : ℕ → Option ℕ) → once lits ≡ true → i < length lits
+    → ((v : ℕ) → new v ≡ cond (eqb (get_or lits i d).var v) (Some i) (old v)) → ((v : ℕ) → old v ≡ place_in (take i lits) v)
+    → (v : ℕ) → new v ≡ place_in (take (i + 1) lits) v
+places_more lits i d old new apart below told so_far v =
+    let a = get_or lits i d in
+    let more : take (i + 1) lits ≡ take i lits ++ a ∷ [] = take_more lits i d below in
+    let none = (once_pop (take i lits) a (ap once (sym more) ∙ once_take lits (i + 1) apart)).1 in
+    told v
+    ∙ ap (λ n. cond (eqb a.var v) (Some n) (old v)) (sym (length-take-le i lits (omega (arith, below))))
+    ∙ ap (cond (eqb a.var v) (Some (length (take i lits)))) (so_far v)
+    ∙ sym (place_push (take i lits) a v none)
+    ∙ ap (λ ls. place_in ls v) (sym more)
+
+-- More marks.
+
+or_assoc : (a b c : Bool) → (a || (b || c)) ≡ ((a || b) || c)
+or_assoc true b c = refl
+or_assoc false b c = refl
+
+or_false : (b : Bool) → (b || false) ≡ b
+or_false true = refl
+or_false false = refl
+
+any_push : (f : Lit → Bool) (xs : List Lit) (x : Lit) → list_any f (xs ++ x ∷ []) ≡ (list_any f xs || f x)
+any_push f [] x = or_false (f x)
+any_push f (y ∷ xs) x = ap (λ b. f y || b) (any_push f xs x) ∙ or_assoc (f y) (list_any f xs) (f x)
+
+pub marks_more : (f : Lit → Bool) (clause : List Lit) (i : ℕ) (d : Lit) (old mid new : Bool) → i < length clause → mid ≡ (old || list_any f (take i clause))
+    → new ≡ (mid || f (get_or clause i d)) → new ≡ (old || list_any f (take (i + 1) clause))
+marks_more f clause i d old mid new below before now =
+    now ∙ ap (λ b. b || f (get_or clause i d)) before ∙ sym (or_assoc old (list_any f (take i clause)) (f (get_or clause i d)))
+    ∙ ap (λ b. old || b) (sym (any_push f (take i clause) (get_or clause i d)) ∙ ap (list_any f) (sym (take_more clause i d below)))
+
+set_length : (marks : List Bool) (p : ℕ) (b : Bool) → length (slice_set marks p b) ≡ length marks
+set_length [] p b = refl
+set_length (m ∷ marks) zero b = refl
+set_length (m ∷ marks) (suc p) b = ap suc (set_length marks p b)
+
+pub set_there : (marks : List Bool) (p : ℕ) (b : Bool) → p < length marks → is_marked (slice_set marks p b) p ≡ b
+set_there [] p b below = absurd (omega (arith, below))
+set_there (m ∷ marks) zero b below = refl
+set_there (m ∷ marks) (suc p) b below = set_there marks p b (omega (arith, below))
+
+pub set_elsewhere : (marks : List Bool) (p q : ℕ) (b : Bool) → (q ≡ p → ⊥) → is_marked (slice_set marks p b) q ≡ is_marked marks q
+set_elsewhere [] p q b apart = refl
+set_elsewhere (m ∷ marks) zero zero b apart = absurd (apart refl)
+set_elsewhere (m ∷ marks) zero (suc q) b apart = refl
+set_elsewhere (m ∷ marks) (suc p) zero b apart = refl
+set_elsewhere (m ∷ marks) (suc p) (suc q) b apart = set_elsewhere marks p q b (λ e. apart (ap suc e))
+
+or_same : (b : Bool) → b ≡ (b || false)
+or_same true = refl
+or_same false = refl
+
+or_true : (b : Bool) → true ≡ (b || true)
+or_true true = refl
+or_true false = refl
+
+-- one place is marked
+pub mark_set : (marks : List Bool) (p q : ℕ) → p < length marks → is_marked (slice_set marks p true) q ≡ (is_marked marks q || is_at (Some p) q)
+mark_set marks p q below =
+    elim (either (eqb p q)) [
+      | inl here ↦
+          let same : p ≡ q = eqb-true p q here in
+          ap (is_marked (slice_set marks p true)) (sym same) ∙ set_there marks p true below ∙ or_true (is_marked marks q) ∙ ap (λ b. is_marked marks q || b) (sym here)
+      | inr differs ↦
+          set_elsewhere marks p q true (λ e. false≢true (sym differs ∙ eq-eqb p q (sym e))) ∙ or_same (is_marked marks q) ∙ ap (λ b. is_marked marks q || b) (sym differs)
+    ]
+
+-- a place past the end is none of those before it
+pub mark_past : (marks : List Bool) (p q : ℕ) → length marks ≤ p → q < length marks → is_marked marks q ≡ (is_marked marks q || is_at (Some p) q)
+mark_past marks p q past below =
+    or_same (is_marked marks q) ∙ ap (λ b. is_marked marks q || b) (sym (untrue _ (λ e. omega (arith, past, below, eqb-true p q e))))
+
+pub mark_none : (marks : List Bool) (q : ℕ) → is_marked marks q ≡ (is_marked marks q || is_at None q)
+mark_none marks q = or_same (is_marked marks q)
+
+-- The literals of a reason, but the one that it left, are false and of other variables.
+pub reason_others : (steps : List Step) (p : ℕ) (reason : List Lit) (u : Lit) → is_unit_for (take p steps) reason u ≡ true
+    → (b : Lit) → Has reason b → (lit_eq u b ≡ true) ⊎ ((is_false steps b ≡ true) × (b.var ≡ u.var → ⊥))
+reason_others steps p reason u unit b has =
+    elim (either (lit_eq u b)) [
+      | inl here ↦ inl here
+      | inr differs ↦
+          let early = unit_others (take p steps) reason u b unit has differs in
+          inr (
+            ap (λ xs. is_false xs b) (sym (take-append-drop p steps)) ∙ false_more (take p steps) (drop p steps) b early,
+            λ same. no_value (value_of (take p steps) b.var) (not b.positive) (ap (value_of (take p steps)) same ∙ unit_unvalued (take p steps) reason u unit) early,
+          )
+    ]
+
+read_at : (lits : List Lit) (p : ℕ) → p < length lits → slice_get lits p ≡ Some (get_or lits p no_literal)
+read_at lits p below = slice_get-get_or lits p no_literal below
+
+-- the mark that the code reads tells of the clause
+pub mark_read : (marks : List Bool) (lits : List Lit) (p : ℕ) → once lits ≡ true → p < length lits
+    → is_marked marks p ≡ has_literal (marked marks lits) (negation (get_or lits p no_literal))
+mark_read marks lits p apart below = mark_tells marks lits p (get_or lits p no_literal) apart (read_at lits p below)
+
+-- one resolution, as the code does it
+pub code_resolvent : (clauses : List (List Lit)) (steps : List Step) (lits reason : List Lit) (reasons : List (Option ℕ)) (old mid new : List Bool) (places : ℕ → Option ℕ) (p number : ℕ)
+    → lits ≡ literals_of steps → reasons ≡ reasons_in steps → once lits ≡ true → 0 < p → p ≤ length lits → length old ≡ length lits → length mid ≡ length old
+    → get_or reasons (p - 1) None ≡ Some number → clause_numbered clauses number ≡ Some reason → IsFreshTrail clauses steps
+    → ((v : ℕ) → places v ≡ place_in lits v)
+    → ((q : ℕ) → q < length old → is_marked mid q ≡ (is_marked old q || list_any (λ (b : Lit). is_at (places b.var) q) reason))
+    → new ≡ slice_set mid (p - 1) false
+    → IsResolvent (marked old lits) (get_or lits (p - 1) no_literal) reason (marked new lits)
+code_resolvent clauses steps lits reason reasons old mid new places p number same same_reasons apart after within_all long longer read held fresh told marking set_is =
+    let r = reads steps lits 0 p same after within_all in
+    let q = reads_reason clauses steps lits reasons 0 p number same same_reasons after within_all read fresh in
+    let one : q.clause ≡ reason = same_Some q.clause reason (sym q.held ∙ held) in
+    let u = get_or lits (p - 1) no_literal in
+    let left : is_unit_for (take (p - 1) steps) reason u ≡ true =
+    ap (is_unit_for (take (p - 1) steps) reason) r.literal ∙ ap (λ c. is_unit_for (take (p - 1) steps) c (get_or steps (p - 1) no_step_there).literal) (sym one) ∙ q.left in
+    let below : p - 1 < length lits = omega (arith, after, within_all) in
+    marked_resolvent steps lits reason old new places (p - 1) u same apart (read_at lits (p - 1) below) told (reason_others steps (p - 1) reason u left)
+    (λ n under other. ap (λ ms. is_marked ms n) set_is ∙ set_elsewhere mid (p - 1) n false other ∙ marking n (omega (arith, under, long)))
+    (ap (λ ms. is_marked ms (p - 1)) set_is ∙ set_there mid (p - 1) false (omega (arith, below, long, longer)))
+
+none_marked : (n q : ℕ) → is_marked (replicate n false) q ≡ false
+none_marked n q = elim (either (leb (suc q) n)) [
+  | inl under ↦ get_or-replicate n q false false (leb-true (suc q) n under)
+  | inr past ↦ get_or_past (replicate n false) q false (omega (arith, leb-false (suc q) n past, length-replicate n false))
+]
+
+-- the marks that the walk begins with
+pub code_start : (clauses : List (List Lit)) (steps : List Step) (lits held : List Lit) (n : ℕ) (first marks : List Bool) (places : ℕ → Option ℕ) → lits ≡ literals_of steps → once lits ≡ true
+    → is_falsified steps held ≡ true → ((v : ℕ) → places v ≡ place_in lits v) → first ≡ replicate n false → n ≡ length lits
+    → ((q : ℕ) → q < length first → is_marked marks q ≡ (is_marked first q || list_any (λ (b : Lit). is_at (places b.var) q) held))
+    → (a : Lit) → has_literal (marked marks lits) a ≡ has_literal held a
+code_start clauses steps lits held n first marks places same apart falsified told is many marking =
+    marked_start steps lits held marks places same apart falsified told
+    (λ q below. marking q (omega (arith, below, many, ap length is, length-replicate n false))
+    ∙ ap (λ b. b || list_any (λ (b : Lit). is_at (places b.var) q) held) (ap (λ ms. is_marked ms q) is ∙ none_marked n q))
+
+pub long_after : (old mid new : List Bool) (p : ℕ) → length mid ≡ length old → new ≡ slice_set mid p false → length new ≡ length old
+long_after old mid new p same is = ap length is ∙ set_length mid p false ∙ same

@@ -1,0 +1,91 @@
+use Rattle.std.proofs.Common.{◌≡◌, ◌++◌, ◌∷◌, [], false, length, get_or, reverse, ap, sym, refl, ◌∙◌, ◌-◌, arith}
+use Rattle.std.proofs.lemmas.List.{length-replicate}
+use Rattle.proof_semantics.specs.Clauses.{negation}
+use Rattle.cdcl_trail.specs.AssignmentOf.{steps_from}
+use Rattle.cdcl_trail.specs.Tables.{told}
+use Rattle.cdcl_trail.proofs.TrailLaws.{literals_beside, reasons_beside}
+use Rattle.cdcl_learn.specs.Walking.{is_marked, marked}
+use Rattle.cdcl_learn.proofs.FreshLaws.{fresh_trail}
+use Rattle.cdcl_learn.proofs.MarkLaws.{code_start, code_resolvent, mark_read, long_after}
+use Rattle.cdcl_learn.proofs.WalkLaws.{no_literal, length_literals, code_held, conflict_at}
+use Rattle.cdcl_learn.proofs.TraceLaws.{trace_starts, trace_on, trace_keeps, trace_resolves, traced_ends}
+use Rattle.cdcl_learn.proofs.tracing.trace_back.Goals as goal
+
+pub places-init : goal.places-init
+places-init c =
+    let lits = c.args.literals.now in
+    let steps = steps_from lits c.args.reasons.now in
+    let same : lits ≡ _ = sym (literals_beside lits c.args.reasons.now c.requires.beside) in
+    let long : length lits ≡ length steps = ap length same ∙ length_literals steps in
+    record {
+      traced = trace_starts c.args.clauses.now steps (length lits) c.args.conflict c.clause_at.result.now (marked c.mark_all.new.marks.items lits) c.push.new.self.items
+          c.clause_at.ensures c.requires.conflict (omega (arith, long))
+          (code_start c.args.clauses.now steps lits c.clause_at.result.now (length lits) c.in_ok-marks.marks.items c.mark_all.new.marks.items (told c.in_ok-table.table) same c.requires.once
+          (conflict_at c.args.clauses.now steps c.args.conflict c.clause_at.result.now c.requires.conflict c.clause_at.ensures) c.in_ok-table.ensures c.in_ok-marks.ensures refl
+          c.mark_all.ensures.marks)
+          (c.in_ok-push.ensures.items ∙ ap (λ xs. xs ++ c.args.conflict ∷ []) c.new-hints.ensures.items);
+      long = c.mark_all.ensures.long ∙ ap length c.in_ok-marks.ensures ∙ length-replicate (length lits) false;
+      below = omega arith;
+    }
+
+pub places-preserved-then-not-is_marked : goal.places-preserved-then-not-is_marked
+places-preserved-then-not-is_marked c =
+    let lits = c.args.literals.now in
+    let marks = c.places.marks.items in
+    let p = c.places.place in
+    record {
+      traced = trace_on c.args.clauses.now (steps_from lits c.args.reasons.now) p (marked marks lits) (reverse c.places.hints.items)
+          lits (negation (get_or lits (p - 1) no_literal)) (is_marked marks (p - 1)) (sym (literals_beside lits c.args.reasons.now c.requires.beside)) c.places-test.true
+          c.places.invariant.below refl (mark_read marks lits (p - 1) c.requires.once (omega (arith, c.places-test.true, c.places.invariant.below)))
+          (ap (λ ms. is_marked ms (p - 1)) (sym c.as_slice.ensures.value) ∙ sym c.is_marked.ensures ∙ c.if-not-is_marked.true) c.places.invariant.traced;
+      long = c.places.invariant.long;
+      below = omega (arith, c.places.invariant.below);
+    }
+
+pub places-preserved-in_default : goal.places-preserved-in_default
+places-preserved-in_default c =
+    let lits = c.args.literals.now in
+    record {
+      traced = trace_keeps c.args.clauses.now (steps_from lits c.args.reasons.now) c.places.place (marked c.places.marks.items lits) (reverse c.places.hints.items)
+          lits c.args.reasons.now (sym (literals_beside lits c.args.reasons.now c.requires.beside)) (sym (reasons_beside lits c.args.reasons.now c.requires.beside))
+          c.places-test.true c.places.invariant.below c.in_default.is c.places.invariant.traced;
+      long = c.places.invariant.long;
+      below = omega (arith, c.places.invariant.below);
+    }
+
+pub clause_at-requires-in-places : goal.clause_at-requires-in-places
+clause_at-requires-in-places c =
+    let lits = c.args.literals.now in
+    let same : lits ≡ _ = sym (literals_beside lits c.args.reasons.now c.requires.beside) in
+    code_held c.args.clauses.now (steps_from lits c.args.reasons.now) lits c.args.reasons.now 0 c.places.place c.in-Some.number
+    same (sym (reasons_beside lits c.args.reasons.now c.requires.beside)) c.places-test.true c.places.invariant.below c.in-Some.is
+    (fresh_trail c.args.clauses.now (steps_from lits c.args.reasons.now) lits same c.requires.once c.requires.reasons)
+
+pub places-preserved : goal.places-preserved
+places-preserved c =
+    let lits = c.args.literals.now in
+    let steps = steps_from lits c.args.reasons.now in
+    let same : lits ≡ _ = sym (literals_beside lits c.args.reasons.now c.requires.beside) in
+    let same_reasons : c.args.reasons.now ≡ _ = sym (reasons_beside lits c.args.reasons.now c.requires.beside) in
+    let fresh = fresh_trail c.args.clauses.now steps lits same c.requires.once c.requires.reasons in
+    record {
+      traced = trace_resolves c.args.clauses.now steps c.places.place (marked c.places.marks.items lits) (marked c.places.marks.items lits) (marked c.unmark.new.marks.items lits)
+          c.clause_at-in-places.result.now c.places.hints.items c.push-in-places.new.self.items lits c.args.reasons.now c.in-Some.number
+          same same_reasons c.places-test.true c.places.invariant.below c.in-Some.is c.clause_at-in-places.ensures fresh refl
+          (code_resolvent c.args.clauses.now steps lits c.clause_at-in-places.result.now c.args.reasons.now c.places.marks.items c.mark_all-in-places.new.marks.items c.unmark.new.marks.items
+          (told c.in_ok-table.table) c.places.place c.in-Some.number same same_reasons c.requires.once c.places-test.true c.places.invariant.below c.places.invariant.long
+          c.mark_all-in-places.ensures.long c.in-Some.is c.clause_at-in-places.ensures fresh c.in_ok-table.ensures c.mark_all-in-places.ensures.marks c.unmark.ensures)
+          c.in_ok-push-2.ensures.items c.places.invariant.traced;
+      long = long_after c.places.marks.items c.mark_all-in-places.new.marks.items c.unmark.new.marks.items (c.places.place - 1) c.mark_all-in-places.ensures.long c.unmark.ensures
+          ∙ c.places.invariant.long;
+      below = omega (arith, c.places.invariant.below);
+    }
+
+pub returns-clause-hints : goal.returns-clause-hints
+returns-clause-hints c =
+    let lits = c.args.literals.now in
+    traced_ends c.args.clauses.now (steps_from lits c.args.reasons.now) c.places.place (marked c.places.marks.items lits) c.in_order.result.clause
+    (reverse c.places.hints.items) c.in_order.result.hints c.places-test.false
+    (c.in_order.ensures.clause ∙ c.in_ok-clause.ensures ∙ ap (λ ms. marked ms lits) c.as_slice-2.ensures.value) c.in_order.ensures.hints
+    (fresh_trail c.args.clauses.now (steps_from lits c.args.reasons.now) lits (sym (literals_beside lits c.args.reasons.now c.requires.beside)) c.requires.once c.requires.reasons)
+    c.places.invariant.traced

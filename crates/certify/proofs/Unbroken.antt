@@ -1,0 +1,76 @@
+-- The obligations of a valid entry have no model, and proofs of them are the entry's.
+use Rattle.std.proofs.Common.{◌≡◌, ℕ, zero, suc, ◌<◌, Bool, true, List, [], ◌∷◌, ◌++◌, length, get_or, refl, sym, ap, subst, ◌∙◌, arith}
+use Rattle.std.specs.List.{list_all}
+use Rattle.std.proofs.lemmas.Bool.{and_parts, true≢false, false_from_ne_true}
+use Rattle.aig_semantics.specs.Circuits.{Circuit}
+use Rattle.proof_semantics.specs.declared.literals.Lit.{Lit}
+use Rattle.proof_semantics.specs.Clauses.{clause_value, clauses_value, values_of, IsUnsatisfiable}
+use Rattle.fair_semantics.specs.Entries.{Entry, used_entries}
+use Rattle.fair_semantics.specs.Validity.{set_behind, IsValid}
+use Rattle.fair_semantics.specs.Laws.{StandAlone}
+use Rattle.fair_semantics.proofs.Alone.{uses_stand_alone}
+use Rattle.cnf_unroll.specs.Obligations.{units, shared_clauses, broken_literals}
+use Rattle.cnf_unroll.specs.Laws.{ObligationsTell, BreaksClause, IsUnderstood, AreOver}
+use Rattle.entry.specs.Proved.{obligation_of}
+use Rattle.entry.specs.Laws.{IsGoodList}
+use Rattle.entry.proofs.Readable.{uses_readable, own_named}
+
+same_at : (xs : List (List Lit)) (i : ℕ) (d f : List Lit) → i < length xs → get_or xs i d ≡ get_or xs i f
+same_at [] i d f below = absurd (omega arith)
+same_at (x ∷ xs) zero d f below = refl
+same_at (x ∷ xs) (suc i) d f below = same_at xs i d f (omega arith)
+
+one_of : (p : List Lit → Bool) (clauses : List (List Lit)) (i : ℕ) → i < length clauses → list_all p clauses ≡ true → p (get_or clauses i []) ≡ true
+one_of p [] i below h = absurd (omega arith)
+one_of p (clause ∷ clauses) zero below h = (and_parts _ _ h).0
+one_of p (clause ∷ clauses) (suc i) below h = one_of p clauses i (omega arith) (and_parts _ _ h).1
+
+-- a step that breaks a clause of a valid entry would leave its set
+unbroken : (c : Circuit) (before : List Entry) (e : Entry) (i : ℕ) → IsValid c before e → i < length e.clauses
+    → BreaksClause c (used_entries before e.uses) e i → ⊥
+unbroken c before e i valid below breaks =
+    let alone : StandAlone before e.uses = uses_stand_alone before e.uses valid.uses in
+    let inside : set_behind before e breaks.from ≡ true = sym (alone.entry e refl breaks.from) ∙ breaks.inside in
+    let stays : set_behind before e breaks.to ≡ true =
+    valid.closed breaks.from breaks.to breaks.step (sym (alone.allowed _) ∙ breaks.allowed) inside in
+    true≢false (sym (one_of (clause_value (values_of breaks.to)) e.clauses i below (and_parts _ _ stays).0) ∙ breaks.broken)
+
+pub no_model : (c : Circuit) (before : List Entry) (e : Entry) (i : ℕ) → ObligationsTell c → IsGoodList c before → IsValid c before e
+    → AreOver (length c.latches) e.clauses → i < length e.clauses → IsUnsatisfiable (obligation_of c before e i)
+no_model c before e i tell good valid over below v =
+    let known : IsUnderstood c (used_entries before e.uses) e =
+    record { used = uses_readable c before e.uses good valid.uses; over = over; named = own_named before e.uses valid.uses } in
+    false_from_ne_true (clauses_value v (obligation_of c before e i)) (λ holds.
+    unbroken c before e i valid below ((tell (used_entries before e.uses) e i known below).0 (v, holds)))
+
+-- what the solver has and a clause's literals as units are the obligation of the clause
+pub obligation_is : (c : Circuit) (before : List Entry) (e : Entry) (i : ℕ) (added items : List (List Lit)) (clause d : List Lit)
+    → added ≡ shared_clauses c (used_entries before e.uses) e.uses e.clauses → items ≡ e.clauses → i < length items
+    → clause ≡ get_or items i d → added ++ units (broken_literals c clause) ≡ obligation_of c before e i
+obligation_is c before e i added items clause d shared same below is =
+    ap (λ cs. cs ++ units (broken_literals c clause)) shared
+    ∙ ap (λ x. shared_clauses c (used_entries before e.uses) e.uses e.clauses ++ units (broken_literals c x))
+    (is ∙ same_at items i d [] below ∙ ap (λ cs. get_or cs i []) same)
+
+pub no_model_added : (c : Circuit) (before : List Entry) (e : Entry) (i : ℕ) (clauses : List (List Lit))
+    → ObligationsTell c → IsGoodList c before → IsValid c before e → AreOver (length c.latches) e.clauses → i < length e.clauses
+    → clauses ≡ obligation_of c before e i → IsUnsatisfiable clauses
+no_model_added c before e i clauses tell good valid over below is v =
+    ap (λ cs. clauses_value v cs) is ∙ no_model c before e i tell good valid over below v
+
+-- with one more a fact of each place of a list
+one_more_each : (P : ℕ → List (List ℕ) → Type 0) (xs : List (List (List ℕ))) (x : List (List ℕ))
+    → ((k : ℕ) → k < length xs → P k (get_or xs k [])) → P (length xs) x
+    → (k : ℕ) → k < length (xs ++ x ∷ []) → P k (get_or (xs ++ x ∷ []) k [])
+one_more_each P [] x each last zero below = last
+one_more_each P [] x each last (suc k) below = absurd (omega arith)
+one_more_each P (y ∷ xs) x each last zero below = each 0 (omega arith)
+one_more_each P (y ∷ xs) x each last (suc k) below =
+    one_more_each (λ n. P (suc n)) xs x (λ n there. each (suc n) (omega arith)) last k (omega arith)
+
+pub pushed_each : (P : ℕ → List (List ℕ) → Type 0) (xs new : List (List (List ℕ))) (x : List (List ℕ)) (i : ℕ)
+    → length xs ≡ i → new ≡ xs ++ x ∷ [] → ((k : ℕ) → k < length xs → P k (get_or xs k [])) → P i x
+    → (k : ℕ) → k < length new → P k (get_or new k [])
+pushed_each P xs new x i count is each here =
+    subst (λ ys. (k : ℕ) → k < length ys → P k (get_or ys k [])) (sym is)
+    (one_more_each P xs x each (subst (λ j. P j x) (sym count) here))

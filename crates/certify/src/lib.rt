@@ -1,0 +1,15 @@
+//! Claims of sets that no allowed step leaves, and the proofs that make checked entries of them.
+//!
+//! | Call | Gives |
+//! |---|---|
+//! | `Claim` | what is claimed: an entry without proofs, who found it and when, and the skeleton that it excludes |
+//! | `certify` | the claim as a checked entry, each of whose clauses has its proof |
+#![tactic(auto)]
+
+mod certifying;
+mod claims;
+mod refuting;
+mod sharing;
+
+pub use certifying::certify;
+pub use claims::Claim;

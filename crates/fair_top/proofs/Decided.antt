@@ -1,0 +1,141 @@
+-- What `solve` gives, from the model and from what it comes to for the circuit.
+use Rattle.std.proofs.Common.{◌≡◌, ◌<◌, ◌≤◌, ◌^◌, ℕ, List, [], ◌∷◌, ◌++◌, length, refl, sym, ◌∙◌, ap, subst, inl, inr, arith, Ok, Err}
+use Rattle.std.specs.Prelude.{Option, Result, IfOk, IfErr}
+use Rattle.std.proofs.lemmas.List.{map-append, append_assoc}
+use Rattle.aig_semantics.specs.Circuits.{Circuit}
+use Rattle.aiger_grammar.specs.Models.{Model}
+use Rattle.certificate.specs.declared.ends.Accepted.{Accepted}
+use Rattle.certificate.specs.declared.ends.Accepted.TheVariants as accepted
+use Rattle.certificate.specs.Answers.{IsGood, Shows}
+use Rattle.certificate.specs.Writing.{AreProvedInOrder, IsRefutedBy, certificate_of, certificate_text}
+use Rattle.certificate.specs.Laws.{GoodIsTrue, WrittenIsGood, WrittenCertificatesAreGood}
+use Rattle.answer_lines.specs.Left.{most_bytes}
+use Rattle.aig_semantics.specs.Stimuli.{StandsFor}
+use Rattle.aig_semantics.specs.declared.traces.Stimulus.{Stimulus}
+use Rattle.stimulus.specs.Texts.{answer_text}
+use Rattle.entry.specs.declared.refutations.Refutation.{Refutation}
+use Rattle.fair_top.specs.declared.status.Done.TheVariants as dones
+use Rattle.entry.specs.CheckedEntries.{CheckedEntry}
+use Rattle.entry.specs.Proved.{IsProved, IsGoodRefutation}
+use Rattle.fair_semantics.specs.Entries.{Entry}
+use Rattle.fair_workers.specs.Runs.{IsReport}
+use Rattle.wall_store.specs.Boards.{BoardState, IsBoard, plain, IsSoundList}
+use Rattle.fair_top.specs.declared.requests.SolveRequest.{SolveRequest}
+use Rattle.fair_top.specs.declared.status.Status.{Status}
+use Rattle.fair_top.specs.declared.status.Status.TheVariants as statuses
+use Rattle.fair_top.specs.declared.texts.Outcome.{Outcome}
+use Rattle.fair_top.specs.Check.{done_of}
+use Rattle.fair_top.specs.Solve.{task_of, GivesSolve, ShownBySolve}
+use Rattle.fair_top.specs.Solved.{IsPrinted, EndsFor}
+use Rattle.fair_top.specs.Statuses.{status_in}
+use Rattle.fair_top.specs.Judged.{IsModelOf}
+
+-- Entries of a board.
+
+-- each entry that is sound behind those before it is proved behind them
+proved_from : (c : Circuit) (entries before after : List CheckedEntry) → entries ≡ before ++ after → IsSoundList c entries → AreProvedInOrder c (plain before) after
+proved_from c entries before [] same sound = tt
+proved_from c entries before (e ∷ after) same sound =
+    let s = sound before after e same in
+    let longer : plain (before ++ e ∷ []) ≡ plain before ++ e.entry ∷ [] = map-append (λ (x : CheckedEntry). x.entry) before (e ∷ []) in (
+      s.circuit,
+      subst (λ (k : Circuit). IsProved k (plain before) e.entry e.proofs) s.circuit s.holds.proved,
+      subst (λ (b : List Entry). AreProvedInOrder c b after) longer
+          (proved_from c entries (before ++ e ∷ []) after (same ∙ sym (append_assoc before (e ∷ []) after)) sound),
+    )
+
+pub proved_in_order : (c : Circuit) (entries : List CheckedEntry) → IsSoundList c entries → AreProvedInOrder c [] entries
+proved_in_order c entries sound = proved_from c entries [] entries refl sound
+
+-- What it comes to for the circuit of a model.
+
+same_accepted : (a b : Accepted) → ◌≡◌ {A = Status} (statuses.Done (done_of a)) (statuses.Done (done_of b)) → a ≡ b
+same_accepted (accepted.Lasso j p f) (accepted.Lasso k q g) e = cc
+same_accepted (accepted.Lasso j p f) (accepted.Holds k n) e = cc
+same_accepted (accepted.Holds j n) (accepted.Lasso k q g) e = cc
+same_accepted (accepted.Holds j n) (accepted.Holds k o) e = cc
+
+shows : (c : Circuit) (request : SolveRequest) (status : Status) (text : List ℕ) (found : Accepted) → EndsFor c request status text
+    → status ≡ statuses.Done (done_of found) → Shows c found
+shows c request status text found (inl (without, e)) is = let wrong : statuses.NoProperty request.property ≡ statuses.Done (done_of found) = sym without.0 ∙ is in cc
+shows c request status text found (inr (inl p)) is = subst (λ (a : Accepted). Shows c a) (same_accepted p.0 found (sym p.1 ∙ is)) p.4
+shows c request status text found (inr (inr (r, e))) is = let wrong : statuses.Unknown r.0 ≡ statuses.Done (done_of found) = sym r.1 ∙ is in cc
+
+gives : (c : Circuit) (m : Model) (told : Option (List ℕ)) (request : SolveRequest) (status : Status) (text : List ℕ) → c ≡ m.circuit → IsModelOf told m
+    → EndsFor c request status text → GivesSolve told request status text
+gives c m told request status text same h (inl (without, e)) =
+    inr (inl ((without.0, (h.text.0, h.text.1, (m, h.text.2, subst (λ (k : Circuit). length k.justice ≤ request.property) same without.1))), e))
+gives c m told request status text same h (inr (inl p)) =
+    inr (inr (inl (p.0, p.1, p.2, (h.text.0, h.text.1, (m, h.text.2, subst (λ (k : Circuit). IsGood k text p.0) same p.3)))))
+gives c m told request status text same h (inr (inr (r, e))) =
+    inr (inr (inr (
+      (
+        r.0,
+        r.1,
+        (
+          h.text.0,
+          h.text.1,
+          (
+            m,
+            h.text.2,
+            (
+              subst (λ (k : Circuit). request.property < length k.justice) same r.2,
+              subst (λ (k : Circuit). IsReport (task_of k request) r.0) same r.3,
+            ),
+          ),
+        ),
+      ),
+      e,
+    )))
+
+pub solved_gives : (c : Circuit) (m : Model) (told : Option (List ℕ)) (request : SolveRequest) (result : Result Outcome Status) → c ≡ m.circuit → IsModelOf told m
+    → IfOk result (λ outcome. EndsFor c request outcome.status outcome.text.items)
+    → IfOk result (λ outcome. GivesSolve told request outcome.status outcome.text.items)
+solved_gives c m told request (Err status) same h ends = tt
+solved_gives c m told request (Ok outcome) same h ends = gives c m told request outcome.status outcome.text.items same h ends
+
+pub solved_shown : (c : Circuit) (m : Model) (told : Option (List ℕ)) (request : SolveRequest) (result : Result Outcome Status) → c ≡ m.circuit → IsModelOf told m
+    → IfOk result (λ outcome. EndsFor c request outcome.status outcome.text.items) → IfErr result (λ status. status ≡ statuses.Memory)
+    → (found : Accepted) → status_in result ≡ statuses.Done (done_of found) → ShownBySolve told found
+solved_shown c m told request (Err status) same h ends ended found e = let wrong : statuses.Memory ≡ statuses.Done (done_of found) = sym ended ∙ e in cc
+solved_shown c m told request (Ok outcome) same h ends ended found e =
+    (h.text.0, h.text.1, (m, h.text.2, subst (λ (k : Circuit). Shows k found) same (shows c request outcome.status outcome.text.items found ends e)))
+
+-- What is printed.
+
+pub good_stimulus : (c : Circuit) (j : ℕ) (s : Stimulus) (positions from : ℕ) (text : List ℕ) → WrittenIsGood c → GoodIsTrue c → j < 2 ^ 63
+    → StandsFor c j s positions from → text ≡ answer_text j s → length text ≤ most_bytes
+    → IsPrinted c j (statuses.Done (dones.Lasso j positions from)) text
+good_stimulus c j s positions from text written true_one small stands same short =
+    let good : IsGood c text (accepted.Lasso j positions from) = subst (λ (t : List ℕ). IsGood c t (accepted.Lasso j positions from)) (sym same)
+    (written j s positions from small stands (subst (λ (t : List ℕ). length t ≤ most_bytes) same short)) in
+    (accepted.Lasso j positions from, refl, refl, good, true_one text (accepted.Lasso j positions from) good)
+
+pub good_certificate : (c : Circuit) (j : ℕ) (b : BoardState) (list : List CheckedEntry) (refutation : Refutation) (count : ℕ) (text : List ℕ)
+    → WrittenCertificatesAreGood c → GoodIsTrue c → IsBoard b → b.circuit ≡ c → list ≡ b.entries → j < length c.justice
+    → IsGoodRefutation c (plain b.entries) j refutation.uses refutation.proof → count ≡ length list
+    → text ≡ certificate_text j (certificate_of list refutation) → length text ≤ most_bytes
+    → IsPrinted c j (statuses.Done (dones.Holds j count)) text
+good_certificate c j b list refutation count text written true_one board of_circuit listed there good counted same short =
+    let refuted : IsRefutedBy c j list refutation = record {
+      property = there;
+      few = omega (arith, board.within, board.limit, ap length listed);
+      proved = proved_in_order c list (subst (λ (l : List CheckedEntry). IsSoundList c l) (sym listed) (subst (λ (k : Circuit). IsSoundList k b.entries) of_circuit board.sound));
+      refuted = subst (λ (l : List CheckedEntry). IsGoodRefutation c (plain l) j refutation.uses refutation.proof) (sym listed) good;
+    } in
+    let certificate : IsGood c (certificate_text j (certificate_of list refutation)) (accepted.Holds j (length list)) =
+    (written j list refutation refuted (subst (λ (t : List ℕ). length t ≤ most_bytes) same short)).1 in
+    let as_text : IsGood c text (accepted.Holds j (length list)) = subst (λ (t : List ℕ). IsGood c t (accepted.Holds j (length list))) (sym same) certificate in
+    let as_count : IsGood c text (accepted.Holds j count) = subst (λ (n : ℕ). IsGood c text (accepted.Holds j n)) (sym counted) as_text in
+    (accepted.Holds j count, refl, refl, as_count, true_one text (accepted.Holds j count) as_count)
+
+pub nothing_before : (before after : List CheckedEntry) (e : CheckedEntry) → [] ≡ before ++ e ∷ after → ⊥
+nothing_before [] after e wrong = cc
+nothing_before (x ∷ before) after e wrong = cc
+
+-- Lists of which one stands in front.
+
+pub regrouped : (old a b c d e f g h i j k : List ℕ)
+    → old ++ a ++ b ++ c ++ d ++ e ++ f ++ g ++ h ++ i ++ j ++ k ≡ old ++ (a ++ b ++ c ++ d ++ e ++ f ++ g ++ h ++ i ++ j ++ k)
+regrouped [] a b c d e f g h i j k = refl
+regrouped (x ∷ old) a b c d e f g h i j k = ap (λ (rest : List ℕ). x ∷ rest) (regrouped old a b c d e f g h i j k)

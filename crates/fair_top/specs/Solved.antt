@@ -1,0 +1,36 @@
+-- Scaffolding of inner functions: what `solve` comes to for a circuit.
+use Rattle.std.specs.Prelude.{◌≡◌, ◌⊎◌, ◌≤◌, ◌<◌, ◌^◌, ℕ, List, length}
+use Rattle.aig_semantics.specs.Circuits.{Circuit}
+use Rattle.certificate.specs.declared.ends.Accepted.{Accepted}
+use Rattle.certificate.specs.Answers.{IsGood, Shows}
+use Rattle.fair_workers.specs.declared.limits.Report.{Report}
+use Rattle.fair_workers.specs.Runs.{AreLimits, IsReport}
+use Rattle.fair_top.specs.declared.requests.SolveRequest.{SolveRequest}
+use Rattle.fair_top.specs.declared.status.Status.{Status}
+use Rattle.fair_top.specs.declared.status.Status.TheVariants as statuses
+use Rattle.fair_top.specs.Check.{done_of}
+use Rattle.fair_top.specs.Solve.{limits_of, task_of, property_of}
+use Rattle.fair_top.specs.Texts.{text_of}
+
+-- the text is a good answer for property j of the circuit, the status says what `check` says of it, and that is true
+abbrev pub IsPrinted : Circuit → ℕ → Status → List ℕ → Type 0
+IsPrinted c j status text =
+    (found : Accepted) × (status ≡ statuses.Done (done_of found)) × (property_of found ≡ j) × IsGood c text found × Shows c found
+
+-- the status says that the circuit has no such property
+abbrev pub EndsWithoutProperty : Circuit → SolveRequest → Status → Type 0
+EndsWithoutProperty c request status = (status ≡ statuses.NoProperty request.property) × (length c.justice ≤ request.property)
+
+-- the status carries a report of workers
+abbrev pub EndsUnknown : Circuit → SolveRequest → Status → Type 0
+EndsUnknown c request status =
+    (report : Report) × (status ≡ statuses.Unknown report) × (request.property < length c.justice) × IsReport (task_of c request) report
+
+abbrev pub EndsFor : Circuit → SolveRequest → Status → List ℕ → Type 0
+EndsFor c request status text =
+    (EndsWithoutProperty c request status × (text ≡ text_of status))
+    ⊎ (IsPrinted c request.property status text ⊎ (EndsUnknown c request status × (text ≡ text_of status)))
+
+-- what the words of a request are tested for
+abbrev pub AreWithin : SolveRequest → Type 0
+AreWithin request = AreLimits (limits_of request)

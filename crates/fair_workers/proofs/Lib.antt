@@ -1,0 +1,5 @@
+pub mod Allowed
+pub mod Walks
+pub mod Steps
+pub mod Turned
+pub mod Together

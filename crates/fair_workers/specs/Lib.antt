@@ -1,0 +1,4 @@
+pub mod Runs
+pub mod Walks
+pub mod Deeds
+pub mod Working

@@ -1,0 +1,72 @@
+-- What workers leave that search over one board: an answer for each property, or a report that shows what was spent.
+-- The search is FAIR (Bradley, Somenzi, Hassan, Zhang, An incremental approach to model checking progress properties,
+-- 2011); that several workers share its list is this program's.
+use Rattle.std.specs.Prelude.{◌≡◌, ℕ, ◌+◌, ◌≤◌, ◌⊎◌, min, List, ◌++◌, length, Some}
+use Rattle.std.specs.List.{All}
+use Rattle.aig_semantics.specs.Circuits.{Circuit}
+use Rattle.fair_semantics.specs.declared.skeletons.Skeleton.{Skeleton}
+use Rattle.edge.specs.Units.{Spendings, limit_of}
+use Rattle.entry.specs.CheckedEntries.{CheckedEntry}
+use Rattle.skeleton.specs.Finding.{IsAllowed}
+use Rattle.wall_store.specs.Boards.{BoardState, IsBoard, plain, most_entries, properties_of}
+use Rattle.wall_store.specs.Events.{IsOpen, IsSettled}
+use Rattle.fair_workers.specs.declared.limits.Limits.{Limits}
+use Rattle.fair_workers.specs.declared.limits.Report.{Report}
+use Rattle.fair_workers.specs.declared.limits.Ended.{Ended}
+use Rattle.fair_workers.specs.declared.limits.Ended.TheVariants.{Spent, Memory}
+
+-- What is asked of workers: the circuit, the properties, what they may spend, and the entries that are given.
+pub record Task : Type 0 where
+  pub circuit : Circuit
+  pub properties : List ℕ
+  pub limits : Limits
+  pub given : List CheckedEntry
+
+-- 1 to 64 workers, and a list that grows by 65,536 entries at most
+pub record AreLimits (limits : Limits) : Type 0 where
+  pub some : 1 ≤ limits.workers
+  pub few : limits.workers ≤ 64
+  pub skeletons : limits.skeletons ≤ most_entries
+
+-- A board of the task: its circuit, properties, workers and limit are those of the task, its list begins with the given
+-- entries, and it is what a board is at any time.
+pub record IsBoardOf (task : Task) (b : BoardState) : Type 0 where
+  pub board : IsBoard b
+  pub circuit : b.circuit ≡ task.circuit
+  pub properties : properties_of b.served ≡ task.properties
+  pub workers : b.workers ≡ task.limits.workers
+  pub limit : b.limit ≡ min (length task.given + task.limits.skeletons) most_entries
+  pub given : b.given ≡ length task.given
+  pub front : (more : List CheckedEntry) × (b.entries ≡ task.given ++ more)
+
+-- an answer: each served property has an outcome
+pub record IsAnswered (task : Task) (b : BoardState) : Type 0 where
+  pub board : IsBoardOf task b
+  pub settled : IsSettled b.served
+
+-- the count of conflicts, or that of steps, equals its limit
+abbrev pub IsSpent : Spendings → Type 0
+IsSpent spent = (spent.conflict_limit ≡ Some spent.conflicts) ⊎ (spent.step_limit ≡ Some spent.steps)
+
+-- counted against these limits
+pub record IsWithLimits (limits : Limits) (spent : Spendings) : Type 0 where
+  pub conflicts : spent.conflict_limit ≡ limit_of limits.conflicts
+  pub steps : spent.step_limit ≡ limit_of limits.steps
+
+-- The list is as long as it may become, and of each open property there is a skeleton that all its entries allow.
+pub record IsFull (b : BoardState) : Type 0 where
+  pub full : length b.entries ≡ b.limit
+  pub allows : (j : ℕ) → IsOpen b.served j → (s : Skeleton) × IsAllowed b.circuit j (plain b.entries) s
+
+-- A report: a property is open, and either the list is full, or each worker has spent what it may.
+pub record IsReport (task : Task) (r : Report) : Type 0 where
+  pub board : IsBoardOf task r.board
+  pub unanswered : (j : ℕ) × IsOpen r.board.served j
+  pub count : length r.workers ≡ task.limits.workers
+  pub limits : All (IsWithLimits task.limits) r.workers
+  pub cause : IsFull r.board ⊎ All IsSpent r.workers
+
+-- Why workers end without an answer; want of memory says nothing.
+abbrev pub IsEnded : Task → Ended → Type 0
+IsEnded task (Spent report) = IsReport task report
+IsEnded task Memory = Unit {0}

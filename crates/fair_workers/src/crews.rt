@@ -1,0 +1,175 @@
+//! The workers of a run, and whose turn it is. The main call is `crew_of`.
+
+ghost use Rattle.std.specs.Prelude.{◌≡◌, ℕ, ◌<◌, ◌≤◌, ◌∷◌, [], true, false, map, length, slice_index, IfOk, OnOk};
+ghost use Rattle.std.specs.Arc.{arc_value};
+ghost use Rattle.edge.specs.Units.{limit_of};
+ghost use Rattle.wall_store.specs.Boards.{properties_of};
+ghost use Rattle.wall_store.specs.Events.{seen_by};
+ghost use Rattle.fair_workers.specs.Working.{Follows, AreWorkers, IsOver, runs_at, left_of};
+
+use crate::limits::Limits;
+use crate::working::{Phase, Worker, turn};
+use circuit::Circuit;
+use edge::{Meter, Spending};
+use items::Items;
+use skeleton::Query;
+use std::alloc::{AllocError, Global};
+use std::sync::Arc;
+use wall_store::Board;
+
+// A worker that has seen so many entries, and has spent nothing.
+fn new_worker(
+    alloc: Global,
+    c: &Arc<Circuit>,
+    j: u32,
+    limits: Limits,
+    number: u32,
+    seen: usize,
+) -> Result<Worker, AllocError>
+    requires { j < length (arc_value c.now).justice }
+    ensures { IfOk result (λ w. w ≡ record {
+      number = number;
+      seen = seen;
+      turns = 0;
+      query = record { circuit = arc_value c.now; property = j; seen = [] };
+      meter = record {
+        conflicts = 0;
+        conflict_limit = limit_of limits.conflicts;
+        steps = 0;
+        step_limit = limit_of limits.steps;
+      };
+      phase = Phase.Asks;
+    }) }
+{
+    Ok(Worker {
+        number,
+        seen,
+        turns: 0,
+        query: Query::new(alloc, c, j, number)?,
+        meter: Meter::new(limits.conflicts, limits.steps),
+        phase: Phase::Asks,
+    })
+}
+
+/// The workers over a board that each of them has seen whole.
+pub(crate) fn crew_of(
+    alloc: Global,
+    c: &Arc<Circuit>,
+    j: u32,
+    limits: Limits,
+    board: &Board,
+) -> Result<Vec<Worker>, AllocError>
+    requires property { j < length (arc_value c.now).justice }
+    requires circuit { arc_value c.now ≡ board.now.circuit }
+    requires workers { limits.workers ≡ board.now.workers }
+    requires seen { (n : ℕ) → n < board.now.workers → seen_by board.now n ≡ length board.now.entries }
+    ensures count { IfOk result (λ crew. length crew.items ≡ limits.workers) }
+    ensures workers { IfOk result (λ crew. AreWorkers limits j board.now crew.items) }
+{
+    let seen = board.entries().len();
+    let mut crew = Vec::new(alloc);
+    for number in 0..limits.workers {
+        crew.push(new_worker(alloc, c, j, limits, number, seen)?)?;
+    }
+    Ok(crew)
+}
+
+/// A turn of worker `k`, which has not ended.
+pub(crate) fn take_turn(
+    alloc: Global,
+    c: &Arc<Circuit>,
+    j: u32,
+    _limits: Limits,
+    crew: &mut [Worker],
+    k: usize,
+    board: &mut Board,
+) -> Result<(), AllocError>
+    requires circuit { arc_value c.now ≡ board.old.circuit }
+    requires served { properties_of board.old.served ≡ j ∷ [] }
+    requires crew { AreWorkers _limits j board.old crew.old }
+    requires inside { k < length crew.old }
+    requires running { runs_at crew.old k ≡ true }
+    ensures crew { OnOk result (AreWorkers _limits j board.new crew.new) }
+    ensures follows { OnOk result (Follows board.old board.new) }
+    ensures less { OnOk result (left_of board.old.limit crew.new < left_of board.old.limit crew.old) }
+{
+    board.holds();
+    turn(alloc, c, j, &mut crew[k], board)?;
+    board.holds();
+    Ok(())
+}
+
+// Whether this is the number of a worker that has not ended.
+fn is_due(crew: &[Worker], number: u32) -> bool
+    ensures { result ≡ runs_at crew.now number }
+{
+    let k = number as usize;
+    if k >= crew.len() {
+        return false;
+    }
+    crew[k].phase.is_running()
+}
+
+/// The first place of the schedule from `from` on with the number of a worker that has not ended, or its end.
+pub(crate) fn due(schedule: &[u32], from: usize, crew: &[Worker]) -> usize
+    requires { from ≤ length schedule.now }
+    ensures low { from ≤ result }
+    ensures high { result ≤ length schedule.now }
+    ensures found { result < length schedule.now → runs_at crew.now (slice_index schedule.now result) ≡ true }
+    ensures skipped { (i : ℕ) → from ≤ i → i < result → runs_at crew.now (slice_index schedule.now i) ≡ false }
+{
+    for at in from..schedule.len() {
+        if is_due(crew, schedule[at]) {
+            return at;
+        }
+    }
+    schedule.len()
+}
+
+// The first worker from `from` on that has not ended, or the number of workers.
+fn running_from(crew: &[Worker], from: usize) -> usize
+    requires { from ≤ length crew.now }
+    ensures high { result ≤ length crew.now }
+    ensures found { result < length crew.now → runs_at crew.now result ≡ true }
+    ensures ended { (i : ℕ) → from ≤ i → i < result → runs_at crew.now i ≡ false }
+{
+    for k in from..crew.len() {
+        if is_running_at(crew, k) {
+            return k;
+        }
+    }
+    crew.len()
+}
+
+fn is_running_at(crew: &[Worker], k: usize) -> bool
+    requires { k < length crew.now }
+    ensures { result ≡ runs_at crew.now k }
+{
+    crew[k].phase.is_running()
+}
+
+/// The next worker from `from` on that has not ended, and then from worker 0 on; or the number of workers, exactly
+/// where all have ended.
+pub(crate) fn next_running(crew: &[Worker], from: usize) -> usize
+    requires { from ≤ length crew.now }
+    ensures high { result ≤ length crew.now }
+    ensures found { result < length crew.now → runs_at crew.now result ≡ true }
+    ensures over { result ≡ length crew.now → IsOver crew.now }
+{
+    let k = running_from(crew, from);
+    if k < crew.len() {
+        return k;
+    }
+    running_from(crew, 0)
+}
+
+/// What each worker has spent, from worker 0 on.
+pub(crate) fn spendings(alloc: Global, crew: &[Worker]) -> Result<Items<Spending>, AllocError>
+    ensures { IfOk result (λ spent. spent ≡ map (λ w. w.meter) crew.now) }
+{
+    let mut spent = Items::new(alloc);
+    for worker in crew {
+        spent.push(worker.meter.spending())?;
+    }
+    Ok(spent)
+}

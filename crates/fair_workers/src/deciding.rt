@@ -1,0 +1,148 @@
+//! What a worker does next, decided over the entries that it has seen alone. The main call is `decide`.
+
+ghost use Rattle.std.specs.Prelude.{◌≡◌, ◌^◌, ◌<◌, length, IfOk, IfErr};
+ghost use Rattle.std.specs.Arc.{arc_value};
+ghost use Rattle.entry.specs.CheckedEntries.{viewed};
+ghost use Rattle.entry.specs.Laws.{IsGoodList};
+ghost use Rattle.skeleton.specs.Finding.{GoesOnFrom, IsFound, IsAllowed};
+ghost use Rattle.fair_workers.specs.Walks.{IsStop, KeepsLimits, Excludes, entry_of_bar};
+ghost use Rattle.fair_workers.specs.Deeds.{IsDeed, IsPosting};
+
+use crate::seeking::{Sought, seek};
+use crate::ways::{Bar, Stop};
+use certify::{Claim, certify};
+use circuit::Circuit;
+use edge::{Meter, SolveEnd};
+use entry::Checked;
+use fair_semantics::Skeleton;
+use skeleton::{Found, Query};
+use std::alloc::Global;
+use std::sync::Arc;
+use wall_store::Outcome;
+
+/// What a worker does with the board.
+#[derive(Debug, Drop)]
+pub(crate) enum Deed {
+    /// It posts an entry.
+    Post(Checked),
+    /// It hands in an outcome.
+    Finish(Outcome),
+}
+
+/// Who posts, and in which of its turns.
+#[derive(Debug, Clone, Copy)]
+pub(crate) struct Author {
+    pub(crate) number: u32,
+    pub(crate) turn: u32,
+}
+
+// A skeleton that the view allows, or a refutation.
+pub(crate) fn found(
+    alloc: Global,
+    query: &mut Query,
+    view: &[Arc<Checked>],
+    meter: &mut Meter,
+) -> Result<Found, Stop>
+    requires on { GoesOnFrom query.old.seen (viewed view.now) }
+    requires good { IsGoodList query.old.circuit (viewed view.now) }
+    requires few { length view.now < 2 ^ 32 }
+    ensures found { IfOk result (IsFound query.old.circuit query.old.property (viewed view.now)) }
+    ensures stop { IfErr result (IsStop meter.new) }
+    ensures limits { KeepsLimits meter.old meter.new }
+    ensures circuit { query.new.circuit ≡ query.old.circuit }
+    ensures property { query.new.property ≡ query.old.property }
+    ensures seen { GoesOnFrom query.new.seen (viewed view.now) }
+{
+    match query.next(alloc, view, meter) {
+        Ok(found) => Ok(found),
+        Err(SolveEnd::Spent(_)) => Err(Stop::Spent),
+        Err(SolveEnd::Memory) => Err(Stop::Memory),
+    }
+}
+
+// The entry that excludes the skeleton, with its proofs.
+fn certified(
+    alloc: Global,
+    c: &Arc<Circuit>,
+    _j: u32,
+    view: &[Arc<Checked>],
+    bar: Bar,
+    skeleton: Skeleton,
+    author: Author,
+    meter: &mut Meter,
+) -> Result<Checked, Stop>
+    requires view { IsGoodList (arc_value c.now) (viewed view.now) }
+    requires allowed { IsAllowed (arc_value c.now) _j (viewed view.now) skeleton }
+    requires excludes { Excludes (arc_value c.now) (viewed view.now) (entry_of_bar bar) skeleton }
+    ensures posting { IfOk result (IsPosting (arc_value c.now) (viewed view.now) _j author.number) }
+    ensures stop { IfErr result (IsStop meter.new) }
+    ensures limits { KeepsLimits meter.old meter.new }
+{
+    let claim = Claim {
+        kind: bar.kind,
+        clauses: bar.clauses,
+        uses: bar.uses,
+        author: author.number,
+        turn: author.turn,
+        skeleton,
+    };
+    match certify(alloc, c, view, claim, meter) {
+        Ok(entry) => Ok(entry),
+        Err(SolveEnd::Spent(_)) => Err(Stop::Spent),
+        Err(SolveEnd::Memory) => Err(Stop::Memory),
+    }
+}
+
+/// An entry that excludes a skeleton which the view allows, or an outcome of property `j`: a fair lasso, or the
+/// refutation of all skeletons.
+pub(crate) fn decide(
+    alloc: Global,
+    c: &Arc<Circuit>,
+    j: u32,
+    view: &[Arc<Checked>],
+    query: &mut Query,
+    author: Author,
+    meter: &mut Meter,
+) -> Result<Deed, Stop>
+    requires circuit { query.old.circuit ≡ arc_value c.now }
+    requires property { query.old.property ≡ j }
+    requires on { GoesOnFrom query.old.seen (viewed view.now) }
+    requires good { IsGoodList (arc_value c.now) (viewed view.now) }
+    requires few { length view.now < 2 ^ 32 }
+    ensures deed { IfOk result (IsDeed (arc_value c.now) (viewed view.now) j author.number) }
+    ensures stop { IfErr result (IsStop meter.new) }
+    ensures limits { KeepsLimits meter.old meter.new }
+    ensures circuit { query.new.circuit ≡ query.old.circuit }
+    ensures property { query.new.property ≡ query.old.property }
+    ensures seen { GoesOnFrom query.new.seen (viewed view.now) }
+{
+    match found(alloc, query, view, meter)? {
+        Found::Skeleton(skeleton) => go_on(alloc, c, j, view, skeleton, author, meter),
+        Found::Refuted(refutation) => Ok(Deed::Finish(Outcome::Holds(refutation))),
+    }
+}
+
+// What a skeleton comes to.
+fn go_on(
+    alloc: Global,
+    c: &Arc<Circuit>,
+    j: u32,
+    view: &[Arc<Checked>],
+    skeleton: Skeleton,
+    author: Author,
+    meter: &mut Meter,
+) -> Result<Deed, Stop>
+    requires view { IsGoodList (arc_value c.now) (viewed view.now) }
+    requires allowed { IsAllowed (arc_value c.now) j (viewed view.now) skeleton }
+    ensures deed { IfOk result (IsDeed (arc_value c.now) (viewed view.now) j author.number) }
+    ensures stop { IfErr result (IsStop meter.new) }
+    ensures limits { KeepsLimits meter.old meter.new }
+{
+    match seek(alloc, c, j, view, skeleton, meter)? {
+        Sought::Lasso(lasso) => Ok(Deed::Finish(Outcome::Lasso(lasso))),
+        Sought::Barred(bar, skeleton) => {
+            let entry = certified(alloc, c, j, view, bar, skeleton, author, meter)?;
+            Ok(Deed::Post(entry))
+        }
+    }
+}

@@ -1,0 +1,22 @@
+//! Workers that search over one board for a fair lasso or a refutation, after FAIR (Bradley, Somenzi, Hassan, Zhang,
+//! 2011).
+//!
+//! | Call | Gives |
+//! |---|---|
+//! | `run_turns` | the board with an outcome, by workers that take turns on one thread; or what they have spent |
+//!
+//! The definitions stand in `specs/`. Workers and properties are counted from 0.
+#![tactic(auto)]
+
+mod crews;
+mod deciding;
+mod limits;
+mod seeking;
+mod turns;
+mod walking;
+mod ways;
+mod working;
+
+pub use limits::{Ended, Limits, Report};
+pub use turns::run_turns;
+pub use wall_store::{Board, Outcome};

@@ -1,0 +1,139 @@
+//! Questions to the search for a path, and what they come to. The main calls are `stem` and `closing`.
+
+ghost use Rattle.std.specs.Prelude.{◌<◌, ◌-◌, [], length, slice_index_or, IfOk, IfErr};
+ghost use Rattle.entry.specs.CheckedEntries.{viewed};
+ghost use Rattle.entry.specs.Laws.{IsGoodList};
+ghost use Rattle.ic3.specs.Searching.{IsStart, IsGoal, IsReached};
+ghost use Rattle.skeleton.specs.Finding.{IsAllowed};
+ghost use Rattle.fair_workers.specs.Walks.{IsStop, KeepsLimits, IsStem, IsWay, skeleton_of, states, successors};
+
+use circuit::{Circuit, Position};
+use cnf::Clause;
+use edge::Meter;
+use entry::Checked;
+use fair_semantics::{Kind, Situation, Use};
+use ic3::{Goal, ReachEnd, Reached, Start, reach};
+use items::Items;
+use std::alloc::{AllocError, Global};
+use std::sync::Arc;
+
+/// Why a search stopped without an answer.
+#[derive(Debug, Clone, Copy)]
+pub(crate) enum Stop {
+    /// Conflicts or steps are spent.
+    Spent,
+    /// Memory ran out.
+    Memory,
+}
+
+impl From<AllocError> for Stop {
+    ghost use Rattle.std.specs.Prelude.{◌≡◌};
+    ghost use Rattle.fair_workers.specs.declared.ways.Stop.TheVariants.{Memory};
+
+    ghost from_gives = { λ _ stop. stop ≡ Memory };
+
+    fn from(_refused: AllocError) -> Stop {
+        Stop::Memory
+    }
+}
+
+/// What an entry is made of that excludes a skeleton.
+#[derive(Debug, Drop)]
+pub(crate) struct Bar {
+    pub(crate) kind: Kind,
+    pub(crate) clauses: Items<Clause>,
+    pub(crate) uses: Items<Use>,
+}
+
+/// A way from one state to another, or why there is none.
+#[derive(Debug, Drop)]
+pub(crate) enum Way {
+    Open(Items<Position>),
+    Barred(Bar),
+}
+
+/// What the search answers, whichever count it ends by.
+pub(crate) fn asked(
+    alloc: Global,
+    c: &Circuit,
+    view: &[Arc<Checked>],
+    start: &Start,
+    goal: &Goal<'_>,
+    meter: &mut Meter,
+) -> Result<Reached, Stop>
+    requires view { IsGoodList c.now (viewed view.now) }
+    requires start { IsStart c.now start.now }
+    requires goal { IsGoal c.now goal.now }
+    ensures reached { IfOk result (IsReached (record {
+      circuit = c.now;
+      view = viewed view.now;
+      start = start.now;
+    }) goal.now) }
+    ensures stop { IfErr result (IsStop meter.new) }
+    ensures limits { KeepsLimits meter.old meter.new }
+{
+    match reach(alloc, c, view, start, goal, meter) {
+        Ok(reached) => Ok(reached),
+        Err(ReachEnd::SpentConflicts) => Err(Stop::Spent),
+        Err(ReachEnd::SpentSteps) => Err(Stop::Spent),
+        Err(ReachEnd::Memory) => Err(Stop::Memory),
+    }
+}
+
+/// A run from an initial state to the first state of the skeleton, or a reach entry that excludes the skeleton.
+pub(crate) fn stem(
+    alloc: Global,
+    c: &Circuit,
+    _j: u32,
+    view: &[Arc<Checked>],
+    situations: &[Situation],
+    meter: &mut Meter,
+) -> Result<Way, Stop>
+    requires view { IsGoodList c.now (viewed view.now) }
+    requires allowed { IsAllowed c.now _j (viewed view.now) (skeleton_of situations.now) }
+    requires some { 0 < length situations.now }
+    ensures stem { IfOk result (IsStem c.now (viewed view.now) situations.now) }
+    ensures stop { IfErr result (IsStop meter.new) }
+    ensures limits { KeepsLimits meter.old meter.new }
+{
+    let goal = Goal::State(situations[0].position.latches.as_slice());
+    match asked(alloc, c, view, &Start::Initial, &goal, meter)? {
+        Reached::Path(positions) => Ok(Way::Open(positions)),
+        Reached::Closed { clauses, uses } => Ok(Way::Barred(Bar {
+            kind: Kind::Reach,
+            clauses,
+            uses,
+        })),
+    }
+}
+
+/// A run from the successor of the last position to the first state, or a wall that excludes the skeleton.
+pub(crate) fn closing(
+    alloc: Global,
+    c: &Circuit,
+    _j: u32,
+    view: &[Arc<Checked>],
+    situations: &[Situation],
+    meter: &mut Meter,
+) -> Result<Way, Stop>
+    requires view { IsGoodList c.now (viewed view.now) }
+    requires allowed { IsAllowed c.now _j (viewed view.now) (skeleton_of situations.now) }
+    requires some { 0 < length situations.now }
+    ensures way { IfOk result (IsWay c.now (viewed view.now)
+        (slice_index_or (successors situations.now) (length situations.now - 1) [])
+        (slice_index_or (states situations.now) 0 []) situations.now) }
+    ensures stop { IfErr result (IsStop meter.new) }
+    ensures limits { KeepsLimits meter.old meter.new }
+{
+    let last = &situations[situations.len() - 1];
+    let start = Start::State(last.successor.try_copy(alloc)?);
+    let goal = Goal::State(situations[0].position.latches.as_slice());
+    match asked(alloc, c, view, &start, &goal, meter)? {
+        Reached::Path(positions) => Ok(Way::Open(positions)),
+        Reached::Closed { clauses, uses } => Ok(Way::Barred(Bar {
+            kind: Kind::Wall,
+            clauses,
+            uses,
+        })),
+    }
+}

@@ -1,0 +1,174 @@
+-- Two neighbouring frames with the same lemmas are a closed set, which separates the starts from the goal.
+use Rattle.std.proofs.Common.{◌≡◌, ℕ, zero, suc, ◌+◌, ◌-◌, ◌<◌, Bool, true, false, ◌&&◌, List, [], ◌∷◌, length, refl, sym, ap, subst, ◌∙◌, inl, inr, arith}
+use Rattle.std.specs.List.{All}
+use Rattle.std.proofs.lemmas.Bool.{false≢true, and_parts, and_from, or_cases}
+use Rattle.std.proofs.lemmas.List.Elements.{All-nil, All-head, All-tail}
+use Rattle.aig_semantics.specs.Circuits.{Circuit}
+use Rattle.aig_semantics.specs.Runs.{successor}
+use Rattle.proof_semantics.specs.declared.literals.Lit.{Lit}
+use Rattle.proof_semantics.specs.Clauses.{literal_value, clause_value, clauses_value, cube_value, values_of, has_literal}
+use Rattle.proof_semantics.proofs.LiteralLaws.{clause_value-has}
+use Rattle.fair_semantics.specs.States.{meets_clauses}
+use Rattle.fair_semantics.specs.Entries.{Entry, used_entries, set_at}
+use Rattle.fair_semantics.specs.Allowing.{all_allow}
+use Rattle.fair_semantics.specs.Validity.{AreValid, NoStepLeaves}
+use Rattle.fair_semantics.proofs.Examples.{no_reach}
+use Rattle.ic3_frames.specs.Frames.{frame_at}
+use Rattle.ic3_frames.specs.Room.{allowed_by}
+use Rattle.ic3.specs.declared.questions.Start.{Start}
+use Rattle.ic3.specs.declared.questions.Start.TheVariants.{Initial, State}
+use Rattle.ic3.specs.declared.questions.Goal.{Goal}
+use Rattle.ic3.specs.declared.questions.Goal.TheVariants as goals
+use Rattle.ic3.specs.Arenas.{MayStart, restricting, in_arena}
+use Rattle.ic3.specs.Stepping.{IsArenaStep, IsOver}
+use Rattle.ic3.specs.declared.questions.Reached.{Reached}
+use Rattle.ic3.specs.declared.questions.Reached.TheVariants.{Closed}
+use Rattle.ic3.specs.Searching.{Question, Misses, Separates, IsReached, closed_entry}
+use Rattle.ic3.specs.Starting.{start_cube}
+use Rattle.ic3.specs.Closing.{start_uses}
+use Rattle.ic3.specs.Sound.{IsStartCube, has_one_of, IsSound, MissesLast}
+use Rattle.ic3.specs.Pushing.{Narrows}
+use Rattle.ic3.specs.Turning.{IsClosedAt}
+use Rattle.ic3.proofs.Arenas.{steps_keep}
+use Rattle.ic3.proofs.Separated.{separated}
+use Rattle.ic3.proofs.Sounds.{Levels, all_parts, grow_on}
+use Rattle.ic3.proofs.Closes.{lie, are_closed, all_reach, used_are, begins_in_arena, lies_in_arena, IsFrom, starts_lie}
+
+all_frame : (P : List Lit → Type 0) (levels : Levels) (k : ℕ) → All P (frame_at levels 0) → All P (frame_at levels k)
+all_frame P [] zero h = h
+all_frame P [] (suc k) h = All-nil P
+all_frame P (own ∷ levels) zero h = h
+all_frame P (own ∷ levels) (suc k) h = all_frame P levels k (all_parts P own (frame_at levels 0) h).1
+
+-- Clauses that each hold a literal of a cube are true where the cube is.
+one_true : (v : ℕ → Bool) (clause cube : List Lit) → has_one_of cube clause ≡ true → cube_value v cube ≡ true → clause_value v clause ≡ true
+one_true v clause [] some h = absurd (false≢true some)
+one_true v clause (a ∷ cube) some h =
+    let parts = and_parts (literal_value v a) (cube_value v cube) h in
+    elim (or_cases (has_literal clause a) (has_one_of cube clause) some) [
+      | inl here ↦ clause_value-has v clause a parts.0 here
+      | inr later ↦ one_true v clause cube later parts.1
+    ]
+
+all_true : (v : ℕ → Bool) (clauses : List (List Lit)) (cube : List Lit) → All (λ clause. has_one_of cube clause ≡ true) clauses
+    → cube_value v cube ≡ true → clauses_value v clauses ≡ true
+all_true v [] cube each h = refl
+all_true v (clause ∷ clauses) cube each h =
+    let P : List Lit → Type 0 = λ c. has_one_of cube c ≡ true in
+    and_from (clause_value v clause) (clauses_value v clauses) (one_true v clause cube (All-head P clause clauses each) h)
+    (all_true v clauses cube (All-tail P clause clauses each) h)
+
+-- the states of a frame on the start's sides
+abbrev region : List Entry → Start → List (List Lit) → List Bool → Bool
+region view start clauses s = meets_clauses clauses s && lie (set_at view) s (start_uses view start)
+
+from_start : (c : Circuit) (start : Start) (s : List Bool) → MayStart c start s → IsFrom start s
+from_start c Initial s may = tt
+from_start c (State from) s may = may
+
+region_holds : (q : Question) (cube : List Lit) (levels : Levels) (level : ℕ) → IsStartCube q cube → IsSound q cube levels
+    → (s : List Bool) → MayStart q.circuit q.start s → region q.view q.start (frame_at levels level) s ≡ true
+region_holds q cube levels level exact sound s may =
+    and_from (meets_clauses (frame_at levels level) s) (lie (set_at q.view) s (start_uses q.view q.start))
+    (all_true (values_of s) (frame_at levels level) cube (all_frame (λ clause. has_one_of cube clause ≡ true) levels level sound.based)
+    ((exact.exactly s).0 may).1)
+    (starts_lie q.view q.start s (from_start q.circuit q.start s may))
+
+region_stays : (q : Question) (cube : List Lit) (levels : Levels) (level : ℕ) → IsSound q cube levels → level + 1 < length levels
+    → frame_at levels level ≡ frame_at levels (level + 1)
+    → NoStepLeaves q.circuit (all_allow (set_at q.view) (used_entries q.view (start_uses q.view q.start)))
+    (region q.view q.start (frame_at levels level))
+region_stays q cube levels level sound below same s t step allowed inside =
+    let F : List (List Lit) = frame_at levels level in
+    let parts = and_parts (meets_clauses F s) (lie (set_at q.view) s (start_uses q.view q.start)) inside in
+    let may : all_allow (set_at q.view) (restricting q.start q.view) (s ∷ t ∷ []) ≡ true =
+    subst (λ es. all_allow (set_at q.view) es (s ∷ t ∷ []) ≡ true) (used_are q.view q.start) allowed
+    in
+    let here : in_arena q.view q.start s ≡ true = begins_in_arena q.view q.start s t may parts.1 in
+    let there : in_arena q.view q.start t ≡ true = sym (steps_keep q.view q.start s t here) ∙ may in
+    let arena : IsArenaStep q step.position = record {
+      possible = step.possible;
+      state = ap (in_arena q.view q.start) step.begins ∙ here;
+      next = ap (in_arena q.view q.start) step.ends ∙ there;
+    }
+    in
+    let next : allowed_by (frame_at levels (level + 1)) (successor q.circuit step.position) ≡ true =
+    sound.steps level step.position below arena (ap (allowed_by F) step.begins ∙ parts.0)
+    in
+    and_from (meets_clauses F t) (lie (set_at q.view) t (start_uses q.view q.start))
+    (ap (λ clauses. allowed_by clauses t) same ∙ ap (allowed_by (frame_at levels (level + 1))) (sym step.ends) ∙ next)
+    (lies_in_arena q.view q.start t there)
+
+-- A set within one that misses the goal misses it.
+pub misses_within : (q : Question) (goal : Goal) (f g : List Bool → Bool) → ((s : List Bool) → f s ≡ false → g s ≡ false)
+    → Misses q goal f → Misses q goal g
+misses_within q (goals.State to) f g within h = within to.now h
+misses_within q (goals.Literal literal avoid) f g within h = λ p meets. within p.latches (h p meets)
+
+first_false : (a b : Bool) → a ≡ false → (a && b) ≡ false
+first_false true b e = absurd (false≢true (sym e))
+first_false false b e = refl
+
+not_inside : (a b : Bool) → (b ≡ true → a ≡ true) → a ≡ false → b ≡ false
+not_inside a true on e = absurd (false≢true (sym e ∙ on refl))
+not_inside a false on e = refl
+
+-- Where the last frame missed the goal, each frame of narrower ones does.
+pub narrower_misses : (q : Question) (goal : Goal) (old new : Levels) (k : ℕ) → length new ≡ length old → k < length new
+    → Narrows old new → MissesLast q goal old → Misses q goal (allowed_by (frame_at new k))
+narrower_misses q goal old new k size below narrow misses =
+    misses_within q goal (allowed_by (frame_at old (length old - 1))) (allowed_by (frame_at new k))
+    (λ s. not_inside (allowed_by (frame_at old (length old - 1)) s) (allowed_by (frame_at new k) s)
+    (λ h. narrow (length old - 1) s (grow_on new (length old - 1) k s (omega arith) h)))
+    misses
+
+pub separates : (c : Circuit) (view : List Entry) (start : Start) (goal : Goal) (cube : List Lit) (levels : Levels) (level : ℕ)
+    → AreValid c view → cube ≡ start_cube c start
+    → IsStartCube (record { circuit = c; view = view; start = start }) cube → IsSound (record { circuit = c; view = view; start = start }) cube levels
+    → IsClosedAt (record { circuit = c; view = view; start = start }) goal levels level
+    → Separates (record { circuit = c; view = view; start = start }) goal (closed_entry start (frame_at levels level) (start_uses view start))
+separates c view Initial goal cube levels level valid is exact sound closed =
+    let q : Question = record { circuit = c; view = view; start = Initial } in
+    record {
+      over = all_frame (IsOver (length c.latches)) levels level sound.over;
+      valid = record {
+        uses = are_closed c view Initial valid;
+        closed = region_stays q cube levels level sound closed.below closed.same;
+        reach = λ kind. record { initial = region_holds q cube levels level exact sound; uses = all_reach view };
+      };
+      base = subst (λ those. All (λ clause. has_one_of those clause ≡ true) (frame_at levels level)) is
+          (all_frame (λ clause. has_one_of cube clause ≡ true) levels level sound.based);
+      holds = region_holds q cube levels level exact sound;
+      misses = misses_within q goal (allowed_by (frame_at levels (level + 1))) (region view Initial (frame_at levels level))
+          (λ s out. first_false (meets_clauses (frame_at levels level) s) (lie (set_at view) s (start_uses view Initial)) (ap (λ clauses. allowed_by clauses s) closed.same ∙ out))
+          closed.misses;
+    }
+separates c view (State from) goal cube levels level valid is exact sound closed =
+    let q : Question = record { circuit = c; view = view; start = State from } in
+    record {
+      over = all_frame (IsOver (length c.latches)) levels level sound.over;
+      valid = record {
+        uses = are_closed c view (State from) valid;
+        closed = region_stays q cube levels level sound closed.below closed.same;
+        reach = λ kind. no_reach kind;
+      };
+      base = tt;
+      holds = region_holds q cube levels level exact sound;
+      misses = misses_within q goal (allowed_by (frame_at levels (level + 1))) (region view (State from) (frame_at levels level))
+          (λ s out. first_false (meets_clauses (frame_at levels level) s) (lie (set_at view) s (start_uses view (State from))) (ap (λ clauses. allowed_by clauses s) closed.same ∙ out))
+          closed.misses;
+    }
+
+pub closed_reached : (c : Circuit) (view : List Entry) (start : Start) (goal : Goal) (cube : List Lit) (levels : Levels) (level : ℕ) (r : Reached)
+    → AreValid c view → cube ≡ start_cube c start
+    → IsStartCube (record { circuit = c; view = view; start = start }) cube → IsSound (record { circuit = c; view = view; start = start }) cube levels
+    → IsClosedAt (record { circuit = c; view = view; start = start }) goal levels level
+    → r ≡ Closed (frame_at levels level) (start_uses view start)
+    → IsReached (record { circuit = c; view = view; start = start }) goal r
+closed_reached c view start goal cube levels level r valid is exact sound closed answer =
+    let q : Question = record { circuit = c; view = view; start = start } in
+    let apart : Separates q goal (closed_entry start (frame_at levels level) (start_uses view start)) =
+    separates c view start goal cube levels level valid is exact sound closed
+    in
+    subst (IsReached q goal) (sym answer)
+    (apart, λ positions path. separated q goal (frame_at levels level) (start_uses view start) positions apart path)

@@ -1,0 +1,29 @@
+use Rattle.std.proofs.Common.{◌-◌, ◌≤◌, length, subst, ◌∙◌, arith}
+use Rattle.ic3_frames.specs.Room.{room}
+use Rattle.ic3.specs.Sound.{AreStuck}
+use Rattle.ic3.specs.Pushing.{StayStuck}
+use Rattle.ic3.proofs.Stuck.{stuck_more, narrow_on}
+use Rattle.ic3.proofs.Ended.{counts_on, keeps_on}
+use Rattle.ic3.proofs.pushing.push_all.Goals as goal
+
+pub loop-level-preserved : goal.loop-level-preserved
+loop-level-preserved c =
+    let q = c.args.steps.now.question in
+    let before = c.loop-level.invariant in
+    let says = c.in_ok-push_level.ensures in
+    let is = before.question.question in
+    let less =
+    subst (λ x. room (length x.circuit.latches) c.push_level.new.frames ≤ room (length x.circuit.latches) c.loop-level.frames) is says.room
+    in
+    record {
+      search = says.search;
+      number = says.number ∙ before.number;
+      narrows = narrow_on c.args.frames.now c.loop-level.frames c.push_level.new.frames before.narrows says.narrows;
+      stuck =
+          stuck_more q c.loop-level.frames c.push_level.new.frames c.loop-level.level (omega arith) before.stuck
+          (subst (λ x. StayStuck x c.loop-level.frames c.push_level.new.frames (c.loop-level.level - 1)) is says.stay)
+          (subst (λ x. AreStuck x c.push_level.new.frames (c.loop-level.level - 1)) is says.stuck);
+      room = omega (arith, less, before.room);
+      question = keeps_on c.args.steps.now c.loop-level.steps c.push_level.new.steps before.question says.question;
+      counted = counts_on c.args.meter.now c.loop-level.meter c.push_level.new.meter before.counted says.counted;
+    }

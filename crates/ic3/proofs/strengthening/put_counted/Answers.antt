@@ -1,0 +1,27 @@
+use Rattle.std.proofs.Common.{◌≡◌, ℕ, ◌<◌, ◌^◌, length, ap, subst, ◌∙◌, ◌+◌}
+use Rattle.ic3_frames.proofs.Meaning.{number-stays}
+use Rattle.ic3.proofs.Ended.{one_step}
+use Rattle.ic3.proofs.Excluding.{stronger-is}
+use Rattle.ic3.proofs.strengthening.put_counted.Goals as goal
+
+small : (a n : ℕ) → n ≡ a → n < 2 ^ 64 → a < 2 ^ 64
+small a n is below = subst (λ m. m < 2 ^ 64) is below
+
+pub returns-in_err-put_lemma-clause-counted : goal.returns-in_err-put_lemma-clause-counted
+returns-in_err-put_lemma-clause-counted c =
+    one_step c.args.meter.now c.lemma-2.new.self (small c.args.meter.now.steps c.steps_of.result c.steps_of.ensures.value c.steps_of.ensures.small)
+    c.in_ok-lemma.ensures.counted
+
+pub returns-clause-counted : goal.returns-clause-counted
+returns-clause-counted c =
+    one_step c.args.meter.now c.lemma-2.new.self (small c.args.meter.now.steps c.steps_of.result c.steps_of.ensures.value c.steps_of.ensures.small)
+    c.in_ok-lemma.ensures.counted
+
+pub returns-clause-number : goal.returns-clause-number
+returns-clause-number c = ap length c.in_ok-put_lemma.ensures.frames ∙ number-stays c.args.frames.now c.in_ok-level.level c.args.lemma
+
+pub returns-clause-stronger : goal.returns-clause-stronger
+returns-clause-stronger c =
+    rw (c.in_ok-put_lemma.ensures.frames, c.in_ok-level.ensures)
+    (stronger-is (length c.args.steps.now.question.circuit.latches) c.args.frames.now (c.args.below + 1) c.args.lemma c.args.state.now
+    c.requires.level c.requires.size c.requires.frame c.requires.excluded)

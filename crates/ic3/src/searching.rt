@@ -1,0 +1,79 @@
+//! The search. The main call is `reach`.
+ghost use Rattle.std.specs.Prelude.{◌≡◌, length, IfOk, IfErr};
+ghost use Rattle.entry.specs.CheckedEntries.{viewed};
+ghost use Rattle.entry.specs.Laws.{IsGoodList};
+ghost use Rattle.ic3_frames.specs.Frames.{frame_at};
+ghost use Rattle.ic3.specs.Sound.{AvoidsAsked};
+ghost use Rattle.ic3.specs.Closing.{start_uses};
+ghost use Rattle.ic3.specs.Searching.{IsStart, IsGoal, IsReached, IsReachEnd, CountsSearch};
+
+use crate::closing::{lemmas_from, start_uses};
+use crate::questions::{Goal, ReachEnd, Reached, Start};
+use crate::starting::{open_frames, start_cube};
+use crate::steps::Steps;
+use crate::turning::{Turned, turn_on};
+use circuit::Circuit;
+use cnf::Cube;
+use edge::Meter;
+use entry::Checked;
+use ic3_frames::Frames;
+use std::alloc::{AllocError, Global};
+use std::sync::Arc;
+
+/// A path from the start to the goal by steps that the entries of the view allow; or, exactly where there is none, a
+/// closed set. From the initial states reach entries alone restrict the steps. Each error but that of memory comes
+/// where the meter's count of its kind is at its limit.
+pub fn reach(
+    alloc: Global,
+    c: &Circuit,
+    view: &[Arc<Checked>],
+    start: &Start,
+    goal: &Goal<'_>,
+    meter: &mut Meter,
+) -> Result<Reached, ReachEnd>
+    requires view { IsGoodList c.now (viewed view.now) }
+    requires start { IsStart c.now start.now }
+    requires goal { IsGoal c.now goal.now }
+    ensures reached { IfOk result (IsReached (record {
+      circuit = c.now;
+      view = viewed view.now;
+      start = start.now;
+    }) goal.now) }
+    ensures end { IfErr result (IsReachEnd meter.new) }
+    ensures counted { CountsSearch (length c.now.latches) meter.old meter.new }
+{
+    let starts = start_cube(alloc, c, start)?;
+    let mut steps = Steps::new(alloc, c, view, start, avoided(goal))?;
+    let mut frames = open_frames(alloc, &starts, &mut steps)?;
+    match turn_on(alloc, &starts, goal, &mut steps, &mut frames, meter)? {
+        Turned::Path(positions) => Ok(Reached::Path(positions)),
+        Turned::Closed(level) => Ok(close(alloc, view, start, &frames, level)?),
+        Turned::More => Err(ReachEnd::Memory),
+    }
+}
+
+// The cubes that a goal avoids.
+fn avoided<'a>(goal: &Goal<'a>) -> &'a [Cube]
+    ensures { AvoidsAsked result.now goal.now }
+{
+    match goal {
+        Goal::State(_) => &[],
+        Goal::Literal { avoid, .. } => avoid,
+    }
+}
+
+// The closed set of a frame that has the lemmas of the next one.
+fn close(
+    alloc: Global,
+    view: &[Arc<Checked>],
+    start: &Start,
+    frames: &Frames,
+    level: u64,
+) -> Result<Reached, AllocError>
+    ensures { IfOk result (λ reached.
+        reached ≡ Reached.Closed (frame_at frames.now level) (start_uses (viewed view.now) start.now)) }
+{
+    let clauses = lemmas_from(alloc, frames, level)?;
+    let uses = start_uses(alloc, view, start)?;
+    Ok(Reached::Closed { clauses, uses })
+}

@@ -1,0 +1,23 @@
+//! What a query answers.
+
+use cnf::Cube;
+use entry::Refutation;
+use fair_semantics::Skeleton;
+
+/// What there is of a property under the entries of a view.
+#[derive(Debug, Drop)]
+pub enum Found {
+    /// A skeleton that all of them allow.
+    Skeleton(Skeleton),
+    /// Which of them allow none, and the proof.
+    Refuted(Refutation),
+}
+
+/// What there is of a property under the entries of a view from a state on.
+#[derive(Debug, Drop)]
+pub enum First {
+    /// A skeleton that all of them allow, and whose first state is that one.
+    Skeleton(Skeleton),
+    /// A cube over latch numbers that holds the state. In no state of it an allowed skeleton begins.
+    Never(Cube),
+}

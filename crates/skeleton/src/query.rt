@@ -1,0 +1,168 @@
+//! The query. The main type is `Query`.
+ghost use Rattle.std.specs.Prelude.{◌≡◌, ◌<◌, ◌^◌, [], length, IfOk, IfErr};
+ghost use Rattle.std.specs.Arc.{arc_value};
+ghost use Rattle.edge.specs.Ends.{CountsConflicts, IsEnd};
+ghost use Rattle.entry.specs.CheckedEntries.{viewed};
+ghost use Rattle.entry.specs.Laws.{IsGoodList};
+ghost use Rattle.skeleton.specs.Finding.{GoesOnFrom, IsFound, IsFirst};
+ghost use Rattle.skeleton.specs.Keeping.{IsBuilt};
+
+use crate::asking::{find, find_first};
+use crate::finding::{First, Found};
+use crate::known::{Known, catch_up, known_of};
+use circuit::Circuit;
+use edge::{Meter, SolveEnd};
+use entry::Checked;
+use std::alloc::{AllocError, Global};
+use std::marker::Model;
+use std::sync::Arc;
+
+/// A query for the skeletons of one property of a circuit. Contracts see the circuit, the number of the property, and
+/// the entries that the query has seen: the next view goes on from these.
+#[derive(Debug, Drop)]
+pub struct Query {
+    circuit: Arc<Circuit>,
+    property: u32,
+    known: Known,
+}
+
+impl Model for Query {
+    ghost use Rattle.skeleton.specs.Finding.{Asking};
+    ghost use Rattle.skeleton.specs.Keeping.{seen_as, IsKept};
+
+    ghost Value = { Asking };
+
+    ghost view = { seen_as };
+
+    ghost invariant = { IsKept };
+}
+
+// What the query answers, with the clauses of all entries of the view.
+fn next_found(
+    alloc: Global,
+    c: &Circuit,
+    j: u32,
+    known: &mut Known,
+    view: &[Arc<Checked>],
+    meter: &mut Meter,
+) -> Result<Found, SolveEnd>
+    requires property { j < length c.now.justice }
+    requires built { IsBuilt c.now j known.old }
+    requires on { GoesOnFrom (viewed known.old.seen) (viewed view.now) }
+    requires good { IsGoodList c.now (viewed view.now) }
+    requires few { length view.now < 2 ^ 32 }
+    ensures found { IfOk result (IsFound c.now j (viewed view.now)) }
+    ensures end { IfErr result (IsEnd meter.new) }
+    ensures counted { CountsConflicts meter.old meter.new }
+    ensures built { IsBuilt c.now j known.new }
+    ensures seen { GoesOnFrom (viewed known.new.seen) (viewed view.now) }
+{
+    catch_up(alloc, c, j, known, view)?;
+    find(alloc, c, j, &mut known.solver, view, meter)
+}
+
+// The same from a state on.
+fn next_first(
+    alloc: Global,
+    c: &Circuit,
+    j: u32,
+    known: &mut Known,
+    view: &[Arc<Checked>],
+    state: &[bool],
+    meter: &mut Meter,
+) -> Result<First, SolveEnd>
+    requires property { j < length c.now.justice }
+    requires built { IsBuilt c.now j known.old }
+    requires on { GoesOnFrom (viewed known.old.seen) (viewed view.now) }
+    requires good { IsGoodList c.now (viewed view.now) }
+    requires few { length view.now < 2 ^ 32 }
+    requires state { length state.now ≡ length c.now.latches }
+    ensures first { IfOk result (IsFirst c.now j (viewed view.now) state.now) }
+    ensures end { IfErr result (IsEnd meter.new) }
+    ensures counted { CountsConflicts meter.old meter.new }
+    ensures built { IsBuilt c.now j known.new }
+    ensures seen { GoesOnFrom (viewed known.new.seen) (viewed view.now) }
+{
+    catch_up(alloc, c, j, known, view)?;
+    find_first(alloc, c, j, &mut known.solver, view, state, meter)
+}
+
+impl Query {
+    /// A query for skeletons of the property with the number `j`, counted from 0. `worker` is the number of whoever
+    /// asks; nothing depends on it yet. The error is want of memory.
+    pub fn new(alloc: Global, c: &Arc<Circuit>, j: u32, worker: u32) -> Result<Query, AllocError>
+        requires { j < length (arc_value c.now).justice }
+        ensures { IfOk result (λ query. query ≡ record { circuit = arc_value c.now; property = j; seen = [] }) }
+    {
+        let _steers_nothing = worker;
+        let known = known_of(alloc, &**c, j, &[])?;
+        let circuit = Arc::try_clone(c)?;
+        Ok(Query {
+            circuit,
+            property: j,
+            known,
+        })
+    }
+
+    /// A skeleton that all entries of the view allow, or, exactly where there is none, a refutation that is good over
+    /// the view. A refutation is made again over the entries that its proof needs, and the first one stands where the
+    /// meter or memory does not suffice for that. `Spent` comes where the meter's count of conflicts is at its limit.
+    /// After an error the query can be asked again.
+    pub fn next(
+        &mut self,
+        alloc: Global,
+        view: &[Arc<Checked>],
+        meter: &mut Meter,
+    ) -> Result<Found, SolveEnd>
+        requires on { GoesOnFrom self.old.seen (viewed view.now) }
+        requires good { IsGoodList self.old.circuit (viewed view.now) }
+        requires few { length view.now < 2 ^ 32 }
+        ensures found { IfOk result (IsFound self.old.circuit self.old.property (viewed view.now)) }
+        ensures end { IfErr result (IsEnd meter.new) }
+        ensures counted { CountsConflicts meter.old meter.new }
+        ensures circuit { self.new.circuit ≡ self.old.circuit }
+        ensures property { self.new.property ≡ self.old.property }
+        ensures seen { GoesOnFrom self.new.seen (viewed view.now) }
+    {
+        next_found(
+            alloc,
+            &*self.circuit,
+            self.property,
+            &mut self.known,
+            view,
+            meter,
+        )
+    }
+
+    /// A skeleton that all entries of the view allow and that begins in the state, which has a value for each latch;
+    /// or, exactly where there is none, a cube that holds the state and in whose states none begins. `Spent` comes
+    /// where the meter's count of conflicts is at its limit. After an error the query can be asked again.
+    pub fn with_first(
+        &mut self,
+        alloc: Global,
+        view: &[Arc<Checked>],
+        state: &[bool],
+        meter: &mut Meter,
+    ) -> Result<First, SolveEnd>
+        requires on { GoesOnFrom self.old.seen (viewed view.now) }
+        requires good { IsGoodList self.old.circuit (viewed view.now) }
+        requires few { length view.now < 2 ^ 32 }
+        requires state { length state.now ≡ length self.old.circuit.latches }
+        ensures first { IfOk result (IsFirst self.old.circuit self.old.property (viewed view.now) state.now) }
+        ensures end { IfErr result (IsEnd meter.new) }
+        ensures counted { CountsConflicts meter.old meter.new }
+        ensures circuit { self.new.circuit ≡ self.old.circuit }
+        ensures property { self.new.property ≡ self.old.property }
+        ensures seen { GoesOnFrom self.new.seen (viewed view.now) }
+    {
+        next_first(
+            alloc,
+            &*self.circuit,
+            self.property,
+            &mut self.known,
+            view,
+            state,
+            meter,
+        )
+    }
+}

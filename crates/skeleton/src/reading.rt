@@ -1,0 +1,112 @@
+//! The skeleton that an assignment gives to the blocks of skeleton clauses. The main call is `skeleton_in`.
+ghost use Rattle.std.specs.Prelude.{◌≡◌, ◌+◌, ◌<◌, ◌^◌, map, length, All, IfOk};
+ghost use Rattle.cdcl.specs.Asking.{assigned};
+ghost use Rattle.cnf_unroll.specs.Numbers.{number};
+ghost use Rattle.cnf_unroll.specs.Situations.{situation_in};
+ghost use Rattle.skeleton.specs.Reading.{situations_in, situation_count};
+
+use cdcl::Assignment;
+use circuit::{Circuit, Latch, Position};
+use fair_semantics::{Situation, Skeleton};
+use items::Items;
+use std::alloc::{AllocError, Global};
+
+// The values of the latches' numbers, where variable 0 would have the number `start`.
+fn latch_values(
+    alloc: Global,
+    latches: &[Latch],
+    values: &Assignment,
+    start: u64,
+) -> Result<Items<bool>, AllocError>
+    requires start { start < 2 ^ 63 }
+    requires vars { All (λ latch. latch.var < 2 ^ 32) latches.now }
+    ensures { IfOk result (λ bits. bits ≡ map (assigned values.now) (map (λ latch. start + latch.var) latches.now)) }
+{
+    let mut bits = Items::new(alloc);
+    for latch in latches {
+        bits.push(values.value(start + latch.var))?;
+    }
+    Ok(bits)
+}
+
+fn input_values(
+    alloc: Global,
+    inputs: &[u64],
+    values: &Assignment,
+    base: u64,
+) -> Result<Items<bool>, AllocError>
+    requires base { base < 2 ^ 62 }
+    requires vars { All (λ v. v < 2 ^ 32) inputs.now }
+    ensures { IfOk result (λ bits. bits ≡ map (λ i. assigned values.now (number base i)) inputs.now) }
+{
+    let mut bits = Items::new(alloc);
+    for input in inputs {
+        bits.push(values.value(base + 1 + *input))?;
+    }
+    Ok(bits)
+}
+
+// The situation of the block with this base.
+fn situation_in(
+    alloc: Global,
+    c: &Circuit,
+    values: &Assignment,
+    base: u64,
+) -> Result<Situation, AllocError>
+    requires { base < 2 ^ 62 }
+    ensures { IfOk result (λ s. s ≡ situation_in c.now base (assigned values.now)) }
+{
+    let next = base + c.max() + 2;
+    let latches = latch_values(alloc, c.latches(), values, base + 1)?;
+    let inputs = input_values(alloc, c.inputs(), values, base)?;
+    let successor = latch_values(alloc, c.latches(), values, next)?;
+    Ok(Situation {
+        position: Position { latches, inputs },
+        successor,
+    })
+}
+
+fn situations_in(
+    alloc: Global,
+    c: &Circuit,
+    values: &Assignment,
+    count: u64,
+) -> Result<Items<Situation>, AllocError>
+    requires { count < 2 ^ 32 }
+    ensures { IfOk result (λ situations. situations ≡ situations_in c.now 0 count (assigned values.now)) }
+{
+    let size = 2 * c.max() + 2;
+    let mut base = 0;
+    let mut situations = Items::new(alloc);
+    for _block in 0..count {
+        situations.push(situation_in(alloc, c, values, base)?)?;
+        base += size;
+    }
+    Ok(situations)
+}
+
+/// How many situations a skeleton of property `j` has.
+pub(crate) fn situation_count(c: &Circuit, j: u32) -> u64
+    requires { j < length c.now.justice }
+    ensures count { result ≡ situation_count c.now j }
+    ensures small { result < 2 ^ 32 }
+{
+    let _greatest = c.max();
+    let count = c.property(j as usize).len() + c.fairness().len();
+    count.max(1) as u64
+}
+
+/// The skeleton of property `j` whose situations the values give to the blocks, from the first on.
+pub(crate) fn skeleton_in(
+    alloc: Global,
+    c: &Circuit,
+    j: u32,
+    values: &Assignment,
+) -> Result<Skeleton, AllocError>
+    requires { j < length c.now.justice }
+    ensures { IfOk result (λ s. s.situations ≡ situations_in c.now 0 (situation_count c.now j) (assigned values.now)) }
+{
+    let count = situation_count(c, j);
+    let situations = situations_in(alloc, c, values, count)?;
+    Ok(Skeleton { situations })
+}

@@ -1,0 +1,4 @@
+pub mod Behind
+pub mod Serving
+pub mod Excluding
+pub mod Kept

@@ -1,0 +1,5 @@
+pub mod Boards
+pub mod Events
+pub mod Keeping
+pub mod Laws
+pub mod Scanning
