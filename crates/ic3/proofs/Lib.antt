@@ -1,5 +1,3 @@
-pub mod Arenas
-pub mod Separated
 pub mod Sounds
 pub mod Stuck
 pub mod Starts
@@ -7,14 +5,5 @@ pub mod Closes
 pub mod Ended
 pub mod Begins
 pub mod Separating
-pub mod Sides
-pub mod BaseLaws
-pub mod Restricting
-pub mod Guards
-pub mod FoundLaws
-pub mod Asking
-pub mod GoalLaws
-pub mod Holding
-pub mod Apart
 pub mod Excluding
 pub mod Obliging

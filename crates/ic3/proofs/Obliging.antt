@@ -9,18 +9,18 @@ use Rattle.proof_semantics.specs.declared.literals.Lit.{Lit}
 use Rattle.proof_semantics.specs.Clauses.{cube_value, values_of}
 use Rattle.ic3_frames.specs.Frames.{frame_at}
 use Rattle.ic3_frames.specs.Room.{room, allowed_by}
-use Rattle.ic3.specs.declared.questions.Goal.{Goal}
-use Rattle.ic3.specs.declared.questions.Goal.TheVariants as goals
+use Rattle.ic3_steps.specs.declared.questions.Goal.{Goal}
+use Rattle.ic3_steps.specs.declared.questions.Goal.TheVariants as goals
 use Rattle.ic3.specs.declared.obligations.Obligation.{Obligation}
-use Rattle.ic3.specs.Arenas.{MayStart}
-use Rattle.ic3.specs.Searching.{Question, Leads, MeetsLiteral, IsPathTo, IsPath, Misses, IsGoal}
-use Rattle.ic3.specs.Stepping.{Stepping, IsArenaStep, MeetsFrom}
+use Rattle.ic3_steps.specs.Arenas.{MayStart}
+use Rattle.ic3_steps.specs.Searching.{Question, Leads, MeetsLiteral, IsPathTo, IsPath, Misses, IsGoal}
+use Rattle.ic3_steps.specs.Stepping.{Stepping, IsArenaStep, MeetsFrom}
 use Rattle.ic3.specs.Sound.{IsSound, IsSearch, IsStartCube, IsGoalOf, Agree}
 use Rattle.ic3.specs.Blocking.{LeadsOn, with_step, way_after, IsObligation, AreObligations, IsFirst, IsStateFirst, IsLiteralFirst, IsOfPosition, IsBefore, IsTaken, IsHandled, IsOnward, IsTurnedTo, with_both}
 use Rattle.ic3.specs.declared.blocking.Blocked.{Blocked}
 use Rattle.ic3.specs.declared.blocking.Blocked.TheVariants.{Path, Missed, More}
 use Rattle.cdcl.proofs.WayLaws.{work, work_learned, work_decided}
-use Rattle.ic3.proofs.Arenas.{steps_keep}
+use Rattle.ic3_steps.proofs.Arenas.{steps_keep}
 
 abbrev Levels : Type 0
 Levels = List (List (List Lit))

@@ -8,13 +8,13 @@ use Rattle.proof_semantics.specs.Clauses.{cube_value, values_of, is_part, negati
 use Rattle.std.specs.List.{list_any}
 use Rattle.ic3_frames.specs.Frames.{frame_at}
 use Rattle.ic3_frames.specs.Room.{room, allowed_by}
-use Rattle.ic3.specs.declared.questions.Goal.{Goal}
-use Rattle.ic3.specs.declared.questions.Goal.TheVariants as goals
+use Rattle.ic3_steps.specs.declared.questions.Goal.{Goal}
+use Rattle.ic3_steps.specs.declared.questions.Goal.TheVariants as goals
 use Rattle.ic3.specs.declared.obligations.Obligation.{Obligation}
 use Rattle.ic3.specs.declared.blocking.Blocked.{Blocked}
 use Rattle.ic3.specs.declared.blocking.Blocked.TheVariants.{Path, Missed, More}
-use Rattle.ic3.specs.Searching.{Question, IsPath, Leads, MeetsLiteral, Misses}
-use Rattle.ic3.specs.Stepping.{Stepping, IsArenaStep, IsPredecessor, MeetsFrom}
+use Rattle.ic3_steps.specs.Searching.{Question, IsPath, Leads, MeetsLiteral, Misses}
+use Rattle.ic3_steps.specs.Stepping.{Stepping, IsArenaStep, IsPredecessor, MeetsFrom}
 use Rattle.ic3.specs.Starting.{value_literals}
 
 -- The positions lead from the state to the goal.

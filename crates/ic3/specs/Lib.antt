@@ -1,13 +1,6 @@
-pub mod Arenas
-pub mod Searching
-pub mod Stepping
-pub mod Ends
 pub mod Sound
 pub mod Blocking
 pub mod Starting
 pub mod Pushing
 pub mod Turning
 pub mod Closing
-pub mod SteppingClauses
-pub mod SteppingInside
-pub mod Laws

@@ -5,20 +5,18 @@ ghost use Rattle.std.specs.Prelude.{◌≡◌, ◌+◌, ◌-◌, ◌<◌, ◌≤
 ghost use Rattle.proof_semantics.specs.Clauses.{cube_value, values_of};
 ghost use Rattle.ic3_frames.specs.Frames.{frame_at};
 ghost use Rattle.ic3_frames.specs.Room.{room, allowed_by};
-ghost use Rattle.ic3.specs.Searching.{IsReachEnd};
+ghost use Rattle.ic3_steps.specs.Searching.{IsReachEnd};
 ghost use Rattle.ic3.specs.Sound.{IsSearch, IsGoalOf, IsBlocked, KeepsQuestion, CountsUpTo};
 ghost use Rattle.ic3.specs.Blocking.{IsObligation, AreObligations, IsHandled, IsTurnedTo, way_after};
 
-use crate::found::Found;
 use crate::obligations::{Obligation, of_position, put_both, put_on, take_last, way_of};
-use crate::questions::{Goal, ReachEnd};
 use crate::starting::state_cube;
-use crate::steps::Steps;
 use crate::strengthening::{holds_in, strengthen};
 use circuit::Position;
 use cnf::Cube;
 use edge::Meter;
 use ic3_frames::Frames;
+use ic3_steps::{Found, Goal, ReachEnd, Steps};
 use items::Items;
 use std::alloc::Global;
 

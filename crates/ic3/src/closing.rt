@@ -7,10 +7,10 @@ ghost use Rattle.ic3_frames.specs.Frames.{frame_at, own_lemmas};
 ghost use Rattle.ic3.specs.Closing.{side_of, use_for, start_uses};
 
 use crate::pushing::{has_lemma, lemma_at, one_more};
-use crate::questions::Start;
 use cnf::Clause;
 use entry::{Checked, Kind, Side, Use, side};
 use ic3_frames::Frames;
+use ic3_steps::Start;
 use items::Items;
 use std::alloc::{AllocError, Global};
 use std::sync::Arc;

@@ -2,16 +2,15 @@
 ghost use Rattle.std.specs.Prelude.{◌≡◌, ◌+◌, ◌*◌, ◌≤◌, [], ◌∷◌, ◌++◌, length, IfOk, IfErr, IfSome, OnOk};
 ghost use Rattle.edge.specs.Ends.{CountsConflicts, IsEnd};
 ghost use Rattle.ic3_frames.specs.Frames.{frame_at};
-ghost use Rattle.ic3.specs.Searching.{IsReachEnd};
+ghost use Rattle.ic3_steps.specs.Searching.{IsReachEnd};
 ghost use Rattle.ic3.specs.Sound.{IsSearch, IsGoalOf};
 ghost use Rattle.ic3.specs.Blocking.{IsFirst, IsStateFirst, IsLiteralFirst, IsOfPosition, IsTaken, AreObligations, way_after, with_step, with_both};
 
-use crate::questions::{Goal, ReachEnd};
-use crate::steps::Steps;
 use circuit::Position;
 use cnf::Cube;
 use edge::{Held, Meter, SolveEnd};
 use ic3_frames::Frames;
+use ic3_steps::{Goal, ReachEnd, Steps};
 use items::Items;
 use std::alloc::{AllocError, Global};
 

@@ -1,0 +1,11 @@
+pub mod Arenas
+pub mod Separated
+pub mod Sides
+pub mod BaseLaws
+pub mod Restricting
+pub mod Guards
+pub mod FoundLaws
+pub mod Asking
+pub mod GoalLaws
+pub mod Holding
+pub mod Apart
