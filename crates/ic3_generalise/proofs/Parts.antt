@@ -69,10 +69,6 @@ needed_on passes cube old new a part is = record {
   failed = is.failed;
 }
 
--- of these literals each that the answer has is needed
-abbrev pub AreNeeded : (List Lit → Type 0) → List Lit → List Lit → List Lit → Type 0
-AreNeeded passes cube asked answer = (a : Lit) → has_literal asked a ≡ true → has_literal answer a ≡ true → IsNeeded passes cube answer a
-
 -- A literal was dropped, or it is left and the answer fails the test without it.
 pub record IsDecided (passes : List Lit → Type 0) (old new : List Lit) (a : Lit) : Type 0 where
   pub part : is_part new old ≡ true
@@ -90,7 +86,7 @@ decided_needed passes cube old new a within passed is has = record {
 }
 
 pub more_needed : (passes : List Lit → Type 0) (cube asked old new : List Lit) (a : Lit) → is_part old cube ≡ true → passes old
-    → IsDecided passes old new a → AreNeeded passes cube asked old → AreNeeded passes cube (asked ++ a ∷ []) new
+    → IsDecided passes old new a → EachIsNeeded passes cube asked old → EachIsNeeded passes cube (asked ++ a ∷ []) new
 more_needed passes cube asked old new a within passed is before b asked_b has =
     elim (or_cases (has_literal asked b) (lit_eq b a) (sym (has_literal-push asked a b) ∙ asked_b)) [
       | inl earlier ↦ needed_on passes cube old new b is.part (before b earlier (part_has new old b is.part has))
@@ -102,13 +98,12 @@ more_needed passes cube asked old new a within passed is before b asked_b has =
 -- After the literal at place i of a list.
 pub next_needed : (passes : List Lit → Type 0) (cube asked old new : List Lit) (i : ℕ) (d : Lit) → i < length asked
     → is_part old cube ≡ true → passes old → IsDecided passes old new (get_or asked i d)
-    → AreNeeded passes cube (take i asked) old → AreNeeded passes cube (take (i + 1) asked) new
+    → EachIsNeeded passes cube (take i asked) old → EachIsNeeded passes cube (take (i + 1) asked) new
 next_needed passes cube asked old new i d below within passed is before =
-    subst (λ front. AreNeeded passes cube front new) (sym (take_more asked i d below))
+    subst (λ front. EachIsNeeded passes cube front new) (sym (take_more asked i d below))
     (more_needed passes cube (take i asked) old new (get_or asked i d) within passed is before)
 
--- After all literals of the cube.
-pub all_needed : (passes : List Lit → Type 0) (cube asked answer : List Lit) (i : ℕ) → asked ≡ cube → length asked ≤ i
-    → is_part answer cube ≡ true → AreNeeded passes cube (take i asked) answer → EachIsNeeded passes cube answer
-all_needed passes cube asked answer i same past within needed a has =
-    needed a (ap (λ front. has_literal front a) (take_all i asked past ∙ same) ∙ part_has answer cube a within has) has
+-- After all literals of the list.
+pub all_needed : (passes : List Lit → Type 0) (cube asked answer : List Lit) (i : ℕ) → length asked ≤ i
+    → EachIsNeeded passes cube (take i asked) answer → EachIsNeeded passes cube asked answer
+all_needed passes cube asked answer i past needed a asked_a = needed a (ap (λ front. has_literal front a) (take_all i asked past) ∙ asked_a)

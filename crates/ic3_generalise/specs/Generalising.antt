@@ -16,6 +16,6 @@ pub record IsNeeded (passes : List Lit → Type 0) (cube answer : List Lit) (a :
   pub passed : passes between
   pub failed : passes (all_but a between) → ⊥
 
--- each literal of the answer is needed so
-abbrev pub EachIsNeeded : (List Lit → Type 0) → List Lit → List Lit → Type 0
-EachIsNeeded passes cube answer = (a : Lit) → has_literal answer a ≡ true → IsNeeded passes cube answer a
+-- of these literals each that the answer has is needed so
+abbrev pub EachIsNeeded : (List Lit → Type 0) → List Lit → List Lit → List Lit → Type 0
+EachIsNeeded passes cube order answer = (a : Lit) → has_literal order a ≡ true → has_literal answer a ≡ true → IsNeeded passes cube answer a

@@ -10,26 +10,28 @@ use cnf::{Cube, Lit};
 use edge::{Meter, SolveEnd};
 use std::alloc::{AllocError, Global};
 
-/// A part of the cube that passes the asker's test, where the cube passes it. Literals are dropped in the order in
-/// which they stand, and of what an answer of the asker leaves out nothing is asked any more. `Spent` comes where the
-/// meter's count of conflicts is at its limit. The test of every cube is as before.
+/// A part of the cube that passes the asker's test, where the cube passes it. The literals of `order` are dropped one
+/// after another, in that order, wherever the cube passes without them; the others are left where no answer of the asker
+/// leaves them out, and of what one leaves out nothing is asked any more. `Spent` comes where the meter's count of
+/// conflicts is at its limit. The test of every cube is as before.
 pub fn generalise<A: Asker>(
     alloc: Global,
     cube: Cube,
+    order: &[Lit],
     asker: &mut A,
     meter: &mut Meter,
 ) -> Result<Cube, SolveEnd>
     requires { A.passes asker.old cube }
     ensures part { IfOk result (λ answer. is_part answer cube ≡ true) }
     ensures passing { IfOk result (A.passes asker.old) }
-    ensures needed { IfOk result (EachIsNeeded (A.passes asker.old) cube) }
+    ensures needed { IfOk result (EachIsNeeded (A.passes asker.old) cube order.now) }
     ensures kept { (c : List Lit) → A.passes asker.new c ↔ A.passes asker.old c }
     ensures left { A.leaves asker.old asker.new }
     ensures counted { CountsConflicts meter.old meter.new }
     ensures end { IfErr result (IsEnd meter.new) }
 {
-    let mut answer = cube.clone()?;
-    for literal in cube.as_slice() {
+    let mut answer = cube;
+    for literal in order {
         answer = drop_literal(alloc, answer, *literal, asker, meter)?;
     }
     Ok(answer)

@@ -122,30 +122,37 @@ fn codes_of(alloc: Global, cube: &Cube) -> Result<Vec<u64>, AllocError> {
     Ok(codes)
 }
 
-/// What is left of a cube; nothing where the asker does not pass it.
+/// What is left of a cube whose literals are dropped in an order; nothing where the asker does not pass it.
 fn shortened<A: Asker>(
     alloc: Global,
     codes: &[u64],
+    order: &[u64],
     asker: &mut A,
     meter: &mut Meter,
 ) -> Result<Vec<u64>, SolveEnd> {
     let cube = Cube::from_slice(alloc, literals_of(alloc, codes)?.as_slice())?;
     match asker.excluded(alloc, &cube, meter)? {
-        Some(_) => Ok(codes_of(alloc, &generalise(alloc, cube, asker, meter)?)?),
+        Some(_) => {
+            let order = literals_of(alloc, order)?;
+            let left = generalise(alloc, cube, order.as_slice(), asker, meter)?;
+            Ok(codes_of(alloc, &left)?)
+        }
         None => Ok(Vec::new(alloc)),
     }
 }
 
-/// An asker's own cubes, a cube, what is left of it, and how many questions that takes after the first.
+/// An asker's own cubes, a cube, the order of its literals, what is left of it, and how many questions that takes after
+/// the first.
 type Row = (
     &'static [&'static [u64]],
+    &'static [u64],
     &'static [u64],
     &'static [u64],
     u64,
 );
 
 fn by_list(alloc: Global, row: &Row, meter: &mut Meter) -> Result<bool, SolveEnd> {
-    let (own, cube, wanted, questions) = *row;
+    let (own, cube, order, wanted, questions) = *row;
     let mut asker = Listed {
         own: Vec::new(alloc),
         asked: 0,
@@ -156,37 +163,39 @@ fn by_list(alloc: Global, row: &Row, meter: &mut Meter) -> Result<bool, SolveEnd
             .own
             .push(Clause::from_slice(alloc, literals.as_slice())?)?;
     }
-    let left = shortened(alloc, cube, &mut asker, meter)?;
+    let left = shortened(alloc, cube, order, &mut asker, meter)?;
     Ok(left.as_slice() == wanted && asker.asked == questions.saturating_add(1))
 }
 
 fn by_core(alloc: Global, row: &Row) -> Result<bool, SolveEnd> {
-    let (own, cube, wanted, questions) = *row;
+    let (own, cube, order, wanted, questions) = *row;
     let literals = literals_of(alloc, own.first().unwrap_or(&[].as_slice()))?;
     let mut asker = Core {
         own: Clause::from_slice(alloc, literals.as_slice())?,
         asked: 0,
     };
-    let left = shortened(alloc, cube, &mut asker, &mut Meter::new(0, 0))?;
+    let left = shortened(alloc, cube, order, &mut asker, &mut Meter::new(0, 0))?;
     Ok(left.as_slice() == wanted && asker.asked == questions.saturating_add(1))
 }
 
-// The order of the literals decides where two cubes pass.
-const LISTED: [Row; 6] = [
-    (&[&[2]], &[2, 4, 6], &[2], 3),
-    (&[&[2], &[4, 6]], &[2, 4, 6], &[4, 6], 3),
-    (&[&[2], &[4, 6]], &[4, 6, 2], &[2], 3),
-    (&[&[5]], &[4, 5, 2], &[5], 3),
-    (&[&[2, 5]], &[2, 5], &[2, 5], 2),
-    (&[&[]], &[2, 4], &[], 2),
+// The order of the literals decides where two cubes pass, and of a literal that is not in it nothing is asked.
+const LISTED: [Row; 8] = [
+    (&[&[2]], &[2, 4, 6], &[2, 4, 6], &[2], 3),
+    (&[&[2], &[4, 6]], &[2, 4, 6], &[2, 4, 6], &[4, 6], 3),
+    (&[&[2], &[4, 6]], &[2, 4, 6], &[4, 6, 2], &[2], 3),
+    (&[&[2], &[4, 6]], &[2, 4, 6], &[8, 4], &[2, 6], 1),
+    (&[&[2], &[4, 6]], &[2, 4, 6], &[], &[2, 4, 6], 0),
+    (&[&[5]], &[4, 5, 2], &[4, 5, 2], &[5], 3),
+    (&[&[2, 5]], &[2, 5], &[2, 5], &[2, 5], 2),
+    (&[&[]], &[2, 4], &[2, 4], &[], 2),
 ];
 
 // Nothing is asked of a literal that an answer left out.
 const CORES: [Row; 4] = [
-    (&[&[6]], &[2, 4, 6, 8], &[6], 2),
-    (&[&[2]], &[2, 4, 6], &[2], 2),
-    (&[&[8, 2]], &[2, 4, 6, 8], &[8, 2], 3),
-    (&[&[]], &[2, 4, 6], &[], 1),
+    (&[&[6]], &[2, 4, 6, 8], &[2, 4, 6, 8], &[6], 2),
+    (&[&[2]], &[2, 4, 6], &[2, 4, 6], &[2], 2),
+    (&[&[8, 2]], &[2, 4, 6, 8], &[2, 4, 6, 8], &[8, 2], 3),
+    (&[&[]], &[2, 4, 6], &[2, 4, 6], &[], 1),
 ];
 
 #[test]

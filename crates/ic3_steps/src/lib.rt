@@ -3,6 +3,7 @@
 //! | Call | Gives |
 //! |---|---|
 //! | `Steps::new` | the solver of the steps inside the arena of a start, without lemmas |
+//! | `Steps::latches` | how many latches the circuit has |
 //! | `Steps::hold` | one lemma more, in the frames up to its level |
 //! | `Steps::predecessor` | a step from a frame into a cube, from outside it; or a part of the cube into which there is none |
 //! | `Steps::meets_goal` | a position of a frame at which a literal is true |

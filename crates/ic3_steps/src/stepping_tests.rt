@@ -238,3 +238,22 @@ fn goals_are_met_where_they_are(rt: HostRuntime) -> Result<(), Fail> {
     }
     Ok(())
 }
+
+// Whether circuit n is seen to have so many latches.
+fn latches_as(alloc: Global, n: u8, wanted: usize) -> Result<bool, AllocError> {
+    let Ok(c) = circuit_at(alloc, n) else {
+        return Ok(false);
+    };
+    good_lists_grow(&c);
+    let start = Start::Initial;
+    let steps = Steps::new(alloc, &c, &[], &start, &[])?;
+    Ok(steps.latches() == wanted)
+}
+
+#[test]
+fn latches_are_counted(rt: HostRuntime) -> Result<(), Fail> {
+    for (n, wanted) in [(0_u8, 1_usize), (1, 1), (2, 2)] {
+        assert!(rt; latches_as(rt.alloc(), n, wanted)?);
+    }
+    Ok(())
+}

@@ -85,6 +85,13 @@ impl<'a> Steps<'a> {
         })
     }
 
+    /// How many latches the circuit has. Takes no memory.
+    pub fn latches(&self) -> usize
+        ensures { result ≡ length self.now.question.circuit.latches }
+    {
+        self.c.latches().len()
+    }
+
     /// Puts a lemma over the latches behind the others. The error is want of memory, and changes nothing.
     pub fn hold(&mut self, level: u64, clause: &Clause) -> Result<(), AllocError>
         requires { IsOver (length self.old.question.circuit.latches) clause.now }

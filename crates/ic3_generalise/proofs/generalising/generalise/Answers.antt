@@ -1,6 +1,5 @@
-use Rattle.std.proofs.Common.{◌≡◌, true, false, refl, sym, subst, ◌∙◌, arith}
+use Rattle.std.proofs.Common.{false, refl, ◌∙◌, arith}
 use Rattle.std.proofs.lemmas.Bool.{false≢true}
-use Rattle.proof_semantics.specs.Clauses.{is_part}
 use Rattle.proof_semantics.specs.declared.literals.Lit.{Lit}
 use Rattle.edge.specs.Units.{Spendings}
 use Rattle.edge.specs.Ends.{CountsConflicts}
@@ -23,10 +22,9 @@ counts_on a b c first second = record {
 
 pub loop-literal-init : goal.loop-literal-init
 loop-literal-init g c =
-    let same : c.in_ok-answer.answer ≡ c.args.cube = c.in_ok-answer.ensures in
     record {
-      part = subst (λ x. is_part x c.args.cube ≡ true) (sym same) (part_same c.args.cube);
-      passing = subst (g.A.Asker.passes c.args.asker.now) (sym same) c.requires;
+      part = part_same c.args.cube;
+      passing = c.requires;
       needed = λ a none _. absurd (false≢true none);
       kept = λ c'. (λ p. p, λ p. p);
       left = g.met.A.Asker.leaves_itself c.args.asker.now;
@@ -36,13 +34,13 @@ loop-literal-init g c =
 pub loop-literal-preserved : goal.loop-literal-preserved
 loop-literal-preserved g c =
     let before = c.loop-literal.invariant in
-    let says = c.in_ok-answer-2.ensures in
+    let says = c.in_ok-answer.ensures in
     record {
-      part = part_on c.in_ok-answer-2.answer c.loop-literal.answer c.args.cube says.part before.part;
-      passing = (before.kept c.in_ok-answer-2.answer).0 says.passing;
+      part = part_on c.in_ok-answer.answer c.loop-literal.answer c.args.cube says.part before.part;
+      passing = (before.kept c.in_ok-answer.answer).0 says.passing;
       needed =
-          next_needed (g.A.Asker.passes c.args.asker.now) c.args.cube c.as_slice-literal-items.result.now c.loop-literal.answer
-          c.in_ok-answer-2.answer c.loop-literal.literal-index no_literal c.loop-literal-test.true before.part before.passing
+          next_needed (g.A.Asker.passes c.args.asker.now) c.args.cube c.args.order.now c.loop-literal.answer
+          c.in_ok-answer.answer c.loop-literal.literal-index no_literal c.loop-literal-test.true before.part before.passing
           (record {
             part = says.part;
             same = says.same;
@@ -56,6 +54,5 @@ loop-literal-preserved g c =
 
 pub returns-clause-needed : goal.returns-clause-needed
 returns-clause-needed g c =
-    all_needed (g.A.Asker.passes c.args.asker.now) c.args.cube c.as_slice-literal-items.result.now c.loop-literal.answer
-    c.loop-literal.literal-index c.as_slice-literal-items.ensures c.loop-literal-test.false c.loop-literal.invariant.part
-    c.loop-literal.invariant.needed
+    all_needed (g.A.Asker.passes c.args.asker.now) c.args.cube c.args.order.now c.loop-literal.answer c.loop-literal.literal-index
+    c.loop-literal-test.false c.loop-literal.invariant.needed
