@@ -38,13 +38,13 @@ all_has test (l ∷ whole) a all has =
       | inr other ↦ all_has test whole a both.1 (sym (ap (λ b. b || has_literal whole a) other) ∙ has)
     ]
 
-part_true : (v : ℕ → Bool) (part whole : List Lit) → is_part part whole ≡ true → cube_value v whole ≡ true → cube_value v part ≡ true
+pub part_true : (v : ℕ → Bool) (part whole : List Lit) → is_part part whole ≡ true → cube_value v whole ≡ true → cube_value v part ≡ true
 part_true v [] whole part holds = refl
 part_true v (l ∷ rest) whole part holds =
     let both = and_parts (has_literal whole l) (is_part rest whole) part in
     and_from (literal_value v l) (cube_value v rest) (cube_value-has v whole l holds both.0) (part_true v rest whole both.1 holds)
 
-part_over : (n : ℕ) (part whole : List Lit) → is_part part whole ≡ true → IsOver n whole → IsOver n part
+pub part_over : (n : ℕ) (part whole : List Lit) → is_part part whole ≡ true → IsOver n whole → IsOver n part
 part_over n [] whole part over = All-nil (λ l. l.var < n)
 part_over n (l ∷ rest) whole part over =
     let both = and_parts (has_literal whole l) (is_part rest whole) part in
@@ -91,7 +91,7 @@ own_literal_from v n (b ∷ s) l has least below holds = elim (nat_cases n l.var
     nat_cases (suc m) zero le = absurd (omega arith)
     nat_cases (suc m) (suc k) le = elim (nat_cases m k (omega arith)) [ inl e ↦ inl (ap suc e) | inr h ↦ inr (omega arith) ]
 
-own_literal : (s : List Bool) (l : Lit) → l.var < length s → literal_value (values_of s) l ≡ true → has_literal (value_literals 0 s) l ≡ true
+pub own_literal : (s : List Bool) (l : Lit) → l.var < length s → literal_value (values_of s) l ≡ true → has_literal (value_literals 0 s) l ≡ true
 own_literal s l below holds = own_literal_from (values_of s) 0 s l (state_has s) (omega arith) (omega arith) holds
 
 -- a literal of the starts that is false in a state, negated
@@ -114,7 +114,7 @@ twice (l ∷ lits) = ap (λ x. x ∷ map negation (map negation lits)) (negation
 
 -- ---- cubes against a state
 
-any_of : (test : Lit → Bool) (lits : List Lit) (a : Lit) → has_literal lits a ≡ true → test a ≡ true → list_any test lits ≡ true
+pub any_of : (test : Lit → Bool) (lits : List Lit) (a : Lit) → has_literal lits a ≡ true → test a ≡ true → list_any test lits ≡ true
 any_of test [] a has holds = absurd (false≢true has)
 any_of test (l ∷ lits) a has holds = elim (cases_Bool (lit_eq a l)) [
   | inl same ↦ or_left (test l) (list_any test lits) (ap test (sym (lit_eq-true a l same)) ∙ holds)

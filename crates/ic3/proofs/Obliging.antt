@@ -201,10 +201,9 @@ pub on-it-goes : (q : Question) (goal : Goal) (top below : ℕ) (old new : Level
     → (top - length os) - 1 ≡ below → IsHandled q old new below last.state found → after ≡ with_both os last found
     → IsTurnedTo q goal top old new (last ∷ os) after More
 on-it-goes q goal top below old new os after last None are is within level handled made =
-    let same : after ≡ os = made in (
-      subst (λ s. AreObligations q goal new top [] s) (sym same)
-          (obligations-stay q goal old new top (below + 1) [] os handled.above (omega (arith, level, within)) are),
-      (inl handled.room, omega (arith, ap length same, within)),
+    let same : after ≡ [] = made in (
+      subst (λ s. AreObligations q goal new top [] s) (sym same) tt,
+      (inl handled, omega (arith, ap length same)),
     )
 on-it-goes q goal top below old new os after last (Some before) are is within level (b, same) made =
     let one : AreObligations q goal old top [] (os ++ last ∷ []) = obligations-push q goal old top [] os last are is in

@@ -67,10 +67,10 @@ pub record IsStronger (n : ℕ) (level : ℕ) (old new : List (List (List Lit)))
   pub above : (k : ℕ) → level < k → frame_at new k ≡ frame_at old k
   pub room : room n new + 1 ≤ room n old
 
--- What becomes of an obligation of the level above this one: a step before it, or its frame excludes it.
+-- What becomes of an obligation of the level above this one: a step before it, or there is less room.
 abbrev pub IsHandled : Question → List (List (List Lit)) → List (List (List Lit)) → ℕ → List Bool → Option Obligation → Type 0
 IsHandled q old new below s (Some o) = IsBefore q new below s o × (new ≡ old)
-IsHandled q old new below s None = IsStronger (length q.circuit.latches) (below + 1) old new
+IsHandled q old new below s None = room (length q.circuit.latches) new + 1 ≤ room (length q.circuit.latches) old
 
 -- the obligations with one more at the end are the old ones, or there were none
 abbrev pub IsTakenOff : List Obligation → List Obligation → Obligation → Type 0
@@ -110,10 +110,10 @@ abbrev pub IsLiteralFirst : Stepping → ℕ → ℕ → Option Obligation → T
 IsLiteralFirst st top literal (Some o) = (p : Position) × IsOfPosition p o × MeetsFrom st top literal p
 IsLiteralFirst st top literal None = (p : Position) → MeetsFrom st top literal p → ⊥
 
--- An obligation that was handled stands on the others again where there is a step before it; where it is excluded it is
--- left out.
+-- An obligation that was handled stands on the others again where there is a step before it; where it is excluded, all
+-- are left out.
 abbrev pub with_both : List Obligation → Obligation → Option Obligation → List Obligation
-with_both os last None = os
+with_both os last None = []
 with_both os last (Some before) = (os ++ last ∷ []) ++ before ∷ []
 
 -- an obligation that stands on these, or there is no state of the goal in the last frame

@@ -112,7 +112,7 @@ fn push_step(way: &mut Items<Position>, o: Obligation) -> Result<(), AllocError>
     }
 }
 
-/// Puts an obligation back, and the one before it on it, if there is one.
+/// Puts an obligation back, and the one before it on it, if there is one; else takes off all of them.
 pub(crate) fn put_both(
     stack: &mut Vec<Obligation>,
     last: Obligation,
@@ -125,7 +125,10 @@ pub(crate) fn put_both(
             put_on(stack, last)?;
             put_on(stack, before)
         }
-        None => Ok(()),
+        None => {
+            stack.clear();
+            Ok(())
+        }
     }
 }
 
