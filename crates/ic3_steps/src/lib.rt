@@ -7,6 +7,7 @@
 //! | `Steps::hold` | one lemma more, in the frames up to its level |
 //! | `Steps::predecessor` | a step from a frame into a cube, from outside it; or a part of the cube into which there is none |
 //! | `Steps::meets_goal` | a position of a frame at which a literal is true |
+//! | `used`, `own_uses` | the entries that restrict the steps, and their uses with the start's sides |
 //! | `steps_keep_to_the_arena` | nothing: the law of which steps the entries allow |
 //! | `separated_goals_are_not_reached` | nothing: the law that a set which separates start and goal leaves no path |
 //!
@@ -30,6 +31,7 @@ pub use found::Found;
 pub use laws::{separated_goals_are_not_reached, steps_keep_to_the_arena};
 pub use lemmas::Lemma;
 pub use questions::{Goal, ReachEnd, Reached, Start};
+pub use stepping_sides::{own_uses, used};
 pub use steps::Steps;
 
 #[cfg(test)]

@@ -50,8 +50,8 @@ fn lend(i: usize, entry: &Arc<Checked>) -> Result<Used<'_>, AllocError>
     })
 }
 
-/// The entries that restrict the steps.
-pub(crate) fn used<'a>(
+/// The entries that restrict the steps, as clauses take them. The error is want of memory.
+pub fn used<'a>(
     alloc: Global,
     view: &'a [Arc<Checked>],
     start: &Start,
@@ -114,8 +114,8 @@ fn own_use(
     })
 }
 
-/// The uses of the entries that restrict the steps, which name the sides of the start.
-pub(crate) fn own_uses(
+/// The uses of the entries that restrict the steps, which name the sides of the start. The error is want of memory.
+pub fn own_uses(
     alloc: Global,
     view: &[Arc<Checked>],
     start: &Start,

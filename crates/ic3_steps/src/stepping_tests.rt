@@ -125,20 +125,23 @@ type Row = (
     &'static [bool],
 );
 
-const STEPS: [Row; 12] = [
-    (0, (0, &[0]), 1, &[0], &[false]),
-    (0, (0, &[0]), 1, &[1], &[true]),
-    (0, (1, &[0]), 1, &[0], &[]),
-    (0, (1, &[0]), 2, &[0], &[false]),
-    (0, (2, &[0]), 1, &[0], &[]),
-    (1, (0, &[0]), 1, &[0], &[]),
-    (1, (0, &[0]), 1, &[0, 1], &[]),
-    (2, (0, &[0]), 1, &[0, 2], &[false, true]),
-    (2, (0, &[0]), 1, &[2], &[true, false]),
-    (2, (0, &[0]), 1, &[0, 3], &[false, false]),
-    (2, (1, &[2]), 1, &[0, 3], &[]),
-    (2, (1, &[2]), 2, &[0, 3], &[false, false]),
-];
+// The row with a number; the last one is for all from 11 on.
+fn step_row(number: u8) -> Row {
+    match number {
+        0 => (0, (0, &[0]), 1, &[0], &[false]),
+        1 => (0, (0, &[0]), 1, &[1], &[true]),
+        2 => (0, (1, &[0]), 1, &[0], &[]),
+        3 => (0, (1, &[0]), 2, &[0], &[false]),
+        4 => (0, (2, &[0]), 1, &[0], &[]),
+        5 => (1, (0, &[0]), 1, &[0], &[]),
+        6 => (1, (0, &[0]), 1, &[0, 1], &[]),
+        7 => (2, (0, &[0]), 1, &[0, 2], &[false, true]),
+        8 => (2, (0, &[0]), 1, &[2], &[true, false]),
+        9 => (2, (0, &[0]), 1, &[0, 3], &[false, false]),
+        10 => (2, (1, &[2]), 1, &[0, 3], &[]),
+        _ => (2, (1, &[2]), 2, &[0, 3], &[false, false]),
+    }
+}
 
 fn clause_of(alloc: Global, codes: &[u64]) -> Result<Clause, AllocError> {
     Clause::from_slice(alloc, literals_of(alloc, codes)?.as_slice())
@@ -152,27 +155,41 @@ fn is_found(found: Found, wanted: &[bool]) -> bool {
 }
 
 // Whether the only step is from this state; nothing where there is none.
+fn leads_as(
+    alloc: Global,
+    c: &Circuit,
+    clause: &Clause,
+    cube: &Cube,
+    row: &Row,
+) -> Result<bool, SolveEnd> {
+    if !is_over(c, clause.as_slice()) || !is_over(c, cube.as_slice()) {
+        return Ok(false);
+    }
+    let found = predecessor_of(alloc, c, (row.1.0, clause), row.2, cube)?;
+    Ok(is_found(found, row.4))
+}
+
+fn steps_on(alloc: Global, c: &Circuit, row: &Row) -> Result<bool, SolveEnd> {
+    let clause = clause_of(alloc, row.1.1)?;
+    let cube = cube_of(alloc, row.3)?;
+    leads_as(alloc, c, &clause, &cube, row)
+}
+
 fn steps_as(alloc: Global, row: &Row) -> Result<bool, SolveEnd> {
-    let (n, (at, clause), level, cube, wanted) = *row;
-    let clause = clause_of(alloc, clause)?;
-    let cube = cube_of(alloc, cube)?;
-    let Ok(c) = circuit_at(alloc, n) else {
-        return Ok(false);
-    };
-    if !is_over(&c, clause.as_slice()) {
-        return Ok(false);
+    match circuit_at(alloc, row.0) {
+        Ok(c) => steps_on(alloc, &c, row),
+        Err(_) => Ok(false),
     }
-    if !is_over(&c, cube.as_slice()) {
-        return Ok(false);
-    }
-    let found = predecessor_of(alloc, &c, (at, &clause), level, &cube)?;
-    Ok(is_found(found, wanted))
+}
+
+fn steps_in_row(alloc: Global, number: u8) -> Result<bool, SolveEnd> {
+    steps_as(alloc, &step_row(number))
 }
 
 #[test]
 fn steps_lead_where_they_do(rt: HostRuntime) -> Result<(), Fail> {
-    for row in STEPS {
-        assert!(rt; steps_as(rt.alloc(), &row)?);
+    for number in 0..12 {
+        assert!(rt; steps_in_row(rt.alloc(), number)?);
     }
     Ok(())
 }
@@ -205,10 +222,20 @@ fn is_state(found: Option<Position>, wanted: &[bool]) -> bool {
 }
 
 // Whether the only state of the counter for this goal, outside the cube, is this one.
+fn goals_on(
+    alloc: Global,
+    c: &Circuit,
+    literal: u64,
+    avoid: &[Cube],
+    wanted: &[bool],
+) -> Result<bool, SolveEnd> {
+    let found = goal_in(alloc, c, literal, avoid)?;
+    Ok(is_state(found, wanted))
+}
+
 fn goals_as(alloc: Global, literal: u64, avoid: &[u64], wanted: &[bool]) -> Result<bool, SolveEnd> {
-    let avoid = [cube_of(alloc, avoid)?];
     match circuit_at(alloc, 2) {
-        Ok(c) => Ok(is_state(goal_in(alloc, &c, literal, &avoid)?, wanted)),
+        Ok(c) => goals_on(alloc, &c, literal, &[cube_of(alloc, avoid)?], wanted),
         Err(_) => Ok(false),
     }
 }
@@ -220,21 +247,31 @@ fn are_over(c: &Circuit, cubes: &[Cube]) -> bool
 }
 
 // An AIGER literal, an avoided cube, and the only state, or nothing.
-const GOALS: [(u64, &[u64], &[bool]); 8] = [
-    (4, &[0], &[false, true]),
-    (4, &[2], &[]),
-    (2, &[2], &[true, false]),
-    (6, &[0, 2], &[true, false]),
-    (0, &[0], &[]),
-    (40, &[0], &[]),
-    (8, &[1, 3], &[false, true]),
-    (41, &[], &[]),
-];
+type GoalRow = (u64, &'static [u64], &'static [bool]);
+
+// The row with a number; the last one is for all from 7 on.
+fn goal_row(number: u8) -> GoalRow {
+    match number {
+        0 => (4, &[0], &[false, true]),
+        1 => (4, &[2], &[]),
+        2 => (2, &[2], &[true, false]),
+        3 => (6, &[0, 2], &[true, false]),
+        4 => (0, &[0], &[]),
+        5 => (40, &[0], &[]),
+        6 => (8, &[1, 3], &[false, true]),
+        _ => (41, &[], &[]),
+    }
+}
+
+fn goals_in_row(alloc: Global, number: u8) -> Result<bool, SolveEnd> {
+    let (literal, avoid, wanted) = goal_row(number);
+    goals_as(alloc, literal, avoid, wanted)
+}
 
 #[test]
 fn goals_are_met_where_they_are(rt: HostRuntime) -> Result<(), Fail> {
-    for (literal, avoid, wanted) in GOALS {
-        assert!(rt; goals_as(rt.alloc(), literal, avoid, wanted)?);
+    for number in 0..8 {
+        assert!(rt; goals_in_row(rt.alloc(), number)?);
     }
     Ok(())
 }
@@ -252,8 +289,8 @@ fn latches_as(alloc: Global, n: u8, wanted: usize) -> Result<bool, AllocError> {
 
 #[test]
 fn latches_are_counted(rt: HostRuntime) -> Result<(), Fail> {
-    for (n, wanted) in [(0_u8, 1_usize), (1, 1), (2, 2)] {
-        assert!(rt; latches_as(rt.alloc(), n, wanted)?);
-    }
+    assert!(rt; latches_as(rt.alloc(), 0, 1)?);
+    assert!(rt; latches_as(rt.alloc(), 1, 1)?);
+    assert!(rt; latches_as(rt.alloc(), 2, 2)?);
     Ok(())
 }
