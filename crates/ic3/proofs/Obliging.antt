@@ -1,10 +1,10 @@
 -- Obligations that stand one on the other.
-use Rattle.std.proofs.Common.{◌≡◌, ℕ, zero, suc, ◌+◌, ◌-◌, ◌<◌, ◌≤◌, Bool, true, false, List, [], ◌∷◌, ◌++◌, length, refl, sym, ap, subst, ◌∙◌, ◌⊎◌, inl, inr, arith, append_assoc}
+use Rattle.std.proofs.Common.{◌≡◌, ℕ, zero, suc, ◌+◌, ◌-◌, ◌<◌, ◌≤◌, Bool, true, false, List, [], ◌∷◌, ◌++◌, length, refl, sym, ap, subst, ◌∙◌, inl, inr, arith, append_assoc}
 use Rattle.std.proofs.lemmas.List.{length-append}
 use Rattle.std.specs.Prelude.{Option, None, Some}
 use Rattle.std.proofs.lemmas.Bool.{false≢true, cases_Bool}
 use Rattle.aig_semantics.specs.declared.traces.Position.{Position}
-use Rattle.aig_semantics.specs.Runs.{successor, MeetsConstraints}
+use Rattle.aig_semantics.specs.Runs.{successor}
 use Rattle.proof_semantics.specs.declared.literals.Lit.{Lit}
 use Rattle.proof_semantics.specs.Clauses.{cube_value, values_of}
 use Rattle.ic3_frames.specs.Frames.{frame_at}
@@ -13,10 +13,10 @@ use Rattle.ic3_steps.specs.declared.questions.Goal.{Goal}
 use Rattle.ic3_steps.specs.declared.questions.Goal.TheVariants as goals
 use Rattle.ic3.specs.declared.obligations.Obligation.{Obligation}
 use Rattle.ic3_steps.specs.Arenas.{MayStart}
-use Rattle.ic3_steps.specs.Searching.{Question, Leads, MeetsLiteral, IsPathTo, IsPath, Misses, IsGoal}
-use Rattle.ic3_steps.specs.Stepping.{Stepping, IsArenaStep, MeetsFrom}
-use Rattle.ic3.specs.Sound.{IsSound, IsSearch, IsStartCube, IsGoalOf, Agree}
-use Rattle.ic3.specs.Blocking.{LeadsOn, with_step, way_after, IsObligation, AreObligations, IsFirst, IsStateFirst, IsLiteralFirst, IsOfPosition, IsBefore, IsTaken, IsHandled, IsOnward, IsTurnedTo, with_both}
+use Rattle.ic3_steps.specs.Searching.{Question, Leads, MeetsLiteral, IsPath}
+use Rattle.ic3_steps.specs.Stepping.{Stepping, IsArenaStep}
+use Rattle.ic3.specs.Sound.{IsSound, IsStartCube, IsGoalOf, Agree}
+use Rattle.ic3.specs.Blocking.{LeadsOn, with_step, way_after, IsObligation, AreObligations, IsFirst, IsStateFirst, IsLiteralFirst, IsBefore, IsTaken, IsHandled, IsOnward, IsTurnedTo, with_both}
 use Rattle.ic3.specs.declared.blocking.Blocked.{Blocked}
 use Rattle.ic3.specs.declared.blocking.Blocked.TheVariants.{Path, Missed, More}
 use Rattle.cdcl.proofs.WayLaws.{work, work_learned, work_decided}

@@ -4,7 +4,7 @@ use Rattle.std.specs.Prelude.{◌≡◌, ℕ, ◌+◌, ◌-◌, ◌<◌, ◌≤�
 use Rattle.aig_semantics.specs.declared.traces.Position.{Position}
 use Rattle.aig_semantics.specs.Runs.{successor}
 use Rattle.proof_semantics.specs.declared.literals.Lit.{Lit}
-use Rattle.proof_semantics.specs.Clauses.{cube_value, values_of, is_part, negation, has_literal}
+use Rattle.proof_semantics.specs.Clauses.{is_part, negation, has_literal}
 use Rattle.std.specs.List.{list_any}
 use Rattle.ic3_frames.specs.Frames.{frame_at}
 use Rattle.ic3_frames.specs.Room.{room, allowed_by}

@@ -1,4 +1,4 @@
-use Rattle.std.proofs.Common.{◌≡◌, ℕ, ◌+◌, ◌-◌, ◌≤◌, [], length}
+use Rattle.std.proofs.Common.{◌≡◌, ◌+◌, ◌-◌, ◌≤◌, [], length}
 use Rattle.ic3_frames.specs.Room.{room}
 use Rattle.cdcl.proofs.WayLaws.{work}
 use Rattle.ic3.specs.Sound.{IsSearch, KeepsQuestion, CountsUpTo}

@@ -1,4 +1,4 @@
-use Rattle.std.proofs.Common.{◌≡◌, ◌+◌, ◌-◌, ◌∙◌, [], ◌∷◌, refl, ap, sym, length, arith, rules}
+use Rattle.std.proofs.Common.{◌-◌, ◌∙◌, [], refl, ap, length, rules}
 use Rattle.ic3.specs.Blocking.{way_after}
 use Rattle.ic3.proofs.Obliging.{path-is, on-it-goes, above-lowest}
 use Rattle.ic3.proofs.blocking.go_on.Goals as goal

@@ -1,4 +1,4 @@
-use Rattle.std.proofs.Common.{◌≡◌, ◌+◌, length, refl, arith}
+use Rattle.std.proofs.Common.{◌+◌, length, refl, arith}
 use Rattle.ic3.proofs.Starts.{value_over}
 use Rattle.ic3.proofs.Excluding.{before-is, some-room, counted-behind}
 use Rattle.ic3_frames.specs.Room.{room}

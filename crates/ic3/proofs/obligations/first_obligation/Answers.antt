@@ -1,6 +1,5 @@
 use Rattle.ic3.proofs.Obliging.{first-is}
 use Rattle.ic3_steps.specs.declared.questions.Goal.TheVariants as goals
-use Rattle.ic3.specs.Sound.{IsGoalOf}
 use Rattle.ic3.proofs.obligations.first_obligation.Goals as goal
 
 pub returns-in_ok-literal_obligation-in-Literal-clause-first : goal.returns-in_ok-literal_obligation-in-Literal-clause-first

@@ -1,4 +1,4 @@
-use Rattle.std.proofs.Common.{rules, sym}
+use Rattle.std.proofs.Common.{rules}
 use Rattle.ic3.proofs.Obliging.{taken-off}
 use Rattle.ic3.proofs.obligations.take_last.Goals as goal
 
