@@ -1,11 +1,11 @@
 -- Cubes that exclude the state of an obligation.
-use Rattle.std.proofs.Common.{◌≡◌, ℕ, zero, suc, ◌+◌, ◌<◌, ◌≤◌, Bool, true, false, ◌&&◌, ◌||◌, not, List, [], ◌∷◌, ◌++◌, map, length, get_or, refl, sym, ap, subst, ◌∙◌, ◌⊎◌, inl, inr, arith}
-use Rattle.std.specs.List.{All, list_all, list_any}
+use Rattle.std.proofs.Common.{◌≡◌, ℕ, zero, suc, ◌+◌, ◌<◌, ◌≤◌, Bool, true, false, ◌||◌, not, List, [], ◌∷◌, ◌++◌, map, length, get_or, refl, sym, ap, subst, ◌∙◌, ◌⊎◌, inl, inr, arith}
+use Rattle.std.specs.List.{list_all, list_any}
 use Rattle.std.proofs.lemmas.Bool.{and_parts, and_from, or_left, or_right, false≢true, cases_Bool}
 use Rattle.std.proofs.lemmas.List.Elements.{All-nil, All-cons, All-head, All-tail}
 use Rattle.proof_semantics.specs.declared.literals.Lit.{Lit}
-use Rattle.proof_semantics.specs.Clauses.{bool_eq, lit_eq, negation, literal_value, clause_value, cube_value, values_of, has_literal, is_part}
-use Rattle.proof_semantics.proofs.LiteralLaws.{lit_eq-same, lit_eq-true, negation_twice, literal_value-negation, cube_value-has, cube_value-negations, has_literal-push, bool_eq-true, bool_eq-same}
+use Rattle.proof_semantics.specs.Clauses.{lit_eq, negation, literal_value, clause_value, cube_value, values_of, has_literal, is_part}
+use Rattle.proof_semantics.proofs.LiteralLaws.{lit_eq-same, lit_eq-true, negation_twice, literal_value-negation, cube_value-has, cube_value-negations, has_literal-push, bool_eq-true}
 use Rattle.ic3_frames.specs.Frames.{frame_at, with_lemma}
 use Rattle.ic3_frames.specs.Room.{room, allowed_by}
 use Rattle.ic3_frames.proofs.Rooms.{lemmas-take}
@@ -17,9 +17,8 @@ use Rattle.ic3.specs.Starting.{value_literals}
 use Rattle.ic3_steps.specs.Stepping.{Stepping, IsMissing, IsPredecessor, IsOver}
 use Rattle.edge.specs.Units.{Spendings}
 use Rattle.edge.specs.Ends.{CountsConflicts}
-use Rattle.ic3.specs.declared.obligations.Obligation.{Obligation}
 use Rattle.ic3.specs.Sound.{IsRelative, Agree, CountsUpTo, has_one_of}
-use Rattle.ic3.specs.Blocking.{NoneEnters, IsExcluding, IsOpposed, IsStronger, IsBefore, IsOfPosition, misses_starts}
+use Rattle.ic3.specs.Blocking.{NoneEnters, IsExcluding, IsOpposed, IsStronger, IsBefore, misses_starts}
 use Rattle.ic3.proofs.Ended.{up_to_on, up_to_conflicts, one_step_of}
 use Rattle.ic3.proofs.Starts.{Has, Has-first, Has-later, state_has, own_true, same_values, value_over}
 
@@ -220,14 +219,11 @@ stronger-is n levels k lemma s inside size allowed excluded = record {
   room = lemmas-take n levels k lemma s inside size allowed excluded;
 }
 
--- a step before the state of an obligation
-pub before-is : (st : Stepping) (levels : Levels) (below : ℕ) (s : List Bool) (p : Position) (o : Obligation) (cube : List Lit) → cube ≡ value_literals 0 s
-    → length s ≡ length st.question.circuit.latches → Agree st.lemmas levels → IsPredecessor st below cube p → IsOfPosition p o
-    → IsBefore st.question levels below s o
-before-is st levels below s p o cube is size agree enters of = record {
-  step = p;
-  is_step = of.step;
-  state = of.state;
+-- a step before a state
+pub before-is : (st : Stepping) (levels : Levels) (below : ℕ) (s : List Bool) (p : Position) (cube : List Lit) → cube ≡ value_literals 0 s
+    → length s ≡ length st.question.circuit.latches → Agree st.lemmas levels → IsPredecessor st below cube p
+    → IsBefore st.question levels below s p
+before-is st levels below s p cube is size agree enters = record {
   arena = enters.step;
   next =
       let next : List Bool = successor st.question.circuit p in

@@ -1,8 +1,3 @@
-use Rattle.std.proofs.Common.{◌≡◌, ◌+◌, List, length, sym, subst, map}
-use Rattle.proof_semantics.specs.declared.literals.Lit.{Lit}
-use Rattle.proof_semantics.specs.Clauses.{clause_value, values_of, negation}
-use Rattle.ic3_steps.specs.Stepping.{IsOver}
-use Rattle.ic3.specs.Sound.{IsRelative, has_one_of}
 use Rattle.ic3.proofs.Excluding.{excluded-is, excluding-over, based-is, relative-is}
 use Rattle.ic3.proofs.strengthening.strengthen.Goals as goal
 
