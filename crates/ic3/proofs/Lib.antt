@@ -6,4 +6,5 @@ pub mod Ended
 pub mod Begins
 pub mod Separating
 pub mod Excluding
+pub mod Excluded
 pub mod Obliging

@@ -5,7 +5,7 @@ use Rattle.std.specs.List.{All, list_any, sum_by, insert}
 use Rattle.aig_semantics.specs.declared.traces.Position.{Position}
 use Rattle.aig_semantics.specs.Runs.{successor}
 use Rattle.proof_semantics.specs.declared.literals.Lit.{Lit}
-use Rattle.proof_semantics.specs.Clauses.{cube_value, values_of, is_part, negation, has_literal}
+use Rattle.proof_semantics.specs.Clauses.{cube_value, values_of, negation, has_literal}
 use Rattle.ic3_frames.specs.Frames.{frame_at}
 use Rattle.ic3_frames.specs.Room.{room, allowed_by}
 use Rattle.ic3_steps.specs.declared.questions.Goal.{Goal}
@@ -20,7 +20,6 @@ use Rattle.ic3.specs.declared.blocking.Handled.{Handled}
 use Rattle.ic3.specs.declared.blocking.Handled.TheVariants.{Start, Before, Excluded}
 use Rattle.ic3_steps.specs.Searching.{Question, IsPath, Leads, MeetsLiteral, Misses}
 use Rattle.ic3_steps.specs.Stepping.{Stepping, IsArenaStep, IsPredecessor, MeetsFrom}
-use Rattle.ic3.specs.Starting.{value_literals}
 
 -- The positions lead from the state to the goal.
 abbrev pub LeadsOn : Question → Goal → List Bool → List Position → Type 0
@@ -163,14 +162,3 @@ NoneEnters st level cube = (p : Position) → IsPredecessor st level cube p → 
 -- the cube misses the starts by one literal
 abbrev pub misses_starts : List Lit → List Lit → Bool
 misses_starts starts cube = list_any (λ l. has_literal cube (negation l)) starts
-
--- A cube that may become a lemma against a state at the level above this one.
-pub record IsExcluding (starts : List Lit) (st : Stepping) (below : ℕ) (s : List Bool) (cube : List Lit) : Type 0 where
-  pub part : is_part cube (value_literals 0 s) ≡ true
-  pub misses : misses_starts starts cube ≡ true
-  pub none : NoneEnters st below cube
-
--- a literal that is true in the state, and whose negation is one of the starts'
-pub record IsOpposed (starts : List Lit) (s : List Bool) (l : Lit) : Type 0 where
-  pub own : has_literal (value_literals 0 s) l ≡ true
-  pub against : has_literal starts (negation l) ≡ true

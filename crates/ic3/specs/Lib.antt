@@ -1,5 +1,6 @@
 pub mod Sound
 pub mod Blocking
+pub mod Strengthening
 pub mod Starting
 pub mod Pushing
 pub mod Turning

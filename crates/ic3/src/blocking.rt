@@ -306,7 +306,7 @@ fn handle(
     match steps.predecessor(alloc, below, &cube, meter)? {
         Found::Step(position) => Ok(Some(position)),
         Found::Missing(part) => {
-            strengthen(starts, below, state, part, steps, frames, meter)?;
+            strengthen(alloc, starts, below, state, part, steps, frames, meter)?;
             Ok(None)
         }
     }

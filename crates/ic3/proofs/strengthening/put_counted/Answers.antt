@@ -1,7 +1,9 @@
 use Rattle.std.proofs.Common.{◌≡◌, ℕ, ◌<◌, ◌^◌, length, ap, subst, ◌∙◌, ◌+◌}
+use Rattle.ic3_frames.specs.Frames.{with_lemma}
 use Rattle.ic3_frames.proofs.Meaning.{number-stays}
 use Rattle.ic3.proofs.Ended.{one_step}
 use Rattle.ic3.proofs.Excluding.{stronger-is}
+use Rattle.ic3.proofs.Excluded.{put-excludes, put-narrows}
 use Rattle.ic3.proofs.strengthening.put_counted.Goals as goal
 
 small : (a n : ℕ) → n ≡ a → n < 2 ^ 64 → a < 2 ^ 64
@@ -20,8 +22,18 @@ returns-clause-counted c =
 pub returns-clause-number : goal.returns-clause-number
 returns-clause-number c = ap length c.in_ok-put_lemma.ensures.frames ∙ number-stays c.args.frames.now c.in_ok-level.level c.args.lemma
 
+pub returns-clause-excluded : goal.returns-clause-excluded
+returns-clause-excluded c =
+    put-excludes c.args.frames.now c.put_lemma.new.frames (c.args.from + 1) c.args.lemma c.args.state.now c.requires.level
+    (c.in_ok-put_lemma.ensures.frames ∙ ap (λ k. with_lemma c.args.frames.now k c.args.lemma) c.in_ok-level.ensures) c.requires.excluded
+
+pub returns-clause-narrows : goal.returns-clause-narrows
+returns-clause-narrows c =
+    put-narrows c.args.frames.now c.put_lemma.new.frames (c.args.from + 1) c.args.lemma c.requires.level
+    (c.in_ok-put_lemma.ensures.frames ∙ ap (λ k. with_lemma c.args.frames.now k c.args.lemma) c.in_ok-level.ensures)
+
 pub returns-clause-stronger : goal.returns-clause-stronger
 returns-clause-stronger c =
     rw (c.in_ok-put_lemma.ensures.frames, c.in_ok-level.ensures)
-    (stronger-is (length c.args.steps.now.question.circuit.latches) c.args.frames.now (c.args.below + 1) c.args.lemma c.args.state.now
+    (stronger-is (length c.args.steps.now.question.circuit.latches) c.args.frames.now (c.args.from + 1) c.args.lemma c.args.state.now
     c.requires.level c.requires.size c.requires.frame c.requires.excluded)
