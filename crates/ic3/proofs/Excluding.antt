@@ -1,6 +1,6 @@
 -- Cubes that exclude the state of an obligation.
 use Rattle.std.proofs.Common.{◌≡◌, ℕ, zero, suc, ◌+◌, ◌<◌, ◌≤◌, Bool, true, false, ◌||◌, not, List, [], ◌∷◌, map, length, refl, sym, ap, subst, ◌∙◌, ◌⊎◌, inl, inr, arith}
-use Rattle.std.specs.List.{list_all, list_any}
+use Rattle.std.specs.List.{list_any}
 use Rattle.std.proofs.lemmas.Bool.{and_parts, and_from, or_left, or_right, false≢true, cases_Bool}
 use Rattle.std.proofs.lemmas.List.Elements.{All-nil, All-cons, All-head, All-tail}
 use Rattle.proof_semantics.specs.declared.literals.Lit.{Lit}
@@ -26,16 +26,6 @@ abbrev Levels : Type 0
 Levels = List (List (List Lit))
 
 -- ---- parts
-
--- what is true of each literal of the whole is true of a literal of it
-all_has : (test : Lit → Bool) (whole : List Lit) (a : Lit) → list_all test whole ≡ true → has_literal whole a ≡ true → test a ≡ true
-all_has test [] a all has = absurd (false≢true has)
-all_has test (l ∷ whole) a all has =
-    let both = and_parts (test l) (list_all test whole) all in
-    elim (cases_Bool (lit_eq a l)) [
-      | inl same ↦ ap test (lit_eq-true a l same) ∙ both.0
-      | inr other ↦ all_has test whole a both.1 (sym (ap (λ b. b || has_literal whole a) other) ∙ has)
-    ]
 
 pub part_true : (v : ℕ → Bool) (part whole : List Lit) → is_part part whole ≡ true → cube_value v whole ≡ true → cube_value v part ≡ true
 part_true v [] whole part holds = refl
