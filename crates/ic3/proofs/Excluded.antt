@@ -1,8 +1,7 @@
 -- Cubes that no step enters, and their parts.
-use Rattle.std.proofs.Common.{◌≡◌, ℕ, zero, suc, ◌+◌, ◌<◌, ◌≤◌, Bool, true, false, ◌&&◌, ◌||◌, not, cond, List, [], ◌∷◌, map, length, get_or, inl, inr, refl, sym, ap, subst, ◌∙◌, arith}
+use Rattle.std.proofs.Common.{◌≡◌, ℕ, zero, suc, ◌<◌, Bool, true, false, ◌&&◌, ◌||◌, not, cond, List, [], ◌∷◌, length, get_or, inl, inr, refl, sym, ap, subst, ◌∙◌, arith}
 use Rattle.std.specs.Prelude.{Option, None, Some, Result, Ok, Err, IsSome, IfSome, IfOk, OnOk, filter, ◌↔◌}
-use Rattle.std.specs.List.{list_any}
-use Rattle.std.proofs.lemmas.Bool.{and_parts, or_left, or_right, or_cases, false≢true, cases_Bool}
+use Rattle.std.proofs.lemmas.Bool.{or_left, or_right, or_cases, false≢true, cases_Bool}
 use Rattle.std.proofs.lemmas.Result.{IfOk-weaker}
 use Rattle.std.proofs.lemmas.List.Elements.{All-head, All-tail}
 use Rattle.aig_semantics.specs.Runs.{successor}
@@ -15,12 +14,12 @@ use Rattle.ic3_frames.specs.Frames.{frame_at, with_lemma}
 use Rattle.ic3_frames.specs.Room.{allowed_by}
 use Rattle.ic3_frames.proofs.Meaning.{with-within}
 use Rattle.ic3_generalise.proofs.Parts.{part_has, part_from, part_same}
-use Rattle.ic3_steps.specs.Stepping.{Stepping, IsMissing, IsPredecessor, IsOver}
+use Rattle.ic3_steps.specs.Stepping.{Stepping, IsMissing, IsOver}
 use Rattle.ic3.specs.Starting.{value_literals}
 use Rattle.ic3.specs.Sound.{CountsUpTo}
 use Rattle.ic3.specs.Pushing.{Narrows}
-use Rattle.ic3.specs.Blocking.{NoneEnters, misses_starts}
-use Rattle.ic3.specs.Strengthening.{IsExcluded, IsOpposed, IsBased, IsAsked, IsHeldFrom}
+use Rattle.ic3.specs.Blocking.{misses_starts}
+use Rattle.ic3.specs.Strengthening.{IsExcluded, IsOpposed, IsBased, IsAsked}
 use Rattle.ic3.specs.Strengthening.{with_literal as with_kept}
 use Rattle.ic3.proofs.Ended.{up_to_on, up_to_conflicts}
 use Rattle.ic3.proofs.Excluding.{part_true, part_over, any_of, own_literal}

@@ -1,11 +1,11 @@
 -- Cubes that exclude the state of an obligation.
-use Rattle.std.proofs.Common.{◌≡◌, ℕ, zero, suc, ◌+◌, ◌<◌, ◌≤◌, Bool, true, false, ◌&&◌, ◌||◌, not, List, [], ◌∷◌, ◌++◌, map, length, get_or, refl, sym, ap, subst, ◌∙◌, ◌⊎◌, inl, inr, arith}
-use Rattle.std.specs.List.{All, list_all, list_any}
+use Rattle.std.proofs.Common.{◌≡◌, ℕ, zero, suc, ◌+◌, ◌<◌, ◌≤◌, Bool, true, false, ◌||◌, not, List, [], ◌∷◌, map, length, refl, sym, ap, subst, ◌∙◌, ◌⊎◌, inl, inr, arith}
+use Rattle.std.specs.List.{list_any}
 use Rattle.std.proofs.lemmas.Bool.{and_parts, and_from, or_left, or_right, false≢true, cases_Bool}
 use Rattle.std.proofs.lemmas.List.Elements.{All-nil, All-cons, All-head, All-tail}
 use Rattle.proof_semantics.specs.declared.literals.Lit.{Lit}
-use Rattle.proof_semantics.specs.Clauses.{bool_eq, lit_eq, negation, literal_value, clause_value, cube_value, values_of, has_literal, is_part}
-use Rattle.proof_semantics.proofs.LiteralLaws.{lit_eq-same, lit_eq-true, negation_twice, literal_value-negation, cube_value-has, cube_value-negations, has_literal-push, bool_eq-true, bool_eq-same}
+use Rattle.proof_semantics.specs.Clauses.{lit_eq, negation, literal_value, clause_value, cube_value, values_of, has_literal, is_part}
+use Rattle.proof_semantics.proofs.LiteralLaws.{lit_eq-same, lit_eq-true, negation_twice, cube_value-has, cube_value-negations, bool_eq-true}
 use Rattle.ic3_frames.specs.Frames.{frame_at, with_lemma}
 use Rattle.ic3_frames.specs.Room.{room, allowed_by}
 use Rattle.ic3_frames.proofs.Rooms.{lemmas-take}
@@ -14,29 +14,18 @@ use Rattle.aig_semantics.specs.declared.traces.Position.{Position}
 use Rattle.aig_semantics.specs.Runs.{literal_at, successor}
 use Rattle.std.proofs.lemmas.List.{length-map}
 use Rattle.ic3.specs.Starting.{value_literals}
-use Rattle.ic3_steps.specs.Stepping.{Stepping, IsMissing, IsPredecessor, IsOver}
+use Rattle.ic3_steps.specs.Stepping.{Stepping, IsPredecessor, IsOver}
 use Rattle.edge.specs.Units.{Spendings}
 use Rattle.edge.specs.Ends.{CountsConflicts}
-use Rattle.ic3.specs.declared.obligations.Obligation.{Obligation}
 use Rattle.ic3.specs.Sound.{IsRelative, Agree, CountsUpTo, has_one_of}
-use Rattle.ic3.specs.Blocking.{NoneEnters, IsExcluding, IsOpposed, IsStronger, IsBefore, IsOfPosition, misses_starts}
+use Rattle.ic3.specs.Blocking.{NoneEnters, IsStronger, IsBefore, misses_starts}
 use Rattle.ic3.proofs.Ended.{up_to_on, up_to_conflicts, one_step_of}
-use Rattle.ic3.proofs.Starts.{Has, Has-first, Has-later, state_has, own_true, same_values, value_over}
+use Rattle.ic3.proofs.Starts.{Has, Has-first, Has-later, state_has, own_true, same_values}
 
 abbrev Levels : Type 0
 Levels = List (List (List Lit))
 
 -- ---- parts
-
--- what is true of each literal of the whole is true of a literal of it
-all_has : (test : Lit → Bool) (whole : List Lit) (a : Lit) → list_all test whole ≡ true → has_literal whole a ≡ true → test a ≡ true
-all_has test [] a all has = absurd (false≢true has)
-all_has test (l ∷ whole) a all has =
-    let both = and_parts (test l) (list_all test whole) all in
-    elim (cases_Bool (lit_eq a l)) [
-      | inl same ↦ ap test (lit_eq-true a l same) ∙ both.0
-      | inr other ↦ all_has test whole a both.1 (sym (ap (λ b. b || has_literal whole a) other) ∙ has)
-    ]
 
 pub part_true : (v : ℕ → Bool) (part whole : List Lit) → is_part part whole ≡ true → cube_value v whole ≡ true → cube_value v part ≡ true
 part_true v [] whole part holds = refl
@@ -56,18 +45,6 @@ part_over n (l ∷ rest) whole part over =
       | inl same ↦ subst (λ x. x.var < n) (sym (lit_eq-true a b same)) (All-head (λ x. x.var < n) b lits all)
       | inr other ↦ over_has lits a (All-tail (λ x. x.var < n) b lits all) (sym (ap (λ t. t || has_literal lits a) other) ∙ has)
     ]
-
-part_push : (part : List Lit) (whole : List Lit) (a : Lit) → is_part part whole ≡ true → has_literal whole a ≡ true → is_part (part ++ a ∷ []) whole ≡ true
-part_push [] whole a part has = and_from (has_literal whole a) true has refl
-part_push (l ∷ rest) whole a part has =
-    let both = and_parts (has_literal whole l) (is_part rest whole) part in
-    and_from (has_literal whole l) (is_part (rest ++ a ∷ []) whole) both.0 (part_push rest whole a both.1 has)
-
-front_true : (v : ℕ → Bool) (part more : List Lit) → cube_value v (part ++ more) ≡ true → cube_value v part ≡ true
-front_true v [] more h = refl
-front_true v (l ∷ rest) more h =
-    let both = and_parts (literal_value v l) (cube_value v (rest ++ more)) h in
-    and_from (literal_value v l) (cube_value v rest) both.0 (front_true v rest more both.1)
 
 -- ---- the literals of a state
 
@@ -94,20 +71,6 @@ own_literal_from v n (b ∷ s) l has least below holds = elim (nat_cases n l.var
 pub own_literal : (s : List Bool) (l : Lit) → l.var < length s → literal_value (values_of s) l ≡ true → has_literal (value_literals 0 s) l ≡ true
 own_literal s l below holds = own_literal_from (values_of s) 0 s l (state_has s) (omega arith) (omega arith) holds
 
--- a literal of the starts that is false in a state, negated
-pub opposed-is : (starts : List Lit) (s : List Bool) (k : ℕ) (l : Lit) → IsOver (length s) starts → l ≡ get_or starts k l → k < length starts
-    → literal_value (values_of s) l ≡ false → IsOpposed starts s (negation l)
-opposed-is starts s k l over is below wrong = record {
-  own = own_literal s (negation l) (subst (λ x. x.var < length s) (sym is) (over k l below)) (literal_value-negation (values_of s) l ∙ ap not wrong);
-  against = subst (λ x. has_literal starts x ≡ true) (sym (negation_twice l)) (subst (λ x. has_literal starts x ≡ true) (sym is) (has_at starts k l below));
-}
-  where
-    has_at : (lits : List Lit) (k : ℕ) (d : Lit) → k < length lits → has_literal lits (get_or lits k d) ≡ true
-    has_at [] k d below = absurd (omega arith)
-    has_at (a ∷ lits) zero d below = or_left (lit_eq a a) (has_literal lits a) (lit_eq-same a)
-    has_at (a ∷ lits) (suc k) d below =
-        or_right (lit_eq (get_or lits k d) a) (has_literal lits (get_or lits k d)) (has_at lits k d (omega arith))
-
 pub twice : (lits : List Lit) → map negation (map negation lits) ≡ lits
 twice [] = refl
 twice (l ∷ lits) = ap (λ x. x ∷ map negation (map negation lits)) (negation_twice l) ∙ ap (λ rest. l ∷ rest) (twice lits)
@@ -121,32 +84,6 @@ any_of test (l ∷ lits) a has holds = elim (cases_Bool (lit_eq a l)) [
   | inr other ↦ or_right (test l) (list_any test lits) (any_of test lits a (sym (ap (λ t. t || has_literal lits a) other) ∙ has) holds)
 ]
 
-module _ (starts : List Lit) (st : Stepping) (below : ℕ) (s : List Bool) where
-  pub excluding-part : (part : List Lit) → IsMissing st below (value_literals 0 s) part → misses_starts starts part ≡ true
-      → IsExcluding starts st below s part
-  excluding-part part missing misses = record { part = missing.among; misses = misses; none = missing.of_part }
-
-  pub excluding-push : (part : List Lit) (l : Lit) → IsMissing st below (value_literals 0 s) part → IsOpposed starts s l
-      → IsExcluding starts st below s (part ++ l ∷ [])
-  excluding-push part l missing opposed =
-      let whole = part_push part (value_literals 0 s) l missing.among opposed.own in
-      record {
-        part = whole;
-        misses = any_of (λ m. has_literal (part ++ l ∷ []) (negation m)) starts (negation l) opposed.against (
-            subst (λ x. has_literal (part ++ l ∷ []) x ≡ true) (sym (negation_twice l))
-            (has_literal-push part l l ∙ or_right (has_literal part l) (lit_eq l l) (lit_eq-same l))
-            );
-        none = λ p enters. missing.none p (record {
-          step = enters.step;
-          frame = enters.frame;
-          outside = elim (cases_Bool (cube_value (values_of p.latches) (value_literals 0 s))) [
-            | inl inside ↦ absurd (false≢true (sym enters.outside ∙ part_true (values_of p.latches) (part ++ l ∷ []) (value_literals 0 s) whole inside))
-            | inr outside ↦ outside
-          ];
-          inside = front_true (values_of (successor st.question.circuit p)) part (l ∷ []) enters.inside;
-        });
-      }
-
 -- the lemma of a cube against a state is false in it,
 pub excluded-is : (s : List Bool) (cube : List Lit) → is_part cube (value_literals 0 s) ≡ true → clause_value (values_of s) (map negation cube) ≡ false
 excluded-is s cube part =
@@ -157,16 +94,6 @@ excluded-is s cube part =
     not_false : (b : Bool) → not b ≡ true → b ≡ false
     not_false true e = absurd (false≢true e)
     not_false false e = refl
-
--- is over the latches,
-pub excluding-over : (s : List Bool) (cube : List Lit) → is_part cube (value_literals 0 s) ≡ true → IsOver (length s) (map negation cube)
-excluding-over s cube part = negations_over (length s) cube (part_over (length s) cube (value_literals 0 s) part (value_over (length s) 0 s (omega arith)))
-  where
-    negations_over : (n : ℕ) (lits : List Lit) → IsOver n lits → IsOver n (map negation lits)
-    negations_over n [] over = All-nil (λ l. l.var < n)
-    negations_over n (l ∷ lits) over =
-        All-cons (λ a. a.var < n) (negation l) (map negation lits) (All-head (λ a. a.var < n) l lits over)
-        (negations_over n lits (All-tail (λ a. a.var < n) l lits over))
 
 -- holds a literal of the starts,
 pub based-is : (starts cube : List Lit) → misses_starts starts cube ≡ true → has_one_of starts (map negation cube) ≡ true
@@ -220,14 +147,11 @@ stronger-is n levels k lemma s inside size allowed excluded = record {
   room = lemmas-take n levels k lemma s inside size allowed excluded;
 }
 
--- a step before the state of an obligation
-pub before-is : (st : Stepping) (levels : Levels) (below : ℕ) (s : List Bool) (p : Position) (o : Obligation) (cube : List Lit) → cube ≡ value_literals 0 s
-    → length s ≡ length st.question.circuit.latches → Agree st.lemmas levels → IsPredecessor st below cube p → IsOfPosition p o
-    → IsBefore st.question levels below s o
-before-is st levels below s p o cube is size agree enters of = record {
-  step = p;
-  is_step = of.step;
-  state = of.state;
+-- a step before a state
+pub before-is : (st : Stepping) (levels : Levels) (below : ℕ) (s : List Bool) (p : Position) (cube : List Lit) → cube ≡ value_literals 0 s
+    → length s ≡ length st.question.circuit.latches → Agree st.lemmas levels → IsPredecessor st below cube p
+    → IsBefore st.question levels below s p
+before-is st levels below s p cube is size agree enters = record {
   arena = enters.step;
   next =
       let next : List Bool = successor st.question.circuit p in

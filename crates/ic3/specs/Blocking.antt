@@ -1,21 +1,25 @@
--- What blocking keeps (scaffolding): obligations, states from which the goal is reached and that frames allow (IC3:
--- Bradley, 2011), each a step before the one below it.
-use Rattle.std.specs.Prelude.{◌≡◌, ℕ, ◌+◌, ◌-◌, ◌<◌, ◌≤◌, ◌⊎◌, Bool, true, false, List, [], ◌∷◌, ◌++◌, length, Option, Some, None}
+-- What blocking keeps (scaffolding): obligations, states from which the goal is reached, each with a level at which it is
+-- to be excluded (IC3: Bradley, 2011).
+use Rattle.std.specs.Prelude.{◌≡◌, ℕ, ◌+◌, ◌-◌, ◌<◌, ◌≤◌, Bool, true, false, List, [], ◌∷◌, ◌++◌, length, slice_index_or, Option, Some, None}
+use Rattle.std.specs.List.{All, list_any, sum_by, insert}
 use Rattle.aig_semantics.specs.declared.traces.Position.{Position}
 use Rattle.aig_semantics.specs.Runs.{successor}
 use Rattle.proof_semantics.specs.declared.literals.Lit.{Lit}
-use Rattle.proof_semantics.specs.Clauses.{cube_value, values_of, is_part, negation, has_literal}
-use Rattle.std.specs.List.{list_any}
+use Rattle.proof_semantics.specs.Clauses.{cube_value, values_of, negation, has_literal}
 use Rattle.ic3_frames.specs.Frames.{frame_at}
 use Rattle.ic3_frames.specs.Room.{room, allowed_by}
 use Rattle.ic3_steps.specs.declared.questions.Goal.{Goal}
 use Rattle.ic3_steps.specs.declared.questions.Goal.TheVariants as goals
+use Rattle.ic3.specs.declared.obligations.Node.{Node}
+use Rattle.ic3.specs.declared.obligations.Node.TheVariants as nodes
 use Rattle.ic3.specs.declared.obligations.Obligation.{Obligation}
+use Rattle.ic3.specs.declared.obligations.Obligations.{Obligations}
 use Rattle.ic3.specs.declared.blocking.Blocked.{Blocked}
 use Rattle.ic3.specs.declared.blocking.Blocked.TheVariants.{Path, Missed, More}
+use Rattle.ic3.specs.declared.blocking.Handled.{Handled}
+use Rattle.ic3.specs.declared.blocking.Handled.TheVariants.{Start, Before, Excluded}
 use Rattle.ic3_steps.specs.Searching.{Question, IsPath, Leads, MeetsLiteral, Misses}
 use Rattle.ic3_steps.specs.Stepping.{Stepping, IsArenaStep, IsPredecessor, MeetsFrom}
-use Rattle.ic3.specs.Starting.{value_literals}
 
 -- The positions lead from the state to the goal.
 abbrev pub LeadsOn : Question → Goal → List Bool → List Position → Type 0
@@ -24,57 +28,132 @@ LeadsOn q (goals.Literal literal avoid) s positions =
     (before : List Position) × (last : Position) × (positions ≡ before ++ last ∷ []) × MeetsLiteral q literal avoid.now last
     × Leads q s positions (successor q.circuit last)
 
--- a way, with the step of an obligation in front
-abbrev pub with_step : Option Position → List Position → List Position
-with_step None way = way
-with_step (Some p) way = p ∷ way
+-- ---- nodes
 
--- The way from the last of these obligations: they stand one on the other, the last one on top.
-abbrev pub way_after : List Position → List Obligation → List Position
-way_after way [] = way
-way_after way (o ∷ os) = way_after (with_step o.step way) os
+abbrev pub node_state : Node → List Bool
+node_state (nodes.Goal s) = s
+node_state (nodes.Last p) = p.latches
+node_state (nodes.Step p next) = p.latches
 
--- An obligation of a level, behind whose step this way goes on: its state has a value for each latch, leads to the goal,
--- and is allowed by the frame of the level.
-pub record IsObligation (q : Question) (goal : Goal) (levels : List (List (List Lit))) (level : ℕ) (way : List Position) (o : Obligation) :
-    Type 0 where
-  pub size : length o.state ≡ length q.circuit.latches
-  pub leads : LeadsOn q goal o.state (with_step o.step way)
-  pub frame : allowed_by (frame_at levels level) o.state ≡ true
+abbrev pub state_at : List Node → ℕ → List Bool
+state_at ns k = node_state (slice_index_or ns k (nodes.Goal []))
 
--- Obligations that stand one on the other, the lowest of this level, and each of the level below that of the one before.
-abbrev pub AreObligations : Question → Goal → List (List (List Lit)) → ℕ → List Position → List Obligation → Type 0
-AreObligations q goal levels level way [] = Unit {0}
-AreObligations q goal levels level way (o ∷ os) =
-    IsObligation q goal levels level way o × AreObligations q goal levels (level - 1) (with_step o.step way) os
+-- the position of a node, if it has one
+abbrev pub own_way : Node → List Position
+own_way (nodes.Goal s) = []
+own_way (nodes.Last p) = p ∷ []
+own_way (nodes.Step p next) = p ∷ []
 
--- an obligation of the last level, or there is none
-abbrev pub IsFirst : Question → Goal → List (List (List Lit)) → ℕ → Option Obligation → Type 0
-IsFirst q goal levels top (Some o) = IsObligation q goal levels top [] o
+abbrev pub next_node : Node → Option ℕ
+next_node (nodes.Goal s) = None
+next_node (nodes.Last p) = None
+next_node (nodes.Step p next) = Some next
+
+-- The node, behind the first k of these: its state has a value for each latch; it leads to the goal, or by a step of the
+-- arena to the state of one of the k.
+abbrev pub IsNode : Question → Goal → ℕ → List Node → Node → Type 0
+IsNode q goal k ns (nodes.Goal s) = (length s ≡ length q.circuit.latches) × LeadsOn q goal s []
+IsNode q goal k ns (nodes.Last p) = (length p.latches ≡ length q.circuit.latches) × LeadsOn q goal p.latches (p ∷ [])
+IsNode q goal k ns (nodes.Step p next) = (next < k) × IsArenaStep q p × (successor q.circuit p ≡ state_at ns next)
+
+-- each node is one behind those before it
+abbrev pub AreNodes : Question → Goal → List Node → Type 0
+AreNodes q goal ns = (k : ℕ) (d : Node) → k < length ns → IsNode q goal k ns (slice_index_or ns k d)
+
+-- ---- the queue
+
+-- An obligation of one of so many nodes, for a level up to the last.
+pub record IsDue (count top : ℕ) (o : Obligation) : Type 0 where
+  pub node : o.node < count
+  pub level : o.level ≤ top
+
+-- An obligation whose frame allows its state.
+pub record IsOpen (top : ℕ) (levels : List (List (List Lit))) (ns : List Node) (o : Obligation) : Type 0 where
+  pub due : IsDue (length ns) top o
+  pub frame : allowed_by (frame_at levels o.level) (state_at ns o.node) ≡ true
+
+pub record AreObligations (q : Question) (goal : Goal) (top : ℕ) (obligations : Obligations) : Type 0 where
+  pub nodes : AreNodes q goal obligations.nodes.items
+  pub due : All (IsDue (length obligations.nodes.items) top) obligations.queue.items
+
+-- the levels from that of an obligation up to the last
+abbrev pub left_above : ℕ → Obligation → ℕ
+left_above top o = (top + 1) - o.level
+
+abbrev pub levels_left : ℕ → List Obligation → ℕ
+levels_left top queue = sum_by (left_above top) queue
+
+-- the obligation was put in at some place
+pub record IsPutIn (o : Obligation) (old new : List Obligation) : Type 0 where
+  pub place : ℕ
+  pub is : new ≡ insert old place o
+
+-- ---- where they begin
+
+-- the goal state as node, where the frame allows it
+abbrev pub IsStateFirst : List Bool → List (List Lit) → Option Node → Type 0
+IsStateFirst to frame (Some node) = (node ≡ nodes.Goal to) × (allowed_by frame to ≡ true)
+IsStateFirst to frame None = allowed_by frame to ≡ false
+
+-- a position that meets the literal as node, if the frame allows one
+abbrev pub IsLiteralFirst : Stepping → ℕ → ℕ → Option Node → Type 0
+IsLiteralFirst st top literal (Some node) = (p : Position) × (node ≡ nodes.Last p) × MeetsFrom st top literal p
+IsLiteralFirst st top literal None = (p : Position) → MeetsFrom st top literal p → ⊥
+
+-- a node that leads to the goal by itself, and that the last frame allows, or there is none
+abbrev pub IsFirst : Question → Goal → List (List (List Lit)) → ℕ → Option Node → Type 0
+IsFirst q goal levels top (Some node) =
+    ((k : ℕ) (ns : List Node) → IsNode q goal k ns node) × (allowed_by (frame_at levels top) (node_state node) ≡ true)
 IsFirst q goal levels top None = Misses q goal (allowed_by (frame_at levels top))
 
--- A step before an obligation with this state: it leads there, from a state of the frame of a level.
-pub record IsBefore (q : Question) (levels : List (List (List Lit))) (level : ℕ) (s : List Bool) (o : Obligation) : Type 0 where
-  pub step : Position
-  pub is_step : o.step ≡ Some step
-  pub state : o.state ≡ step.latches
-  pub arena : IsArenaStep q step
-  pub next : successor q.circuit step ≡ s
-  pub frame : allowed_by (frame_at levels level) step.latches ≡ true
+-- an obligation whose frame allows its state, or the last frame has no state of the goal
+abbrev pub IsNext : Question → Goal → ℕ → List (List (List Lit)) → List Node → Option Obligation → Type 0
+IsNext q goal top levels ns (Some o) = IsOpen top levels ns o
+IsNext q goal top levels ns None = Misses q goal (allowed_by (frame_at levels top))
+
+-- ---- what becomes of one
+
+-- A step into this state, from a state of the frame of a level.
+pub record IsBefore (q : Question) (levels : List (List (List Lit))) (level : ℕ) (s : List Bool) (p : Position) : Type 0 where
+  pub arena : IsArenaStep q p
+  pub next : successor q.circuit p ≡ s
+  pub frame : allowed_by (frame_at levels level) p.latches ≡ true
 
 -- the frames above a level are as before, and there is less room
 pub record IsStronger (n : ℕ) (level : ℕ) (old new : List (List (List Lit))) : Type 0 where
   pub above : (k : ℕ) → level < k → frame_at new k ≡ frame_at old k
   pub room : room n new + 1 ≤ room n old
 
--- What becomes of an obligation of the level above this one: a step before it, or there is less room.
-abbrev pub IsHandled : Question → List (List (List Lit)) → List (List (List Lit)) → ℕ → List Bool → Option Obligation → Type 0
-IsHandled q old new below s (Some o) = IsBefore q new below s o × (new ≡ old)
+-- A step before a state of the frame above this level, or there is less room.
+abbrev pub IsHandled : Question → List (List (List Lit)) → List (List (List Lit)) → ℕ → List Bool → Option Position → Type 0
+IsHandled q old new below s (Some p) = IsBefore q new below s p × (new ≡ old)
 IsHandled q old new below s None = room (length q.circuit.latches) new + 1 ≤ room (length q.circuit.latches) old
 
--- the obligations with one more at the end are the old ones, or there were none
-abbrev pub IsTakenOff : List Obligation → List Obligation → Obligation → Type 0
-IsTakenOff old new o = (new ++ o ∷ [] ≡ old) ⊎ ((old ≡ []) × (new ≡ []))
+-- the node and the obligation of a step before an obligation
+abbrev pub IsKeptWith : List Node → List Node → Obligation → ℕ → Option Position → Handled → Type 0
+IsKeptWith old new at below (Some p) handled =
+    (new ≡ old ++ nodes.Step p at.node ∷ []) × (handled ≡ Before (record { node = length old; level = below }))
+IsKeptWith old new at below None handled = (new ≡ old) × (handled ≡ Excluded)
+
+-- One level down from an obligation: its state is a start; there is one of a lower level, over the same frames; or there
+-- is less room.
+abbrev pub IsGoneOn : ℕ → ℕ → List Lit → List (List (List Lit)) → List (List (List Lit)) → List Node → Obligation → Handled → Type 0
+IsGoneOn n top starts old new ns at Start = (at.node < length ns) × (cube_value (values_of (state_at ns at.node)) starts ≡ true)
+IsGoneOn n top starts old new ns at (Before b) = IsOpen top new ns b × (b.level < at.level) × (new ≡ old)
+IsGoneOn n top starts old new ns at Excluded = room n new + 1 ≤ room n old
+
+-- the node of a start, or there is less room
+abbrev pub IsDescended : ℕ → List Lit → List (List (List Lit)) → List (List (List Lit)) → List Node → Option ℕ → Type 0
+IsDescended n starts old new ns (Some first) = (first < length ns) × (cube_value (values_of (state_at ns first)) starts ≡ true)
+IsDescended n starts old new ns None = room n new + 1 ≤ room n old
+
+-- What a turn of blocking comes to: a path; no state of the goal is left in the last frame; or there is less room.
+abbrev pub IsTurnedTo : Question → Goal → ℕ → List (List (List Lit)) → List (List (List Lit)) → Blocked → Type 0
+IsTurnedTo q goal top old new (Path positions) = IsPath q goal positions
+IsTurnedTo q goal top old new Missed = Misses q goal (allowed_by (frame_at new top))
+IsTurnedTo q goal top old new More = room (length q.circuit.latches) new + 1 ≤ room (length q.circuit.latches) old
+
+-- ---- lemmas against a state
 
 -- no arena step from the frame of the level leads into the cube from outside it
 abbrev pub NoneEnters : Stepping → ℕ → List Lit → Type 0
@@ -83,54 +162,3 @@ NoneEnters st level cube = (p : Position) → IsPredecessor st level cube p → 
 -- the cube misses the starts by one literal
 abbrev pub misses_starts : List Lit → List Lit → Bool
 misses_starts starts cube = list_any (λ l. has_literal cube (negation l)) starts
-
--- A cube that may become a lemma against a state at the level above this one.
-pub record IsExcluding (starts : List Lit) (st : Stepping) (below : ℕ) (s : List Bool) (cube : List Lit) : Type 0 where
-  pub part : is_part cube (value_literals 0 s) ≡ true
-  pub misses : misses_starts starts cube ≡ true
-  pub none : NoneEnters st below cube
-
--- a literal that is true in the state, and whose negation is one of the starts'
-pub record IsOpposed (starts : List Lit) (s : List Bool) (l : Lit) : Type 0 where
-  pub own : has_literal (value_literals 0 s) l ≡ true
-  pub against : has_literal starts (negation l) ≡ true
-
--- the goal state as obligation, where the frame allows it
-abbrev pub IsStateFirst : List Bool → List (List Lit) → Option Obligation → Type 0
-IsStateFirst to frame (Some o) = (o.state ≡ to) × (o.step ≡ None) × (allowed_by frame to ≡ true)
-IsStateFirst to frame None = allowed_by frame to ≡ false
-
--- the obligation of this position
-pub record IsOfPosition (p : Position) (o : Obligation) : Type 0 where
-  pub state : o.state ≡ p.latches
-  pub step : o.step ≡ Some p
-
--- the state of a position that meets the literal as obligation, if there is one
-abbrev pub IsLiteralFirst : Stepping → ℕ → ℕ → Option Obligation → Type 0
-IsLiteralFirst st top literal (Some o) = (p : Position) × IsOfPosition p o × MeetsFrom st top literal p
-IsLiteralFirst st top literal None = (p : Position) → MeetsFrom st top literal p → ⊥
-
--- An obligation that was handled stands on the others again where there is a step before it; where it is excluded, all
--- are left out.
-abbrev pub with_both : List Obligation → Obligation → Option Obligation → List Obligation
-with_both os last None = []
-with_both os last (Some before) = (os ++ last ∷ []) ++ before ∷ []
-
--- an obligation that stands on these, or there is no state of the goal in the last frame
-abbrev pub IsTaken : Question → Goal → List (List (List Lit)) → ℕ → List Obligation → List Obligation → Option Obligation → Type 0
-IsTaken q goal levels top old new None = Misses q goal (allowed_by (frame_at levels top))
-IsTaken q goal levels top old new (Some o) =
-    IsObligation q goal levels (top - length new) (way_after [] new) o × AreObligations q goal levels top [] new
-    × (length new ≤ top) × (length old ≤ length new + 1)
-
--- There is less room, or one obligation more over the same frames; and no more obligations than frames.
-abbrev pub IsOnward : ℕ → ℕ → List (List (List Lit)) → List (List (List Lit)) → ℕ → ℕ → Type 0
-IsOnward n top old new before after =
-    ((room n new + 1 ≤ room n old) ⊎ ((new ≡ old) × (before < after))) × (after ≤ top + 1)
-
--- What a turn of blocking comes to: a path; no state of the goal is left in the last frame; or it goes on.
-abbrev pub IsTurnedTo : Question → Goal → ℕ → List (List (List Lit)) → List (List (List Lit)) → List Obligation → List Obligation → Blocked → Type 0
-IsTurnedTo q goal top old new before after (Path positions) = IsPath q goal positions
-IsTurnedTo q goal top old new before after Missed = Misses q goal (allowed_by (frame_at new top))
-IsTurnedTo q goal top old new before after More =
-    AreObligations q goal new top [] after × IsOnward (length q.circuit.latches) top old new (length before) (length after)

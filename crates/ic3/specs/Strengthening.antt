@@ -1,6 +1,6 @@
 -- Cubes whose negation may become a lemma (scaffolding): no step enters them from a frame, and they miss the starts (IC3:
 -- Bradley, 2011).
-use Rattle.std.specs.Prelude.{◌≡◌, ℕ, ◌+◌, ◌<◌, ◌≤◌, Bool, true, false, ◌||◌, List, length, filter, Option, Some, None}
+use Rattle.std.specs.Prelude.{◌≡◌, ℕ, ◌+◌, ◌<◌, ◌≤◌, true, ◌||◌, List, length, filter, Option, Some, None}
 use Rattle.proof_semantics.specs.declared.literals.Lit.{Lit}
 use Rattle.proof_semantics.specs.Clauses.{lit_eq, negation, has_literal, is_part}
 use Rattle.ic3_steps.specs.Stepping.{Stepping, IsOver}

@@ -1,15 +1,16 @@
-//! Bad states of the last frame are excluded, one after another, or one of them ends a path. The main call is `block`:
-//! obligations stand one on the other, each a step before the one below it and in the frame below its frame. The last one
-//! is a start, and then they are a path; or it has a step before it, which becomes the last one; or a lemma excludes it.
-ghost use Rattle.std.specs.Prelude.{◌≡◌, ◌+◌, ◌-◌, ◌<◌, ◌≤◌, true, false, [], ◌∷◌, length, IfOk, IfErr, OnOk};
+//! Bad states of the last frame are excluded, one after another, or one of them ends a path. The main call is `block`: it
+//! takes the obligation of the lowest level and goes down from it, through a state before it in the frame below, and one
+//! before that. The last one is a start, and then they are a path; or it has no state before it, and a lemma excludes it.
+//! An obligation whose state is excluded goes back at the next level whose frame allows it.
+ghost use Rattle.std.specs.Prelude.{◌≡◌, ◌+◌, ◌<◌, ◌≤◌, true, false, ◌++◌, length, IfOk, IfErr, OnOk};
 ghost use Rattle.proof_semantics.specs.Clauses.{cube_value, values_of};
 ghost use Rattle.ic3_frames.specs.Frames.{frame_at};
 ghost use Rattle.ic3_frames.specs.Room.{room, allowed_by};
 ghost use Rattle.ic3_steps.specs.Searching.{IsReachEnd};
 ghost use Rattle.ic3.specs.Sound.{IsSearch, IsGoalOf, IsBlocked, KeepsQuestion, CountsUpTo};
-ghost use Rattle.ic3.specs.Blocking.{IsObligation, AreObligations, IsHandled, IsTurnedTo, way_after};
+ghost use Rattle.ic3.specs.Blocking.{AreNodes, AreObligations, IsOpen, IsHandled, IsPutIn, IsKeptWith, IsGoneOn, IsDescended, IsTurnedTo, LeadsOn, state_at, next_node, own_way};
 
-use crate::obligations::{Obligation, of_position, put_both, put_on, take_last, way_of};
+use crate::obligations::{Node, Obligation, Obligations, put_due, put_node, state_at, take_next};
 use crate::starting::state_cube;
 use crate::strengthening::{holds_in, strengthen};
 use circuit::Position;
@@ -18,7 +19,7 @@ use edge::Meter;
 use ic3_frames::Frames;
 use ic3_steps::{Found, Goal, ReachEnd, Steps};
 use items::Items;
-use std::alloc::Global;
+use std::alloc::{AllocError, Global};
 
 /// What a turn comes to.
 #[derive(Debug, Drop)]
@@ -27,8 +28,19 @@ pub(crate) enum Blocked {
     Path(Items<Position>),
     /// The last frame has no state of the goal.
     Missed,
-    /// There is an obligation more, or less room.
+    /// There is less room.
     More,
+}
+
+/// What becomes of an obligation.
+#[derive(Clone, Copy, Debug, Drop)]
+pub(crate) enum Handled {
+    /// Its state is a start.
+    Start,
+    /// This one, of a state before it in the frame below, is handled first.
+    Before(Obligation),
+    /// A lemma excludes its state.
+    Excluded,
 }
 
 /// Puts lemmas into the frames until the last one has no state of the goal; or answers the positions of a path. `starts`
@@ -54,9 +66,21 @@ pub(crate) fn block(
     ensures end { IfErr result (IsReachEnd meter.new) }
 {
     let top = frames.len() - 1;
-    let mut stack: Vec<Obligation> = Vec::new(alloc);
+    let mut obligations = Obligations {
+        nodes: Vec::new(alloc),
+        queue: Vec::new(alloc),
+    };
     'obligations: loop {
-        match turn(alloc, starts, goal, top, &mut stack, steps, frames, meter)? {
+        match turn(
+            alloc,
+            starts,
+            goal,
+            top,
+            &mut obligations,
+            steps,
+            frames,
+            meter,
+        )? {
             Blocked::Path(positions) => return Ok(Some(positions)),
             Blocked::Missed => return Ok(None),
             Blocked::More => {}
@@ -64,14 +88,13 @@ pub(crate) fn block(
     }
 }
 
-// One turn: the last obligation is a start, or has a step before it, or is excluded. `top` is the number of the last
-// frame.
+// One turn: a path, no state of the goal in the last frame, or a lemma more. `top` is the number of the last frame.
 fn turn(
     alloc: Global,
     starts: &Cube,
     goal: &Goal<'_>,
     top: u64,
-    stack: &mut Vec<Obligation>,
+    obligations: &mut Obligations,
     steps: &mut Steps<'_>,
     frames: &mut Frames,
     meter: &mut Meter,
@@ -79,10 +102,10 @@ fn turn(
     requires search { IsSearch starts.now steps.old frames.old }
     requires top { top + 1 ≡ length frames.old }
     requires goal { IsGoalOf steps.old goal.now }
-    requires stack { AreObligations steps.old.question goal.now frames.old top [] stack.old.items }
-    requires short { length stack.old.items ≤ top + 1 }
+    requires obligations { AreObligations steps.old.question goal.now top obligations.old }
     ensures search { OnOk result (IsSearch starts.now steps.new frames.new) }
-    ensures turned { IfOk result (IsTurnedTo steps.old.question goal.now top frames.old frames.new stack.old.items stack.new.items) }
+    ensures turned { IfOk result (IsTurnedTo steps.old.question goal.now top frames.old frames.new) }
+    ensures obligations { OnOk result (AreObligations steps.old.question goal.now top obligations.new) }
     ensures question { KeepsQuestion steps.old steps.new }
     ensures number { OnOk result (length frames.new ≡ length frames.old) }
     ensures room { let n = length steps.old.question.circuit.latches in
@@ -90,31 +113,41 @@ fn turn(
     ensures counted { CountsUpTo (room (length steps.old.question.circuit.latches) frames.old) meter.old meter.new }
     ensures end { IfErr result (IsReachEnd meter.new) }
 {
-    match take_last(alloc, starts, goal, top, stack, steps, frames, meter)? {
-        Some(last) => go_on(alloc, starts, goal, top, last, stack, steps, frames, meter),
+    match take_next(alloc, starts, goal, top, obligations, steps, frames, meter)? {
+        Some(due) => go_down(
+            alloc,
+            starts,
+            goal,
+            top,
+            due,
+            obligations,
+            steps,
+            frames,
+            meter,
+        ),
         None => Ok(Blocked::Missed),
     }
 }
 
-// The same of the obligation that was taken off.
-fn go_on(
+// The same of the obligation that was taken.
+fn go_down(
     alloc: Global,
     starts: &Cube,
-    _goal: &Goal<'_>,
+    goal: &Goal<'_>,
     top: u64,
-    last: Obligation,
-    stack: &mut Vec<Obligation>,
+    due: Obligation,
+    obligations: &mut Obligations,
     steps: &mut Steps<'_>,
     frames: &mut Frames,
     meter: &mut Meter,
 ) -> Result<Blocked, ReachEnd>
     requires search { IsSearch starts.now steps.old frames.old }
     requires top { top + 1 ≡ length frames.old }
-    requires last { IsObligation steps.old.question _goal.now frames.old (top - length stack.old.items) (way_after [] stack.old.items) last }
-    requires stack { AreObligations steps.old.question _goal.now frames.old top [] stack.old.items }
-    requires short { length stack.old.items ≤ top }
+    requires obligations { AreObligations steps.old.question goal.now top obligations.old }
+    requires due { IsOpen top frames.old obligations.old.nodes.items due }
     ensures search { OnOk result (IsSearch starts.now steps.new frames.new) }
-    ensures turned { IfOk result (IsTurnedTo steps.old.question _goal.now top frames.old frames.new (last ∷ stack.old.items) stack.new.items) }
+    ensures turned { IfOk result (IsTurnedTo steps.old.question goal.now top frames.old frames.new) }
+    ensures obligations { OnOk result (AreObligations steps.old.question goal.now top obligations.new) }
     ensures question { KeepsQuestion steps.old steps.new }
     ensures number { OnOk result (length frames.new ≡ length frames.old) }
     ensures room { let n = length steps.old.question.circuit.latches in
@@ -122,25 +155,130 @@ fn go_on(
     ensures counted { CountsUpTo (room (length steps.old.question.circuit.latches) frames.old) meter.old meter.new }
     ensures end { IfErr result (IsReachEnd meter.new) }
 {
-    if holds_in(starts, last.state.as_slice()) {
-        put_on(stack, last)?;
-        return Ok(Blocked::Path(way_of(alloc, stack)?));
-    }
-    let below = top - stack.len() as u64 - 1;
-    let handled = handle(
+    match descend(
         alloc,
         starts,
-        below,
-        last.state.as_slice(),
+        goal,
+        top,
+        due,
+        obligations,
         steps,
         frames,
         meter,
-    )?;
-    put_both(stack, last, handled)?;
-    Ok(Blocked::More)
+    )? {
+        Some(first) => {
+            let way = way_of(alloc, goal, &obligations.nodes, first, steps)?;
+            Ok(Blocked::Path(way))
+        }
+        None => Ok(Blocked::More),
+    }
 }
 
-// A step before the state of an obligation, from the frame below its own; or a lemma that excludes the state.
+// Goes down from an obligation, a level at a time: to a start, and answers its node, or to a state that a lemma
+// excludes. All but a start are put into the queue.
+fn descend(
+    alloc: Global,
+    starts: &Cube,
+    goal: &Goal<'_>,
+    top: u64,
+    due: Obligation,
+    obligations: &mut Obligations,
+    steps: &mut Steps<'_>,
+    frames: &mut Frames,
+    meter: &mut Meter,
+) -> Result<Option<u64>, ReachEnd>
+    requires search { IsSearch starts.now steps.old frames.old }
+    requires top { top + 1 ≡ length frames.old }
+    requires obligations { AreObligations steps.old.question goal.now top obligations.old }
+    requires due { IsOpen top frames.old obligations.old.nodes.items due }
+    ensures search { OnOk result (IsSearch starts.now steps.new frames.new) }
+    ensures descended { IfOk result (IsDescended (length steps.old.question.circuit.latches) starts.now frames.old frames.new
+        obligations.new.nodes.items) }
+    ensures obligations { OnOk result (AreObligations steps.old.question goal.now top obligations.new) }
+    ensures question { KeepsQuestion steps.old steps.new }
+    ensures number { OnOk result (length frames.new ≡ length frames.old) }
+    ensures room { let n = length steps.old.question.circuit.latches in
+        OnOk result (meter.new.steps + room n frames.new ≤ meter.old.steps + room n frames.old) }
+    ensures counted { CountsUpTo (room (length steps.old.question.circuit.latches) frames.old) meter.old meter.new }
+    ensures end { IfErr result (IsReachEnd meter.new) }
+{
+    let mut at = due;
+    'levels: loop {
+        match go_on(
+            alloc,
+            starts,
+            goal,
+            top,
+            at,
+            obligations,
+            steps,
+            frames,
+            meter,
+        )? {
+            Handled::Start => return Ok(Some(at.node)),
+            Handled::Before(before) => at = before,
+            Handled::Excluded => return Ok(None),
+        }
+    }
+}
+
+// One level of that.
+fn go_on(
+    alloc: Global,
+    starts: &Cube,
+    goal: &Goal<'_>,
+    top: u64,
+    at: Obligation,
+    obligations: &mut Obligations,
+    steps: &mut Steps<'_>,
+    frames: &mut Frames,
+    meter: &mut Meter,
+) -> Result<Handled, ReachEnd>
+    requires search { IsSearch starts.now steps.old frames.old }
+    requires top { top + 1 ≡ length frames.old }
+    requires obligations { AreObligations steps.old.question goal.now top obligations.old }
+    requires due { IsOpen top frames.old obligations.old.nodes.items at }
+    ensures search { OnOk result (IsSearch starts.now steps.new frames.new) }
+    ensures handled { IfOk result (IsGoneOn (length steps.old.question.circuit.latches) top starts.now frames.old frames.new
+        obligations.new.nodes.items at) }
+    ensures obligations { OnOk result (AreObligations steps.old.question goal.now top obligations.new) }
+    ensures question { KeepsQuestion steps.old steps.new }
+    ensures number { OnOk result (length frames.new ≡ length frames.old) }
+    ensures room { let n = length steps.old.question.circuit.latches in
+        OnOk result (meter.new.steps + room n frames.new ≤ meter.old.steps + room n frames.old) }
+    ensures counted { CountsUpTo (room (length steps.old.question.circuit.latches) frames.old) meter.old meter.new }
+    ensures end { IfErr result (IsReachEnd meter.new) }
+{
+    let state = state_at(&obligations.nodes, at.node);
+    if holds_in(starts, state) {
+        return Ok(Handled::Start);
+    }
+    let below = at.level - 1;
+    let found = handle(alloc, starts, below, state, steps, frames, meter)?;
+    Ok(keep(obligations, at, below, found)?)
+}
+
+// Puts an obligation into the queue, and makes one of the step before it, from the frame `below`, if there is one.
+fn keep(
+    obligations: &mut Obligations,
+    at: Obligation,
+    below: u64,
+    found: Option<Position>,
+) -> Result<Handled, AllocError>
+    ensures due { OnOk result (IsPutIn at obligations.old.queue.items obligations.new.queue.items) }
+    ensures kept { IfOk result (IsKeptWith obligations.old.nodes.items obligations.new.nodes.items at below found) }
+{
+    put_due(&mut obligations.queue, at)?;
+    match found {
+        Some(position) => {
+            let node = put_node(&mut obligations.nodes, Node::Step(position, at.node))?;
+            Ok(Handled::Before(Obligation { node, level: below }))
+        }
+        None => Ok(Handled::Excluded),
+    }
+}
+
+// A step before a state that is no start, from the frame below its own; or a lemma that excludes the state.
 fn handle(
     alloc: Global,
     starts: &Cube,
@@ -149,7 +287,7 @@ fn handle(
     steps: &mut Steps<'_>,
     frames: &mut Frames,
     meter: &mut Meter,
-) -> Result<Option<Obligation>, ReachEnd>
+) -> Result<Option<Position>, ReachEnd>
     requires search { IsSearch starts.now steps.old frames.old }
     requires level { below + 1 < length frames.old }
     requires size { length state.now ≡ length steps.old.question.circuit.latches }
@@ -166,10 +304,62 @@ fn handle(
 {
     let cube = state_cube(alloc, state)?;
     match steps.predecessor(alloc, below, &cube, meter)? {
-        Found::Step(position) => Ok(Some(of_position(alloc, position)?)),
+        Found::Step(position) => Ok(Some(position)),
         Found::Missing(part) => {
             strengthen(alloc, starts, below, state, part, steps, frames, meter)?;
             Ok(None)
         }
     }
+}
+
+// The positions of the way from a node to the goal.
+fn way_of(
+    alloc: Global,
+    _goal: &Goal<'_>,
+    nodes: &Vec<Node>,
+    first: u64,
+    _steps: &Steps<'_>,
+) -> Result<Items<Position>, AllocError>
+    requires nodes { AreNodes _steps.now.question _goal.now nodes.now.items }
+    requires first { first < length nodes.now.items }
+    ensures { IfOk result (LeadsOn _steps.now.question _goal.now (state_at nodes.now.items first)) }
+{
+    let mut way = Items::new(alloc);
+    let mut at = first;
+    'nodes: loop {
+        match push_way(alloc, &mut way, &nodes[at as usize])? {
+            Some(next) => at = next,
+            None => return Ok(way),
+        }
+    }
+}
+
+// Puts a copy of the position of a node, if it has one, at the end, and answers the number of the next node.
+fn push_way(
+    alloc: Global,
+    way: &mut Items<Position>,
+    node: &Node,
+) -> Result<Option<u64>, AllocError>
+    ensures { IfOk result (λ next. (next ≡ next_node node.now) × (way.new ≡ way.old ++ own_way node.now)) }
+{
+    match node {
+        Node::Goal(_) => Ok(None),
+        Node::Last(position) => {
+            way.push(copy_of(alloc, position)?)?;
+            Ok(None)
+        }
+        Node::Step(position, next) => {
+            way.push(copy_of(alloc, position)?)?;
+            Ok(Some(*next))
+        }
+    }
+}
+
+fn copy_of(alloc: Global, position: &Position) -> Result<Position, AllocError>
+    ensures { IfOk result (λ copy. copy ≡ position.now) }
+{
+    Ok(Position {
+        latches: position.latches.try_copy(alloc)?,
+        inputs: position.inputs.try_copy(alloc)?,
+    })
 }

@@ -1,10 +1,12 @@
-//! Obligations of a search: states that lead to the goal, and that a frame allows. The main type is `Obligation`.
-ghost use Rattle.std.specs.Prelude.{◌≡◌, ◌+◌, ◌*◌, ◌≤◌, [], ◌∷◌, ◌++◌, length, IfOk, IfErr, IfSome, OnOk};
+//! Obligations of a search: states that lead to the goal, each with a level, in a queue. The main type is `Obligations`.
+ghost use Rattle.std.specs.Prelude.{◌≡◌, ℕ, ◌+◌, ◌<◌, ◌≤◌, true, false, [], ◌∷◌, ◌++◌, length, IfOk, IfErr, IfSome, IfNone, OnOk};
+ghost use Rattle.std.specs.List.{All};
 ghost use Rattle.edge.specs.Ends.{CountsConflicts, IsEnd};
 ghost use Rattle.ic3_frames.specs.Frames.{frame_at};
+ghost use Rattle.ic3_frames.specs.Room.{allowed_by};
 ghost use Rattle.ic3_steps.specs.Searching.{IsReachEnd};
 ghost use Rattle.ic3.specs.Sound.{IsSearch, IsGoalOf};
-ghost use Rattle.ic3.specs.Blocking.{IsFirst, IsStateFirst, IsLiteralFirst, IsOfPosition, IsTaken, AreObligations, way_after, with_step, with_both};
+ghost use Rattle.ic3.specs.Blocking.{node_state, state_at, AreNodes, IsDue, IsOpen, IsPutIn, IsFirst, IsStateFirst, IsLiteralFirst, IsNext, AreObligations, levels_left, left_above};
 
 use circuit::Position;
 use cnf::Cube;
@@ -14,70 +16,185 @@ use ic3_steps::{Goal, ReachEnd, Steps};
 use items::Items;
 use std::alloc::{AllocError, Global};
 
-/// A state that leads to the goal, and the step that it takes; a state that is the goal takes none.
+/// A state that leads to the goal, and how.
 #[derive(Debug, Drop)]
-pub(crate) struct Obligation {
-    pub(crate) state: Items<bool>,
-    pub(crate) step: Option<Position>,
+pub(crate) enum Node {
+    /// The state that is the goal.
+    Goal(Items<bool>),
+    /// The state of a position that meets the literal as goal.
+    Last(Position),
+    /// The state of a position whose successor is the state of the node with this number.
+    Step(Position, u64),
 }
 
-/// The obligation of a position from its state.
-pub(crate) fn of_position(alloc: Global, step: Position) -> Result<Obligation, AllocError>
-    ensures { IfOk result (IsOfPosition step) }
+impl Node {
+    pub(crate) fn state(&self) -> &[bool]
+        ensures { result.now ≡ node_state self.now }
+    {
+        match self {
+            Node::Goal(state) => state.as_slice(),
+            Node::Last(position) => position.latches.as_slice(),
+            Node::Step(position, _) => position.latches.as_slice(),
+        }
+    }
+}
+
+/// What is to be shown: that the frame of a level need not have the state of the node with this number.
+#[derive(Clone, Copy, Debug, Drop)]
+pub(crate) struct Obligation {
+    pub(crate) node: u64,
+    pub(crate) level: u64,
+}
+
+/// Nodes in the order in which they came, numbered from 0, and the obligations that are left. The last obligation is the
+/// next: its level is the lowest, and of these it came last.
+#[derive(Debug, Drop)]
+pub(crate) struct Obligations {
+    pub(crate) nodes: Vec<Node>,
+    pub(crate) queue: Vec<Obligation>,
+}
+
+/// The state of the node with this number.
+pub(crate) fn state_at(nodes: &Vec<Node>, node: u64) -> &[bool]
+    requires { node < length nodes.now.items }
+    ensures { result.now ≡ state_at nodes.now.items node }
 {
-    let state = step.latches.try_copy(alloc)?;
-    Ok(Obligation {
-        state,
-        step: Some(step),
-    })
+    nodes[node as usize].state()
+}
+
+/// Puts a node behind the others, and answers its number.
+pub(crate) fn put_node(nodes: &mut Vec<Node>, node: Node) -> Result<u64, AllocError>
+    ensures number { IfOk result (λ number. number ≡ length nodes.old.items) }
+    ensures nodes { OnOk result (nodes.new.items ≡ nodes.old.items ++ node ∷ []) }
+{
+    let number = nodes.len() as u64;
+    nodes.push(node)?;
+    Ok(number)
+}
+
+// Where an obligation of a level goes: behind those of its level and of the levels above.
+fn place_of(queue: &[Obligation], level: u64) -> usize
+    ensures { result ≤ length queue.now }
+{
+    let mut place = queue.len();
+    'places: while place > 0 {
+        if queue[place - 1].level >= level {
+            return place;
+        }
+        place -= 1;
+    }
+    0
+}
+
+/// Puts an obligation into the queue.
+pub(crate) fn put_due(queue: &mut Vec<Obligation>, o: Obligation) -> Result<(), AllocError>
+    ensures { OnOk result (IsPutIn o queue.old.items queue.new.items) }
+{
+    let place = place_of(queue.as_slice(), o.level);
+    queue.insert(place, o)?;
+    Ok(())
+}
+
+// The lowest level above this one, up to `top`, whose frame allows the state.
+fn level_above(frames: &Frames, level: u64, top: u64, state: &[bool]) -> Option<u64>
+    ensures found { IfSome result (λ next. (level < next) × (next ≤ top)
+        × (allowed_by (frame_at frames.now next) state.now ≡ true)) }
+    ensures none { IfNone result ((next : ℕ) → level < next → next ≤ top
+        → allowed_by (frame_at frames.now next) state.now ≡ false) }
+{
+    let mut next = level;
+    'levels: while next < top {
+        next += 1;
+        if frames.at(next).allows(state) {
+            return Some(next);
+        }
+    }
+    None
+}
+
+// Puts an obligation that its frame excludes back at the lowest level above its own whose frame allows its state; where
+// there is none up to `top`, it is dropped.
+fn raise(
+    frames: &Frames,
+    top: u64,
+    state: &[bool],
+    o: Obligation,
+    queue: &mut Vec<Obligation>,
+) -> Result<(), AllocError>
+    requires { o.level ≤ top }
+    ensures due { OnOk result ((count : ℕ) → o.node < count → All (IsDue count top) queue.old.items
+        → All (IsDue count top) queue.new.items) }
+    ensures smaller { OnOk result (levels_left top queue.new.items < levels_left top queue.old.items + left_above top o) }
+{
+    match level_above(frames, o.level, top, state) {
+        Some(level) => put_due(
+            queue,
+            Obligation {
+                node: o.node,
+                level,
+            },
+        ),
+        None => Ok(()),
+    }
+}
+
+// Takes the first obligation whose frame allows its state. Those before it are put back at higher levels, or dropped.
+fn take_open(
+    top: u64,
+    nodes: &Vec<Node>,
+    queue: &mut Vec<Obligation>,
+    frames: &Frames,
+) -> Result<Option<Obligation>, AllocError>
+    requires { All (IsDue (length nodes.now.items) top) queue.old.items }
+    ensures due { OnOk result (All (IsDue (length nodes.now.items) top) queue.new.items) }
+    ensures allowed { IfOk result (λ found. IfSome found (IsOpen top frames.now nodes.now.items)) }
+{
+    'queue: while let Some(o) = queue.pop() {
+        let state = state_at(nodes, o.node);
+        if frames.at(o.level).allows(state) {
+            return Ok(Some(o));
+        }
+        raise(frames, top, state, o, queue)?;
+    }
+    Ok(None)
 }
 
 // The goal state, where the frame of a level allows it.
-fn state_obligation(
+fn state_node(
     alloc: Global,
     to: &[bool],
     frames: &Frames,
     level: u64,
-) -> Result<Option<Obligation>, AllocError>
+) -> Result<Option<Node>, AllocError>
     ensures { IfOk result (IsStateFirst to.now (frame_at frames.now level)) }
 {
     if !frames.at(level).allows(to) {
         return Ok(None);
     }
-    let state = Items::from_slice(alloc, to)?;
-    Ok(Some(Obligation { state, step: None }))
+    Ok(Some(Node::Goal(Items::from_slice(alloc, to)?)))
 }
 
-// The state of a position that meets the literal as goal, if the frame of a level allows one.
-fn literal_obligation(
+// A position that meets the literal as goal, if the frame of a level allows one.
+fn literal_node(
     alloc: Global,
     literal: u64,
     level: u64,
     steps: &mut Steps<'_>,
     meter: &mut Meter,
-) -> Result<Option<Obligation>, SolveEnd>
-    requires { literal ≤ 2 * steps.old.question.circuit.max + 1 }
+) -> Result<Option<Node>, SolveEnd>
     ensures found { IfOk result (IsLiteralFirst steps.old level literal) }
     ensures same { steps.new ≡ steps.old }
     ensures end { IfErr result (IsEnd meter.new) }
     ensures counted { CountsConflicts meter.old meter.new }
 {
     match steps.meets_goal(alloc, level, literal, meter)? {
-        Some(position) => Ok(Some(of_position(alloc, position)?)),
+        Some(position) => Ok(Some(Node::Last(position))),
         None => Ok(None),
     }
 }
 
-/// Puts an obligation on the others.
-pub(crate) fn put_on(stack: &mut Vec<Obligation>, o: Obligation) -> Result<(), AllocError>
-    ensures { OnOk result (stack.new.items ≡ stack.old.items ++ o ∷ []) }
-{
-    stack.push(o)?;
-    Ok(())
-}
-
-/// A state of the goal that the last frame allows, if there is one. `top` is the number of the last frame.
-pub(crate) fn first_obligation(
+// A node of the goal that the last frame allows, if there is one. `top` is the number of the last frame.
+fn first_node(
     alloc: Global,
     _starts: &Cube,
     goal: &Goal<'_>,
@@ -85,7 +202,7 @@ pub(crate) fn first_obligation(
     steps: &mut Steps<'_>,
     frames: &Frames,
     meter: &mut Meter,
-) -> Result<Option<Obligation>, ReachEnd>
+) -> Result<Option<Node>, ReachEnd>
     requires search { IsSearch _starts.now steps.old frames.now }
     requires goal { IsGoalOf steps.old goal.now }
     ensures first { IfOk result (IsFirst steps.old.question goal.now frames.now top) }
@@ -94,80 +211,73 @@ pub(crate) fn first_obligation(
     ensures counted { CountsConflicts meter.old meter.new }
 {
     match goal {
-        Goal::State(to) => Ok(state_obligation(alloc, to, frames, top)?),
-        Goal::Literal { literal, .. } => Ok(literal_obligation(
-            alloc, *literal, top, steps, meter,
-        )?),
+        Goal::State(to) => Ok(state_node(alloc, to, frames, top)?),
+        Goal::Literal { literal, .. } => Ok(literal_node(alloc, *literal, top, steps, meter)?),
     }
 }
 
-// Puts the step of an obligation, if it takes one, at the end.
-fn push_step(way: &mut Items<Position>, o: Obligation) -> Result<(), AllocError>
-    ensures { OnOk result (way.new ≡ way.old ++ with_step o.step []) }
-{
-    let Obligation { state: _, step } = o;
-    match step {
-        Some(step) => way.push(step),
-        None => Ok(()),
-    }
-}
-
-/// Puts an obligation back, and the one before it on it, if there is one; else takes off all of them.
-pub(crate) fn put_both(
-    stack: &mut Vec<Obligation>,
-    last: Obligation,
-    before: Option<Obligation>,
-) -> Result<(), AllocError>
-    ensures { OnOk result (stack.new.items ≡ with_both stack.old.items last before) }
-{
-    match before {
-        Some(before) => {
-            put_on(stack, last)?;
-            put_on(stack, before)
-        }
-        None => {
-            stack.clear();
-            Ok(())
-        }
-    }
-}
-
-/// The positions of the way from the last obligation.
-pub(crate) fn way_of(
-    alloc: Global,
-    stack: &mut Vec<Obligation>,
-) -> Result<Items<Position>, AllocError>
-    ensures { IfOk result (λ way. way ≡ way_after [] stack.old.items) }
-{
-    let mut way = Items::new(alloc);
-    while let Some(last) = stack.pop() {
-        push_step(&mut way, last)?;
-    }
-    Ok(way)
-}
-
-/// Takes the last obligation off, or begins with one of the last frame. `top` is the number of the last frame.
-pub(crate) fn take_last(
+// The obligation of a state of the goal at the last level, if its frame has one.
+fn begin(
     alloc: Global,
     starts: &Cube,
     goal: &Goal<'_>,
     top: u64,
-    stack: &mut Vec<Obligation>,
+    nodes: &mut Vec<Node>,
     steps: &mut Steps<'_>,
     frames: &Frames,
     meter: &mut Meter,
 ) -> Result<Option<Obligation>, ReachEnd>
     requires search { IsSearch starts.now steps.old frames.now }
     requires goal { IsGoalOf steps.old goal.now }
-    requires stack { AreObligations steps.old.question goal.now frames.now top [] stack.old.items }
-    requires short { length stack.old.items ≤ top + 1 }
-    ensures taken { IfOk result (IsTaken steps.old.question goal.now frames.now top stack.old.items stack.new.items) }
+    requires nodes { AreNodes steps.old.question goal.now nodes.old.items }
+    ensures nodes { OnOk result (AreNodes steps.old.question goal.now nodes.new.items) }
+    ensures more { OnOk result (length nodes.old.items ≤ length nodes.new.items) }
+    ensures next { IfOk result (IsNext steps.old.question goal.now top frames.now nodes.new.items) }
     ensures same { steps.new ≡ steps.old }
     ensures end { IfErr result (IsReachEnd meter.new) }
     ensures counted { CountsConflicts meter.old meter.new }
 {
-    match stack.pop() {
-        Some(last) => Ok(Some(last)),
-        None => first_obligation(alloc, starts, goal, top, steps, frames, meter),
+    match first_node(alloc, starts, goal, top, steps, frames, meter)? {
+        Some(first) => {
+            let node = put_node(nodes, first)?;
+            Ok(Some(Obligation { node, level: top }))
+        }
+        None => Ok(None),
+    }
+}
+
+/// Takes the next obligation whose frame allows its state, or begins with a state of the goal in the last frame; `None`
+/// where there is none of either. `top` is the number of the last frame.
+pub(crate) fn take_next(
+    alloc: Global,
+    starts: &Cube,
+    goal: &Goal<'_>,
+    top: u64,
+    obligations: &mut Obligations,
+    steps: &mut Steps<'_>,
+    frames: &Frames,
+    meter: &mut Meter,
+) -> Result<Option<Obligation>, ReachEnd>
+    requires search { IsSearch starts.now steps.old frames.now }
+    requires goal { IsGoalOf steps.old goal.now }
+    requires obligations { AreObligations steps.old.question goal.now top obligations.old }
+    ensures obligations { OnOk result (AreObligations steps.old.question goal.now top obligations.new) }
+    ensures next { IfOk result (IsNext steps.old.question goal.now top frames.now obligations.new.nodes.items) }
+    ensures same { steps.new ≡ steps.old }
+    ensures end { IfErr result (IsReachEnd meter.new) }
+    ensures counted { CountsConflicts meter.old meter.new }
+{
+    match take_open(top, &obligations.nodes, &mut obligations.queue, frames)? {
+        Some(due) => Ok(Some(due)),
+        None => begin(
+            alloc,
+            starts,
+            goal,
+            top,
+            &mut obligations.nodes,
+            steps,
+            frames,
+            meter,
+        ),
     }
 }

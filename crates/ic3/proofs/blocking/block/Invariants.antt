@@ -1,6 +1,5 @@
-use Rattle.std.proofs.Common.{◌≡◌, ℕ, ◌+◌, ◌-◌, ◌≤◌, [], length}
+use Rattle.std.proofs.Common.{◌≡◌, ◌+◌, ◌≤◌, length}
 use Rattle.ic3_frames.specs.Room.{room}
-use Rattle.cdcl.proofs.WayLaws.{work}
 use Rattle.ic3.specs.Sound.{IsSearch, KeepsQuestion, CountsUpTo}
 use Rattle.ic3.specs.Blocking.{AreObligations}
 use Rattle.ic3.proofs.blocking.block.Given as goal
@@ -13,10 +12,8 @@ invariant-obligations l = record {
   paid : l.meter.steps + room (length l.initial.steps.question.circuit.latches) l.frames
       ≤ l.initial.meter.steps + room (length l.initial.steps.question.circuit.latches) l.initial.frames;
   counted : CountsUpTo (room (length l.initial.steps.question.circuit.latches) l.initial.frames) l.initial.meter l.meter;
-  stack : AreObligations l.initial.steps.question l.goal l.frames l.top [] l.stack.items;
-  short : length l.stack.items ≤ l.top + 1;
+  obligations : AreObligations l.initial.steps.question l.goal l.top l.obligations;
 }
 
 abbrev pub decreases-obligations : goal.decreases-obligations
-decreases-obligations l =
-    work (room (length l.initial.steps.question.circuit.latches) l.frames) (l.top + 1) ((l.top + 1) - length l.stack.items)
+decreases-obligations l = room (length l.initial.steps.question.circuit.latches) l.frames

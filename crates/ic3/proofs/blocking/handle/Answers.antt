@@ -1,7 +1,7 @@
-use Rattle.std.proofs.Common.{◌≡◌, ◌+◌, length, refl, arith}
+use Rattle.std.proofs.Common.{◌+◌, length, refl, arith}
+use Rattle.ic3_frames.specs.Room.{room}
 use Rattle.ic3.proofs.Starts.{value_over}
 use Rattle.ic3.proofs.Excluding.{before-is, some-room, counted-behind}
-use Rattle.ic3_frames.specs.Room.{room}
 use Rattle.ic3.proofs.blocking.handle.Goals as goal
 
 pub predecessor-requires : goal.predecessor-requires
@@ -10,9 +10,8 @@ predecessor-requires c =
 
 pub returns-in-Step-clause-handled : goal.returns-in-Step-clause-handled
 returns-in-Step-clause-handled c = (
-  before-is c.args.steps.now c.args.frames.now c.args.below c.args.state.now c.in-Step.position c.in_ok-of_position-in-Step.field-0 c.in_ok-cube.cube
-      c.in_ok-cube.ensures c.requires.size c.requires.search.agree (rw c.in-Step.is at c.in_ok-position.ensures.found)
-      c.in_ok-of_position-in-Step.ensures,
+  before-is c.args.steps.now c.args.frames.now c.args.below c.args.state.now c.in-Step.position c.in_ok-cube.cube c.in_ok-cube.ensures
+      c.requires.size c.requires.search.agree (rw c.in-Step.is at c.in_ok-position.ensures.found),
   refl,
 )
 

@@ -1,0 +1,10 @@
+use Rattle.ic3.proofs.Obliging.{first-is}
+use Rattle.ic3_steps.specs.declared.questions.Goal.TheVariants as goals
+use Rattle.ic3.proofs.obligations.first_node.Goals as goal
+
+pub returns-in_ok-literal_node-in-Literal-clause-first : goal.returns-in_ok-literal_node-in-Literal-clause-first
+returns-in_ok-literal_node-in-Literal-clause-first c =
+    rw c.in-Literal.is
+    (first-is c.args.steps.now c.args.frames.now c.args.top (goals.Literal c.in-Literal.literal c.in-Literal.avoid)
+    c.in_ok-literal_node-in-Literal.field-0 c.requires.search.agree (rw c.in-Literal.is at c.requires.goal)
+    c.in_ok-literal_node-in-Literal.ensures.found)
