@@ -1,0 +1,147 @@
+-- Where the question for a goal has no model, no position from a state of the clauses meets it.
+use Rattle.std.proofs.Common.{◌≡◌, ℕ, suc, ◌<◌, ◌==◌, ◌⊎◌, Bool, true, false, not, ◌&&◌, ◌||◌, nat_eq, List, [], ◌∷◌, ◌++◌, map, length, refl, sym, ap, subst, ◌∙◌, inl, inr, arith}
+use Rattle.std.specs.List.{All, Contains, list_any}
+use Rattle.std.proofs.lemmas.Bool.{false≢true, and_from, eqb-true, false_from_ne_true}
+use Rattle.std.proofs.lemmas.List.Folds.{list_any-append}
+use Rattle.std.proofs.lemmas.List.Elements.{All-head, All-tail, All-append, All-cons}
+use Rattle.aig_semantics.specs.Literals.{variable_of}
+use Rattle.aig_semantics.specs.Circuits.{Circuit, IsChecked, defined}
+use Rattle.aig_semantics.specs.Runs.{successor}
+use Rattle.proof_semantics.specs.declared.literals.Lit.{Lit}
+use Rattle.proof_semantics.specs.Clauses.{bool_eq, negation, literal_value, clause_value, clauses_value, cube_value, values_of, has_opposites}
+use Rattle.fair_semantics.specs.States.{meets_clauses}
+use Rattle.fair_semantics.specs.Entries.{Entry}
+use Rattle.cdcl.specs.Solving.{HasNoModel}
+use Rattle.cnf_unroll.specs.Numbers.{state_place, literal_in_block, set_at_place}
+use Rattle.cnf_unroll.specs.Uses.{named_sides}
+use Rattle.cnf_unroll.specs.Obligations.{units, step_with_uses, after_step, shared_clauses}
+use Rattle.cnf_unroll.specs.Laws.{AreOver}
+use Rattle.cnf_unroll.proofs.Truth.{both, together, set_there, negations_value}
+use Rattle.cnf_unroll.proofs.ObligationLaws.{state_length}
+use Rattle.cnf_unroll.proofs.BlockReading.{IsRead, HasOneValuation}
+use Rattle.cnf_unroll.proofs.BlockWriting.{literal_shown}
+use Rattle.entry.specs.Laws.{IsGoodList}
+use Rattle.ic3_steps.specs.declared.questions.Start.{Start}
+use Rattle.ic3_steps.specs.Arenas.{restricting}
+use Rattle.ic3_steps.specs.Searching.{Question}
+use Rattle.ic3_steps.specs.Stepping.{IsArenaStep}
+use Rattle.ic3_steps.specs.SteppingClauses.{own_uses}
+use Rattle.ic3_steps.proofs.BaseLaws.{base_written}
+use Rattle.ic3_closing.specs.Goals.{is_read, goal_set, MissesLiteral}
+
+-- ---- variables of the block
+
+or_left_or_right : (a b : Bool) → (a || b) ≡ true → (a ≡ true) ⊎ (b ≡ true)
+or_left_or_right true b h = inl refl
+or_left_or_right false b h = inr h
+
+only : (vs : List ℕ) (v : ℕ) → list_any (λ u. u == v) vs ≡ true → Contains vs v
+only [] v h = absurd (false≢true h)
+only (u ∷ vs) v h = elim (or_left_or_right (u == v) (list_any (λ w. w == v) vs) h) [
+  | inl t ↦ (0, omega arith, eqb-true u v t)
+  | inr t ↦ let rest = only vs v t in (suc rest.0, (let l : rest.0 < length vs = rest.1 in omega arith), rest.2)
+]
+
+any_map : {X : Type 0} (f : X → ℕ) (v : ℕ) (xs : List X) → list_any (λ u. u == v) (map f xs) ≡ list_any (λ x. f x == v) xs
+any_map f v [] = refl
+any_map f v (x ∷ xs) = ap (λ b. (f x == v) || b) (any_map f v xs)
+
+defined_is : (c : Circuit) (v : ℕ) → list_any (λ u. u == v) (defined c)
+    ≡ (list_any (λ u. u == v) c.inputs || list_any (λ latch. latch.var == v) c.latches || list_any (λ gate. gate.var == v) c.gates)
+defined_is c v =
+    list_any-append (λ u. u == v) (c.inputs ++ map (λ latch. latch.var) c.latches) (map (λ gate. gate.var) c.gates)
+    ∙ ap (λ b. b || list_any (λ u. u == v) (map (λ gate. gate.var) c.gates))
+    (list_any-append (λ u. u == v) c.inputs (map (λ latch. latch.var) c.latches)
+    ∙ ap (λ b. list_any (λ u. u == v) c.inputs || b) (any_map (λ latch. latch.var) v c.latches))
+    ∙ ap (λ b. list_any (λ u. u == v) c.inputs || list_any (λ latch. latch.var == v) c.latches || b) (any_map (λ gate. gate.var) v c.gates)
+
+four : (a b c d : Bool) → (a || b || c || d) ≡ (a || (b || c || d))
+four true b c d = refl
+four false b c d = refl
+
+pub read_from : (c : Circuit) (v : ℕ) → is_read c v ≡ true → IsRead c v
+read_from c v h =
+    let whole : ((v == 0) || list_any (λ u. u == v) (defined c)) ≡ true =
+    ap (λ b. (v == 0) || b) (defined_is c v)
+    ∙ sym (four (v == 0) (list_any (λ u. u == v) c.inputs) (list_any (λ latch. latch.var == v) c.latches) (list_any (λ gate. gate.var == v) c.gates))
+    ∙ h
+    in
+    elim (or_left_or_right (v == 0) (list_any (λ u. u == v) (defined c)) whole) [
+      | inl t ↦ inl (eqb-true v 0 t)
+      | inr t ↦ inr (only (defined c) v t)
+    ]
+
+-- ---- one literal is apart
+
+not_itself : (same positive : Bool) → (((same && bool_eq (not positive) positive) || false) || false) ≡ false
+not_itself true true = refl
+not_itself true false = refl
+not_itself false positive = refl
+
+pub one_apart : (l : Lit) → has_opposites (l ∷ []) ≡ false
+one_apart l = not_itself (nat_eq l.var l.var) l.positive
+
+-- ---- the question
+
+denied : (v : ℕ → Bool) (cubes : List (List Lit)) → All (λ cube. cube_value v cube ≡ false) cubes
+    → clauses_value v (map (λ cube. map negation cube) cubes) ≡ true
+denied v [] h = refl
+denied v (cube ∷ cubes) h =
+    let P : List Lit → Type 0 = λ x. cube_value v x ≡ false in
+    and_from (clause_value v (map negation cube)) (clauses_value v (map (λ x. map negation x) cubes))
+    (negations_value v cube ∙ ap not (All-head P cube cubes h)) (denied v cubes (All-tail P cube cubes h))
+
+over_negation : (n : ℕ) (cube : List Lit) → All (λ l. l.var < n) cube → All (λ l. l.var < n) (map negation cube)
+over_negation n [] h = h
+over_negation n (l ∷ cube) h =
+    let P : Lit → Type 0 = λ x. x.var < n in
+    All-cons P (negation l) (map negation cube) (All-head P l cube h) (over_negation n cube (All-tail P l cube h))
+
+over_denied : (n : ℕ) (cubes : List (List Lit)) → AreOver n cubes → AreOver n (map (λ cube. map negation cube) cubes)
+over_denied n [] h = h
+over_denied n (cube ∷ cubes) h =
+    let P : List Lit → Type 0 = λ x. All (λ l. l.var < n) x in
+    All-cons P (map negation cube) (map (λ x. map negation x) cubes) (over_negation n cube (All-head P cube cubes h))
+    (over_denied n cubes (All-tail P cube cubes h))
+
+pub goal_missed : (c : Circuit) (view : List Entry) (start : Start) (literal : ℕ) (avoid clauses set : List (List Lit)) (assumptions : List Lit)
+    (added : List (List Lit))
+    → IsChecked c → HasOneValuation c → IsGoodList c view → IsRead c (variable_of literal)
+    → AreOver (length c.latches) avoid → AreOver (length c.latches) clauses
+    → set ≡ goal_set clauses avoid → added ≡ shared_clauses c (restricting start view) (own_uses view start) set
+    → assumptions ≡ literal_in_block 0 literal ∷ [] → HasNoModel added assumptions
+    → MissesLiteral (record { circuit = c; view = view; start = start }) literal avoid (meets_clauses clauses)
+goal_missed c view start literal avoid clauses set assumptions added checked law good read over_avoid over is_set is_added is_assumed none p meets =
+    false_from_ne_true (meets_clauses clauses p.latches) (λ inside.
+    let q : Question = record { circuit = c; view = view; start = start } in
+    let step : IsArenaStep q p = record { possible = meets.possible; state = meets.state; next = meets.next } in
+    let w = base_written c checked law view good start p (λ i. false) step in
+    let v : ℕ → Bool = w.value in
+    let place : List ℕ = state_place c 0 in
+    let us = restricting start view in
+    let names : List Lit = named_sides (after_step c us).sides (own_uses view start) in
+    let cubes : List (List Lit) = map (λ cube. map negation cube) avoid in
+    let over_set : AreOver (length c.latches) set =
+    subst (AreOver (length c.latches)) (sym is_set)
+    (All-append (λ x. All (λ l. l.var < length c.latches) x) clauses cubes over (over_denied (length c.latches) avoid over_avoid))
+    in
+    let over_place : AreOver (length place) set = subst (λ n. AreOver n set) (sym (state_length c 0)) over_set in
+    let here : clauses_value (values_of p.latches) set ≡ true =
+    ap (clauses_value (values_of p.latches)) is_set
+    ∙ together (values_of p.latches) clauses cubes inside (denied (values_of p.latches) avoid meets.avoids)
+    in
+    let at : clauses_value v (set_at_place place set) ≡ true =
+    set_there v place set over_place ∙ ap (λ s. clauses_value (values_of s) set) w.here ∙ here
+    in
+    let parts = both v (step_with_uses c us ++ units names) (set_at_place place []) w.base in
+    let all : clauses_value v (shared_clauses c us (own_uses view start) set) ≡ true =
+    together v (step_with_uses c us ++ units names) (set_at_place place set) parts.0 at
+    in
+    let holds : literal_value v (literal_in_block 0 literal) ≡ true =
+    literal_shown c checked law 0 (record { position = p; successor = successor c p })
+    (record { possible = meets.possible; next = refl }) v w.shows literal read ∙ meets.holds
+    in
+    none v (record {
+      clauses = ap (clauses_value v) is_added ∙ all;
+      assumed = ap (cube_value v) is_assumed ∙ and_from (literal_value v (literal_in_block 0 literal)) true holds refl;
+    }))

@@ -1,0 +1,71 @@
+//! A solver of given clauses, and questions to it, which count conflicts alone.
+ghost use Rattle.std.specs.Prelude.{◌≡◌, ◌++◌, ◌∷◌, [], true, false, IfOk, IfErr, OnOk};
+ghost use Rattle.proof_semantics.specs.Clauses.{has_opposites};
+ghost use Rattle.edge.specs.Ends.{CountsConflicts, IsEnd};
+ghost use Rattle.cdcl.specs.Asking.{IsAsked};
+ghost use Rattle.cdcl.specs.Solving.{HasNoModel};
+
+use cdcl::{Asked, Solver, are_sized};
+use cnf::{Clause, Lit};
+use edge::{Meter, SolveEnd};
+use std::alloc::{AllocError, Global};
+
+/// Adds a clause. Numbers from 2^63 on are want of memory.
+pub(crate) fn add(solver: &mut Solver, clause: Clause) -> Result<(), AllocError>
+    ensures { OnOk result (solver.new.added ≡ solver.old.added ++ clause ∷ []) }
+{
+    if !are_sized(clause.as_slice()) {
+        return Err(AllocError);
+    }
+    solver.add(clause)
+}
+
+/// A solver with these clauses.
+pub(crate) fn solver_with(alloc: Global, clauses: Vec<Clause>) -> Result<Solver, AllocError>
+    ensures { IfOk result (λ solver. solver.added ≡ clauses.items) }
+{
+    let mut solver = Solver::new(alloc)?;
+    for clause in clauses {
+        add(&mut solver, clause)?;
+    }
+    Ok(solver)
+}
+
+/// Asks the solver. Numbers from 2^63 on are want of memory.
+pub(crate) fn ask(
+    alloc: Global,
+    solver: &mut Solver,
+    assumptions: &[Lit],
+    meter: &mut Meter,
+) -> Result<Asked, SolveEnd>
+    requires { has_opposites assumptions.now ≡ false }
+    ensures answer { IfOk result (IsAsked solver.old.added assumptions.now) }
+    ensures added { solver.new.added ≡ solver.old.added }
+    ensures end { IfErr result (IsEnd meter.new) }
+    ensures counted { CountsConflicts meter.old meter.new }
+{
+    if !are_sized(assumptions) {
+        return Err(SolveEnd::Memory);
+    }
+    let _before = meter.spending().conflicts();
+    solver.ask(alloc, assumptions, meter)
+}
+
+/// Whether the assumptions are refused: no model of the solver's clauses makes them true.
+pub(crate) fn is_refused(
+    alloc: Global,
+    solver: &mut Solver,
+    assumptions: &[Lit],
+    meter: &mut Meter,
+) -> Result<bool, SolveEnd>
+    requires { has_opposites assumptions.now ≡ false }
+    ensures refused { IfOk result (λ b. b ≡ true → HasNoModel solver.old.added assumptions.now) }
+    ensures added { solver.new.added ≡ solver.old.added }
+    ensures end { IfErr result (IsEnd meter.new) }
+    ensures counted { CountsConflicts meter.old meter.new }
+{
+    match ask(alloc, solver, assumptions, meter)? {
+        Asked::Sat(_) => Ok(false),
+        Asked::Unsat(_) => Ok(true),
+    }
+}
