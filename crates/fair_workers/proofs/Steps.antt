@@ -24,12 +24,12 @@ use Rattle.entry.specs.Proved.{holds_initial}
 use Rattle.cnf_unroll.specs.Laws.{AreOver}
 use Rattle.lasso_join.specs.Fitting.{LeadsTo, IsStemTo, Fit}
 use Rattle.lasso_join.proofs.Joined.{some-situation}
-use Rattle.ic3_steps.specs.declared.questions.Start.TheVariants.{Initial, State}
-use Rattle.ic3_steps.specs.declared.questions.Goal.{Goal}
-use Rattle.ic3_steps.specs.declared.questions.Reached.{Reached}
-use Rattle.ic3_steps.specs.declared.questions.Reached.TheVariants.{Path, Closed}
-use Rattle.ic3_steps.specs.Arenas.{in_arena}
-use Rattle.ic3_steps.specs.Searching.{Question, IsPath, IsPathTo, IsPathToLiteral, MeetsLiteral, IsReached, Separates, closed_entry}
+use Rattle.ic3_questions.specs.declared.questions.Start.TheVariants.{Initial, State}
+use Rattle.ic3_questions.specs.declared.questions.Goal.{Goal}
+use Rattle.ic3_questions.specs.declared.questions.Reached.{Reached}
+use Rattle.ic3_questions.specs.declared.questions.Reached.TheVariants.{Path, Closed}
+use Rattle.ic3_questions.specs.Arenas.{in_arena}
+use Rattle.ic3_questions.specs.Searching.{Question, IsPath, IsPathTo, IsPathToLiteral, MeetsLiteral, IsReached, Separates, closed_entry}
 use Rattle.skeleton.specs.Finding.{IsAllowed}
 use Rattle.fair_workers.specs.declared.walking.Step.{Step}
 use Rattle.fair_workers.specs.declared.walking.Step.TheVariants as steps

@@ -15,9 +15,9 @@ use Rattle.fair_semantics.specs.Entries.{Entry, Numbered, numbered, set_at}
 use Rattle.fair_semantics.specs.Allowing.{all_on, allows_by, all_allow, allow}
 use Rattle.fair_semantics.specs.Skeletons.{states_of, places, IsSituation, AreTrueInTurn, IsSkeleton}
 use Rattle.lasso_join.specs.Fitting.{LeadsTo}
-use Rattle.ic3_steps.specs.declared.questions.Start.TheVariants.{State}
-use Rattle.ic3_steps.specs.Arenas.{keeps_to, in_arena}
-use Rattle.ic3_steps.specs.Searching.{Question, Leads}
+use Rattle.ic3_questions.specs.declared.questions.Start.TheVariants.{State}
+use Rattle.ic3_questions.specs.Arenas.{keeps_to, in_arena}
+use Rattle.ic3_questions.specs.Searching.{Question, Leads}
 use Rattle.fair_workers.proofs.Allowed.{IsAmong, kept_side, on-kept, kept-on, all-replaced}
 
 keeps-is-on : (kind : Kind) (set : List Bool → Bool) (from s : List Bool) → keeps_to (State from) kind set s ≡ bool_eq (kept_side kind set from) (set s)

@@ -3,7 +3,7 @@
 ghost use Rattle.std.specs.Prelude.{◌<◌, ◌-◌, [], length, slice_index_or, IfOk, IfErr};
 ghost use Rattle.entry.specs.CheckedEntries.{viewed};
 ghost use Rattle.entry.specs.Laws.{IsGoodList};
-ghost use Rattle.ic3_steps.specs.Searching.{IsStart, IsGoal, IsReached};
+ghost use Rattle.ic3_questions.specs.Searching.{IsStart, IsGoal, IsReached};
 ghost use Rattle.skeleton.specs.Finding.{IsAllowed};
 ghost use Rattle.fair_workers.specs.Walks.{IsStop, KeepsLimits, IsStem, IsWay, skeleton_of, states, successors};
 

@@ -12,9 +12,9 @@ use Rattle.ic3_frames.specs.Frames.{frame_at, with_lemma}
 use Rattle.ic3_frames.specs.Room.{allowed_by, room}
 use Rattle.ic3_frames.proofs.Meaning.{with-above, number-stays}
 use Rattle.ic3_frames.proofs.Rooms.{frames-take, lemmas-make-none}
-use Rattle.ic3_steps.specs.declared.lemmas.Lemma.{Lemma}
-use Rattle.ic3_steps.specs.Stepping.{meets_from, IsOver}
-use Rattle.ic3_steps.specs.Searching.{Question}
+use Rattle.ic3_questions.specs.declared.lemmas.Lemma.{Lemma}
+use Rattle.ic3_questions.specs.Stepping.{meets_from, IsOver}
+use Rattle.ic3_questions.specs.Searching.{Question}
 use Rattle.ic3.specs.Sound.{IsStartCube, has_one_of, IsSound, Agree}
 use Rattle.ic3.proofs.Sounds.{Levels, allowed_before, lemma_holds, all-with}
 

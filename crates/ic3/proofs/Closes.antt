@@ -20,9 +20,9 @@ use Rattle.fair_semantics.specs.Allowing.{allows_by, all_allow}
 use Rattle.fair_semantics.specs.Validity.{AreValid}
 use Rattle.fair_semantics.proofs.Lists.{valid-names, reach-unnamed}
 use Rattle.aig_semantics.specs.Circuits.{Circuit}
-use Rattle.ic3_steps.specs.declared.questions.Start.{Start}
-use Rattle.ic3_steps.specs.declared.questions.Start.TheVariants.{Initial, State}
-use Rattle.ic3_steps.specs.Arenas.{restricts, restricting, keeps_to, in_arena}
+use Rattle.ic3_questions.specs.declared.questions.Start.{Start}
+use Rattle.ic3_questions.specs.declared.questions.Start.TheVariants.{Initial, State}
+use Rattle.ic3_questions.specs.Arenas.{restricts, restricting, keeps_to, in_arena}
 use Rattle.ic3.specs.Closing.{side_of, use_for, start_uses}
 
 -- ---- the uses of a list of entries, from a number on

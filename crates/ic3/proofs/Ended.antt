@@ -9,13 +9,13 @@ use Rattle.edge.specs.declared.metering.Spent.{Spent}
 use Rattle.edge.specs.declared.metering.Counted.TheVariants.{Steps}
 use Rattle.edge.specs.declared.solve_end.SolveEnd.{SolveEnd}
 use Rattle.edge.specs.declared.solve_end.SolveEnd.TheVariants as ends
-use Rattle.ic3_steps.specs.declared.questions.ReachEnd.{ReachEnd}
-use Rattle.ic3_steps.specs.declared.questions.ReachEnd.TheVariants.{Memory}
+use Rattle.ic3_questions.specs.declared.questions.ReachEnd.{ReachEnd}
+use Rattle.ic3_questions.specs.declared.questions.ReachEnd.TheVariants.{Memory}
 use Rattle.ic3_frames.specs.Room.{room}
 use Rattle.ic3_frames.proofs.Rooms.{first-room}
-use Rattle.ic3_steps.specs.Searching.{IsReachEnd, CountsSearch}
-use Rattle.ic3_steps.specs.Ends.{end_of_kind, reach_end}
-use Rattle.ic3_steps.specs.Stepping.{Stepping}
+use Rattle.ic3_questions.specs.Searching.{IsReachEnd, CountsSearch}
+use Rattle.ic3_questions.specs.Ends.{end_of_kind, reach_end}
+use Rattle.ic3_questions.specs.Stepping.{Stepping}
 use Rattle.ic3.specs.Sound.{KeepsQuestion, CountsUpTo}
 
 -- The end of a solver, and that of a count of steps, as ends of a search.

@@ -14,7 +14,7 @@ use Rattle.ic3_frames.specs.Frames.{frame_at, with_lemma}
 use Rattle.ic3_frames.specs.Room.{allowed_by}
 use Rattle.ic3_frames.proofs.Meaning.{with-within}
 use Rattle.ic3_generalise.proofs.Parts.{part_has, part_from, part_same}
-use Rattle.ic3_steps.specs.Stepping.{Stepping, IsMissing, IsOver}
+use Rattle.ic3_questions.specs.Stepping.{Stepping, IsMissing, IsOver}
 use Rattle.ic3.specs.Starting.{value_literals}
 use Rattle.ic3.specs.Sound.{CountsUpTo}
 use Rattle.ic3.specs.Pushing.{Narrows}

@@ -14,7 +14,7 @@ use Rattle.aig_semantics.specs.declared.traces.Position.{Position}
 use Rattle.aig_semantics.specs.Runs.{literal_at, successor}
 use Rattle.std.proofs.lemmas.List.{length-map}
 use Rattle.ic3.specs.Starting.{value_literals}
-use Rattle.ic3_steps.specs.Stepping.{Stepping, IsPredecessor, IsOver}
+use Rattle.ic3_questions.specs.Stepping.{Stepping, IsPredecessor, IsOver}
 use Rattle.edge.specs.Units.{Spendings}
 use Rattle.edge.specs.Ends.{CountsConflicts}
 use Rattle.ic3.specs.Sound.{IsRelative, Agree, CountsUpTo, has_one_of}

@@ -13,12 +13,12 @@ use Rattle.proof_semantics.specs.declared.literals.Lit.{Lit}
 use Rattle.proof_semantics.specs.Clauses.{cube_value, values_of}
 use Rattle.ic3_frames.specs.Frames.{frame_at}
 use Rattle.ic3_frames.specs.Room.{room, allowed_by}
-use Rattle.ic3_steps.specs.declared.questions.Goal.{Goal}
-use Rattle.ic3_steps.specs.declared.questions.Goal.TheVariants as goals
-use Rattle.ic3_steps.specs.Arenas.{MayStart}
-use Rattle.ic3_steps.specs.Searching.{Question, Leads, MeetsLiteral, IsPath}
-use Rattle.ic3_steps.specs.Stepping.{Stepping, IsArenaStep}
-use Rattle.ic3_steps.proofs.Arenas.{steps_keep}
+use Rattle.ic3_questions.specs.declared.questions.Goal.{Goal}
+use Rattle.ic3_questions.specs.declared.questions.Goal.TheVariants as goals
+use Rattle.ic3_questions.specs.Arenas.{MayStart}
+use Rattle.ic3_questions.specs.Searching.{Question, Leads, MeetsLiteral, IsPath}
+use Rattle.ic3_questions.specs.Stepping.{Stepping, IsArenaStep}
+use Rattle.ic3_questions.proofs.Arenas.{steps_keep}
 use Rattle.ic3.specs.declared.obligations.Node.{Node}
 use Rattle.ic3.specs.declared.obligations.Node.TheVariants as nodes
 use Rattle.ic3.specs.declared.obligations.Obligation.{Obligation}

@@ -15,22 +15,22 @@ use Rattle.fair_semantics.specs.Validity.{AreValid, NoStepLeaves}
 use Rattle.fair_semantics.proofs.Examples.{no_reach}
 use Rattle.ic3_frames.specs.Frames.{frame_at}
 use Rattle.ic3_frames.specs.Room.{allowed_by}
-use Rattle.ic3_steps.specs.declared.questions.Start.{Start}
-use Rattle.ic3_steps.specs.declared.questions.Start.TheVariants.{Initial, State}
-use Rattle.ic3_steps.specs.declared.questions.Goal.{Goal}
-use Rattle.ic3_steps.specs.declared.questions.Goal.TheVariants as goals
-use Rattle.ic3_steps.specs.Arenas.{MayStart, restricting, in_arena}
-use Rattle.ic3_steps.specs.Stepping.{IsArenaStep, IsOver}
-use Rattle.ic3_steps.specs.declared.questions.Reached.{Reached}
-use Rattle.ic3_steps.specs.declared.questions.Reached.TheVariants.{Closed}
-use Rattle.ic3_steps.specs.Searching.{Question, Misses, Separates, IsReached, closed_entry}
+use Rattle.ic3_questions.specs.declared.questions.Start.{Start}
+use Rattle.ic3_questions.specs.declared.questions.Start.TheVariants.{Initial, State}
+use Rattle.ic3_questions.specs.declared.questions.Goal.{Goal}
+use Rattle.ic3_questions.specs.declared.questions.Goal.TheVariants as goals
+use Rattle.ic3_questions.specs.Arenas.{MayStart, restricting, in_arena}
+use Rattle.ic3_questions.specs.Stepping.{IsArenaStep, IsOver}
+use Rattle.ic3_questions.specs.declared.questions.Reached.{Reached}
+use Rattle.ic3_questions.specs.declared.questions.Reached.TheVariants.{Closed}
+use Rattle.ic3_questions.specs.Searching.{Question, Misses, Separates, IsReached, closed_entry}
 use Rattle.ic3.specs.Starting.{start_cube}
 use Rattle.ic3.specs.Closing.{start_uses}
 use Rattle.ic3.specs.Sound.{IsStartCube, has_one_of, IsSound, MissesLast}
 use Rattle.ic3.specs.Pushing.{Narrows}
 use Rattle.ic3.specs.Turning.{IsClosedAt}
-use Rattle.ic3_steps.proofs.Arenas.{steps_keep}
-use Rattle.ic3_steps.proofs.Separated.{separated}
+use Rattle.ic3_questions.proofs.Arenas.{steps_keep}
+use Rattle.ic3_questions.proofs.Separated.{separated}
 use Rattle.ic3.proofs.Sounds.{Levels, all_parts, grow_on}
 use Rattle.ic3.proofs.Closes.{lie, are_closed, all_reach, used_are, begins_in_arena, lies_in_arena, IsFrom, starts_lie}
 

@@ -13,9 +13,9 @@ use Rattle.proof_semantics.specs.Clauses.{clause_value, values_of}
 use Rattle.ic3_frames.specs.Frames.{same_clause, has_clause, frame_at, put_at, with_lemma}
 use Rattle.ic3_frames.specs.Room.{allowed_by}
 use Rattle.ic3_frames.proofs.Meaning.{with-within, with-above, frames-grow, number-stays}
-use Rattle.ic3_steps.specs.declared.lemmas.Lemma.{Lemma}
-use Rattle.ic3_steps.specs.Stepping.{Stepping, IsArenaStep, IsOver}
-use Rattle.ic3_steps.specs.Searching.{Question}
+use Rattle.ic3_questions.specs.declared.lemmas.Lemma.{Lemma}
+use Rattle.ic3_questions.specs.Stepping.{Stepping, IsArenaStep, IsOver}
+use Rattle.ic3_questions.specs.Searching.{Question}
 use Rattle.ic3.specs.Sound.{has_one_of, IsSound, IsRelative, Agree, IsSearch}
 
 abbrev pub Levels : Type 0

@@ -14,10 +14,10 @@ use Rattle.proof_semantics.proofs.LiteralLaws.{bool_eq-true, bool_eq-same}
 use Rattle.fair_semantics.specs.States.{reset_literals, initial_literals}
 use Rattle.fair_semantics.specs.Entries.{Entry}
 use Rattle.fair_semantics.proofs.Initial.{initial-in_cube}
-use Rattle.ic3_steps.specs.declared.questions.Start.{Start}
-use Rattle.ic3_steps.specs.declared.questions.Start.TheVariants.{Initial, State}
-use Rattle.ic3_steps.specs.Stepping.{IsOver}
-use Rattle.ic3_steps.specs.Searching.{IsStart}
+use Rattle.ic3_questions.specs.declared.questions.Start.{Start}
+use Rattle.ic3_questions.specs.declared.questions.Start.TheVariants.{Initial, State}
+use Rattle.ic3_questions.specs.Stepping.{IsOver}
+use Rattle.ic3_questions.specs.Searching.{IsStart}
 use Rattle.ic3.specs.Starting.{value_literals, start_cube}
 use Rattle.ic3.specs.Sound.{IsStartCube}
 

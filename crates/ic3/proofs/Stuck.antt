@@ -15,8 +15,8 @@ use Rattle.ic3_frames.specs.Frames.{frame_at, own_lemmas, with_lemma, moved, All
 use Rattle.ic3_frames.specs.Room.{allowed_by, NeighboursDiffer}
 use Rattle.ic3_frames.proofs.Meaning.{with-within}
 use Rattle.ic3_frames.proofs.Putting.{frame-own, some-own}
-use Rattle.ic3_steps.specs.Stepping.{Stepping, IsPredecessor, IsMissing, IsOver}
-use Rattle.ic3_steps.specs.Searching.{Question}
+use Rattle.ic3_questions.specs.Stepping.{Stepping, IsPredecessor, IsMissing, IsOver}
+use Rattle.ic3_questions.specs.Searching.{Question}
 use Rattle.ic3.specs.Sound.{IsSound, IsRelative, Agree, IsStuck, AreStuck}
 use Rattle.ic3.specs.Pushing.{AllowBelow, IsPushed, IsTried, Narrows, StayStuck, AllStuck, place_after}
 use Rattle.ic3.proofs.Sounds.{grow_on, all_parts, Levels}

@@ -8,8 +8,8 @@ use Rattle.proof_semantics.specs.declared.literals.Lit.{Lit}
 use Rattle.proof_semantics.specs.Clauses.{cube_value, values_of, negation, has_literal}
 use Rattle.ic3_frames.specs.Frames.{frame_at}
 use Rattle.ic3_frames.specs.Room.{room, allowed_by}
-use Rattle.ic3_steps.specs.declared.questions.Goal.{Goal}
-use Rattle.ic3_steps.specs.declared.questions.Goal.TheVariants as goals
+use Rattle.ic3_questions.specs.declared.questions.Goal.{Goal}
+use Rattle.ic3_questions.specs.declared.questions.Goal.TheVariants as goals
 use Rattle.ic3.specs.declared.obligations.Node.{Node}
 use Rattle.ic3.specs.declared.obligations.Node.TheVariants as nodes
 use Rattle.ic3.specs.declared.obligations.Obligation.{Obligation}
@@ -18,8 +18,8 @@ use Rattle.ic3.specs.declared.blocking.Blocked.{Blocked}
 use Rattle.ic3.specs.declared.blocking.Blocked.TheVariants.{Path, Missed, More}
 use Rattle.ic3.specs.declared.blocking.Handled.{Handled}
 use Rattle.ic3.specs.declared.blocking.Handled.TheVariants.{Start, Before, Excluded}
-use Rattle.ic3_steps.specs.Searching.{Question, IsPath, Leads, MeetsLiteral, Misses}
-use Rattle.ic3_steps.specs.Stepping.{Stepping, IsArenaStep, IsPredecessor, MeetsFrom}
+use Rattle.ic3_questions.specs.Searching.{Question, IsPath, Leads, MeetsLiteral, Misses}
+use Rattle.ic3_questions.specs.Stepping.{Stepping, IsArenaStep, IsPredecessor, MeetsFrom}
 
 -- The positions lead from the state to the goal.
 abbrev pub LeadsOn : Question → Goal → List Bool → List Position → Type 0

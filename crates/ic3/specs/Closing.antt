@@ -7,8 +7,8 @@ use Rattle.fair_semantics.specs.declared.entries.Side.{Side}
 use Rattle.fair_semantics.specs.declared.entries.Side.TheVariants.{Any, In, Out}
 use Rattle.fair_semantics.specs.declared.entries.Use.{Use}
 use Rattle.fair_semantics.specs.Entries.{Entry, numbered, set_at}
-use Rattle.ic3_steps.specs.declared.questions.Start.{Start}
-use Rattle.ic3_steps.specs.declared.questions.Start.TheVariants.{Initial, State}
+use Rattle.ic3_questions.specs.declared.questions.Start.{Start}
+use Rattle.ic3_questions.specs.declared.questions.Start.TheVariants.{Initial, State}
 
 -- the side of a state that lies in a set, or does not
 abbrev pub side_of : Bool → Side

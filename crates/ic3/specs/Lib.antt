@@ -1,7 +1,1 @@
-pub mod Sound
-pub mod Blocking
-pub mod Strengthening
-pub mod Starting
-pub mod Pushing
-pub mod Turning
-pub mod Closing
+pub mod SteppingInside

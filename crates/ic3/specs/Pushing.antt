@@ -4,7 +4,7 @@ use Rattle.std.specs.Prelude.{◌≡◌, ℕ, ◌+◌, ◌<◌, ◌≤◌, Bool,
 use Rattle.proof_semantics.specs.declared.literals.Lit.{Lit}
 use Rattle.ic3_frames.specs.Frames.{frame_at, own_lemmas, moved}
 use Rattle.ic3_frames.specs.Room.{allowed_by}
-use Rattle.ic3_steps.specs.Searching.{Question}
+use Rattle.ic3_questions.specs.Searching.{Question}
 use Rattle.ic3.specs.Sound.{IsStuck, AreStuck}
 
 -- the frames up to level k allow the states that they allowed

@@ -9,12 +9,12 @@ use Rattle.cnf_unroll.specs.Laws.{AreOver}
 use Rattle.edge.specs.Units.{Spendings}
 use Rattle.ic3_frames.specs.Frames.{frame_at, own_lemmas}
 use Rattle.ic3_frames.specs.Room.{allowed_by}
-use Rattle.ic3_steps.specs.declared.questions.Goal.{Goal}
-use Rattle.ic3_steps.specs.declared.questions.Goal.TheVariants as goals
-use Rattle.ic3_steps.specs.Arenas.{MayStart}
-use Rattle.ic3_steps.specs.declared.lemmas.Lemma.{Lemma}
-use Rattle.ic3_steps.specs.Stepping.{Stepping, meets_from, IsArenaStep, IsOver}
-use Rattle.ic3_steps.specs.Searching.{Question, IsPath, Misses, IsGoal}
+use Rattle.ic3_questions.specs.declared.questions.Goal.{Goal}
+use Rattle.ic3_questions.specs.declared.questions.Goal.TheVariants as goals
+use Rattle.ic3_questions.specs.Arenas.{MayStart}
+use Rattle.ic3_questions.specs.declared.lemmas.Lemma.{Lemma}
+use Rattle.ic3_questions.specs.Stepping.{Stepping, meets_from, IsArenaStep, IsOver}
+use Rattle.ic3_questions.specs.Searching.{Question, IsPath, Misses, IsGoal}
 
 -- The cube over the latches holds exactly in the starts.
 pub record IsStartCube (q : Question) (cube : List Lit) : Type 0 where

@@ -3,8 +3,8 @@ use Rattle.std.specs.Prelude.{ℕ, ◌+◌, Bool, List, [], ◌∷◌}
 use Rattle.aig_semantics.specs.Circuits.{Circuit}
 use Rattle.proof_semantics.specs.declared.literals.Lit.{Lit}
 use Rattle.fair_semantics.specs.States.{initial_cube}
-use Rattle.ic3_steps.specs.declared.questions.Start.{Start}
-use Rattle.ic3_steps.specs.declared.questions.Start.TheVariants.{Initial, State}
+use Rattle.ic3_questions.specs.declared.questions.Start.{Start}
+use Rattle.ic3_questions.specs.declared.questions.Start.TheVariants.{Initial, State}
 
 -- a literal for each value, from latch n on
 abbrev pub value_literals : ℕ → List Bool → List Lit

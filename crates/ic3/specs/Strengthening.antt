@@ -3,7 +3,7 @@
 use Rattle.std.specs.Prelude.{◌≡◌, ℕ, ◌+◌, ◌<◌, ◌≤◌, true, ◌||◌, List, length, filter, Option, Some, None}
 use Rattle.proof_semantics.specs.declared.literals.Lit.{Lit}
 use Rattle.proof_semantics.specs.Clauses.{lit_eq, negation, has_literal, is_part}
-use Rattle.ic3_steps.specs.Stepping.{Stepping, IsOver}
+use Rattle.ic3_questions.specs.Stepping.{Stepping, IsOver}
 use Rattle.ic3.specs.Blocking.{NoneEnters, misses_starts}
 
 -- A cube over the latches that misses the starts, and that no step from the frame of the level enters.

@@ -4,10 +4,10 @@ use Rattle.std.specs.Prelude.{◌≡◌, ℕ, ◌+◌, ◌<◌, ◌≤◌, List,
 use Rattle.proof_semantics.specs.declared.literals.Lit.{Lit}
 use Rattle.ic3_frames.specs.Frames.{frame_at}
 use Rattle.ic3_frames.specs.Room.{allowed_by}
-use Rattle.ic3_steps.specs.declared.questions.Goal.{Goal}
+use Rattle.ic3_questions.specs.declared.questions.Goal.{Goal}
 use Rattle.ic3.specs.declared.turning.Turned.{Turned}
 use Rattle.ic3.specs.declared.turning.Turned.TheVariants.{Path, Closed, More}
-use Rattle.ic3_steps.specs.Searching.{Question, IsPath, Misses}
+use Rattle.ic3_questions.specs.Searching.{Question, IsPath, Misses}
 
 -- The frame of a level has the lemmas of the next one, and allows no state of the goal.
 pub record IsClosedAt (q : Question) (goal : Goal) (levels : List (List (List Lit))) (level : ℕ) : Type 0 where

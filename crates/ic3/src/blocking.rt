@@ -6,18 +6,19 @@ ghost use Rattle.std.specs.Prelude.{◌≡◌, ◌+◌, ◌<◌, ◌≤◌, true
 ghost use Rattle.proof_semantics.specs.Clauses.{cube_value, values_of};
 ghost use Rattle.ic3_frames.specs.Frames.{frame_at};
 ghost use Rattle.ic3_frames.specs.Room.{room, allowed_by};
-ghost use Rattle.ic3_steps.specs.Searching.{IsReachEnd};
+ghost use Rattle.ic3_questions.specs.Searching.{IsReachEnd};
 ghost use Rattle.ic3.specs.Sound.{IsSearch, IsGoalOf, IsBlocked, KeepsQuestion, CountsUpTo};
 ghost use Rattle.ic3.specs.Blocking.{AreNodes, AreObligations, IsOpen, IsHandled, IsPutIn, IsKeptWith, IsGoneOn, IsDescended, IsTurnedTo, LeadsOn, state_at, next_node, own_way};
 
 use crate::obligations::{Node, Obligation, Obligations, put_due, put_node, state_at, take_next};
 use crate::starting::state_cube;
+use crate::steps::Steps;
 use crate::strengthening::{holds_in, strengthen};
 use circuit::Position;
 use cnf::Cube;
 use edge::Meter;
 use ic3_frames::Frames;
-use ic3_steps::{Found, Goal, ReachEnd, Steps};
+use ic3_questions::{Found, Goal, ReachEnd};
 use items::Items;
 use std::alloc::{AllocError, Global};
 

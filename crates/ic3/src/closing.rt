@@ -10,7 +10,7 @@ use crate::pushing::{has_lemma, lemma_at, one_more};
 use cnf::Clause;
 use entry::{Checked, Kind, Side, Use, side};
 use ic3_frames::Frames;
-use ic3_steps::Start;
+use ic3_questions::Start;
 use items::Items;
 use std::alloc::{AllocError, Global};
 use std::sync::Arc;

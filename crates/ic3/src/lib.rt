@@ -5,9 +5,9 @@
 //! |---|---|
 //! | `reach` | a path from a start to a goal, or a set that holds the start, misses the goal and is left by no step |
 //!
-//! What is asked and answered is defined in `ic3_steps`, which has the solver too. The loops: `turning` (block, push, open a
-//! frame), `blocking` (with `obligations`, `strengthening`, `shortening` and `ordering`), `pushing`, `closing`, `starting`, and `putting` (a lemma for
-//! solver and frames). `specs/` is scaffolding.
+//! What is asked and answered is defined in `ic3_questions`. The loops: `turning` (block, push, open a frame), `blocking`
+//! (with `obligations`, `strengthening`, `shortening` and `ordering`), `pushing`, `closing`, `starting`, over `steps` (the
+//! solver of one step) and `putting` (a lemma for solver and frames). `specs/` is scaffolding.
 #![tactic(auto)]
 
 mod blocking;
@@ -19,8 +19,16 @@ mod putting;
 mod searching;
 mod shortening;
 mod starting;
+mod stepping_clauses;
+mod stepping_lemmas;
+mod stepping_questions;
+mod stepping_start;
+mod steps;
 mod strengthening;
 mod turning;
 
-pub use ic3_steps::{Goal, ReachEnd, Reached, Start};
+pub use ic3_questions::{Goal, ReachEnd, Reached, Start};
 pub use searching::reach;
+
+#[cfg(test)]
+mod stepping_tests;

@@ -4,15 +4,16 @@ ghost use Rattle.std.specs.List.{All};
 ghost use Rattle.edge.specs.Ends.{CountsConflicts, IsEnd};
 ghost use Rattle.ic3_frames.specs.Frames.{frame_at};
 ghost use Rattle.ic3_frames.specs.Room.{allowed_by};
-ghost use Rattle.ic3_steps.specs.Searching.{IsReachEnd};
+ghost use Rattle.ic3_questions.specs.Searching.{IsReachEnd};
 ghost use Rattle.ic3.specs.Sound.{IsSearch, IsGoalOf};
 ghost use Rattle.ic3.specs.Blocking.{node_state, state_at, AreNodes, IsDue, IsOpen, IsPutIn, IsFirst, IsStateFirst, IsLiteralFirst, IsNext, AreObligations, levels_left, left_above};
 
+use crate::steps::Steps;
 use circuit::Position;
 use cnf::Cube;
 use edge::{Held, Meter, SolveEnd};
 use ic3_frames::Frames;
-use ic3_steps::{Goal, ReachEnd, Steps};
+use ic3_questions::{Goal, ReachEnd};
 use items::Items;
 use std::alloc::{AllocError, Global};
 

@@ -7,10 +7,11 @@ ghost use Rattle.ic3_frames.specs.Room.{room};
 ghost use Rattle.ic3.specs.Sound.{IsSearch, IsRelative, KeepsQuestion, AreStuck};
 ghost use Rattle.ic3.specs.Pushing.{IsPushed, IsTried, Narrows, StayStuck, AllStuck, place_after};
 
+use crate::steps::Steps;
 use cnf::{Clause, Cube};
 use edge::{Meter, SolveEnd};
 use ic3_frames::Frames;
-use ic3_steps::{Found, Steps};
+use ic3_questions::Found;
 use std::alloc::{AllocError, Global};
 
 /// Puts each lemma of a frame that holds after each step from it into the next frame too, from the lowest frame up.

@@ -1,12 +1,12 @@
 //! A lemma is put into the frames and into the solver. The main call is `put_lemma`.
 ghost use Rattle.std.specs.Prelude.{◌≡◌, ◌<◌, true, length, OnOk};
 ghost use Rattle.ic3_frames.specs.Frames.{with_lemma};
-ghost use Rattle.ic3_steps.specs.Stepping.{IsOver};
+ghost use Rattle.ic3_questions.specs.Stepping.{IsOver};
 ghost use Rattle.ic3.specs.Sound.{IsSearch, IsRelative, KeepsQuestion, has_one_of};
 
+use crate::steps::Steps;
 use cnf::{Clause, Cube};
 use ic3_frames::Frames;
-use ic3_steps::Steps;
 use std::alloc::AllocError;
 
 /// Puts a lemma into the frame of a level and those below, and behind the solver's lemmas. `starts` is the cube of the

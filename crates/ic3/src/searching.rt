@@ -5,17 +5,18 @@ ghost use Rattle.entry.specs.Laws.{IsGoodList};
 ghost use Rattle.ic3_frames.specs.Frames.{frame_at};
 ghost use Rattle.ic3.specs.Sound.{AvoidsAsked};
 ghost use Rattle.ic3.specs.Closing.{start_uses};
-ghost use Rattle.ic3_steps.specs.Searching.{IsStart, IsGoal, IsReached, IsReachEnd, CountsSearch};
+ghost use Rattle.ic3_questions.specs.Searching.{IsStart, IsGoal, IsReached, IsReachEnd, CountsSearch};
 
 use crate::closing::{lemmas_from, start_uses};
 use crate::starting::{open_frames, start_cube};
+use crate::steps::Steps;
 use crate::turning::{Turned, turn_on};
 use circuit::Circuit;
 use cnf::Cube;
 use edge::Meter;
 use entry::Checked;
 use ic3_frames::Frames;
-use ic3_steps::{Goal, ReachEnd, Reached, Start, Steps};
+use ic3_questions::{Goal, ReachEnd, Reached, Start};
 use std::alloc::{AllocError, Global};
 use std::sync::Arc;
 

@@ -3,18 +3,19 @@ ghost use Rattle.std.specs.Prelude.{◌≡◌, ◌+◌, ◌<◌, ◌↔◌, true
 ghost use Rattle.std.proofs.Common.{◌∙◌};
 ghost use Rattle.proof_semantics.specs.Clauses.{is_part};
 ghost use Rattle.edge.specs.Ends.{CountsConflicts, IsEnd};
-ghost use Rattle.ic3_steps.specs.Stepping.{IsOver};
+ghost use Rattle.ic3_questions.specs.Stepping.{IsOver};
 ghost use Rattle.ic3.specs.Blocking.{NoneEnters, misses_starts};
 ghost use Rattle.ic3.specs.Strengthening.{IsExcluded, IsAsked, IsHeldFrom};
 
 use crate::ordering::by_activity;
 use crate::pushing::one_more;
+use crate::steps::Steps;
 use crate::strengthening::{based, misses_starts};
 use cnf::Cube;
 use edge::{Meter, SolveEnd};
 use ic3_frames::Frames;
 use ic3_generalise::{Asker, generalise};
-use ic3_steps::{Found, Steps};
+use ic3_questions::Found;
 use std::alloc::Global;
 
 // What tests cubes at a level: they miss the starts, and no step from the frame of the level enters them.

@@ -5,13 +5,14 @@ ghost use Rattle.proof_semantics.specs.declared.literals.Lit.{Lit};
 ghost use Rattle.fair_semantics.specs.States.{reset_literals, initial_literals};
 ghost use Rattle.ic3_frames.specs.Frames.{with_lemma};
 ghost use Rattle.ic3.specs.Starting.{start_cube, value_literals};
-ghost use Rattle.ic3_steps.specs.Stepping.{IsOver};
+ghost use Rattle.ic3_questions.specs.Stepping.{IsOver};
 ghost use Rattle.ic3.specs.Sound.{IsSearch, IsStartCube, KeepsQuestion, Agree};
 
+use crate::steps::Steps;
 use circuit::{Circuit, Latch, Reset};
 use cnf::{Clause, Cube, Lit};
 use ic3_frames::Frames;
-use ic3_steps::{Start, Steps};
+use ic3_questions::Start;
 use std::alloc::{AllocError, Global};
 
 /// The cube of the starts: the initial cube, or all literals of the state.

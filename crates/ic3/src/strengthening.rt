@@ -3,8 +3,8 @@ ghost use Rattle.std.specs.Prelude.{◌≡◌, ◌+◌, ◌<◌, ◌≤◌, ◌|
 ghost use Rattle.proof_semantics.specs.Clauses.{clause_value, cube_value, values_of, has_literal, literal_value, lit_eq, is_part};
 ghost use Rattle.ic3_frames.specs.Frames.{frame_at};
 ghost use Rattle.ic3_frames.specs.Room.{allowed_by};
-ghost use Rattle.ic3_steps.specs.Searching.{IsReachEnd};
-ghost use Rattle.ic3_steps.specs.Stepping.{IsMissing, IsOver};
+ghost use Rattle.ic3_questions.specs.Searching.{IsReachEnd};
+ghost use Rattle.ic3_questions.specs.Stepping.{IsMissing, IsOver};
 ghost use Rattle.ic3.specs.Starting.{value_literals};
 ghost use Rattle.ic3.specs.Sound.{IsSearch, IsRelative, KeepsQuestion, CountsUpTo, has_one_of};
 ghost use Rattle.ic3.specs.Pushing.{Narrows};
@@ -15,11 +15,12 @@ use crate::pushing::one_more;
 use crate::putting::put_lemma;
 use crate::shortening::{highest, shorten};
 use crate::starting::state_cube;
+use crate::steps::Steps;
 use crate::turning::steps_of;
 use cnf::{Clause, Cube, Lit};
 use edge::{Held, Meter};
 use ic3_frames::Frames;
-use ic3_steps::{ReachEnd, Steps};
+use ic3_questions::ReachEnd;
 use std::alloc::{AllocError, Global};
 
 /// Whether all literals of the cube are true in the state.

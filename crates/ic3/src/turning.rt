@@ -2,18 +2,19 @@
 ghost use Rattle.std.specs.Prelude.{◌≡◌, ◌+◌, ◌^◌, ◌<◌, ◌≤◌, [], ◌∷◌, ◌++◌, length, IfOk, IfErr, OnOk};
 ghost use Rattle.ic3_frames.specs.Frames.{AllDiffer};
 ghost use Rattle.ic3_frames.specs.Room.{room};
-ghost use Rattle.ic3_steps.specs.Searching.{IsReachEnd};
+ghost use Rattle.ic3_questions.specs.Searching.{IsReachEnd};
 ghost use Rattle.ic3.specs.Sound.{IsSearch, IsGoalOf, KeepsQuestion, CountsUpTo, MissesLast};
 ghost use Rattle.ic3.specs.Pushing.{AllStuck};
 ghost use Rattle.ic3.specs.Turning.{IsTurned, TakesRoom, HasEnded};
 
 use crate::blocking::block;
 use crate::pushing::push_all;
+use crate::steps::Steps;
 use circuit::Position;
 use cnf::Cube;
 use edge::Meter;
 use ic3_frames::Frames;
-use ic3_steps::{Goal, ReachEnd, Steps};
+use ic3_questions::{Goal, ReachEnd};
 use items::Items;
 use std::alloc::Global;
 

@@ -21,12 +21,12 @@ use Rattle.cnf_unroll.proofs.ObligationLaws.{state_length}
 use Rattle.cnf_unroll.proofs.BlockReading.{IsRead, HasOneValuation}
 use Rattle.cnf_unroll.proofs.BlockWriting.{literal_shown}
 use Rattle.entry.specs.Laws.{IsGoodList}
-use Rattle.ic3_steps.specs.declared.questions.Start.{Start}
-use Rattle.ic3_steps.specs.Arenas.{restricting}
-use Rattle.ic3_steps.specs.Searching.{Question}
-use Rattle.ic3_steps.specs.Stepping.{IsArenaStep}
-use Rattle.ic3_steps.specs.SteppingClauses.{own_uses}
-use Rattle.ic3_steps.proofs.BaseLaws.{base_written}
+use Rattle.ic3_questions.specs.declared.questions.Start.{Start}
+use Rattle.ic3_questions.specs.Arenas.{restricting}
+use Rattle.ic3_questions.specs.Searching.{Question}
+use Rattle.ic3_questions.specs.Stepping.{IsArenaStep}
+use Rattle.ic3_questions.specs.SteppingClauses.{own_uses}
+use Rattle.ic3_questions.proofs.BaseLaws.{base_written}
 use Rattle.ic3_closing.specs.Goals.{is_read, goal_set, MissesLiteral}
 
 -- ---- variables of the block

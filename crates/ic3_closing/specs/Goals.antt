@@ -5,7 +5,7 @@ use Rattle.aig_semantics.specs.Circuits.{Circuit}
 use Rattle.aig_semantics.specs.declared.traces.Position.{Position}
 use Rattle.proof_semantics.specs.declared.literals.Lit.{Lit}
 use Rattle.proof_semantics.specs.Clauses.{negation}
-use Rattle.ic3_steps.specs.Searching.{Question, MeetsLiteral}
+use Rattle.ic3_questions.specs.Searching.{Question, MeetsLiteral}
 
 -- the variable is 0, an input, a latch or a gate: a clause of the block may hold its number
 abbrev pub is_read : Circuit → ℕ → Bool

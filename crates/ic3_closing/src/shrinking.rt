@@ -3,7 +3,7 @@ ghost use Rattle.std.specs.Prelude.{◌≡◌, length, IfOk, IfErr};
 ghost use Rattle.edge.specs.Ends.{CountsConflicts, IsEnd};
 ghost use Rattle.entry.specs.CheckedEntries.{viewed};
 ghost use Rattle.entry.specs.Laws.{IsGoodList};
-ghost use Rattle.ic3_steps.specs.Searching.{IsGoal, Separates, closed_entry};
+ghost use Rattle.ic3_questions.specs.Searching.{IsGoal, Separates, closed_entry};
 
 use crate::keeping::kept;
 use crate::needing::needed;
@@ -13,7 +13,7 @@ use circuit::Circuit;
 use cnf_unroll::obligations_tell;
 use edge::{Meter, SolveEnd};
 use entry::Checked;
-use ic3_steps::{Goal, Start};
+use ic3_questions::{Goal, Start};
 use std::alloc::Global;
 use std::sync::Arc;
 

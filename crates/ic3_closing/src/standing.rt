@@ -10,7 +10,7 @@ ghost use Rattle.cnf_unroll.specs.Laws.{AreOver};
 ghost use Rattle.entry.specs.CheckedEntries.{viewed};
 ghost use Rattle.entry.specs.Faults.{is_signed, are_known};
 ghost use Rattle.entry.specs.Laws.{IsGoodList};
-ghost use Rattle.ic3_steps.specs.Searching.{IsGoal};
+ghost use Rattle.ic3_questions.specs.Searching.{IsGoal};
 ghost use Rattle.ic3_closing.specs.Standing.{shared_by, NoneBreaks, Stands};
 
 use crate::asking::{is_refused, solver_with};
@@ -23,7 +23,7 @@ use cnf_unroll::{Used, broken, shared};
 use edge::{Meter, SolveEnd};
 use entry::Checked;
 use fair_semantics::{Side, Use};
-use ic3_steps::{Goal, Start};
+use ic3_questions::{Goal, Start};
 use items::Items;
 use std::alloc::{AllocError, Global};
 use std::sync::Arc;

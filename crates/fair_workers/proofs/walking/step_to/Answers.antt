@@ -1,8 +1,8 @@
 use Rattle.std.proofs.Common.{◌-◌, [], refl, ◌∙◌, arith}
 use Rattle.entry.specs.CheckedEntries.{viewed}
-use Rattle.ic3_steps.specs.Searching.{Question}
-use Rattle.ic3_steps.specs.declared.questions.Start.TheVariants.{State}
-use Rattle.ic3_steps.specs.declared.questions.Goal.TheVariants as goals
+use Rattle.ic3_questions.specs.Searching.{Question}
+use Rattle.ic3_questions.specs.declared.questions.Start.TheVariants.{State}
+use Rattle.ic3_questions.specs.declared.questions.Goal.TheVariants as goals
 use Rattle.fair_workers.proofs.Steps.{path-part, closed-part, successor-at, step-of, step-barred, literals-behind}
 use Rattle.fair_workers.proofs.walking.step_to.Goals as goal
 

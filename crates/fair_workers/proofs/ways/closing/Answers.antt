@@ -3,9 +3,9 @@ use Rattle.fair_semantics.specs.declared.skeletons.Situation.{Situation}
 use Rattle.entry.specs.CheckedEntries.{viewed}
 use Rattle.lasso_join.specs.Fitting.{LeadsTo}
 use Rattle.fair_workers.specs.Walks.{states}
-use Rattle.ic3_steps.specs.Searching.{Question}
-use Rattle.ic3_steps.specs.declared.questions.Start.TheVariants.{State}
-use Rattle.ic3_steps.specs.declared.questions.Goal.TheVariants as goals
+use Rattle.ic3_questions.specs.Searching.{Question}
+use Rattle.ic3_questions.specs.declared.questions.Start.TheVariants.{State}
+use Rattle.ic3_questions.specs.declared.questions.Goal.TheVariants as goals
 use Rattle.fair_workers.proofs.Steps.{path-part, closed-part, state-at, successor-at, way-path, closing-barred}
 use Rattle.fair_workers.proofs.ways.closing.Goals as goal
 

@@ -1,9 +1,9 @@
 use Rattle.std.proofs.Common.{◌∙◌, subst}
 use Rattle.entry.specs.CheckedEntries.{viewed}
 use Rattle.lasso_join.specs.Fitting.{IsStemTo}
-use Rattle.ic3_steps.specs.Searching.{Question}
-use Rattle.ic3_steps.specs.declared.questions.Start.TheVariants.{Initial}
-use Rattle.ic3_steps.specs.declared.questions.Goal.TheVariants as goals
+use Rattle.ic3_questions.specs.Searching.{Question}
+use Rattle.ic3_questions.specs.declared.questions.Start.TheVariants.{Initial}
+use Rattle.ic3_questions.specs.declared.questions.Goal.TheVariants as goals
 use Rattle.fair_workers.proofs.Steps.{path-part, closed-part, state-at, stem-path, stem-barred}
 use Rattle.fair_workers.proofs.ways.stem.Goals as goal
 

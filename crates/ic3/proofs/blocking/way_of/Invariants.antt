@@ -1,5 +1,5 @@
 use Rattle.std.proofs.Common.{◌<◌, length}
-use Rattle.ic3_steps.specs.Searching.{Leads}
+use Rattle.ic3_questions.specs.Searching.{Leads}
 use Rattle.ic3.specs.Blocking.{state_at}
 use Rattle.ic3.proofs.blocking.way_of.Given as goal
 

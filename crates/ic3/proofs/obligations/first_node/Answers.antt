@@ -1,5 +1,5 @@
 use Rattle.ic3.proofs.Obliging.{first-is}
-use Rattle.ic3_steps.specs.declared.questions.Goal.TheVariants as goals
+use Rattle.ic3_questions.specs.declared.questions.Goal.TheVariants as goals
 use Rattle.ic3.proofs.obligations.first_node.Goals as goal
 
 pub returns-in_ok-literal_node-in-Literal-clause-first : goal.returns-in_ok-literal_node-in-Literal-clause-first

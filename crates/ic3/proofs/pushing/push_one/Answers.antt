@@ -3,7 +3,7 @@ use Rattle.proof_semantics.specs.declared.literals.Lit.{Lit}
 use Rattle.ic3_frames.specs.Frames.{own_lemmas}
 use Rattle.ic3_frames.specs.Room.{room}
 use Rattle.ic3_frames.proofs.Rooms.{lemmas-make-none}
-use Rattle.ic3_steps.specs.Stepping.{Stepping, IsOver, with_lemma as st_with}
+use Rattle.ic3_questions.specs.Stepping.{Stepping, IsOver, with_lemma as st_with}
 use Rattle.ic3.specs.Sound.{IsSearch, IsRelative, has_one_of}
 use Rattle.ic3.specs.Pushing.{AllowBelow, Narrows}
 use Rattle.ic3.proofs.Sounds.{search-with, allowed_before}

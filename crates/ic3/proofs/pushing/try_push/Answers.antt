@@ -1,7 +1,7 @@
 use Rattle.std.proofs.Common.{◌+◌, [], map, length, get_or, refl, sym, ap, subst, ◌∙◌}
 use Rattle.proof_semantics.specs.Clauses.{negation}
 use Rattle.ic3_frames.specs.Frames.{own_lemmas}
-use Rattle.ic3_steps.specs.Stepping.{Stepping, IsOver, IsFound}
+use Rattle.ic3_questions.specs.Stepping.{Stepping, IsOver, IsFound}
 use Rattle.ic3.specs.Sound.{IsRelative}
 use Rattle.ic3.proofs.Stuck.{all_own, negation_over, missing_relative, found_stuck}
 use Rattle.ic3.proofs.pushing.try_push.Goals as goal

@@ -3,8 +3,8 @@ use Rattle.proof_semantics.specs.declared.literals.Lit.{Lit}
 use Rattle.edge.specs.Units.{Spendings}
 use Rattle.entry.specs.CheckedEntries.{viewed}
 use Rattle.ic3_frames.specs.Room.{room}
-use Rattle.ic3_steps.specs.Stepping.{Stepping, no_lemmas}
-use Rattle.ic3_steps.specs.Searching.{Question, CountsSearch}
+use Rattle.ic3_questions.specs.Stepping.{Stepping, no_lemmas}
+use Rattle.ic3_questions.specs.Searching.{Question, CountsSearch}
 use Rattle.ic3.specs.Sound.{IsStartCube, IsSound, KeepsQuestion, CountsUpTo}
 use Rattle.ic3.specs.Turning.{IsTurned, IsClosedAt}
 use Rattle.ic3.proofs.Starts.{is_start_cube}

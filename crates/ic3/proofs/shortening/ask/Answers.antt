@@ -1,5 +1,5 @@
 use Rattle.std.proofs.Common.{rules, subst}
-use Rattle.ic3_steps.specs.Stepping.{IsFound}
+use Rattle.ic3_questions.specs.Stepping.{IsFound}
 use Rattle.ic3.proofs.Excluded.{asked-missing}
 use Rattle.ic3.proofs.shortening.ask.Goals as goal
 

@@ -1,5 +1,5 @@
 use Rattle.std.proofs.Common.{length, refl, sym, subst, ◌∙◌, rules, arith}
-use Rattle.ic3_steps.specs.Stepping.{Stepping, IsOver}
+use Rattle.ic3_questions.specs.Stepping.{Stepping, IsOver}
 use Rattle.ic3.specs.Blocking.{NoneEnters}
 use Rattle.ic3.proofs.Ended.{counts_on}
 use Rattle.ic3.proofs.shortening.highest.Goals as goal

@@ -5,7 +5,7 @@ use Rattle.proof_semantics.specs.Clauses.{is_part}
 use Rattle.ic3_frames.specs.Frames.{frame_at}
 use Rattle.ic3_frames.specs.Room.{allowed_by}
 use Rattle.ic3_generalise.proofs.Parts.{part_on}
-use Rattle.ic3_steps.specs.Stepping.{Stepping, IsOver}
+use Rattle.ic3_questions.specs.Stepping.{Stepping, IsOver}
 use Rattle.ic3.specs.Starting.{value_literals}
 use Rattle.ic3.specs.Sound.{IsSearch, IsRelative, KeepsQuestion}
 use Rattle.ic3.specs.Blocking.{IsStronger, NoneEnters, misses_starts}

@@ -4,7 +4,7 @@ use Rattle.edge.specs.Units.{Spendings}
 use Rattle.ic3_frames.specs.Frames.{AllDiffer}
 use Rattle.ic3_frames.specs.Room.{room}
 use Rattle.ic3_frames.proofs.Rooms.{frames-take, differing-few}
-use Rattle.ic3_steps.specs.Searching.{Question}
+use Rattle.ic3_questions.specs.Searching.{Question}
 use Rattle.ic3.specs.Sound.{IsSound, CountsUpTo}
 use Rattle.ic3.specs.Pushing.{AllStuck}
 use Rattle.ic3.proofs.Stuck.{stuck_differ}

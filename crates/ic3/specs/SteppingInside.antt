@@ -1,0 +1,143 @@
+-- Scaffolding of inner functions. What the solver of a search keeps.
+use Rattle.std.specs.Prelude.{◌≡◌, ◌↔◌, ℕ, ◌+◌, ◌<◌, ◌≤◌, ◌==◌, ◌||◌, ◌⊎◌, Bool, true, false, List, [], ◌∷◌, ◌++◌, length, Option, Some, None}
+use Rattle.std.specs.List.{AllByRecursion, list_any}
+use Rattle.aig_semantics.specs.declared.traces.Position.{Position}
+use Rattle.aig_semantics.specs.Circuits.{Circuit, IsChecked}
+use Rattle.aig_semantics.specs.Literals.{variable_of, is_negated}
+use Rattle.aig_semantics.specs.Valuations.{valuation, IsValuation}
+use Rattle.proof_semantics.specs.declared.literals.Lit.{Lit}
+use Rattle.cdcl.specs.Solving.{IsModel, HasNoModel}
+use Rattle.cdcl.specs.Asking.{IsCore, assigned}
+use Rattle.cdcl.specs.declared.asking.Asked.{Asked}
+use Rattle.cdcl.specs.declared.asking.Asked.TheVariants.{Sat, Unsat}
+use Rattle.cnf_unroll.specs.Situations.{situation_in}
+use Rattle.cnf_unroll.specs.Numbers.{state_place, successor_place, clause_at_place, literal_in_block}
+use Rattle.cnf_unroll.specs.Laws.{AreOver}
+use Rattle.entry.specs.Laws.{IsGoodList}
+use Rattle.ic3_questions.specs.Stepping.{Stepping, IsOver}
+use Rattle.ic3_questions.specs.SteppingClauses.{first_guard, held_clauses, guarded, denied_at, level_guard, question_guard, Retires, AreBelow, AreAssumed, part_at}
+use Rattle.ic3_questions.specs.declared.found.Found.{Found}
+use Rattle.ic3_questions.specs.declared.found.Found.TheVariants.{Step, Missing}
+use Rattle.ic3_questions.specs.declared.lemmas.Lemma.{Lemma}
+use Rattle.ic3.specs.declared.stepping_questions.Questions.{Questions}
+
+-- a circuit's values are those of its equations
+abbrev pub HasOneValuation : Circuit → Type 0
+HasOneValuation c =
+    (latches inputs values : List Bool) → length latches ≡ length c.latches → length inputs ≡ length c.inputs
+    → (IsValuation c latches inputs values ↔ (values ≡ valuation c latches inputs))
+
+-- The clauses and numbers are those of this solver of a search.
+pub record IsHeldBy (st : Stepping) (s : Questions) : Type 0 where
+  pub checked : IsChecked st.question.circuit
+  pub law : HasOneValuation st.question.circuit
+  pub good : IsGoodList st.question.circuit st.question.view
+  pub here : s.here ≡ state_place st.question.circuit 0
+  pub next : s.next ≡ successor_place st.question.circuit 0
+  pub free : s.free ≡ first_guard st.question
+  pub levels : AreBelow s.levels st.lemmas
+  pub lemmas : AllByRecursion (λ lemma. IsOver (length st.question.circuit.latches) lemma.clause) st.lemmas
+  pub avoid : AreOver (length st.question.circuit.latches) st.avoid
+  pub retires : Retires s.solver.added (held_clauses st s.free) s.free s.asked
+
+-- the numbers are as before
+pub record KeepsNumbers (old new : Questions) : Type 0 where
+  pub here : new.here ≡ old.here
+  pub next : new.next ≡ old.next
+  pub free : new.free ≡ old.free
+  pub levels : new.levels ≡ old.levels
+
+-- nothing that clauses mean has changed
+pub record Rests (old new : Questions) : Type 0 where
+  pub added : new.solver.added ≡ old.solver.added
+  pub asked : new.asked ≡ old.asked
+
+-- the clause of a question that asks for states outside the cube
+abbrev pub question_clause : Questions → List Lit → List Lit
+question_clause s cube = guarded (question_guard s.free (s.asked + 1)) (denied_at s.here cube)
+
+-- one question more, with its clause
+pub record Begins (cube : List Lit) (old new : Questions) : Type 0 where
+  pub added : new.solver.added ≡ old.solver.added ++ question_clause old cube ∷ []
+  pub asked : new.asked ≡ old.asked + 1
+
+-- What was held beside clauses of questions is held so still.
+pub record Keeps (old new : Questions) : Type 0 where
+  pub numbers : KeepsNumbers old new
+  pub retires : (held : List (List Lit)) → Retires old.solver.added held old.free old.asked
+      → Retires new.solver.added held new.free new.asked
+
+-- A model of the question for a step from this level, outside the cube, into it.
+pub record ModelInto (s : Questions) (level : ℕ) (cube : List Lit) (v : ℕ → Bool) : Type 0 where
+  pub assumptions : List Lit
+  pub assumed : AreAssumed s.free level s.levels (s.asked + 1) (clause_at_place s.next cube) assumptions
+  pub model : IsModel (s.solver.added ++ question_clause s cube ∷ []) assumptions v
+
+-- A core of it.
+pub record CoreInto (s : Questions) (level : ℕ) (cube part : List Lit) : Type 0 where
+  pub assumptions : List Lit
+  pub assumed : AreAssumed s.free level s.levels (s.asked + 1) (clause_at_place s.next cube) assumptions
+  pub core : IsCore (s.solver.added ++ question_clause s cube ∷ []) assumptions part
+
+abbrev pub AnswersInto : Questions → ℕ → List Lit → Asked → Type 0
+AnswersInto s level cube (Sat values) = ModelInto s level cube (assigned values)
+AnswersInto s level cube (Unsat core) = CoreInto s level cube core.items
+
+-- what is told of it: a position that was read off a model, or a part of the cube by a core
+abbrev pub TellsInto : Questions → Circuit → ℕ → List Lit → Found → Type 0
+TellsInto s c level cube (Step p) =
+    (v : ℕ → Bool) × ModelInto s level cube v × (p ≡ (situation_in c 0 v).position)
+TellsInto s c level cube (Missing part) =
+    (core : List Lit) × CoreInto s level cube core × (part ≡ part_at s.next core cube)
+
+-- A model of the question for a position from this level at which the literals are true.
+pub record ModelGoal (s : Questions) (level : ℕ) (literals : List Lit) (v : ℕ → Bool) : Type 0 where
+  pub assumptions : List Lit
+  pub assumed : AreAssumed s.free level s.levels 0 literals assumptions
+  pub model : IsModel s.solver.added assumptions v
+
+-- It has none.
+pub record NoModelGoal (s : Questions) (level : ℕ) (literals : List Lit) : Type 0 where
+  pub assumptions : List Lit
+  pub assumed : AreAssumed s.free level s.levels 0 literals assumptions
+  pub none : HasNoModel s.solver.added assumptions
+
+abbrev pub AnswersGoal : Questions → ℕ → List Lit → Asked → Type 0
+AnswersGoal s level literals (Sat values) = ModelGoal s level literals (assigned values)
+AnswersGoal s level literals (Unsat core) = NoModelGoal s level literals
+
+-- what is told of it
+abbrev pub TellsGoal : Questions → Circuit → ℕ → List Lit → Option Position → Type 0
+TellsGoal s c level literals (Some p) =
+    (v : ℕ → Bool) × ModelGoal s level literals v × (p ≡ (situation_in c 0 v).position)
+TellsGoal s c level literals None = NoModelGoal s level literals
+
+-- the variable is 0, an input, a latch or a gate: a clause of the block may hold its number
+abbrev pub is_read : Circuit → ℕ → Bool
+is_read c v =
+    (v == 0) || list_any (λ u. u == v) c.inputs || list_any (λ latch. latch.var == v) c.latches
+    || list_any (λ gate. gate.var == v) c.gates
+
+-- what is told of a position at which an AIGER literal is met, by where its variable is defined
+abbrev pub TellsLiteral : Questions → Circuit → ℕ → ℕ → Option Position → Type 0
+TellsLiteral s c level literal found =
+    ((is_read c (variable_of literal) ≡ true) × TellsGoal s c level (literal_in_block 0 literal ∷ []) found)
+    ⊎ (((is_read c (variable_of literal) ≡ false) × ((is_negated literal ≡ true) × TellsGoal s c level [] found))
+    ⊎ ((is_read c (variable_of literal) ≡ false) × ((is_negated literal ≡ false) × (found ≡ None))))
+
+-- one lemma more
+pub record Holds (level : ℕ) (clause : List Lit) (old new : Questions) : Type 0 where
+  pub here : new.here ≡ old.here
+  pub next : new.next ≡ old.next
+  pub free : new.free ≡ old.free
+  pub asked : new.asked ≡ old.asked
+  pub added : new.solver.added
+      ≡ old.solver.added ++ guarded (level_guard old.free level) (clause_at_place old.here clause) ∷ []
+  pub levels : old.levels ≤ new.levels
+  pub below : level < new.levels
+
+-- The lemma came, with its clause, or nothing changed.
+abbrev pub MayHold : ℕ → List Lit → List Lemma → List Lemma → Questions → Questions → Type 0
+MayHold level clause before after old new =
+    ((after ≡ before ++ record { level = level; clause = clause } ∷ []) × Holds level clause old new)
+    ⊎ ((after ≡ before) × (new ≡ old))

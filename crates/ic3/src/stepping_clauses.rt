@@ -1,0 +1,49 @@
+//! How guarded clauses come into a solver.
+ghost use Rattle.std.specs.Prelude.{◌≡◌, ◌∷◌, [], ◌++◌, map, OnOk, OnErr};
+ghost use Rattle.ic3_questions.specs.SteppingClauses.{guarded, denied_at};
+
+use cdcl::{Solver, are_sized};
+use cnf::{Clause, Cube, Db};
+use ic3_questions::guarded_denial;
+use std::alloc::{AllocError, Global};
+
+/// Adds a clause. Numbers from 2^63 on are want of memory, which changes nothing.
+pub(crate) fn add(solver: &mut Solver, clause: Clause) -> Result<(), AllocError>
+    ensures ok { OnOk result (solver.new.added ≡ solver.old.added ++ clause ∷ []) }
+    ensures err { OnErr result (solver.new ≡ solver.old) }
+{
+    if !are_sized(clause.as_slice()) {
+        return Err(AllocError);
+    }
+    solver.add(clause)
+}
+
+/// Adds clauses in their order.
+pub(crate) fn add_all(solver: &mut Solver, clauses: &Db) -> Result<(), AllocError>
+    ensures { OnOk result (solver.new.added ≡ solver.old.added ++ clauses.now.clauses) }
+{
+    for clause in clauses.as_slice() {
+        add(solver, clause.clone()?)?;
+    }
+    Ok(())
+}
+
+/// Adds the clauses that deny cubes at a place, where the guard is true.
+pub(crate) fn add_denials(
+    alloc: Global,
+    solver: &mut Solver,
+    guard: u64,
+    place: &[u64],
+    cubes: &[Cube],
+) -> Result<(), AllocError>
+    ensures { OnOk result (solver.new.added
+        ≡ solver.old.added ++ map (λ cube. guarded guard (denied_at place.now cube)) cubes.now) }
+{
+    for cube in cubes {
+        add(
+            solver,
+            guarded_denial(alloc, guard, place, cube.as_slice())?,
+        )?;
+    }
+    Ok(())
+}

@@ -1,0 +1,403 @@
+//! The clauses of the solver of a search, and its questions. The main type is `Questions`.
+ghost use Rattle.std.specs.Prelude.{◌≡◌, ◌==◌, ◌↔◌, ℕ, Bool, true, ◌+◌, ◌++◌, ◌∷◌, [], map, IfOk, IfErr, OnOk, OnErr};
+ghost use Rattle.std.specs.List.{list_any};
+ghost use Rattle.proof_semantics.specs.Clauses.{cube_value, has_literal, has_opposites};
+ghost use Rattle.edge.specs.Ends.{CountsConflicts, IsEnd};
+ghost use Rattle.cdcl.specs.Asking.{IsAsked, assigned};
+ghost use Rattle.cnf_unroll.specs.Numbers.{clause_at_place, state_place, literal_in_block};
+ghost use Rattle.cnf_unroll.specs.Situations.{situation_in};
+ghost use Rattle.ic3_questions.specs.SteppingClauses.{level_guard, question_guard, IsOn, AreAssumed, part_at, is_apart};
+ghost use Rattle.ic3.specs.SteppingInside.{KeepsNumbers, Begins, Rests, Keeps, AnswersInto, TellsInto};
+ghost use Rattle.ic3.specs.SteppingInside.{AnswersGoal, TellsGoal, TellsLiteral, Holds, is_read};
+
+use crate::stepping_clauses::{add};
+use cdcl::{Asked, Assignment, Solver, are_sized, has_opposites};
+use circuit::{Circuit, Position};
+use cnf::{Cube, Lit};
+use edge::{Meter, SolveEnd};
+use ic3_questions::{Found, guarded, guarded_denial, input_place, literal_at};
+use items::Items;
+use std::alloc::{AllocError, Global};
+
+/// A solver with guarded clauses, and its numbers.
+#[derive(Debug, Drop)]
+pub(crate) struct Questions {
+    pub(crate) solver: Solver,
+    /// The latches' numbers at the state, and at the successor.
+    pub(crate) here: Items<u64>,
+    pub(crate) next: Items<u64>,
+    /// The first number that guards a clause.
+    pub(crate) free: u64,
+    /// One more than the highest level of a lemma, or 0.
+    pub(crate) levels: u64,
+    /// How many questions brought a clause of their own.
+    pub(crate) asked: u64,
+}
+
+/// The numbers of levels and questions are below this one.
+const END: u64 = 1 << 61;
+
+/// The guard of a level.
+pub(crate) fn level_guard(free: u64, level: u64) -> Result<u64, AllocError>
+    ensures { IfOk result (λ guard. guard ≡ level_guard free level) }
+{
+    if free < END && level < END {
+        Ok(free + 2 * level)
+    } else {
+        Err(AllocError)
+    }
+}
+
+/// The guard of a question.
+pub(crate) fn question_guard(free: u64, number: u64) -> Result<u64, AllocError>
+    ensures { IfOk result (λ guard. guard ≡ question_guard free number) }
+{
+    if free < END && number < END {
+        Ok(free + 2 * number + 1)
+    } else {
+        Err(AllocError)
+    }
+}
+
+fn positive(guard: u64) -> Lit
+    ensures { result ≡ record { var = guard; positive = true } }
+{
+    Lit {
+        var: guard,
+        positive: true,
+    }
+}
+
+/// The literals that are true where the guards of the levels from one to another are, and that of the question.
+fn guards(
+    alloc: Global,
+    free: u64,
+    level: u64,
+    levels: u64,
+    number: u64,
+) -> Result<Vec<Lit>, AllocError>
+    ensures { IfOk result (λ out. (v : ℕ → Bool) → (cube_value v out.items ≡ true) ↔ IsOn free level levels number v) }
+{
+    let mut out = Vec::new(alloc);
+    out.push(positive(question_guard(free, number)?))?;
+    for k in level..level.max(levels) {
+        out.push(positive(level_guard(free, k)?))?;
+    }
+    Ok(out)
+}
+
+/// Puts the literals of a cube at a place behind the others.
+fn push_at(out: &mut Vec<Lit>, place: &[u64], cube: &[Lit]) -> Result<(), AllocError>
+    ensures { OnOk result (out.new.items ≡ out.old.items ++ clause_at_place place.now cube.now) }
+{
+    for literal in cube {
+        out.push(literal_at(place, *literal))?;
+    }
+    Ok(())
+}
+
+/// Whether the literals are positive from the first guard on, and ascend below it.
+fn is_apart(free: u64, literals: &[Lit]) -> bool
+    ensures { result ≡ is_apart free 0 literals.now }
+{
+    let mut last = 0;
+    for literal in literals {
+        if literal.var < free {
+            if literal.var <= last {
+                return false;
+            }
+            last = literal.var;
+        } else if !literal.positive {
+            return false;
+        }
+    }
+    true
+}
+
+/// Whether some literal is the negation of another. What `is_apart` passes, as guards and a cube in the order of the
+/// latches, takes one pass.
+fn has_opposites_behind(free: u64, literals: &[Lit]) -> bool
+    ensures { result ≡ has_opposites literals.now }
+{
+    !is_apart(free, literals) && has_opposites(literals)
+}
+
+/// Asks the solver. Of assumptions that are opposites it needs not be asked; numbers from 2^63 on are want of memory.
+pub(crate) fn ask(
+    solver: &mut Solver,
+    alloc: Global,
+    free: u64,
+    assumptions: &[Lit],
+    meter: &mut Meter,
+) -> Result<Asked, SolveEnd>
+    ensures answer { IfOk result (IsAsked solver.old.added assumptions.now) }
+    ensures added { solver.new.added ≡ solver.old.added }
+    ensures end { IfErr result (IsEnd meter.new) }
+    ensures counted { CountsConflicts meter.old meter.new }
+{
+    if !are_sized(assumptions) {
+        return Err(SolveEnd::Memory);
+    }
+    let _before = meter.spending().conflicts();
+    if has_opposites_behind(free, assumptions) {
+        return Ok(Asked::Unsat(Vec::from_slice(alloc, assumptions)?));
+    }
+    solver.ask(alloc, assumptions, meter)
+}
+
+fn values_at(alloc: Global, a: &Assignment, place: &[u64]) -> Result<Items<bool>, AllocError>
+    ensures { IfOk result (λ values. values ≡ map (assigned a.now) place.now) }
+{
+    let mut values = Items::new(alloc);
+    for number in place {
+        values.push(a.value(*number))?;
+    }
+    Ok(values)
+}
+
+/// The position that an assignment gives to the block.
+pub(crate) fn position_of(
+    alloc: Global,
+    c: &Circuit,
+    here: &[u64],
+    a: &Assignment,
+) -> Result<Position, AllocError>
+    requires { here.now ≡ state_place c.now 0 }
+    ensures { IfOk result (λ p. p ≡ (situation_in c.now 0 (assigned a.now)).position) }
+{
+    let latches = values_at(alloc, a, here)?;
+    let inputs = values_at(alloc, a, input_place(alloc, c)?.as_slice())?;
+    Ok(Position { latches, inputs })
+}
+
+fn has(literals: &[Lit], literal: Lit) -> bool
+    ensures { result ≡ has_literal literals.now literal }
+{
+    literals.iter().any(|other| literal.is(*other))
+}
+
+/// The literals of a cube whose literals at a place are among these.
+pub(crate) fn part_at(
+    alloc: Global,
+    place: &[u64],
+    core: &[Lit],
+    cube: &Cube,
+) -> Result<Cube, AllocError>
+    ensures { IfOk result (λ part. part ≡ part_at place.now core.now cube.now) }
+{
+    let mut part = Cube::new(alloc);
+    for literal in cube.as_slice() {
+        if has(core, literal_at(place, *literal)) {
+            part.push(*literal)?;
+        }
+    }
+    Ok(part)
+}
+
+/// Begins a question that asks for states outside the cube, and answers its number.
+fn begin(alloc: Global, s: &mut Questions, cube: &[Lit]) -> Result<u64, AllocError>
+    ensures number { IfOk result (λ number. number ≡ s.old.asked + 1) }
+    ensures numbers { KeepsNumbers s.old s.new }
+    ensures ok { OnOk result (Begins cube.now s.old s.new) }
+    ensures err { OnErr result (Rests s.old s.new) }
+{
+    let number = s.asked.checked_add(1).ok_or(AllocError)?;
+    let guard = question_guard(s.free, number)?;
+    let clause = guarded_denial(alloc, guard, s.here.as_slice(), cube)?;
+    add(&mut s.solver, clause)?;
+    s.asked = number;
+    Ok(number)
+}
+
+/// The assumptions of a question for steps from a level at which these literals are true at a place.
+fn assume(
+    alloc: Global,
+    s: &Questions,
+    level: u64,
+    number: u64,
+    place: &[u64],
+    cube: &[Lit],
+) -> Result<Vec<Lit>, AllocError>
+    ensures { IfOk result (λ out.
+        AreAssumed s.now.free level s.now.levels number (clause_at_place place.now cube.now) out.items) }
+{
+    let mut out = guards(alloc, s.free, level, s.levels, number)?;
+    push_at(&mut out, place, cube)?;
+    Ok(out)
+}
+
+/// Asks for a step into the cube from a state outside it.
+fn ask_into(
+    alloc: Global,
+    s: &mut Questions,
+    level: u64,
+    cube: &[Lit],
+    meter: &mut Meter,
+) -> Result<Asked, SolveEnd>
+    ensures answer { IfOk result (AnswersInto s.old level cube.now) }
+    ensures kept { Keeps s.old s.new }
+    ensures end { IfErr result (IsEnd meter.new) }
+    ensures counted { CountsConflicts meter.old meter.new }
+{
+    let number = begin(alloc, s, cube)?;
+    let assumptions = assume(alloc, s, level, number, s.next.as_slice(), cube)?;
+    ask(&mut s.solver, alloc, s.free, assumptions.as_slice(), meter)
+}
+
+/// A step into the cube, from a state outside it; or a part of the cube that no such step leads into.
+pub(crate) fn predecessor(
+    alloc: Global,
+    c: &Circuit,
+    s: &mut Questions,
+    level: u64,
+    cube: &Cube,
+    meter: &mut Meter,
+) -> Result<Found, SolveEnd>
+    requires { s.old.here ≡ state_place c.now 0 }
+    ensures found { IfOk result (TellsInto s.old c.now level cube.now) }
+    ensures kept { Keeps s.old s.new }
+    ensures end { IfErr result (IsEnd meter.new) }
+    ensures counted { CountsConflicts meter.old meter.new }
+{
+    match ask_into(alloc, s, level, cube.as_slice(), meter)? {
+        Asked::Sat(a) => Ok(Found::Step(position_of(alloc, c, s.here.as_slice(), &a)?)),
+        Asked::Unsat(core) => Ok(Found::Missing(part_at(
+            alloc,
+            s.next.as_slice(),
+            core.as_slice(),
+            cube,
+        )?)),
+    }
+}
+
+/// The assumptions of the question for a position from a level at which these literals are true.
+fn assume_true(
+    alloc: Global,
+    s: &Questions,
+    level: u64,
+    literals: &[Lit],
+) -> Result<Vec<Lit>, AllocError>
+    ensures { IfOk result (λ out. AreAssumed s.now.free level s.now.levels 0 literals.now out.items) }
+{
+    let mut out = guards(alloc, s.free, level, s.levels, 0)?;
+    for literal in literals {
+        out.push(*literal)?;
+    }
+    Ok(out)
+}
+
+/// Asks for a position from a level at which these literals are true.
+fn ask_goal(
+    alloc: Global,
+    s: &mut Questions,
+    level: u64,
+    literals: &[Lit],
+    meter: &mut Meter,
+) -> Result<Asked, SolveEnd>
+    ensures answer { IfOk result (AnswersGoal s.old level literals.now) }
+    ensures kept { Keeps s.old s.new }
+    ensures end { IfErr result (IsEnd meter.new) }
+    ensures counted { CountsConflicts meter.old meter.new }
+{
+    let assumptions = assume_true(alloc, s, level, literals)?;
+    ask(&mut s.solver, alloc, s.free, assumptions.as_slice(), meter)
+}
+
+/// A position from a level at which these literals are true; `None` where there is none.
+fn goal(
+    alloc: Global,
+    c: &Circuit,
+    s: &mut Questions,
+    level: u64,
+    literals: &[Lit],
+    meter: &mut Meter,
+) -> Result<Option<Position>, SolveEnd>
+    requires { s.old.here ≡ state_place c.now 0 }
+    ensures found { IfOk result (TellsGoal s.old c.now level literals.now) }
+    ensures kept { Keeps s.old s.new }
+    ensures end { IfErr result (IsEnd meter.new) }
+    ensures counted { CountsConflicts meter.old meter.new }
+{
+    match ask_goal(alloc, s, level, literals, meter)? {
+        Asked::Sat(a) => Ok(Some(position_of(alloc, c, s.here.as_slice(), &a)?)),
+        Asked::Unsat(_) => Ok(None),
+    }
+}
+
+fn is_input(c: &Circuit, variable: u64) -> bool
+    ensures { result ≡ list_any (λ u. u == variable) c.now.inputs }
+{
+    c.inputs().iter().any(|input| *input == variable)
+}
+
+fn is_latch(c: &Circuit, variable: u64) -> bool
+    ensures { result ≡ list_any (λ latch. latch.var == variable) c.now.latches }
+{
+    c.latches().iter().any(|latch| latch.var == variable)
+}
+
+fn is_gate(c: &Circuit, variable: u64) -> bool
+    ensures { result ≡ list_any (λ gate. gate.var == variable) c.now.gates }
+{
+    c.gates().iter().any(|gate| gate.var == variable)
+}
+
+/// Whether a clause of the block may hold the variable's number: it is 0, an input, a latch or a gate.
+fn is_read(c: &Circuit, variable: u64) -> bool
+    ensures { result ≡ is_read c.now variable }
+{
+    variable == 0 || is_input(c, variable) || is_latch(c, variable) || is_gate(c, variable)
+}
+
+fn literal_in_block(literal: u64) -> Lit
+    ensures { result ≡ literal_in_block 0 literal }
+{
+    Lit {
+        var: 1 + literal / 2,
+        positive: literal % 2 != 1,
+    }
+}
+
+/// A position from a level at which the AIGER literal is met; `None` where there is none. The clauses say nothing of a
+/// variable that is defined nowhere, which is false at each position.
+pub(crate) fn goal_at(
+    alloc: Global,
+    c: &Circuit,
+    s: &mut Questions,
+    level: u64,
+    literal: u64,
+    meter: &mut Meter,
+) -> Result<Option<Position>, SolveEnd>
+    requires { s.old.here ≡ state_place c.now 0 }
+    ensures found { IfOk result (TellsLiteral s.old c.now level literal) }
+    ensures kept { Keeps s.old s.new }
+    ensures end { IfErr result (IsEnd meter.new) }
+    ensures counted { CountsConflicts meter.old meter.new }
+{
+    if is_read(c, literal / 2) {
+        goal(alloc, c, s, level, &[literal_in_block(literal)], meter)
+    } else if literal % 2 == 1 {
+        goal(alloc, c, s, level, &[], meter)
+    } else {
+        let _before = meter.spending().conflicts();
+        Ok(None)
+    }
+}
+
+/// Adds the clause of a lemma. The error is want of memory, and changes nothing.
+pub(crate) fn hold_clause(
+    alloc: Global,
+    s: &mut Questions,
+    level: u64,
+    clause: &[Lit],
+) -> Result<(), AllocError>
+    ensures ok { OnOk result (Holds level clause.now s.old s.new) }
+    ensures err { OnErr result (s.new ≡ s.old) }
+{
+    let above = level.checked_add(1).ok_or(AllocError)?;
+    let guard = level_guard(s.free, level)?;
+    let held = guarded(alloc, guard, s.here.as_slice(), clause)?;
+    add(&mut s.solver, held)?;
+    s.levels = s.levels.max(above);
+    Ok(())
+}

@@ -1,0 +1,144 @@
+//! The solver of one search: which steps of the arena lead from a frame into a cube. The main type is `Steps`.
+ghost use Rattle.std.specs.Prelude.{◌≡◌, length, IfOk, IfErr, OnOk, OnErr};
+ghost use Rattle.cnf_unroll.specs.Laws.{AreOver};
+ghost use Rattle.edge.specs.Ends.{CountsConflicts, IsEnd};
+ghost use Rattle.entry.specs.CheckedEntries.{viewed};
+ghost use Rattle.entry.specs.Laws.{IsGoodList};
+ghost use Rattle.ic3_questions.specs.Searching.{IsStart};
+ghost use Rattle.ic3_questions.specs.Stepping.{IsOver, IsFound, IsGoalFound, no_lemmas, with_lemma};
+
+use crate::stepping_lemmas::hold_lemma;
+use crate::stepping_questions::{Questions, goal_at, predecessor};
+use crate::stepping_start::questions_of;
+use circuit::{Circuit, Position};
+use cnf::{Clause, Cube};
+use edge::{Meter, SolveEnd};
+use entry::Checked;
+use ic3_questions::{Found, Lemma, Start};
+use std::alloc::{AllocError, Global};
+use std::marker::Model;
+use std::sync::Arc;
+
+/// The solver of the search from one start. Contracts see its question, the cubes that a goal avoids, and its lemmas in
+/// the order in which they came.
+#[derive(Debug, Drop)]
+pub(crate) struct Steps<'a> {
+    c: &'a Circuit,
+    view: &'a [Arc<Checked>],
+    start: &'a Start,
+    avoid: &'a [Cube],
+    lemmas: Vec<Lemma>,
+    questions: Questions,
+    alloc: Global,
+}
+
+impl<'a> Model for Steps<'a> {
+    ghost use Rattle.entry.specs.CheckedEntries.{viewed};
+    ghost use Rattle.ic3_questions.specs.Stepping.{Stepping};
+
+    ghost Value = { Stepping };
+
+    ghost view = { λ s. record {
+      question = record { circuit = s.c.now; view = viewed s.view.now; start = s.start.now };
+      avoid = s.avoid.now;
+      lemmas = s.lemmas.items;
+    } };
+
+    ghost use Rattle.ic3.specs.SteppingInside.{IsHeldBy};
+
+    ghost invariant = { λ s. IsHeldBy (record {
+      question = record { circuit = s.c.now; view = viewed s.view.now; start = s.start.now };
+      avoid = s.avoid.now;
+      lemmas = s.lemmas.items;
+    }) s.questions };
+}
+
+impl<'a> Steps<'a> {
+    /// A solver without lemmas. The error is want of memory.
+    pub(crate) fn new(
+        alloc: Global,
+        c: &'a Circuit,
+        view: &'a [Arc<Checked>],
+        start: &'a Start,
+        avoid: &'a [Cube],
+    ) -> Result<Steps<'a>, AllocError>
+        requires view { IsGoodList c.now (viewed view.now) }
+        requires start { IsStart c.now start.now }
+        requires avoid { AreOver (length c.now.latches) avoid.now }
+        ensures { IfOk result (λ s. s ≡ no_lemmas (record {
+          circuit = c.now;
+          view = viewed view.now;
+          start = start.now;
+        }) avoid.now) }
+    {
+        let questions = questions_of(alloc, c, view, start, avoid)?;
+        Ok(Steps {
+            c,
+            view,
+            start,
+            avoid,
+            lemmas: Vec::new(alloc),
+            questions,
+            alloc,
+        })
+    }
+
+    /// How many latches the circuit has. Takes no memory.
+    pub(crate) fn latches(&self) -> usize
+        ensures { result ≡ length self.now.question.circuit.latches }
+    {
+        self.c.latches().len()
+    }
+
+    /// Puts a lemma over the latches behind the others. The error is want of memory, and changes nothing.
+    pub(crate) fn hold(&mut self, level: u64, clause: &Clause) -> Result<(), AllocError>
+        requires { IsOver (length self.old.question.circuit.latches) clause.now }
+        ensures ok { OnOk result (self.new ≡ with_lemma self.old level clause.now) }
+        ensures err { OnErr result (self.new ≡ self.old) }
+    {
+        hold_lemma(
+            self.alloc,
+            &mut self.lemmas,
+            &mut self.questions,
+            level,
+            clause,
+        )
+    }
+
+    /// A step of the arena into the cube, from a state outside it that meets the lemmas of this level and of those
+    /// above it; or, exactly where there is none, a part of the cube that no such step leads into. `Spent` comes where
+    /// the meter's count of conflicts is at its limit.
+    pub(crate) fn predecessor(
+        &mut self,
+        alloc: Global,
+        level: u64,
+        cube: &Cube,
+        meter: &mut Meter,
+    ) -> Result<Found, SolveEnd>
+        requires { IsOver (length self.old.question.circuit.latches) cube.now }
+        ensures found { IfOk result (IsFound self.old level cube.now) }
+        ensures same { self.new ≡ self.old }
+        ensures end { IfErr result (IsEnd meter.new) }
+        ensures counted { CountsConflicts meter.old meter.new }
+    {
+        predecessor(alloc, self.c, &mut self.questions, level, cube, meter)
+    }
+
+    /// A position at which the AIGER literal is met as goal, from a state that meets the lemmas of this level and of
+    /// those above it; `None` exactly where there is none. `Spent` comes where the meter's count of conflicts is at its
+    /// limit.
+    pub(crate) fn meets_goal(
+        &mut self,
+        alloc: Global,
+        level: u64,
+        literal: u64,
+        meter: &mut Meter,
+    ) -> Result<Option<Position>, SolveEnd>
+        ensures found { IfOk result (IsGoalFound self.old level literal) }
+        ensures same { self.new ≡ self.old }
+        ensures end { IfErr result (IsEnd meter.new) }
+        ensures counted { CountsConflicts meter.old meter.new }
+    {
+        goal_at(alloc, self.c, &mut self.questions, level, literal, meter)
+    }
+}

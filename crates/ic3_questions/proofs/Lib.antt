@@ -1,0 +1,5 @@
+pub mod Arenas
+pub mod Separated
+pub mod Sides
+pub mod BaseLaws
+pub mod Restricting

@@ -1,0 +1,6 @@
+pub mod Arenas
+pub mod Searching
+pub mod Stepping
+pub mod Ends
+pub mod SteppingClauses
+pub mod Laws

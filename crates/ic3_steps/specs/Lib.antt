@@ -1,7 +1,0 @@
-pub mod Arenas
-pub mod Searching
-pub mod Stepping
-pub mod Ends
-pub mod SteppingClauses
-pub mod SteppingInside
-pub mod Laws
