@@ -12,5 +12,5 @@ NoReportWithoutLimits =
     (task : Task) (j : ℕ) (report : Report) → AreLimits task.limits → task.properties ≡ j ∷ [] → task.given ≡ []
     → limit_of task.limits.conflicts ≡ None → limit_of task.limits.steps ≡ None
     → 2 ^ (max 1 (length (fair_literals task.circuit j)) * (length task.circuit.latches + length task.circuit.inputs))
-        ≤ task.limits.skeletons
+    ≤ task.limits.skeletons
     → IsReport task report → ⊥

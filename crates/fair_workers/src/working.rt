@@ -305,13 +305,7 @@ fn count_turn(_j: u32, worker: &mut Worker, _board: &Board)
 }
 
 /// A turn of a worker that has not ended. Where memory is refused, the worker ends.
-pub(crate) fn turn(
-    alloc: Global,
-    c: &Arc<Circuit>,
-    j: u32,
-    worker: &mut Worker,
-    board: &mut Board,
-)
+pub(crate) fn turn(alloc: Global, c: &Arc<Circuit>, j: u32, worker: &mut Worker, board: &mut Board)
     requires worker { IsWorker j board.old worker.old }
     requires circuit { arc_value c.now ≡ board.old.circuit }
     requires served { properties_of board.old.served ≡ j ∷ [] }
