@@ -1,5 +1,5 @@
 -- Workers that take turns over one board.
-use Rattle.std.proofs.Common.{◌≡◌, ◌≢◌, ℕ, ◌<◌, ◌≤◌, true, false, List, [], ◌∷◌, ◌++◌, ◌⊎◌, inl, inr, None, map, length, get_or, set, refl, sym, ap, ◌∙◌, subst, arith}
+use Rattle.std.proofs.Common.{◌≡◌, ◌≢◌, ℕ, ◌+◌, ◌*◌, ◌<◌, ◌≤◌, max, min, Bool, true, false, ◌||◌, List, [], ◌∷◌, ◌++◌, ◌⊎◌, inl, inr, None, map, length, get_or, set, refl, sym, ap, ◌∙◌, subst, arith}
 use Rattle.std.specs.Prelude.{Contains}
 use Rattle.std.specs.List.{All}
 use Rattle.std.proofs.Math.Seq.{map-set_same}
@@ -8,21 +8,22 @@ use Rattle.std.proofs.lemmas.List.{get_or-map, get_or_past, get_or_append_left, 
 use Rattle.std.proofs.Math.Seq.{get_or-append_seam}
 use Rattle.std.proofs.lemmas.List.Elements.{All-nil, All-push, All-set, All-map, All-head, All-tail, All-cons}
 use Rattle.std.proofs.lemmas.List.Sums.{sum_by-set}
-use Rattle.aig_semantics.specs.Circuits.{Circuit}
+use Rattle.aig_semantics.specs.Circuits.{Circuit, fair_literals}
 use Rattle.edge.specs.Units.{Spendings}
 use Rattle.entry.specs.CheckedEntries.{CheckedEntry}
 use Rattle.skeleton.specs.Finding.{IsAllowed}
 use Rattle.wall_store.specs.declared.outcomes.Served.{Served}
-use Rattle.wall_store.specs.Boards.{BoardState, IsBoard, plain, properties_of, outcome_of, first_board}
+use Rattle.wall_store.specs.Boards.{BoardState, IsBoard, plain, properties_of, outcome_of, most_entries, first_board}
 use Rattle.wall_store.specs.Events.{seen_by, list_of, IsSettled}
 use Rattle.fair_workers.specs.declared.limits.Limits.{Limits}
 use Rattle.fair_workers.specs.declared.working.Phase.{Phase}
 use Rattle.fair_workers.specs.declared.working.Phase.TheVariants as phases
 use Rattle.fair_workers.specs.declared.working.Worker.{Worker}
 use Rattle.fair_workers.specs.Walks.{KeepsLimits}
-use Rattle.fair_workers.specs.Runs.{Task, IsBoardOf, IsAnswered, IsSpent, IsWithLimits, IsFull, IsReport}
-use Rattle.fair_workers.specs.Working.{is_running, left, left_of, runs_at, IsIn, IsStuck, IsWorker, GoesOnBy, Turns, Follows, AreWorkers, IsCrew, IsOver, task_of}
+use Rattle.fair_workers.specs.Runs.{Task, IsBoardOf, IsAnswered, IsSpent, IsWithLimits, IsFull, IsReport, most_situations, path_steps, most_steps}
+use Rattle.fair_workers.specs.Working.{is_running, is_refused, any_refused, left, left_of, searches_ahead, searches_left, search_steps, KeepsWithin, runs_at, IsIn, IsStuck, IsWorker, GoesOnBy, Turns, Follows, AreWorkers, IsCrew, IsOver, task_of}
 use Rattle.fair_workers.proofs.Turned.{other-stays}
+use Rattle.fair_workers.proofs.Counting.{steps-first, steps-kept, steps-last}
 
 -- ---- the beginning
 
@@ -31,11 +32,13 @@ crew-none limits j b = record {
   numbers = λ k below. absurd (omega arith);
   each = All-nil (IsWorker j b);
   within = All-nil (λ w. IsWithLimits limits w.meter);
+  steps = All-nil (KeepsWithin limits j b.limit b.circuit);
 }
 
 pub crew-push : (limits : Limits) (j : ℕ) (b : BoardState) (crew : List Worker) (w : Worker) → AreWorkers limits j b crew
-    → w.number ≡ length crew → IsWorker j b w → IsWithLimits limits w.meter → AreWorkers limits j b (crew ++ w ∷ [])
-crew-push limits j b crew w are number is within =
+    → w.number ≡ length crew → IsWorker j b w → IsWithLimits limits w.meter → KeepsWithin limits j b.limit b.circuit w
+    → AreWorkers limits j b (crew ++ w ∷ [])
+crew-push limits j b crew w are number is within sparing =
     let numbers : List ℕ = map (λ (v : Worker). v.number) crew in
     let size : length numbers ≡ length crew = length-map crew (λ (v : Worker). v.number) in
     let split : map (λ (v : Worker). v.number) (crew ++ w ∷ []) ≡ numbers ++ w.number ∷ [] = map-append (λ (v : Worker). v.number) crew (w ∷ []) in
@@ -50,7 +53,15 @@ crew-push limits j b crew w are number is within =
           ];
       each = All-push (IsWorker j b) crew w are.each is;
       within = All-push (λ v. IsWithLimits limits v.meter) crew w are.within within;
+      steps = All-push (KeepsWithin limits j b.limit b.circuit) crew w are.steps sparing;
     }
+
+-- at the beginning the whole list has been seen, and the list may grow by so many entries
+pub sparing-first : (limits : Limits) (j : ℕ) (b : BoardState) (w : Worker) → b.limit ≤ length b.entries + limits.skeletons
+    → w.seen ≡ length b.entries → w.phase ≡ phases.Asks → w.meter.steps ≡ 0 → KeepsWithin limits j b.limit b.circuit w
+sparing-first limits j b w few seen phase none =
+    let ahead : searches_ahead w.phase ≡ 1 = ap searches_ahead phase in
+    steps-first w.meter.steps (searches_left b.limit w) limits.skeletons (search_steps b.circuit j) none (omega (arith, few, seen, ahead))
 
 pub worker-first : (j : ℕ) (b : BoardState) (w : Worker) → w.number < b.workers → w.query.circuit ≡ b.circuit → w.query.property ≡ j
     → w.query.seen ≡ [] → w.phase ≡ phases.Asks → w.seen ≡ seen_by b w.number → IsWorker j b w
@@ -95,7 +106,7 @@ number-at : (limits : Limits) (j : ℕ) (b : BoardState) (crew : List Worker) (k
 number-at limits j b crew k d are below = sym (get_or-map (λ (v : Worker). v.number) crew k d 0 below) ∙ are.numbers k below
 
 pub crew-turn : (limits : Limits) (j : ℕ) (b c : BoardState) (crew : List Worker) (k : ℕ) (w v : Worker) → IsBoard b → IsBoard c
-    → AreWorkers limits j b crew → k < length crew → w ≡ get_or crew k w → Turns j b w c v → AreWorkers limits j c (set crew k v)
+    → AreWorkers limits j b crew → k < length crew → w ≡ get_or crew k w → Turns j 0 b w c v → AreWorkers limits j c (set crew k v)
 crew-turn limits j b c crew k w v board after are below at turn =
     let mine : w.number ≡ k = ap (λ (u : Worker). u.number) at ∙ number-at limits j b crew k w are below in
     let numbers_same : map (λ (u : Worker). u.number) (set crew k v) ≡ map (λ (u : Worker). u.number) crew =
@@ -116,6 +127,15 @@ crew-turn limits j b c crew k w v board after are below at turn =
       within = All-set (λ u. IsWithLimits limits u.meter) crew k v
           (within-on limits w.meter v.meter turn.limits
           (subst (λ (u : Worker). IsWithLimits limits u.meter) (sym at) (are.within k w below))) are.within;
+      steps =
+          let cost : ℕ = search_steps b.circuit j in
+          let before : KeepsWithin limits j b.limit b.circuit w = subst (KeepsWithin limits j b.limit b.circuit) (sym at) (are.steps k w below) in
+          let mine : KeepsWithin limits j b.limit b.circuit v =
+          steps-kept v.meter.steps w.meter.steps (searches_left b.limit v) (searches_left b.limit w) cost ((limits.skeletons + 1) * cost) turn.steps before
+          in
+          let all : All (KeepsWithin limits j b.limit b.circuit) (set crew k v) = All-set (KeepsWithin limits j b.limit b.circuit) crew k v mine are.steps in
+          subst (λ (n : ℕ). All (KeepsWithin limits j n c.circuit) (set crew k v)) (sym turn.board.limit)
+          (subst (λ (d : Circuit). All (KeepsWithin limits j b.limit d) (set crew k v)) (sym turn.board.circuit) all);
     }
 
 pub less-turn : (limit : ℕ) (crew : List Worker) (k : ℕ) (w v : Worker) → k < length crew → w ≡ get_or crew k w → left limit v < left limit w
@@ -183,24 +203,32 @@ answered-of task j b crew is has = record {
 }
 
 -- what a worker that has ended without an outcome tells
-told : (j : ℕ) (b : BoardState) (w : Worker) (p : Phase) → outcome_of b.served j ≡ None → is_running p ≡ false → IsIn j b w p → IsStuck j b ⊎ IsSpent w.meter
-told j b w phases.Asks none ended h = absurd (false≢true (sym ended))
-told j b w phases.Looks none ended h = absurd (false≢true (sym ended))
-told j b w phases.Searches none ended h = absurd (false≢true (sym ended))
-told j b w phases.LooksLast none ended h = absurd (false≢true (sym ended))
-told j b w phases.SearchesLast none ended h = absurd (false≢true (sym ended))
-told j b w phases.Closed none ended h = absurd (h none)
-told j b w phases.Full none ended h = inl h
-told j b w phases.Spent none ended h = inr h
+told : (j : ℕ) (b : BoardState) (w : Worker) (p : Phase) → outcome_of b.served j ≡ None → is_running p ≡ false → is_refused p ≡ false
+    → IsIn j b w p → IsStuck j b ⊎ IsSpent w.meter
+told j b w phases.Asks none ended kept h = absurd (false≢true (sym ended))
+told j b w phases.Looks none ended kept h = absurd (false≢true (sym ended))
+told j b w phases.Searches none ended kept h = absurd (false≢true (sym ended))
+told j b w phases.AsksLast none ended kept h = absurd (false≢true (sym ended))
+told j b w phases.LooksLast none ended kept h = absurd (false≢true (sym ended))
+told j b w phases.SearchesLast none ended kept h = absurd (false≢true (sym ended))
+told j b w phases.Closed none ended kept h = absurd (h none)
+told j b w phases.Full none ended kept h = inl h
+told j b w phases.Spent none ended kept h = inr h
+told j b w phases.Refused none ended kept h = absurd (false≢true (sym kept))
+
+or-false : (a b : Bool) → (a || b) ≡ false → (a ≡ false) × (b ≡ false)
+or-false true b h = absurd (false≢true (sym h))
+or-false false b h = (refl, h)
 
 cause-of : (j : ℕ) (b : BoardState) (crew : List Worker) → outcome_of b.served j ≡ None → All (λ w. is_running w.phase ≡ false) crew
-    → All (IsWorker j b) crew → IsStuck j b ⊎ All (λ w. IsSpent w.meter) crew
-cause-of j b [] none over each = inr (All-nil (λ w. IsSpent w.meter))
-cause-of j b (w ∷ crew) none over each =
-    elim (told j b w w.phase none (All-head (λ (u : Worker). is_running u.phase ≡ false) w crew over) (All-head (IsWorker j b) w crew each).phase) [
+    → any_refused crew ≡ false → All (IsWorker j b) crew → IsStuck j b ⊎ All (λ w. IsSpent w.meter) crew
+cause-of j b [] none over kept each = inr (All-nil (λ w. IsSpent w.meter))
+cause-of j b (w ∷ crew) none over kept each =
+    let kepts = or-false (is_refused w.phase) (any_refused crew) kept in
+    elim (told j b w w.phase none (All-head (λ (u : Worker). is_running u.phase ≡ false) w crew over) kepts.0 (All-head (IsWorker j b) w crew each).phase) [
       | inl stuck ↦ inl stuck
       | inr spent ↦
-          elim (cause-of j b crew none (All-tail (λ (u : Worker). is_running u.phase ≡ false) w crew over) (All-tail (IsWorker j b) w crew each)) [
+          elim (cause-of j b crew none (All-tail (λ (u : Worker). is_running u.phase ≡ false) w crew over) kepts.1 (All-tail (IsWorker j b) w crew each)) [
             | inl stuck ↦ inl stuck
             | inr rest ↦ inr (All-cons (λ u. IsSpent u.meter) w crew spent rest)
           ]
@@ -217,14 +245,32 @@ full-of j b e stuck = record {
 over-all : (crew : List Worker) → IsOver crew → All (λ w. is_running w.phase ≡ false) crew
 over-all crew over = λ k d below. runs-here crew k d below ∙ over k below
 
+max-none : (n : ℕ) → max n 0 ≡ n
+max-none n = grind (arith)
+
+-- a worker's steps, in the words of its task
+steps-least : (task : Task) (j : ℕ) (b : BoardState) (w : Worker) → b.circuit ≡ task.circuit → task.properties ≡ j ∷ []
+    → KeepsWithin task.limits j b.limit b.circuit w → w.meter.steps ≤ most_steps task
+steps-least task j b w circuit properties h =
+    let here : KeepsWithin task.limits j b.limit task.circuit w = subst (λ (d : Circuit). KeepsWithin task.limits j b.limit d w) circuit h in
+    let cost : ℕ = search_steps task.circuit j in
+    let few : w.meter.steps ≤ (task.limits.skeletons + 1) * cost =
+    steps-last w.meter.steps (searches_left b.limit w) cost ((task.limits.skeletons + 1) * cost) here
+    in
+    let situations : ℕ = max 1 (length (fair_literals task.circuit j)) in
+    let paths : ℕ = path_steps (length task.circuit.latches) in
+    subst (λ (properties : List ℕ). w.meter.steps
+    ≤ (task.limits.skeletons + length properties) * ((most_situations task.circuit properties + 1) * path_steps (length task.circuit.latches))) (sym properties)
+    (subst (λ (n : ℕ). w.meter.steps ≤ (task.limits.skeletons + 1) * ((n + 1) * paths)) (sym (max-none situations)) few)
+
 cause-told : (j : ℕ) (b : BoardState) (crew : List Worker) (spent : List Spendings) → properties_of b.served ≡ j ∷ []
     → spent ≡ map (λ w. w.meter) crew → IsStuck j b ⊎ All (λ w. IsSpent w.meter) crew → IsFull b ⊎ All IsSpent spent
 cause-told j b crew spent e same (inl stuck) = inl (full-of j b e stuck)
 cause-told j b crew spent e same (inr all) = inr (subst (All IsSpent) (sym same) (All-map IsSpent (λ (w : Worker). w.meter) crew all))
 
 pub report-of : (task : Task) (j : ℕ) (b : BoardState) (crew : List Worker) (spent : List Spendings) → IsCrew task j b crew → IsOver crew
-    → outcome_of b.served j ≡ None → spent ≡ map (λ w. w.meter) crew → IsReport task (record { board = b; workers = spent })
-report-of task j b crew spent is over none same =
+    → any_refused crew ≡ false → outcome_of b.served j ≡ None → spent ≡ map (λ w. w.meter) crew → IsReport task (record { board = b; workers = spent })
+report-of task j b crew spent is over kept none same =
     let served : properties_of b.served ≡ j ∷ [] = is.board.properties ∙ is.properties in
     record {
       board = is.board;
@@ -232,7 +278,13 @@ report-of task j b crew spent is over none same =
       count = ap length same ∙ length-map crew (λ (w : Worker). w.meter) ∙ is.count;
       limits = subst (All (IsWithLimits task.limits)) (sym same)
           (All-map (IsWithLimits task.limits) (λ (w : Worker). w.meter) crew is.workers.within);
-      cause = cause-told j b crew spent served same (cause-of j b crew none (over-all crew over) is.workers.each);
+      cause = cause-told j b crew spent served same (cause-of j b crew none (over-all crew over) kept is.workers.each);
+      steps =
+          let few : All (λ (w : Worker). w.meter.steps ≤ most_steps task) crew = λ k d below.
+          steps-least task j b (get_or crew k d) is.board.circuit is.properties (is.workers.steps k d below)
+          in
+          subst (All (λ (s : Spendings). s.steps ≤ most_steps task)) (sym same)
+          (All-map (λ (s : Spendings). s.steps ≤ most_steps task) (λ (w : Worker). w.meter) crew few);
     }
 
 -- ---- the first board
@@ -254,3 +306,11 @@ first-of b c j limits given e is = record {
   given = ap (λ (d : BoardState). d.given) e;
   front = ([], ap (λ (d : BoardState). d.entries) e ∙ sym (append-nil given));
 }
+
+pub first-grows : (b : BoardState) (c : Circuit) (properties : List ℕ) (workers more : ℕ) (given : List CheckedEntry)
+    → b ≡ first_board c properties workers more given → b.limit ≤ length b.entries + more
+first-grows b c properties workers more given e =
+    subst (λ (d : BoardState). d.limit ≤ length d.entries + more) (sym e) (least-left (length given + more) most_entries)
+  where
+    least-left : (m n : ℕ) → min m n ≤ m
+    least-left m n = grind (arith)

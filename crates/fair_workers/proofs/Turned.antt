@@ -1,5 +1,5 @@
 -- What the events of a worker leave of a board, and of the worker.
-use Rattle.std.proofs.Common.{◌≡◌, ◌≢◌, ℕ, zero, suc, ◌+◌, ◌-◌, ◌*◌, ◌<◌, ◌≤◌, Bool, true, false, not, cond, List, [], ◌∷◌, ◌++◌, Some, None, length, get_or, take, drop, refl, sym, ap, ◌∙◌, subst, arith}
+use Rattle.std.proofs.Common.{◌≡◌, ◌≢◌, ℕ, zero, suc, max, ◌+◌, ◌-◌, ◌*◌, ◌<◌, ◌≤◌, Bool, true, false, not, cond, List, [], ◌∷◌, ◌++◌, Some, None, length, get_or, take, drop, refl, sym, ap, ◌∙◌, subst, arith}
 use Rattle.std.specs.Prelude.{◌==◌}
 use Rattle.std.specs.List.{list_all, Any}
 use Rattle.std.proofs.lemmas.Bool.{false≢true, and_parts}
@@ -11,7 +11,7 @@ use Rattle.fair_semantics.specs.Entries.{Entry, Numbered, numbered_from, numbere
 use Rattle.fair_semantics.specs.Allowing.{allows_by, allow}
 use Rattle.fair_semantics.specs.Skeletons.{IsSkeleton, places, excludes}
 use Rattle.std.specs.declared.sync.Arc.{Arc}
-use Rattle.aig_semantics.specs.Circuits.{Circuit}
+use Rattle.aig_semantics.specs.Circuits.{Circuit, fair_literals}
 use Rattle.cnf_unroll.specs.Laws.{AreOver}
 use Rattle.fair_semantics.specs.Entries.{used_entries, AreClosed}
 use Rattle.fair_semantics.specs.Validity.{AreValidBehind}
@@ -32,11 +32,13 @@ use Rattle.wall_store.specs.declared.outcomes.Finished.TheVariants as ends
 use Rattle.wall_store.specs.Boards.{FromWorker, IsTrueOf}
 use Rattle.wall_store.specs.Events.{seen_by, list_of, shown_to, with_outcome, with_post, IsSettled, IsPosted, IsPostOf, Finishes}
 use Rattle.fair_workers.specs.Deeds.{IsWorkOf, IsTrueBehind}
+use Rattle.fair_workers.specs.Runs.{path_steps}
 use Rattle.fair_workers.specs.declared.working.Phase.{Phase}
 use Rattle.fair_workers.specs.declared.working.Phase.TheVariants as phases
 use Rattle.fair_workers.specs.declared.working.Worker.{Worker}
 use Rattle.fair_workers.proofs.Steps.{all-left}
-use Rattle.fair_workers.specs.Working.{rank, left, is_running, phase_after, IsIn, IsWorker, GoesOnBy, Turns, Thinks}
+use Rattle.fair_workers.proofs.Counting.{steps-fewer, steps-behind}
+use Rattle.fair_workers.specs.Working.{rank, left, searches_ahead, searches_left, search_steps, steps_through, is_running, phase_after, IsIn, IsWorker, GoesOnBy, Turns, Thinks}
 
 -- ---- boards
 
@@ -162,7 +164,7 @@ allowed-at p m (e ∷ entries) (suc k) d below h =
     subst (λ (n : ℕ). p (record { number = n; entry = get_or entries k d }) ≡ true) (let s : (m + 1) + k ≡ m + suc k = omega arith in s)
     (allowed-at p (m + 1) entries k d (omega arith) later)
 
-not-excluded : (view more : List Entry) (n : ℕ) (skeleton : Skeleton) → n < length view → allow (numbered view) (places skeleton) ≡ true
+pub not-excluded : (view more : List Entry) (n : ℕ) (skeleton : Skeleton) → n < length view → allow (numbered view) (places skeleton) ≡ true
     → excludes (view ++ more) n skeleton ≡ false
 not-excluded view more n skeleton below h =
     let p : Numbered → Bool = λ e. allows_by e.entry.kind (sets_of (numbered view) e.number) (places skeleton) in
@@ -200,32 +202,44 @@ stands-behind entries seen n skeleton within allowed excluded below =
 
 -- ---- how much is left
 
-less-shown : (limit s t r q : ℕ) → s ≤ t → q < r → (limit - t) * 6 + q < (limit - s) * 6 + r
+less-shown : (limit s t r q : ℕ) → s ≤ t → q < r → (limit - t) * 7 + q < (limit - s) * 7 + r
 less-shown limit s t r q shown less = omega arith
 
-less-grown : (limit s t r q : ℕ) → s < t → t ≤ limit → q ≤ 5 → (limit - t) * 6 + q < (limit - s) * 6 + r
+less-grown : (limit s t r q : ℕ) → s < t → t ≤ limit → q ≤ 6 → (limit - t) * 7 + q < (limit - s) * 7 + r
 less-grown limit s t r q grown within small = omega arith
+
+-- ---- how many searches are left
+
+fewer-shown : (limit s t p k r : ℕ) → s ≤ t → p + k ≤ r → (limit - t) + p + k ≤ (limit - s) + r
+fewer-shown limit s t p k r shown fewer = omega (arith, shown, fewer)
+
+fewer-grown : (limit s t : ℕ) → s < t → t ≤ limit → (limit - t) + 1 + 1 ≤ (limit - s) + 1
+fewer-grown limit s t grown within = omega (arith, grown, within)
 
 -- ---- turns
 
 seen-within : (b : BoardState) (n : ℕ) → IsBoard b → n < b.workers → seen_by b n ≤ length b.entries
 seen-within b n is below = is.seen n 0 (omega (arith, is.each_seen))
 
-pub phase-turn : (j : ℕ) (b : BoardState) (w : Worker) (p : Phase) → IsWorker j b w → rank p < rank w.phase → IsIn j b (record w { phase = p }) p
-    → Turns j b w b (record w { phase = p })
-phase-turn j b w p is less here = record {
+pub phase-turn : (j searches : ℕ) (b : BoardState) (w : Worker) (p : Phase) → IsWorker j b w → rank p < rank w.phase
+    → searches_ahead p + searches ≤ searches_ahead w.phase → IsIn j b (record w { phase = p }) p
+    → Turns j searches b w b (record w { phase = p })
+phase-turn j searches b w p is less fewer here = record {
   worker = record { number = is.number; seen = is.seen; circuit = is.circuit; property = is.property; on = is.on; phase = here };
   board = same-board w.number b;
   number = refl;
   limits = record { conflicts = refl; steps = refl };
   less = omega (arith, less);
+  steps = steps-fewer w.meter.steps w.meter.steps ((b.limit - w.seen) + searches_ahead p) ((b.limit - w.seen) + searches_ahead w.phase) searches
+      (search_steps b.circuit j) (omega arith) (omega (arith, fewer));
 }
 
-shown-turn : (j : ℕ) (b : BoardState) (w : Worker) (entries more : List CheckedEntry) (p : Phase) → IsBoard b → IsWorker j b w
+shown-turn : (j searches : ℕ) (b : BoardState) (w : Worker) (entries more : List CheckedEntry) (p : Phase) → IsBoard b → IsWorker j b w
     → entries ≡ b.entries ++ more → left b.limit (record w { seen = length entries; phase = p }) < left b.limit w
+    → (b.limit - length entries) + searches_ahead p + searches ≤ (b.limit - w.seen) + searches_ahead w.phase
     → IsIn j (shown_to (record b { entries = entries }) w.number) (record w { seen = length entries; phase = p }) p
-    → Turns j b w (shown_to (record b { entries = entries }) w.number) (record w { seen = length entries; phase = p })
-shown-turn j b w entries more p board is e less here =
+    → Turns j searches b w (shown_to (record b { entries = entries }) w.number) (record w { seen = length entries; phase = p })
+shown-turn j searches b w entries more p board is e less fewer here =
     let n : ℕ = w.number in
     let c : BoardState = shown_to (record b { entries = entries }) n in
     let seen : seen_by c n ≡ length entries = shown-seen n (record b { entries = entries }) (omega (arith, is.number, board.each_seen)) in
@@ -247,59 +261,72 @@ shown-turn j b w entries more p board is e less here =
       number = refl;
       limits = record { conflicts = refl; steps = refl };
       less = less;
+      steps = steps-fewer w.meter.steps w.meter.steps ((b.limit - length entries) + searches_ahead p) ((b.limit - w.seen) + searches_ahead w.phase) searches
+          (search_steps b.circuit j) (omega arith) fewer;
     }
 
 -- a look
-pub look-turn : (j : ℕ) (b c : BoardState) (w : Worker) (seen : ℕ) (p : Phase) → IsBoard b → IsWorker j b w → rank p < rank w.phase
-    → seen ≡ length b.entries → c ≡ shown_to b w.number → IsIn j (shown_to b w.number) (record w { seen = length b.entries; phase = p }) p
-    → Turns j b w c (record w { seen = seen; phase = p })
-look-turn j b c w seen p board is less e after here =
+pub look-turn : (j searches : ℕ) (b c : BoardState) (w : Worker) (seen : ℕ) (p : Phase) → IsBoard b → IsWorker j b w → rank p < rank w.phase
+    → searches_ahead p + searches ≤ searches_ahead w.phase → seen ≡ length b.entries → c ≡ shown_to b w.number → IsIn j (shown_to b w.number) (record w { seen = length b.entries; phase = p }) p
+    → Turns j searches b w c (record w { seen = seen; phase = p })
+look-turn j searches b c w seen p board is less fewer e after here =
     let within : w.seen ≤ length b.entries = omega (arith, is.seen, seen-within b w.number board is.number) in
-    let turn : Turns j b w (shown_to b w.number) (record w { seen = length b.entries; phase = p }) =
-    shown-turn j b w b.entries [] p board is (sym (append-nil b.entries))
-    (less-shown b.limit w.seen (length b.entries) (rank w.phase) (rank p) within less) here
+    let turn : Turns j searches b w (shown_to b w.number) (record w { seen = length b.entries; phase = p }) =
+    shown-turn j searches b w b.entries [] p board is (sym (append-nil b.entries))
+    (less-shown b.limit w.seen (length b.entries) (rank w.phase) (rank p) within less)
+    (fewer-shown b.limit w.seen (length b.entries) (searches_ahead p) searches (searches_ahead w.phase) within fewer) here
     in
-    subst (λ d. Turns j b w d (record w { seen = seen; phase = p })) (sym after)
-    (subst (λ (m : ℕ). Turns j b w (shown_to b w.number) (record w { seen = m; phase = p })) (sym e) turn)
+    subst (λ d. Turns j searches b w d (record w { seen = seen; phase = p })) (sym after)
+    (subst (λ (m : ℕ). Turns j searches b w (shown_to b w.number) (record w { seen = m; phase = p })) (sym e) turn)
+
+-- where the list has grown, a search has been made and one is ahead
+grown-searches : (limit s t : ℕ) (p : Phase) → p ≡ phases.Searches → s < t → t ≤ limit
+    → (limit - t) + 1 + searches_ahead p ≤ (limit - s) + searches_ahead p
+grown-searches limit s t p phase grown within =
+    subst (λ q. (limit - t) + 1 + searches_ahead q ≤ (limit - s) + searches_ahead q) (sym phase) (fewer-grown limit s t grown within)
 
 posted-turn : (j : ℕ) (b : BoardState) (w : Worker) (e : CheckedEntry) (r : Posted) (skeleton : Skeleton) → IsBoard b → IsWorker j b w
     → properties_of b.served ≡ j ∷ [] → w.phase ≡ phases.Searches → Allow (list_of b w.number) skeleton → IsPosted b skeleton r
-    → (c : BoardState) → c ≡ shown_to (with_post b e r) w.number → Turns j b w c (record w { seen = length c.entries; phase = phase_after r })
+    → (c : BoardState) → c ≡ shown_to (with_post b e r) w.number → Turns j (searches_ahead w.phase) b w c (record w { seen = length c.entries; phase = phase_after r })
 posted-turn j b w e (posts.Appended n) skeleton board is served phase allowed answer c after =
     let within : w.seen ≤ length b.entries = omega (arith, is.seen, seen-within b w.number board is.number) in
     let size : length (b.entries ++ e ∷ []) ≡ length b.entries + 1 = length-append b.entries (e ∷ []) in
-    subst (λ d. Turns j b w d (record w { seen = length d.entries; phase = phases.Asks })) (sym after)
-    (shown-turn j b w (b.entries ++ e ∷ []) (e ∷ []) phases.Asks board is refl
-    (less-grown b.limit w.seen (length (b.entries ++ e ∷ [])) (rank w.phase) 5 (omega (arith, size, within)) (omega (arith, size, answer.0.room)) (omega arith)) tt)
+    subst (λ d. Turns j (searches_ahead w.phase) b w d (record w { seen = length d.entries; phase = phases.Asks })) (sym after)
+    (shown-turn j (searches_ahead w.phase) b w (b.entries ++ e ∷ []) (e ∷ []) phases.Asks board is refl
+    (less-grown b.limit w.seen (length (b.entries ++ e ∷ [])) (rank w.phase) 6 (omega (arith, size, within)) (omega (arith, size, answer.0.room)) (omega arith))
+    (grown-searches b.limit w.seen (length (b.entries ++ e ∷ [])) w.phase phase (omega (arith, size, within)) (omega (arith, size, answer.0.room))) tt)
 posted-turn j b w e (posts.Stale n) skeleton board is served phase allowed answer c after =
     let seen_in : seen_by b w.number ≤ length b.entries = seen-within b w.number board is.number in
     let behind = stands-behind b.entries (seen_by b w.number) n skeleton seen_in allowed answer.1.excluded in
     let size : length (plain b.entries) ≡ length b.entries = length-map b.entries (λ (x : CheckedEntry). x.entry) in
     let grown : w.seen < length b.entries = grown-by (seen_by b w.number) n w.seen (length b.entries) (length (plain b.entries)) is.seen behind size answer.1.inside in
-    subst (λ d. Turns j b w d (record w { seen = length d.entries; phase = phases.Asks })) (sym after)
-    (shown-turn j b w b.entries [] phases.Asks board is (sym (append-nil b.entries))
-    (less-grown b.limit w.seen (length b.entries) (rank w.phase) 5 grown board.within (omega arith)) tt)
+    subst (λ d. Turns j (searches_ahead w.phase) b w d (record w { seen = length d.entries; phase = phases.Asks })) (sym after)
+    (shown-turn j (searches_ahead w.phase) b w b.entries [] phases.Asks board is (sym (append-nil b.entries))
+    (less-grown b.limit w.seen (length b.entries) (rank w.phase) 6 grown board.within (omega arith))
+    (grown-searches b.limit w.seen (length b.entries) w.phase phase grown board.within) tt)
 posted-turn j b w e posts.Full skeleton board is served phase allowed answer c after =
-    subst (λ d. Turns j b w d (record w { seen = length d.entries; phase = phases.LooksLast })) (sym after)
-    (look-turn j b (shown_to b w.number) w (length b.entries) phases.LooksLast board is (subst (λ p. 2 < rank p) (sym phase) (omega arith)) refl refl answer.1)
+    subst (λ d. Turns j (searches_ahead w.phase) b w d (record w { seen = length d.entries; phase = phases.AsksLast })) (sym after)
+    (look-turn j (searches_ahead w.phase) b (shown_to b w.number) w (length b.entries) phases.AsksLast board is (subst (λ p. 3 < rank p) (sym phase) (omega arith))
+    (omega arith) refl refl answer.1)
 posted-turn j b w e posts.Closed skeleton board is served phase allowed answer c after =
-    subst (λ d. Turns j b w d (record w { seen = length d.entries; phase = phases.Closed })) (sym after)
-    (look-turn j b (shown_to b w.number) w (length b.entries) phases.Closed board is (subst (λ p. 0 < rank p) (sym phase) (omega arith)) refl refl
+    subst (λ d. Turns j (searches_ahead w.phase) b w d (record w { seen = length d.entries; phase = phases.Closed })) (sym after)
+    (look-turn j (searches_ahead w.phase) b (shown_to b w.number) w (length b.entries) phases.Closed board is (subst (λ p. 0 < rank p) (sym phase) (omega arith))
+    (omega arith) refl refl
     (settled-one b.served j served answer))
 
 -- a post
 pub post-turn : (j : ℕ) (b c : BoardState) (w : Worker) (e : CheckedEntry) (r : Posted) (seen : ℕ) (origin : Origin) → IsBoard b → IsWorker j b w
     → properties_of b.served ≡ j ∷ [] → w.phase ≡ phases.Searches → FromWorker origin (IsWorkOf b.circuit (plain (list_of b w.number)) j w.number)
     → FromWorker origin (λ work. IsPosted b work.skeleton r) → c ≡ shown_to (with_post b e r) w.number → seen ≡ length c.entries
-    → Turns j b w c (record w { seen = seen; phase = phase_after r })
+    → Turns j (searches_ahead w.phase) b w c (record w { seen = seen; phase = phase_after r })
 post-turn j b c w e r seen Given board is served phase work answer after same = absurd work
 post-turn j b c w e r seen (FoundBy found) board is served phase work answer after same =
-    subst (λ (m : ℕ). Turns j b w c (record w { seen = m; phase = phase_after r })) (sym same)
+    subst (λ (m : ℕ). Turns j (searches_ahead w.phase) b w c (record w { seen = m; phase = phase_after r })) (sym same)
     (posted-turn j b w e r found.skeleton board is served phase work.allowed.allowed answer c after)
 
 -- a finish
 finished-turn : (j : ℕ) (b c : BoardState) (w : Worker) → IsWorker j b w → 0 < rank w.phase → GoesOnBy w.number b c → c.entries ≡ b.entries
-    → c.seen ≡ b.seen → outcome_of c.served j ≢ None → Turns j b w c (record w { phase = phases.Closed })
+    → c.seen ≡ b.seen → outcome_of c.served j ≢ None → Turns j (searches_ahead w.phase) b w c (record w { phase = phases.Closed })
 finished-turn j b c w is running on entries seen closed =
     let same_seen : seen_by c w.number ≡ seen_by b w.number = ap (λ (xs : List ℕ). get_or xs w.number 0) seen in
     let same_list : list_of c w.number ≡ list_of b w.number = ap (λ (m : ℕ). take m c.entries) same_seen ∙ ap (take (seen_by b w.number)) entries in
@@ -316,16 +343,18 @@ finished-turn j b c w is running on entries seen closed =
       number = refl;
       limits = record { conflicts = refl; steps = refl };
       less = omega (arith, running);
+      steps = steps-fewer w.meter.steps w.meter.steps ((b.limit - w.seen) + 0) ((b.limit - w.seen) + searches_ahead w.phase) (searches_ahead w.phase)
+          (search_steps b.circuit j) (omega arith) (omega arith);
     }
 
 pub finish-turn : (j : ℕ) (b c : BoardState) (w : Worker) (o : Outcome) (r : Finished) → IsWorker j b w → 0 < rank w.phase
-    → properties_of b.served ≡ j ∷ [] → Finishes b j o r c → Turns j b w c (record w { phase = phases.Closed })
+    → properties_of b.served ≡ j ∷ [] → Finishes b j o r c → Turns j (searches_ahead w.phase) b w c (record w { phase = phases.Closed })
 finish-turn j b c w o ends.Won is running served f =
-    subst (λ d. Turns j b w d (record w { phase = phases.Closed })) (sym f.after)
+    subst (λ d. Turns j (searches_ahead w.phase) b w d (record w { phase = phases.Closed })) (sym f.after)
     (finished-turn j b (record b { served = with_outcome b.served j o }) w is running (finished-on w.number b j o) refl refl
     (outcome-set b.served j o served))
 finish-turn j b c w o ends.Closed is running served f =
-    subst (λ d. Turns j b w d (record w { phase = phases.Closed })) (sym f.after)
+    subst (λ d. Turns j (searches_ahead w.phase) b w d (record w { phase = phases.Closed })) (sym f.after)
     (finished-turn j b b w is running (same-board w.number b) refl refl f.answer)
 
 -- ---- the other workers
@@ -340,6 +369,7 @@ phase-stays : (j n : ℕ) (b c : BoardState) (w : Worker) (p : Phase) → IsBoar
 phase-stays j n b c w phases.Asks after on h = tt
 phase-stays j n b c w phases.Looks after on h = tt
 phase-stays j n b c w phases.Searches after on h = tt
+phase-stays j n b c w phases.AsksLast after on h = ap length (no-more b c n after on h) ∙ h ∙ sym on.limit
 phase-stays j n b c w phases.LooksLast after on h = ap length (no-more b c n after on h) ∙ h ∙ sym on.limit
 phase-stays j n b c w phases.SearchesLast after on h =
     let same = no-more b c n after on h.0 in
@@ -355,6 +385,7 @@ phase-stays j n b c w phases.Full after on h =
       ),
     )
 phase-stays j n b c w phases.Spent after on h = h
+phase-stays j n b c w phases.Refused after on h = tt
 
 pub other-stays : (j : ℕ) (n : ℕ) (b c : BoardState) (w : Worker) → IsBoard b → IsBoard c → w.number ≢ n → GoesOnBy n b c → IsWorker j b w → IsWorker j c w
 other-stays j n b c w board after other on is =
@@ -400,14 +431,16 @@ phase-thinks : (j : ℕ) (b : BoardState) (w v : Worker) (p : Phase) → is_runn
 phase-thinks j b w v phases.Asks running e h = tt
 phase-thinks j b w v phases.Looks running e h = tt
 phase-thinks j b w v phases.Searches running e h = tt
+phase-thinks j b w v phases.AsksLast running e h = h
 phase-thinks j b w v phases.LooksLast running e h = h
 phase-thinks j b w v phases.SearchesLast running e h = (h.0, e ∙ h.1)
 phase-thinks j b w v phases.Closed running e h = h
 phase-thinks j b w v phases.Full running e h = h
 phase-thinks j b w v phases.Spent running e h = absurd (false≢true running)
+phase-thinks j b w v phases.Refused running e h = absurd (false≢true running)
 
-pub thinks_worker : (j : ℕ) (b : BoardState) (w v : Worker) → IsWorker j b w → Thinks j b w v → is_running w.phase ≡ true → IsWorker j b v
-thinks_worker j b w v is t running = record {
+pub thinks_worker : (j searches : ℕ) (b : BoardState) (w v : Worker) → IsWorker j b w → Thinks j searches b w v → is_running w.phase ≡ true → IsWorker j b v
+thinks_worker j searches b w v is t running = record {
   number = omega (arith, is.number, t.number);
   seen = t.seen ∙ is.seen ∙ sym (ap (seen_by b) t.number);
   circuit = t.circuit ∙ is.circuit;
@@ -416,16 +449,36 @@ thinks_worker j b w v is t running = record {
   phase = subst (IsIn j b v) (sym t.phase) (phase-thinks j b w v w.phase running t.seen is.phase);
 }
 
-pub thinks_turn : (j : ℕ) (b c : BoardState) (w v u : Worker) → Thinks j b w v → Turns j b v c u → Turns j b w c u
-thinks_turn j b c w v u t turn = record {
+pub thinks_turn : (j searches : ℕ) (b c : BoardState) (w v u : Worker) → Thinks j searches b w v → Turns j searches b v c u → Turns j 0 b w c u
+thinks_turn j searches b c w v u t turn = record {
   worker = turn.worker;
   board = subst (λ (n : ℕ). GoesOnBy n b c) t.number turn.board;
   number = turn.number ∙ t.number;
   limits = record { conflicts = turn.limits.conflicts ∙ t.limits.conflicts; steps = turn.limits.steps ∙ t.limits.steps };
   less =
-      subst (λ (n : ℕ). (left b.limit u < (b.limit - n) * 6 + rank w.phase)) t.seen
-      (subst (λ p. (left b.limit u < (b.limit - v.seen) * 6 + rank p)) t.phase turn.less);
+      subst (λ (n : ℕ). (left b.limit u < (b.limit - n) * 7 + rank w.phase)) t.seen
+      (subst (λ p. (left b.limit u < (b.limit - v.seen) * 7 + rank p)) t.phase turn.less);
+  steps =
+      let cost : ℕ = search_steps b.circuit j in
+      let behind : steps_through u (searches_left b.limit u + searches) cost ≤ v.meter.steps + ((b.limit - w.seen) + searches_ahead w.phase) * cost =
+      subst (λ (n : ℕ). (steps_through u (searches_left b.limit u + searches) cost ≤ v.meter.steps + ((b.limit - n) + searches_ahead w.phase) * cost)) t.seen
+      (subst (λ p. (steps_through u (searches_left b.limit u + searches) cost ≤ v.meter.steps + ((b.limit - v.seen) + searches_ahead p) * cost)) t.phase turn.steps)
+      in
+      steps-behind u.meter.steps v.meter.steps w.meter.steps searches (searches_left b.limit u) (searches_left b.limit w) cost t.steps behind;
 }
+
+-- one search, in the phase for it
+pub thought : (p : Phase) (s t : ℕ) (c d : Circuit) (j : ℕ) → p ≡ phases.Searches → d ≡ c
+    → t ≤ s + (max 1 (length (fair_literals d j)) + 1) * path_steps (length d.latches) → t ≤ s + searches_ahead p * search_steps c j
+thought p s t c d j phase circuit h =
+    subst (λ q. t ≤ s + searches_ahead q * search_steps c j) (sym phase)
+    (subst (λ (k : Circuit). t ≤ s + 1 * search_steps k j) circuit (one t s (search_steps d j) h))
+  where
+    one : (t s r : ℕ) → t ≤ s + r → t ≤ s + 1 * r
+    one t s r h = omega (arith, h)
+
+pub unthought : (s t k r : ℕ) → t ≡ s → t ≤ s + k * r
+unthought s t k r same = omega (arith, same)
 
 -- ---- posts and outcomes
 
@@ -458,8 +511,10 @@ pub is-running : (p : Phase) → is_running p ≡ true → 0 < rank p
 is-running phases.Asks h = omega arith
 is-running phases.Looks h = omega arith
 is-running phases.Searches h = omega arith
+is-running phases.AsksLast h = omega arith
 is-running phases.LooksLast h = omega arith
 is-running phases.SearchesLast h = omega arith
 is-running phases.Closed h = absurd (false≢true h)
 is-running phases.Full h = absurd (false≢true h)
 is-running phases.Spent h = absurd (false≢true h)
+is-running phases.Refused h = absurd (false≢true h)

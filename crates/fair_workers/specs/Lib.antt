@@ -2,3 +2,4 @@ pub mod Runs
 pub mod Walks
 pub mod Deeds
 pub mod Working
+pub mod Laws

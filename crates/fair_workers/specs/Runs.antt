@@ -1,9 +1,9 @@
 -- What workers leave that search over one board: an answer for each property, or a report that shows what was spent.
 -- The search is FAIR (Bradley, Somenzi, Hassan, Zhang, An incremental approach to model checking progress properties,
 -- 2011); that several workers share its list is this program's.
-use Rattle.std.specs.Prelude.{◌≡◌, ℕ, ◌+◌, ◌≤◌, ◌⊎◌, min, List, ◌++◌, length, Some}
+use Rattle.std.specs.Prelude.{◌≡◌, ℕ, ◌+◌, ◌*◌, ◌^◌, ◌≤◌, ◌⊎◌, min, max, List, [], ◌∷◌, ◌++◌, length, Some}
 use Rattle.std.specs.List.{All}
-use Rattle.aig_semantics.specs.Circuits.{Circuit}
+use Rattle.aig_semantics.specs.Circuits.{Circuit, fair_literals}
 use Rattle.fair_semantics.specs.declared.skeletons.Skeleton.{Skeleton}
 use Rattle.edge.specs.Units.{Spendings, limit_of}
 use Rattle.entry.specs.CheckedEntries.{CheckedEntry}
@@ -58,13 +58,31 @@ pub record IsFull (b : BoardState) : Type 0 where
   pub full : length b.entries ≡ b.limit
   pub allows : (j : ℕ) → IsOpen b.served j → (s : Skeleton) × IsAllowed b.circuit j (plain b.entries) s
 
--- A report: a property is open, and either the list is full, or each worker has spent what it may.
+-- how many situations a skeleton of one of these properties has at most
+abbrev pub most_situations : Circuit → List ℕ → ℕ
+most_situations c [] = 0
+most_situations c (j ∷ properties) = max (max 1 (length (fair_literals c j))) (most_situations c properties)
+
+-- how many steps one search for a path takes at most, over n latches
+unfoldable pub path_steps : ℕ → ℕ
+path_steps n = (2 ^ n + 2) * (2 ^ n + 2)
+
+-- How many steps a worker takes at most, whatever its limit is. It seeks a lasso once for each entry by which the list may
+-- grow and once for each property; and a path to the first situation of a skeleton, to each further one, and back.
+abbrev pub most_steps : Task → ℕ
+most_steps task =
+    (task.limits.skeletons + length task.properties)
+    * ((most_situations task.circuit task.properties + 1) * path_steps (length task.circuit.latches))
+
+-- A report: a property is open, and either the list is full, or each worker has spent what it may. No worker took more
+-- steps than a worker takes at most.
 pub record IsReport (task : Task) (r : Report) : Type 0 where
   pub board : IsBoardOf task r.board
   pub unanswered : (j : ℕ) × IsOpen r.board.served j
   pub count : length r.workers ≡ task.limits.workers
   pub limits : All (IsWithLimits task.limits) r.workers
   pub cause : IsFull r.board ⊎ All IsSpent r.workers
+  pub steps : All (λ spent. spent.steps ≤ most_steps task) r.workers
 
 -- Why workers end without an answer; want of memory says nothing.
 abbrev pub IsEnded : Task → Ended → Type 0

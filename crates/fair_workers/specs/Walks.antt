@@ -1,6 +1,6 @@
 -- Scaffolding of inner functions. A walk along a skeleton: from position to position, or up to an entry that excludes
 -- the skeleton.
-use Rattle.std.specs.Prelude.{◌≡◌, ℕ, ◌+◌, ◌-◌, ◌<◌, Bool, true, List, [], ◌∷◌, ◌++◌, map, length, slice_set, slice_index_or}
+use Rattle.std.specs.Prelude.{◌≡◌, ℕ, ◌+◌, ◌-◌, ◌*◌, ◌<◌, ◌≤◌, Bool, true, List, [], ◌∷◌, ◌++◌, map, length, slice_set, slice_index_or}
 use Rattle.std.specs.List.{All}
 use Rattle.aig_semantics.specs.declared.traces.Position.{Position}
 use Rattle.aig_semantics.specs.Circuits.{Circuit}
@@ -28,7 +28,7 @@ use Rattle.fair_workers.specs.declared.walking.Walked.{Walked}
 use Rattle.fair_workers.specs.declared.walking.Walked.TheVariants as walks
 use Rattle.fair_workers.specs.declared.seeking.Sought.{Sought}
 use Rattle.fair_workers.specs.declared.seeking.Sought.TheVariants as soughts
-use Rattle.fair_workers.specs.Runs.{IsSpent}
+use Rattle.fair_workers.specs.Runs.{IsSpent, path_steps}
 
 -- Spent comes where a count equals its limit.
 abbrev pub IsStop : Spendings → Stop → Type 0
@@ -39,6 +39,10 @@ IsStop meter stops.Memory = Unit {0}
 pub record KeepsLimits (old new : Spendings) : Type 0 where
   pub conflicts : new.conflict_limit ≡ old.conflict_limit
   pub steps : new.step_limit ≡ old.step_limit
+
+-- at most the steps of so many searches for a path over n latches were counted
+abbrev pub Asks : ℕ → ℕ → Spendings → Spendings → Type 0
+Asks n searches old new = new.steps ≤ old.steps + searches * path_steps n
 
 abbrev pub entry_of_bar : Bar → Entry
 entry_of_bar bar = record { kind = bar.kind; clauses = bar.clauses; uses = bar.uses }

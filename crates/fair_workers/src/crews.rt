@@ -1,11 +1,11 @@
 //! The workers of a run, and whose turn it is. The main call is `crew_of`.
 
-ghost use Rattle.std.specs.Prelude.{◌≡◌, ℕ, ◌<◌, ◌≤◌, ◌∷◌, [], true, false, map, length, slice_index, IfOk, OnOk};
+ghost use Rattle.std.specs.Prelude.{◌≡◌, ℕ, ◌+◌, ◌<◌, ◌≤◌, ◌∷◌, [], true, false, map, length, slice_index, IfOk};
 ghost use Rattle.std.specs.Arc.{arc_value};
 ghost use Rattle.edge.specs.Units.{limit_of};
 ghost use Rattle.wall_store.specs.Boards.{properties_of};
 ghost use Rattle.wall_store.specs.Events.{seen_by};
-ghost use Rattle.fair_workers.specs.Working.{Follows, AreWorkers, IsOver, runs_at, left_of};
+ghost use Rattle.fair_workers.specs.Working.{Follows, AreWorkers, IsOver, any_refused, runs_at, left_of};
 
 use crate::limits::Limits;
 use crate::working::{Phase, Worker, turn};
@@ -63,6 +63,7 @@ pub(crate) fn crew_of(
     requires circuit { arc_value c.now ≡ board.now.circuit }
     requires workers { limits.workers ≡ board.now.workers }
     requires seen { (n : ℕ) → n < board.now.workers → seen_by board.now n ≡ length board.now.entries }
+    requires grows { board.now.limit ≤ length board.now.entries + limits.skeletons }
     ensures count { IfOk result (λ crew. length crew.items ≡ limits.workers) }
     ensures workers { IfOk result (λ crew. AreWorkers limits j board.now crew.items) }
 {
@@ -83,20 +84,19 @@ pub(crate) fn take_turn(
     crew: &mut [Worker],
     k: usize,
     board: &mut Board,
-) -> Result<(), AllocError>
+)
     requires circuit { arc_value c.now ≡ board.old.circuit }
     requires served { properties_of board.old.served ≡ j ∷ [] }
     requires crew { AreWorkers _limits j board.old crew.old }
     requires inside { k < length crew.old }
     requires running { runs_at crew.old k ≡ true }
-    ensures crew { OnOk result (AreWorkers _limits j board.new crew.new) }
-    ensures follows { OnOk result (Follows board.old board.new) }
-    ensures less { OnOk result (left_of board.old.limit crew.new < left_of board.old.limit crew.old) }
+    ensures crew { AreWorkers _limits j board.new crew.new }
+    ensures follows { Follows board.old board.new }
+    ensures less { left_of board.old.limit crew.new < left_of board.old.limit crew.old }
 {
     board.holds();
-    turn(alloc, c, j, &mut crew[k], board)?;
+    turn(alloc, c, j, &mut crew[k], board);
     board.holds();
-    Ok(())
 }
 
 // Whether this is the number of a worker that has not ended.
@@ -161,6 +161,13 @@ pub(crate) fn next_running(crew: &[Worker], from: usize) -> usize
         return k;
     }
     running_from(crew, 0)
+}
+
+/// Whether a worker was refused memory.
+pub(crate) fn any_refused(crew: &[Worker]) -> bool
+    ensures { result ≡ any_refused crew.now }
+{
+    crew.iter().any(|worker| worker.phase.is_refused())
 }
 
 /// What each worker has spent, from worker 0 on.

@@ -1,11 +1,12 @@
 //! What a worker does next, decided over the entries that it has seen alone. The main call is `decide`.
 
-ghost use Rattle.std.specs.Prelude.{◌≡◌, ◌^◌, ◌<◌, length, IfOk, IfErr};
+ghost use Rattle.std.specs.Prelude.{◌≡◌, ◌+◌, ◌^◌, ◌<◌, max, length, IfOk, IfErr};
 ghost use Rattle.std.specs.Arc.{arc_value};
+ghost use Rattle.aig_semantics.specs.Circuits.{fair_literals};
 ghost use Rattle.entry.specs.CheckedEntries.{viewed};
 ghost use Rattle.entry.specs.Laws.{IsGoodList};
 ghost use Rattle.skeleton.specs.Finding.{GoesOnFrom, IsFound, IsAllowed};
-ghost use Rattle.fair_workers.specs.Walks.{IsStop, KeepsLimits, Excludes, entry_of_bar};
+ghost use Rattle.fair_workers.specs.Walks.{IsStop, KeepsLimits, Asks, Excludes, entry_of_bar};
 ghost use Rattle.fair_workers.specs.Deeds.{IsDeed, IsPosting};
 
 use crate::seeking::{Sought, seek};
@@ -49,6 +50,7 @@ pub(crate) fn found(
     ensures found { IfOk result (IsFound query.old.circuit query.old.property (viewed view.now)) }
     ensures stop { IfErr result (IsStop meter.new) }
     ensures limits { KeepsLimits meter.old meter.new }
+    ensures steps { meter.new.steps ≡ meter.old.steps }
     ensures circuit { query.new.circuit ≡ query.old.circuit }
     ensures property { query.new.property ≡ query.old.property }
     ensures seen { GoesOnFrom query.new.seen (viewed view.now) }
@@ -77,6 +79,7 @@ fn certified(
     ensures posting { IfOk result (IsPosting (arc_value c.now) (viewed view.now) _j author.number) }
     ensures stop { IfErr result (IsStop meter.new) }
     ensures limits { KeepsLimits meter.old meter.new }
+    ensures steps { meter.new.steps ≡ meter.old.steps }
 {
     let claim = Claim {
         kind: bar.kind,
@@ -112,6 +115,8 @@ pub(crate) fn decide(
     ensures deed { IfOk result (IsDeed (arc_value c.now) (viewed view.now) j author.number) }
     ensures stop { IfErr result (IsStop meter.new) }
     ensures limits { KeepsLimits meter.old meter.new }
+    ensures steps { Asks (length (arc_value c.now).latches) (max 1 (length (fair_literals (arc_value c.now) j)) + 1) meter.old
+        meter.new }
     ensures circuit { query.new.circuit ≡ query.old.circuit }
     ensures property { query.new.property ≡ query.old.property }
     ensures seen { GoesOnFrom query.new.seen (viewed view.now) }
@@ -137,6 +142,8 @@ fn go_on(
     ensures deed { IfOk result (IsDeed (arc_value c.now) (viewed view.now) j author.number) }
     ensures stop { IfErr result (IsStop meter.new) }
     ensures limits { KeepsLimits meter.old meter.new }
+    ensures steps { Asks (length (arc_value c.now).latches) (max 1 (length (fair_literals (arc_value c.now) j)) + 1) meter.old
+        meter.new }
 {
     match seek(alloc, c, j, view, skeleton, meter)? {
         Sought::Lasso(lasso) => Ok(Deed::Finish(Outcome::Lasso(lasso))),

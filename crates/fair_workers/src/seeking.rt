@@ -1,13 +1,13 @@
 //! The search for a lasso through a skeleton. The main call is `seek`.
 
-ghost use Rattle.std.specs.Prelude.{◌≡◌, ◌-◌, [], length, slice_index_or, IfOk, IfErr};
+ghost use Rattle.std.specs.Prelude.{◌≡◌, ◌+◌, ◌-◌, [], length, slice_index_or, IfOk, IfErr};
 ghost use Rattle.aig_semantics.specs.Stimuli.{IsFairLassoOf};
 ghost use Rattle.entry.specs.CheckedEntries.{viewed};
 ghost use Rattle.entry.specs.Laws.{IsGoodList};
 ghost use Rattle.fair_semantics.specs.Skeletons.{IsSkeleton};
 ghost use Rattle.lasso_join.specs.Fitting.{IsStemTo, Fit};
 ghost use Rattle.skeleton.specs.Finding.{IsAllowed};
-ghost use Rattle.fair_workers.specs.Walks.{IsStop, KeepsLimits, AreWalked, IsSought, skeleton_of, states};
+ghost use Rattle.fair_workers.specs.Walks.{IsStop, KeepsLimits, Asks, AreWalked, IsSought, skeleton_of, states};
 
 use crate::walking::{Walked, walk};
 use crate::ways::{Bar, Stop, Way, closing, stem};
@@ -71,6 +71,7 @@ pub(crate) fn seek(
     ensures sought { IfOk result (IsSought c.now (viewed view.now) j) }
     ensures stop { IfErr result (IsStop meter.new) }
     ensures limits { KeepsLimits meter.old meter.new }
+    ensures steps { Asks (length c.now.latches) (length skeleton.situations + 1) meter.old meter.new }
 {
     let Skeleton { situations } = skeleton;
     let mut situations = situations.into_vec();
@@ -102,6 +103,7 @@ fn go_round(
     ensures sought { IfOk result (IsSought c.now (viewed view.now) j) }
     ensures stop { IfErr result (IsStop meter.new) }
     ensures limits { KeepsLimits meter.old meter.new }
+    ensures steps { Asks (length c.now.latches) 1 meter.old meter.new }
 {
     let mut pieces = pieces;
     match closing(alloc, c, j, view, situations.as_slice(), meter)? {

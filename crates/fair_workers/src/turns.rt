@@ -1,17 +1,17 @@
 //! Workers that take turns on one thread. The main call is `run_turns`.
 
-ghost use Rattle.std.specs.Prelude.{◌≡◌, ◌≢◌, ◌<◌, ◌≤◌, [], ◌∷◌, true, false, None, map, length, IfOk, IfErr, OnOk};
+ghost use Rattle.std.specs.Prelude.{◌≡◌, ◌≢◌, ◌<◌, ◌≤◌, [], ◌∷◌, true, false, None, Ok, Err, map, length, IfOk, IfErr};
 ghost use Rattle.std.specs.Arc.{arc_value};
 ghost use Rattle.wall_store.specs.Boards.{IsSoundList, outcome_of, most_entries};
 ghost use Rattle.fair_workers.specs.Runs.{AreLimits, IsAnswered, IsEnded};
-ghost use Rattle.fair_workers.specs.Working.{IsCrew, IsOver, task_of};
+ghost use Rattle.fair_workers.specs.Working.{IsCrew, IsOver, any_refused, task_of};
 
-use crate::crews::{crew_of, due, next_running, spendings, take_turn};
+use crate::crews::{any_refused, crew_of, due, next_running, spendings, take_turn};
 use crate::limits::{Ended, Limits, Report};
 use crate::working::Worker;
 use circuit::Circuit;
 use entry::Checked;
-use std::alloc::{AllocError, Global};
+use std::alloc::Global;
 use std::sync::Arc;
 use wall_store::Board;
 
@@ -25,18 +25,17 @@ fn by_schedule(
     schedule: &[u32],
     crew: &mut [Worker],
     board: &mut Board,
-) -> Result<(), AllocError>
+)
     requires { IsCrew
         (task_of (arc_value c.now) j limits (map arc_value _given.now)) j board.old crew.old }
-    ensures { OnOk result (IsCrew
-        (task_of (arc_value c.now) j limits (map arc_value _given.now)) j board.new crew.new) }
+    ensures { IsCrew
+        (task_of (arc_value c.now) j limits (map arc_value _given.now)) j board.new crew.new }
 {
     let mut at = due(schedule, 0, crew);
     while at < schedule.len() {
-        take_turn(alloc, c, j, limits, crew, schedule[at] as usize, board)?;
+        take_turn(alloc, c, j, limits, crew, schedule[at] as usize, board);
         at = due(schedule, at + 1, crew);
     }
-    Ok(())
 }
 
 // Turns from worker 0 upwards, again and again, until all have ended.
@@ -48,19 +47,18 @@ fn round_robin(
     _given: &[Arc<Checked>],
     crew: &mut [Worker],
     board: &mut Board,
-) -> Result<(), AllocError>
+)
     requires { IsCrew
         (task_of (arc_value c.now) j limits (map arc_value _given.now)) j board.old crew.old }
-    ensures crew { OnOk result (IsCrew
-        (task_of (arc_value c.now) j limits (map arc_value _given.now)) j board.new crew.new) }
-    ensures over { OnOk result (IsOver crew.new) }
+    ensures crew { IsCrew
+        (task_of (arc_value c.now) j limits (map arc_value _given.now)) j board.new crew.new }
+    ensures over { IsOver crew.new }
 {
     let mut k = next_running(crew, 0);
     while k < crew.len() {
-        take_turn(alloc, c, j, limits, crew, k, board)?;
+        take_turn(alloc, c, j, limits, crew, k, board);
         k = next_running(crew, k + 1);
     }
-    Ok(())
 }
 
 // Whether the property has an outcome.
@@ -74,7 +72,7 @@ fn has_outcome(board: &Board, j: u32) -> bool
     }
 }
 
-// The board with its outcome, or the report.
+// The board with its outcome; else want of memory, where a worker was refused some; else the report.
 fn ended(
     alloc: Global,
     _c: &Arc<Circuit>,
@@ -88,10 +86,35 @@ fn ended(
     requires over { IsOver crew.now }
     ensures answered { IfOk result (IsAnswered (task_of (arc_value _c.now) j _limits (map arc_value _given.now))) }
     ensures ended { IfErr result (IsEnded (task_of (arc_value _c.now) j _limits (map arc_value _given.now))) }
+    ensures first { outcome_of board.served j ≢ None → result ≡ Ok board }
+    ensures refused { outcome_of board.served j ≡ None → any_refused crew.now ≡ true → result ≡ Err Ended.Memory }
 {
     if has_outcome(&board, j) {
         return Ok(board);
     }
+    if any_refused(crew) {
+        return Err(Ended::Memory);
+    }
+    reported(alloc, _c, j, _limits, _given, crew, board)
+}
+
+// The report of workers none of which was refused memory, where the property has no outcome.
+fn reported(
+    alloc: Global,
+    _c: &Arc<Circuit>,
+    _j: u32,
+    _limits: Limits,
+    _given: &[Arc<Checked>],
+    crew: &[Worker],
+    board: Board,
+) -> Result<Board, Ended>
+    requires crew { IsCrew (task_of (arc_value _c.now) _j _limits (map arc_value _given.now)) _j board crew.now }
+    requires over { IsOver crew.now }
+    requires unanswered { outcome_of board.served _j ≡ None }
+    requires unrefused { any_refused crew.now ≡ false }
+    ensures never { IfOk result (λ _board. ⊥) }
+    ensures ended { IfErr result (IsEnded (task_of (arc_value _c.now) _j _limits (map arc_value _given.now))) }
+{
     let workers = spendings(alloc, crew)?;
     Err(Ended::Spent(Report { board, workers }))
 }
@@ -112,8 +135,8 @@ fn run_crew(
     ensures ended { IfErr result (IsEnded (task_of (arc_value c.now) j limits (map arc_value given.now))) }
 {
     let mut board = board;
-    by_schedule(alloc, c, j, limits, given, schedule, crew, &mut board)?;
-    round_robin(alloc, c, j, limits, given, crew, &mut board)?;
+    by_schedule(alloc, c, j, limits, given, schedule, crew, &mut board);
+    round_robin(alloc, c, j, limits, given, crew, &mut board);
     ended(alloc, c, j, limits, given, crew, board)
 }
 
@@ -122,10 +145,12 @@ fn run_crew(
 ///
 /// A turn of a worker is its work up to its next event of the board, that event included, or to its end. The schedule
 /// says who takes the first turns; a number of it that is no worker's, or that of a worker that has ended, is skipped.
-/// Then the workers take turns from worker 0 upwards, again and again.
+/// Then the workers take turns from worker 0 upwards, again and again. No clause says who takes a turn; tests show it.
 ///
-/// `Spent` comes only where the property has no outcome, and either the list is full and its entries allow a skeleton,
-/// or each worker has spent its conflicts or its steps; the other error is want of memory.
+/// A worker that is refused memory ends, and the others go on. An outcome comes before want of memory, and that before a
+/// report. `Spent` comes only where the property has no outcome, and either the list is full and its entries allow a
+/// skeleton, or each worker has spent its conflicts or its steps. Whatever their limit is, no worker takes more steps than
+/// `most_steps` says; so a limit above that is never spent.
 pub fn run_turns(
     alloc: Global,
     c: &Arc<Circuit>,

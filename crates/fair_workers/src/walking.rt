@@ -8,7 +8,7 @@ ghost use Rattle.aig_semantics.specs.Runs.{successor, MeetsConstraints};
 ghost use Rattle.entry.specs.CheckedEntries.{viewed};
 ghost use Rattle.entry.specs.Laws.{IsGoodList};
 ghost use Rattle.skeleton.specs.Finding.{IsAllowed};
-ghost use Rattle.fair_workers.specs.Walks.{IsStop, KeepsLimits, EndsPossible, IsPieceOf, IsStepTo, IsWalk, skeleton_of, states};
+ghost use Rattle.fair_workers.specs.Walks.{IsStop, KeepsLimits, Asks, EndsPossible, IsPieceOf, IsStepTo, IsWalk, skeleton_of, states};
 
 use crate::ways::{Bar, Stop, asked};
 use circuit::{Circuit, Position, eval_into, next_into};
@@ -111,6 +111,7 @@ fn step_to(
     ensures step { IfOk result (IsStepTo c.now (viewed view.now) j situations.now k) }
     ensures stop { IfErr result (IsStop meter.new) }
     ensures limits { KeepsLimits meter.old meter.new }
+    ensures steps { Asks (length c.now.latches) 1 meter.old meter.new }
 {
     let start = Start::State(situations[k - 1].successor.try_copy(alloc)?);
     let goal = Goal::Literal {
@@ -147,6 +148,7 @@ pub(crate) fn walk(
     ensures size { OnOk result (length situations.new.items ≡ length situations.old.items) }
     ensures stop { IfErr result (IsStop meter.new) }
     ensures limits { KeepsLimits meter.old meter.new }
+    ensures steps { Asks (length c.now.latches) (length situations.old.items - 1) meter.old meter.new }
 {
     let mut pieces = Items::new(alloc);
     for k in 1..situations.len() {

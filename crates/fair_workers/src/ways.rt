@@ -5,7 +5,7 @@ ghost use Rattle.entry.specs.CheckedEntries.{viewed};
 ghost use Rattle.entry.specs.Laws.{IsGoodList};
 ghost use Rattle.ic3_questions.specs.Searching.{IsStart, IsGoal, IsReached};
 ghost use Rattle.skeleton.specs.Finding.{IsAllowed};
-ghost use Rattle.fair_workers.specs.Walks.{IsStop, KeepsLimits, IsStem, IsWay, skeleton_of, states, successors};
+ghost use Rattle.fair_workers.specs.Walks.{IsStop, KeepsLimits, Asks, IsStem, IsWay, skeleton_of, states, successors};
 
 use circuit::{Circuit, Position};
 use cnf::Clause;
@@ -71,6 +71,7 @@ pub(crate) fn asked(
     }) goal.now) }
     ensures stop { IfErr result (IsStop meter.new) }
     ensures limits { KeepsLimits meter.old meter.new }
+    ensures steps { Asks (length c.now.latches) 1 meter.old meter.new }
 {
     match reach(alloc, c, view, start, goal, meter) {
         Ok(reached) => Ok(reached),
@@ -95,6 +96,7 @@ pub(crate) fn stem(
     ensures stem { IfOk result (IsStem c.now (viewed view.now) situations.now) }
     ensures stop { IfErr result (IsStop meter.new) }
     ensures limits { KeepsLimits meter.old meter.new }
+    ensures steps { Asks (length c.now.latches) 1 meter.old meter.new }
 {
     let goal = Goal::State(situations[0].position.latches.as_slice());
     match asked(alloc, c, view, &Start::Initial, &goal, meter)? {
@@ -124,6 +126,7 @@ pub(crate) fn closing(
         (slice_index_or (states situations.now) 0 []) situations.now) }
     ensures stop { IfErr result (IsStop meter.new) }
     ensures limits { KeepsLimits meter.old meter.new }
+    ensures steps { Asks (length c.now.latches) 1 meter.old meter.new }
 {
     let last = &situations[situations.len() - 1];
     let start = Start::State(last.successor.try_copy(alloc)?);

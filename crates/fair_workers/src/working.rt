@@ -1,7 +1,7 @@
 //! A worker, and what it does in a turn. The main call is `turn`: the work up to the next event of the board, and that
 //! event.
 
-ghost use Rattle.std.specs.Prelude.{◌≡◌, ◌≢◌, [], ◌∷◌, true, length, IfOk, IfErr, OnOk, None};
+ghost use Rattle.std.specs.Prelude.{◌≡◌, ◌≢◌, [], ◌∷◌, true, length, IfOk, IfErr, None};
 ghost use Rattle.std.specs.Arc.{arc_value};
 ghost use Rattle.skeleton.specs.Finding.{IsFound};
 ghost use Rattle.wall_store.specs.Boards.{plain, properties_of, outcome_of};
@@ -9,7 +9,7 @@ ghost use Rattle.wall_store.specs.Events.{list_of};
 ghost use Rattle.fair_workers.specs.Runs.{IsSpent};
 ghost use Rattle.fair_workers.specs.Walks.{IsStop};
 ghost use Rattle.fair_workers.specs.Deeds.{IsDeed, IsPosting, IsTrueBehind};
-ghost use Rattle.fair_workers.specs.Working.{is_running, phase_after, IsStuck, IsWorker, Turns, Thinks};
+ghost use Rattle.fair_workers.specs.Working.{is_running, is_refused, phase_after, searches_ahead, IsStuck, IsWorker, Turns, Thinks};
 
 use crate::deciding::{Author, Deed, decide, found};
 use crate::ways::Stop;
@@ -17,7 +17,7 @@ use circuit::Circuit;
 use edge::Meter;
 use entry::Checked;
 use skeleton::{Found, Query};
-use std::alloc::{AllocError, Global};
+use std::alloc::Global;
 use std::sync::Arc;
 use wall_store::{Board, Outcome, Posted, outcomes_stay};
 
@@ -30,7 +30,9 @@ pub(crate) enum Phase {
     Looks,
     /// It searches, and posts an entry or hands in an outcome.
     Searches,
-    /// It found the list full, and looks for the last time.
+    /// It found the list full, and asks for the last time whether its property is open.
+    AsksLast,
+    /// It looks for the last time.
     LooksLast,
     /// It asks for the last time whether all skeletons are excluded.
     SearchesLast,
@@ -40,6 +42,8 @@ pub(crate) enum Phase {
     Full,
     /// It ended, since its conflicts or its steps are spent.
     Spent,
+    /// It ended, since memory was refused.
+    Refused,
 }
 
 /// A worker: its number, how many entries it has seen, how many turns it had, its query and its meter.
@@ -63,10 +67,11 @@ fn think(
 ) -> Result<Deed, Stop>
     requires worker { IsWorker j board.now worker.old }
     requires circuit { arc_value c.now ≡ board.now.circuit }
+    requires phase { worker.old.phase ≡ Phase.Searches }
     ensures deed { IfOk result (IsDeed board.now.circuit (plain (list_of board.now worker.old.number)) j
         worker.old.number) }
     ensures stop { IfErr result (IsStop worker.new.meter) }
-    ensures thinks { Thinks j board.now worker.old worker.new }
+    ensures thinks { Thinks j (searches_ahead worker.new.phase) board.now worker.old worker.new }
 {
     board.entries_are_good();
     board.holds();
@@ -91,7 +96,7 @@ fn think_last(alloc: Global, j: u32, worker: &mut Worker, board: &Board) -> Resu
     requires worker { IsWorker j board.now worker.old }
     ensures found { IfOk result (IsFound board.now.circuit j (plain (list_of board.now worker.old.number))) }
     ensures stop { IfErr result (IsStop worker.new.meter) }
-    ensures thinks { Thinks j board.now worker.old worker.new }
+    ensures thinks { Thinks j (searches_ahead worker.new.phase) board.now worker.old worker.new }
 {
     board.entries_are_good();
     board.holds();
@@ -104,10 +109,23 @@ fn ask(_j: u32, worker: &mut Worker, board: &mut Board)
     requires worker { IsWorker _j board.old worker.old }
     requires served { properties_of board.old.served ≡ _j ∷ [] }
     requires phase { worker.old.phase ≡ Phase.Asks }
-    ensures { Turns _j board.old worker.old board.new worker.new }
+    ensures { Turns _j 0 board.old worker.old board.new worker.new }
 {
     worker.phase = match board.next_open(worker.number, 0) {
         Some(_) => Phase::Looks,
+        None => Phase::Closed,
+    };
+}
+
+// Asks the same for the last time.
+fn ask_last(_j: u32, worker: &mut Worker, board: &mut Board)
+    requires worker { IsWorker _j board.old worker.old }
+    requires served { properties_of board.old.served ≡ _j ∷ [] }
+    requires phase { worker.old.phase ≡ Phase.AsksLast }
+    ensures { Turns _j 0 board.old worker.old board.new worker.new }
+{
+    worker.phase = match board.next_open(worker.number, 0) {
+        Some(_) => Phase::LooksLast,
         None => Phase::Closed,
     };
 }
@@ -116,7 +134,7 @@ fn ask(_j: u32, worker: &mut Worker, board: &mut Board)
 fn look(_j: u32, worker: &mut Worker, board: &mut Board)
     requires worker { IsWorker _j board.old worker.old }
     requires phase { worker.old.phase ≡ Phase.Looks }
-    ensures { Turns _j board.old worker.old board.new worker.new }
+    ensures { Turns _j 0 board.old worker.old board.new worker.new }
 {
     board.holds();
     worker.seen = board.look(worker.number) as usize;
@@ -127,7 +145,7 @@ fn look(_j: u32, worker: &mut Worker, board: &mut Board)
 fn look_last(_j: u32, worker: &mut Worker, board: &mut Board)
     requires worker { IsWorker _j board.old worker.old }
     requires phase { worker.old.phase ≡ Phase.LooksLast }
-    ensures { Turns _j board.old worker.old board.new worker.new }
+    ensures { Turns _j 0 board.old worker.old board.new worker.new }
 {
     board.holds();
     worker.seen = board.look(worker.number) as usize;
@@ -139,7 +157,7 @@ fn after_post(posted: Posted) -> Phase
 {
     match posted {
         Posted::Appended(_) | Posted::Stale(_) => Phase::Asks,
-        Posted::Full => Phase::LooksLast,
+        Posted::Full => Phase::AsksLast,
         Posted::Closed => Phase::Closed,
     }
 }
@@ -151,7 +169,7 @@ fn post(_j: u32, worker: &mut Worker, entry: Arc<Checked>, board: &mut Board)
     requires phase { worker.old.phase ≡ Phase.Searches }
     requires entry { IsPosting board.old.circuit (plain (list_of board.old worker.old.number)) _j worker.old.number
         (arc_value entry) }
-    ensures { Turns _j board.old worker.old board.new worker.new }
+    ensures { Turns _j (searches_ahead worker.old.phase) board.old worker.old board.new worker.new }
 {
     board.holds();
     board.seen_uses_stand();
@@ -168,7 +186,7 @@ fn finish(c: &Circuit, j: u32, worker: &mut Worker, outcome: Outcome, board: &mu
     requires served { properties_of board.old.served ≡ j ∷ [] }
     requires running { is_running worker.old.phase ≡ true }
     requires outcome { IsTrueBehind board.old.circuit (plain (list_of board.old worker.old.number)) j outcome }
-    ensures { Turns j board.old worker.old board.new worker.new }
+    ensures { Turns j (searches_ahead worker.old.phase) board.old worker.old board.new worker.new }
 {
     outcomes_stay(c);
     board.finish(worker.number, j, outcome);
@@ -180,9 +198,18 @@ fn end_spent(_j: u32, worker: &mut Worker, _board: &Board)
     requires worker { IsWorker _j _board.now worker.old }
     requires running { is_running worker.old.phase ≡ true }
     requires spent { IsSpent worker.old.meter }
-    ensures { Turns _j _board.now worker.old _board.now worker.new }
+    ensures { Turns _j (searches_ahead worker.old.phase) _board.now worker.old _board.now worker.new }
 {
     worker.phase = Phase::Spent;
+}
+
+// The worker ends, since memory was refused.
+fn end_refused(_j: u32, worker: &mut Worker, _board: &Board)
+    requires worker { IsWorker _j _board.now worker.old }
+    requires running { is_running worker.old.phase ≡ true }
+    ensures { Turns _j (searches_ahead worker.old.phase) _board.now worker.old _board.now worker.new }
+{
+    worker.phase = Phase::Refused;
 }
 
 // The worker ends, since the list is full and a skeleton is left.
@@ -190,47 +217,49 @@ fn end_full(_j: u32, worker: &mut Worker, _board: &Board)
     requires worker { IsWorker _j _board.now worker.old }
     requires phase { worker.old.phase ≡ Phase.SearchesLast }
     requires stuck { IsStuck _j _board.now }
-    ensures { Turns _j _board.now worker.old _board.now worker.new }
+    ensures { Turns _j (searches_ahead worker.old.phase) _board.now worker.old _board.now worker.new }
 {
     worker.phase = Phase::Full;
 }
 
+// Shares the entry and posts it.
+fn post_shared(alloc: Global, j: u32, worker: &mut Worker, entry: Checked, board: &mut Board)
+    requires worker { IsWorker j board.old worker.old }
+    requires served { properties_of board.old.served ≡ j ∷ [] }
+    requires phase { worker.old.phase ≡ Phase.Searches }
+    requires entry { IsPosting board.old.circuit (plain (list_of board.old worker.old.number)) j worker.old.number
+        entry }
+    ensures { Turns j (searches_ahead worker.old.phase) board.old worker.old board.new worker.new }
+{
+    match Arc::new(alloc, entry) {
+        Ok(entry) => post(j, worker, entry, board),
+        Err(_) => end_refused(j, worker, board),
+    }
+}
+
 // Searches, and then posts or hands in what it found.
-fn search(
-    alloc: Global,
-    c: &Arc<Circuit>,
-    j: u32,
-    worker: &mut Worker,
-    board: &mut Board,
-) -> Result<(), AllocError>
+fn search(alloc: Global, c: &Arc<Circuit>, j: u32, worker: &mut Worker, board: &mut Board)
     requires worker { IsWorker j board.old worker.old }
     requires circuit { arc_value c.now ≡ board.old.circuit }
     requires served { properties_of board.old.served ≡ j ∷ [] }
     requires phase { worker.old.phase ≡ Phase.Searches }
-    ensures { OnOk result (Turns j board.old worker.old board.new worker.new) }
+    ensures { Turns j 0 board.old worker.old board.new worker.new }
 {
     match think(alloc, c, j, worker, board) {
-        Ok(Deed::Post(entry)) => post(j, worker, Arc::new(alloc, entry)?, board),
+        Ok(Deed::Post(entry)) => post_shared(alloc, j, worker, entry, board),
         Ok(Deed::Finish(outcome)) => finish(c, j, worker, outcome, board),
         Err(Stop::Spent) => end_spent(j, worker, board),
-        Err(Stop::Memory) => return Err(AllocError),
+        Err(Stop::Memory) => end_refused(j, worker, board),
     }
-    Ok(())
 }
 
 // Asks for a skeleton for the last time.
-fn search_last(
-    alloc: Global,
-    c: &Arc<Circuit>,
-    j: u32,
-    worker: &mut Worker,
-    board: &mut Board,
-) -> Result<(), AllocError>
+fn search_last(alloc: Global, c: &Arc<Circuit>, j: u32, worker: &mut Worker, board: &mut Board)
     requires worker { IsWorker j board.old worker.old }
     requires circuit { arc_value c.now ≡ board.old.circuit }
     requires served { properties_of board.old.served ≡ j ∷ [] }
     requires phase { worker.old.phase ≡ Phase.SearchesLast }
-    ensures { OnOk result (Turns j board.old worker.old board.new worker.new) }
+    ensures { Turns j 0 board.old worker.old board.new worker.new }
 {
     match think_last(alloc, j, worker, board) {
         Ok(Found::Skeleton(_left)) => end_full(j, worker, board),
@@ -238,9 +267,8 @@ fn search_last(
             finish(c, j, worker, Outcome::Holds(refutation), board);
         }
         Err(Stop::Spent) => end_spent(j, worker, board),
-        Err(Stop::Memory) => return Err(AllocError),
+        Err(Stop::Memory) => end_refused(j, worker, board),
     }
-    Ok(())
 }
 
 impl Phase {
@@ -249,9 +277,21 @@ impl Phase {
         ensures { result ≡ is_running self }
     {
         match self {
-            Phase::Closed | Phase::Full | Phase::Spent => false,
+            Phase::Closed | Phase::Full | Phase::Spent | Phase::Refused => false,
             Phase::Asks | Phase::Looks | Phase::Searches => true,
-            Phase::LooksLast | Phase::SearchesLast => true,
+            Phase::AsksLast | Phase::LooksLast | Phase::SearchesLast => true,
+        }
+    }
+
+    /// Whether the worker ended, since memory was refused.
+    pub(crate) fn is_refused(self) -> bool
+        ensures { result ≡ is_refused self }
+    {
+        match self {
+            Phase::Refused => true,
+            Phase::Closed | Phase::Full | Phase::Spent => false,
+            Phase::Asks | Phase::Looks | Phase::Searches => false,
+            Phase::AsksLast | Phase::LooksLast | Phase::SearchesLast => false,
         }
     }
 }
@@ -259,50 +299,38 @@ impl Phase {
 // Counts one turn more.
 fn count_turn(_j: u32, worker: &mut Worker, _board: &Board)
     requires { IsWorker _j _board.now worker.old }
-    ensures { Thinks _j _board.now worker.old worker.new }
+    ensures { Thinks _j 0 _board.now worker.old worker.new }
 {
     worker.turns = worker.turns.saturating_add(1);
 }
 
-/// A turn of a worker that has not ended. The error is want of memory.
-pub(crate) fn turn(
-    alloc: Global,
-    c: &Arc<Circuit>,
-    j: u32,
-    worker: &mut Worker,
-    board: &mut Board,
-) -> Result<(), AllocError>
+/// A turn of a worker that has not ended. Where memory is refused, the worker ends.
+pub(crate) fn turn(alloc: Global, c: &Arc<Circuit>, j: u32, worker: &mut Worker, board: &mut Board)
     requires worker { IsWorker j board.old worker.old }
     requires circuit { arc_value c.now ≡ board.old.circuit }
     requires served { properties_of board.old.served ≡ j ∷ [] }
     requires running { is_running worker.old.phase ≡ true }
-    ensures { OnOk result (Turns j board.old worker.old board.new worker.new) }
+    ensures { Turns j 0 board.old worker.old board.new worker.new }
 {
     count_turn(j, worker, board);
-    event(alloc, c, j, worker, board)
+    event(alloc, c, j, worker, board);
 }
 
 // What the worker does up to its next event, and that event.
-fn event(
-    alloc: Global,
-    c: &Arc<Circuit>,
-    j: u32,
-    worker: &mut Worker,
-    board: &mut Board,
-) -> Result<(), AllocError>
+fn event(alloc: Global, c: &Arc<Circuit>, j: u32, worker: &mut Worker, board: &mut Board)
     requires worker { IsWorker j board.old worker.old }
     requires circuit { arc_value c.now ≡ board.old.circuit }
     requires served { properties_of board.old.served ≡ j ∷ [] }
     requires running { is_running worker.old.phase ≡ true }
-    ensures { OnOk result (Turns j board.old worker.old board.new worker.new) }
+    ensures { Turns j 0 board.old worker.old board.new worker.new }
 {
     match worker.phase {
         Phase::Asks => ask(j, worker, board),
         Phase::Looks => look(j, worker, board),
-        Phase::Searches => return search(alloc, c, j, worker, board),
+        Phase::Searches => search(alloc, c, j, worker, board),
+        Phase::AsksLast => ask_last(j, worker, board),
         Phase::LooksLast => look_last(j, worker, board),
-        Phase::SearchesLast => return search_last(alloc, c, j, worker, board),
-        Phase::Closed | Phase::Full | Phase::Spent => unreachable!(),
+        Phase::SearchesLast => search_last(alloc, c, j, worker, board),
+        Phase::Closed | Phase::Full | Phase::Spent | Phase::Refused => unreachable!(),
     }
-    Ok(())
 }

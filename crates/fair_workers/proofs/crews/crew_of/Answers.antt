@@ -4,7 +4,7 @@ use Rattle.std.proofs.lemmas.List.{length-append, length-map}
 use Rattle.fair_workers.specs.declared.working.Worker.{Worker}
 use Rattle.fair_workers.specs.Runs.{IsWithLimits}
 use Rattle.fair_workers.specs.Working.{AreWorkers, IsWorker}
-use Rattle.fair_workers.proofs.Together.{worker-first, crew-push}
+use Rattle.fair_workers.proofs.Together.{worker-first, sparing-first, crew-push}
 use Rattle.fair_workers.proofs.crews.crew_of.Goals as goal
 
 pub loop-number-preserved : goal.loop-number-preserved
@@ -28,5 +28,7 @@ loop-number-preserved c =
     record {
       count = omega (arith, ap length c.in_ok-push.ensures.items, length-append crew (w ∷ []), c.loop-number.invariant.count);
       workers = subst (AreWorkers c.args.limits c.args.j b) (sym c.in_ok-push.ensures.items)
-          (crew-push c.args.limits c.args.j b crew w c.loop-number.invariant.workers (number ∙ sym c.loop-number.invariant.count) is within);
+          (crew-push c.args.limits c.args.j b crew w c.loop-number.invariant.workers (number ∙ sym c.loop-number.invariant.count) is within
+          (sparing-first c.args.limits c.args.j b w c.requires.grows (is.seen ∙ c.requires.seen w.number below) (ap (λ (v : Worker). v.phase) e)
+          (ap (λ (v : Worker). v.meter.steps) e)));
     }

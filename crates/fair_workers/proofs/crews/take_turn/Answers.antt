@@ -9,4 +9,4 @@ returns-clause-crew c =
     let w : Worker = get_or c.args.crew.now c.args.k c.index-crew-k.result in
     crew-turn c.args._limits c.args.j c.args.board.now c.turn.new.board c.args.crew.now c.args.k w c.turn.new.worker
     c.holds.ensures c.holds-2.ensures c.requires.crew c.requires.inside (get_or_default c.args.crew.now c.args.k c.index-crew-k.result w c.requires.inside)
-    c.in_ok-turn.ensures
+    c.turn.ensures

@@ -1,7 +1,8 @@
-use Rattle.std.proofs.Common.{◌+◌, ◌-◌, set, sym, ◌∙◌, subst, arith}
+use Rattle.std.proofs.Common.{◌+◌, ◌-◌, length, set, sym, ◌∙◌, subst, arith}
 use Rattle.std.proofs.lemmas.List.{length-set}
 use Rattle.entry.specs.CheckedEntries.{viewed}
 use Rattle.fair_workers.specs.Walks.{AreWalked}
+use Rattle.fair_workers.proofs.Counting.{asks-then}
 use Rattle.fair_workers.proofs.Steps.{piece-part, walked-on, first-stays}
 use Rattle.fair_workers.proofs.walking.walk.Goals as goal
 
@@ -28,4 +29,5 @@ loop-k-preserved c =
         conflicts = c.step_to.ensures.limits.conflicts ∙ before.limits.conflicts;
         steps = c.step_to.ensures.limits.steps ∙ before.limits.steps;
       };
+      steps = asks-then (length c.args.c.now.latches) (k - 1) 1 (k + 1 - 1) c.args.meter.now c.loop-k.meter c.step_to.new.meter before.steps c.step_to.ensures.steps (omega (arith, before.some));
     }

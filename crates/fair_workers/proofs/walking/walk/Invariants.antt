@@ -1,7 +1,7 @@
 use Rattle.std.proofs.Common.{◌≡◌, ◌-◌, ◌≤◌, [], length, get_or}
 use Rattle.entry.specs.CheckedEntries.{viewed}
 use Rattle.skeleton.specs.Finding.{IsAllowed}
-use Rattle.fair_workers.specs.Walks.{KeepsLimits, AreWalked, skeleton_of, states}
+use Rattle.fair_workers.specs.Walks.{KeepsLimits, Asks, AreWalked, skeleton_of, states}
 use Rattle.fair_workers.proofs.walking.walk.Given as goal
 
 abbrev pub invariant-loop-k : goal.invariant-loop-k
@@ -14,4 +14,5 @@ invariant-loop-k l = record {
   last : l.k-end ≡ length l.initial.situations.items;
   walked : AreWalked l.c l.situations.items (l.k - 1) l.pieces;
   limits : KeepsLimits l.initial.meter l.meter;
+  steps : Asks (length l.c.latches) (l.k - 1) l.initial.meter l.meter;
 }

@@ -5,7 +5,7 @@ use Rattle.skeleton.specs.Finding.{GoesOnFrom}
 use Rattle.wall_store.specs.Boards.{plain}
 use Rattle.wall_store.specs.Events.{list_of}
 use Rattle.fair_workers.specs.Deeds.{IsDeed}
-use Rattle.fair_workers.proofs.Turned.{seen-view, good-view}
+use Rattle.fair_workers.proofs.Turned.{seen-view, good-view, thought}
 use Rattle.fair_workers.proofs.working.think.Goals as goal
 
 pub decide-requires-clause-on : goal.decide-requires-clause-on
@@ -31,4 +31,7 @@ returns-clause-thinks c = record {
   property = c.decide.ensures.property;
   on = subst (GoesOnFrom c.decide.new.query.seen) (seen-view c.entries.result.now c.args.board.now c.args.worker.now c.entries.ensures.viewed c.requires.worker.seen) c.decide.ensures.seen;
   limits = c.decide.ensures.limits;
+  steps =
+      thought c.args.worker.now.phase c.args.worker.now.meter.steps c.decide.new.meter.steps c.args.board.now.circuit (arc_value c.args.c.now) c.args.j
+      c.requires.phase c.requires.circuit c.decide.ensures.steps;
 }

@@ -3,7 +3,8 @@ use Rattle.entry.specs.Laws.{IsGoodList}
 use Rattle.skeleton.specs.Finding.{GoesOnFrom, IsFound}
 use Rattle.wall_store.specs.Boards.{plain}
 use Rattle.wall_store.specs.Events.{list_of}
-use Rattle.fair_workers.proofs.Turned.{seen-view, good-view}
+use Rattle.fair_workers.specs.Working.{searches_ahead, search_steps}
+use Rattle.fair_workers.proofs.Turned.{seen-view, good-view, unthought}
 use Rattle.fair_workers.proofs.working.think_last.Goals as goal
 
 pub found-requires-clause-on : goal.found-requires-clause-on
@@ -32,4 +33,6 @@ returns-clause-thinks c = record {
   property = c.found.ensures.property;
   on = subst (GoesOnFrom c.found.new.query.seen) (seen-view c.entries.result.now c.args.board.now c.args.worker.now c.entries.ensures.viewed c.requires.worker.seen) c.found.ensures.seen;
   limits = c.found.ensures.limits;
+  steps = unthought c.args.worker.now.meter.steps c.found.new.meter.steps (searches_ahead c.args.worker.now.phase)
+      (search_steps c.args.board.now.circuit c.args.j) c.found.ensures.steps;
 }

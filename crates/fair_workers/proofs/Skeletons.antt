@@ -1,0 +1,286 @@
+-- How many entries a list can have that each exclude a skeleton which those before them allow.
+use Rattle.std.proofs.Common.{◌≡◌, ℕ, zero, suc, ◌+◌, ◌*◌, ◌^◌, ◌<◌, ◌≤◌, max, min, Bool, true, false, cond, List, [], ◌∷◌, ◌++◌, inl, inr, Some, None, length, get_or, take, drop, refl, sym, ap, ap₂, ◌∙◌, subst, arith}
+use Rattle.std.specs.Prelude.{Contains}
+use Rattle.std.specs.List.{All, Any}
+use Rattle.std.proofs.Math.Nat.{pow-suc}
+use Rattle.std.proofs.Math.Seq.{take-append_seam, drop-append_seam}
+use Rattle.std.proofs.lemmas.Bool.{false≢true}
+use Rattle.std.proofs.lemmas.List.{append-nil, append_assoc, length-append, length-map, map-append}
+use Rattle.std.proofs.lemmas.List.Elements.{All-head, All-tail}
+use Rattle.aig_semantics.specs.declared.traces.Position.{Position}
+use Rattle.aig_semantics.specs.Circuits.{Circuit, fair_literals}
+use Rattle.aig_semantics.specs.Runs.{successor}
+use Rattle.edge.specs.Units.{Spendings}
+use Rattle.fair_semantics.specs.declared.skeletons.Situation.{Situation}
+use Rattle.fair_semantics.specs.declared.skeletons.Skeleton.{Skeleton}
+use Rattle.fair_semantics.specs.Allowing.{allow}
+use Rattle.fair_semantics.specs.Entries.{Entry, numbered}
+use Rattle.fair_semantics.specs.Skeletons.{states_of, places, IsSituation, IsSkeleton, excludes}
+use Rattle.fair_semantics.proofs.Staying.{front_allows}
+use Rattle.entry.specs.CheckedEntries.{CheckedEntry}
+use Rattle.entry.specs.declared.origins.Origin.{Origin}
+use Rattle.entry.specs.declared.origins.Origin.TheVariants.{Given, Worker as FoundBy}
+use Rattle.wall_store.specs.Boards.{BoardState, plain, Allow, EachBehind, FromWorker, IsFind, properties_of, most_entries}
+use Rattle.fair_workers.specs.declared.limits.Report.{Report}
+use Rattle.fair_workers.specs.Runs.{Task, AreLimits, IsSpent, IsFull, IsReport}
+use Rattle.fair_workers.specs.Laws.{NoReportWithoutLimits}
+use Rattle.fair_workers.proofs.Turned.{not-excluded}
+
+-- ---- counting lists of values
+
+-- how many lists of n values pass the test
+abbrev count : ℕ → (List Bool → Bool) → ℕ
+count zero test = cond (test []) 1 0
+count (suc n) test = count n (λ s. test (true ∷ s)) + count n (λ s. test (false ∷ s))
+
+one-less : (a b : Bool) → (a ≡ true → b ≡ true) → cond a 1 0 ≤ cond b 1 0
+one-less true true h = omega arith
+one-less true false h = absurd (false≢true (h refl))
+one-less false true h = omega arith
+one-less false false h = omega arith
+
+count-within : (n : ℕ) (f g : List Bool → Bool) → ((s : List Bool) → f s ≡ true → g s ≡ true) → count n f ≤ count n g
+count-within zero f g h = one-less (f []) (g []) (h [])
+count-within (suc n) f g h =
+    let yes = count-within n (λ s. f (true ∷ s)) (λ s. g (true ∷ s)) (λ s. h (true ∷ s)) in
+    let not_so = count-within n (λ s. f (false ∷ s)) (λ s. g (false ∷ s)) (λ s. h (false ∷ s)) in
+    omega arith
+
+count-less : (n : ℕ) (f g : List Bool → Bool) → ((s : List Bool) → f s ≡ true → g s ≡ true)
+    → (s : List Bool) → length s ≡ n → f s ≡ false → g s ≡ true → count n f + 1 ≤ count n g
+count-less zero f g h [] size out within = rw (out, within) (omega arith)
+count-less zero f g h (b ∷ s) size out within = absurd (omega arith)
+count-less (suc n) f g h [] size out within = absurd (omega arith)
+count-less (suc n) f g h (true ∷ s) size out within =
+    let yes = count-less n (λ s. f (true ∷ s)) (λ s. g (true ∷ s)) (λ s. h (true ∷ s)) s (omega arith) out within in
+    let not_so = count-within n (λ s. f (false ∷ s)) (λ s. g (false ∷ s)) (λ s. h (false ∷ s)) in
+    omega arith
+count-less (suc n) f g h (false ∷ s) size out within =
+    let yes = count-within n (λ s. f (true ∷ s)) (λ s. g (true ∷ s)) (λ s. h (true ∷ s)) in
+    let not_so = count-less n (λ s. f (false ∷ s)) (λ s. g (false ∷ s)) (λ s. h (false ∷ s)) s (omega arith) out within in
+    omega arith
+
+count-all : (n : ℕ) → count n (λ s. true) ≡ 2 ^ n
+count-all zero = refl
+count-all (suc n) =
+    let h = count-all n in
+    let e : 2 ^ suc n ≡ 2 ^ n * 2 = pow-suc 2 n in
+    omega arith
+
+count-most : (n : ℕ) (test : List Bool → Bool) → count n test ≤ 2 ^ n
+count-most n test =
+    let h = count-within n test (λ s. true) (λ s e. refl) in
+    omega (arith, h, count-all n)
+
+count-some : (n : ℕ) (test : List Bool → Bool) (s : List Bool) → length s ≡ n → test s ≡ true → 1 ≤ count n test
+count-some n test s size passes =
+    let h = count-less n (λ t. false) test (λ t e. absurd (false≢true e)) s size refl passes in
+    omega (arith, h)
+
+-- ---- skeletons as lists of values
+
+-- the values of the latches and inputs of all positions
+abbrev bits_of : List Situation → List Bool
+bits_of [] = []
+bits_of (s ∷ situations) = s.position.latches ++ (s.position.inputs ++ bits_of situations)
+
+abbrev situation_with : Circuit → List Bool → List Bool → Situation
+situation_with c latches inputs =
+    let p : Position = record { latches = latches; inputs = inputs } in record { position = p; successor = successor c p }
+
+-- so many situations with these values
+abbrev situations_with : Circuit → ℕ → List Bool → List Situation
+situations_with c zero bits = []
+situations_with c (suc n) bits =
+    let rest : List Bool = drop (length c.latches) bits in
+    situation_with c (take (length c.latches) bits) (take (length c.inputs) rest) ∷ situations_with c n (drop (length c.inputs) rest)
+
+take-front : (n : ℕ) (xs ys : List Bool) → length xs ≡ n → take n (xs ++ ys) ≡ xs
+take-front n xs ys size = ap (λ m. take m (xs ++ ys)) (sym size) ∙ take-append_seam xs ys
+
+drop-front : (n : ℕ) (xs ys : List Bool) → length xs ≡ n → drop n (xs ++ ys) ≡ ys
+drop-front n xs ys size = ap (λ m. drop m (xs ++ ys)) (sym size) ∙ drop-append_seam xs ys
+
+situation-back : (c : Circuit) (s : Situation) → s.successor ≡ successor c s.position
+    → situation_with c s.position.latches s.position.inputs ≡ s
+situation-back c s next = ap (λ t. record { position = s.position; successor = t }) (sym next)
+
+bits-back : (c : Circuit) (situations : List Situation) → All (IsSituation c) situations
+    → situations_with c (length situations) (bits_of situations) ≡ situations
+bits-back c [] all = refl
+bits-back c (s ∷ situations) all =
+    let here : IsSituation c s = All-head (IsSituation c) s situations all in
+    let latches : List Bool = s.position.latches in
+    let inputs : List Bool = s.position.inputs in
+    let rest : List Bool = bits_of situations in
+    let first : take (length c.latches) (latches ++ (inputs ++ rest)) ≡ latches = take-front (length c.latches) latches (inputs ++ rest) here.possible.position.latches in
+    let behind : drop (length c.latches) (latches ++ (inputs ++ rest)) ≡ inputs ++ rest =
+    drop-front (length c.latches) latches (inputs ++ rest) here.possible.position.latches
+    in
+    let second : take (length c.inputs) (drop (length c.latches) (latches ++ (inputs ++ rest))) ≡ inputs =
+    ap (take (length c.inputs)) behind ∙ take-front (length c.inputs) inputs rest here.possible.position.inputs
+    in
+    let later : drop (length c.inputs) (drop (length c.latches) (latches ++ (inputs ++ rest))) ≡ rest =
+    ap (drop (length c.inputs)) behind ∙ drop-front (length c.inputs) inputs rest here.possible.position.inputs
+    in
+    ap₂ (λ a b. a ∷ b) (ap₂ (situation_with c) first second ∙ situation-back c s here.next)
+    (ap (situations_with c (length situations)) later ∙ bits-back c situations (All-tail (IsSituation c) s situations all))
+
+bits-size : (c : Circuit) (situations : List Situation) → All (IsSituation c) situations
+    → length (bits_of situations) ≡ length situations * (length c.latches + length c.inputs)
+bits-size c [] all = omega arith
+bits-size c (s ∷ situations) all =
+    let here : IsSituation c s = All-head (IsSituation c) s situations all in
+    let rest = bits-size c situations (All-tail (IsSituation c) s situations all) in
+    let latches : List Bool = s.position.latches in
+    let inputs : List Bool = s.position.inputs in
+    sized (length situations) (length c.latches) (length c.inputs) (length (latches ++ (inputs ++ bits_of situations))) (length latches) (length inputs)
+    (length (bits_of situations)) (length (inputs ++ bits_of situations)) (length-append latches (inputs ++ bits_of situations))
+    (length-append inputs (bits_of situations)) here.possible.position.latches here.possible.position.inputs rest
+  where
+    sized : (n l i whole first second rest behind : ℕ) → whole ≡ first + behind → behind ≡ second + rest → first ≡ l → second ≡ i → rest ≡ n * (l + i)
+        → whole ≡ suc n * (l + i)
+    sized n l i whole first second rest behind a b d e f = omega (arith, a, b, d, e, f)
+
+-- ---- what a list of entries allows
+
+-- the entries allow the situations with these values
+abbrev allows : Circuit → ℕ → List CheckedEntry → List Bool → Bool
+allows c n entries bits = allow (numbered (plain entries)) (states_of (situations_with c n bits))
+
+skeleton-allowed : (c : Circuit) (j n : ℕ) (entries : List CheckedEntry) (s : Skeleton) → IsSkeleton c j s → n ≡ length s.situations
+    → allows c n entries (bits_of s.situations) ≡ allow (numbered (plain entries)) (places s)
+skeleton-allowed c j n entries s is size =
+    ap (λ m. allows c m entries (bits_of s.situations)) size
+    ∙ ap (λ situations. allow (numbered (plain entries)) (states_of situations)) (bits-back c s.situations is.situations)
+
+plain-more : (before : List CheckedEntry) (e : CheckedEntry) → plain (before ++ e ∷ []) ≡ plain before ++ e.entry ∷ []
+plain-more before e = map-append (λ (x : CheckedEntry). x.entry) before (e ∷ [])
+
+fewer-allowed : (c : Circuit) (n : ℕ) (before : List CheckedEntry) (e : CheckedEntry) (bits : List Bool)
+    → allows c n (before ++ e ∷ []) bits ≡ true → allows c n before bits ≡ true
+fewer-allowed c n before e bits h =
+    let states : List (List Bool) = states_of (situations_with c n bits) in
+    front_allows (plain before) (e.entry ∷ []) states
+    (subst (λ (xs : List Entry). allow (numbered xs) states ≡ true) (plain-more before e) h)
+
+false-if : (b : Bool) → (b ≡ true → ⊥) → b ≡ false
+false-if true h = absurd (h refl)
+false-if false h = refl
+
+-- an entry that excludes a skeleton does not allow it
+excluded-here : (before : List Entry) (e : Entry) (s : Skeleton) → excludes (before ++ e ∷ []) (length before) s ≡ true
+    → allow (numbered (before ++ e ∷ [])) (places s) ≡ false
+excluded-here before e s excluded =
+    false-if (allow (numbered (before ++ e ∷ [])) (places s)) (λ allowed.
+    let whole : List Entry = before ++ e ∷ [] in
+    let inside : length before < length whole = omega (arith, length-append before (e ∷ [])) in
+    let not_so : excludes (whole ++ []) (length before) s ≡ false = not-excluded whole [] (length before) s inside allowed in
+    let same : excludes (whole ++ []) (length before) s ≡ true = subst (λ xs. excludes xs (length before) s ≡ true) (sym (append-nil whole)) excluded in
+    false≢true (sym not_so ∙ same))
+
+-- each find leaves less
+find-less : (c : Circuit) (j workers n : ℕ) (before : List CheckedEntry) (e : CheckedEntry) (origin : Origin)
+    → n ≡ max 1 (length (fair_literals c j)) → FromWorker origin (IsFind c (j ∷ []) workers before e)
+    → count (n * (length c.latches + length c.inputs)) (allows c n (before ++ e ∷ [])) + 1
+    ≤ count (n * (length c.latches + length c.inputs)) (allows c n before)
+find-less c j workers n before e Given size find = absurd find
+find-less c j workers n before e (FoundBy work) size find =
+    let s : Skeleton = work.skeleton in
+    let is : IsSkeleton c j s = only c j s find.skeleton in
+    let as_many : n ≡ length s.situations = size ∙ sym is.size in
+    let bits : List Bool = bits_of s.situations in
+    let long : length bits ≡ n * (length c.latches + length c.inputs) =
+    bits-size c s.situations is.situations ∙ ap (λ m. m * (length c.latches + length c.inputs)) (sym as_many)
+    in
+    let out : allows c n (before ++ e ∷ []) bits ≡ false =
+    skeleton-allowed c j n (before ++ e ∷ []) s is as_many ∙ ap (λ xs. allow (numbered xs) (places s)) (plain-more before e)
+    ∙ excluded-here (plain before) e.entry s
+    (subst (λ (m : ℕ). excludes (plain before ++ e.entry ∷ []) m s ≡ true) (sym (length-map before (λ (x : CheckedEntry). x.entry))) find.excluded)
+    in
+    let within : allows c n before bits ≡ true = skeleton-allowed c j n before s is as_many ∙ find.allowed in
+    count-less (n * (length c.latches + length c.inputs)) (allows c n (before ++ e ∷ [])) (allows c n before) (λ t. fewer-allowed c n before e t) bits long out within
+  where
+    only : (c : Circuit) (j : ℕ) (s : Skeleton) → Any (λ i. IsSkeleton c i s) (j ∷ []) → IsSkeleton c j s
+    only c j s (k, i, inside, at, is) =
+        let first : k ≡ 0 = omega (arith, inside) in
+        let same : i ≡ j = sym at ∙ ap (λ m. get_or (j ∷ []) m i) first in
+        subst (λ m. IsSkeleton c m s) same is
+
+-- as many skeletons are left as entries follow, and one more
+left-after : (c : Circuit) (j workers n : ℕ) (entries before after : List CheckedEntry) (s : Skeleton)
+    → n ≡ max 1 (length (fair_literals c j)) → entries ≡ before ++ after
+    → EachBehind (λ earlier e. FromWorker e.origin (IsFind c (j ∷ []) workers earlier e)) entries
+    → IsSkeleton c j s → Allow entries s
+    → length after + 1 ≤ count (n * (length c.latches + length c.inputs)) (allows c n before)
+left-after c j workers n entries before [] s size split finds is allowed =
+    let as_many : n ≡ length s.situations = size ∙ sym is.size in
+    let same : entries ≡ before = split ∙ append-nil before in
+    let passes : allows c n before (bits_of s.situations) ≡ true =
+    skeleton-allowed c j n before s is as_many ∙ subst (λ (xs : List CheckedEntry). Allow xs s) same allowed
+    in
+    count-some (n * (length c.latches + length c.inputs)) (allows c n before) (bits_of s.situations)
+    (bits-size c s.situations is.situations ∙ ap (λ m. m * (length c.latches + length c.inputs)) (sym as_many)) passes
+left-after c j workers n entries before (e ∷ after) s size split finds is allowed =
+    let rest = left-after c j workers n entries (before ++ e ∷ []) after s size (split ∙ sym (append_assoc before (e ∷ []) after)) finds is allowed in
+    let here = find-less c j workers n before e e.origin size (finds before after e split) in
+    omega (arith, rest, here)
+
+-- ---- the law
+
+some-not-none : {X : Type 0} (x : X) → Some x ≡ None → ⊥
+some-not-none x e = cc
+
+not-spent : (spent : Spendings) → spent.conflict_limit ≡ None → spent.step_limit ≡ None → IsSpent spent → ⊥
+not-spent spent conflicts steps (inl h) = some-not-none spent.conflicts (sym h ∙ conflicts)
+not-spent spent conflicts steps (inr h) = some-not-none spent.steps (sym h ∙ steps)
+
+least-is : (given more most : ℕ) → given ≡ 0 → more ≤ most → min (given + more) most ≡ more
+least-is given more most none few = grind (arith)
+
+too-many : (size k room : ℕ) → size ≡ k → size + 1 ≤ room → room ≤ k → ⊥
+too-many size k room a b d = omega (arith, a, b, d)
+
+full-not : (task : Task) (j : ℕ) (report : Report) → AreLimits task.limits → task.properties ≡ j ∷ [] → task.given ≡ []
+    → 2 ^ (max 1 (length (fair_literals task.circuit j)) * (length task.circuit.latches + length task.circuit.inputs)) ≤ task.limits.skeletons
+    → IsReport task report → IsFull report.board → ⊥
+full-not task j report limits one none room is full =
+    let b : BoardState = report.board in
+    let c : Circuit = task.circuit in
+    let n : ℕ = max 1 (length (fair_literals c j)) in
+    let served : properties_of b.served ≡ j ∷ [] = is.board.properties ∙ one in
+    let given : b.given ≡ 0 = is.board.given ∙ ap length none in
+    let size : length b.entries ≡ task.limits.skeletons =
+    full.full ∙ is.board.limit ∙ least-is (length task.given) task.limits.skeletons most_entries (ap length none) limits.skeletons
+    in
+    let finds : EachBehind (λ earlier e. FromWorker e.origin (IsFind c (j ∷ []) b.workers earlier e)) b.entries = λ before after e split.
+    subst (λ (d : Circuit). FromWorker e.origin (IsFind d (j ∷ []) b.workers before e)) is.board.circuit
+    (subst (λ (js : List ℕ). FromWorker e.origin (IsFind b.circuit js b.workers before e)) served
+    (is.board.board.found before after e split (omega (arith, given))))
+    in
+    let i : ℕ = is.unanswered.0 in
+    let left = full.allows i is.unanswered.1 in
+    let same : i ≡ j = only-one (properties_of b.served) i j served is.unanswered.1.0 in
+    let skeleton : IsSkeleton c j left.0 =
+    subst (λ m. IsSkeleton c m left.0) same (subst (λ (d : Circuit). IsSkeleton d i left.0) is.board.circuit left.1.skeleton)
+    in
+    let more = left-after c j b.workers n b.entries [] b.entries left.0 refl refl finds skeleton left.1.allowed in
+    let most = count-most (n * (length c.latches + length c.inputs)) (allows c n []) in
+    too-many (length b.entries) task.limits.skeletons (2 ^ (n * (length c.latches + length c.inputs))) size (omega (arith, more, most)) room
+  where
+    only-one : (xs : List ℕ) (i j : ℕ) → xs ≡ j ∷ [] → Contains xs i → i ≡ j
+    only-one xs i j e (k, inside, at) =
+        let below : k < length (j ∷ []) = subst (λ (ys : List ℕ). k < length ys) e inside in
+        let first : k ≡ 0 = omega (arith, below) in
+        sym at ∙ ap (λ ys. get_or ys k i) e ∙ ap (λ m. get_or (j ∷ []) m i) first
+
+pub no-report : NoReportWithoutLimits
+no-report task j report limits one none conflicts steps room is =
+    elim is.cause [
+      | inl full ↦ full-not task j report limits one none room is full
+      | inr spent ↦
+          let d : Spendings = record { conflicts = 0; conflict_limit = None; steps = 0; step_limit = None } in
+          let inside : 0 < length report.workers = omega (arith, is.count, limits.some) in
+          let with_limits = is.limits 0 d inside in
+          not-spent (get_or report.workers 0 d) (with_limits.conflicts ∙ conflicts) (with_limits.steps ∙ steps) (spent 0 d inside)
+    ]

@@ -1,0 +1,9 @@
+//! When workers leave no report. The call does nothing; its contract is the law.
+
+ghost use Rattle.fair_workers.specs.Laws.{NoReportWithoutLimits};
+
+/// Workers without limits on conflicts and steps leave no report where their list may have an entry for each list of
+/// latch and input values that could be a skeleton.
+pub fn no_report_without_limits()
+    ensures { NoReportWithoutLimits }
+{}
