@@ -1,0 +1,3 @@
+pub mod Wires
+pub mod Names
+pub mod Dumps
