@@ -114,12 +114,11 @@ good_kept c told text s kept (Holds n entries) may read good at = tt
 good_kept c told text s kept (Lasso n positions from) may read (there, short, stimulus, (others, (small, opens), (rows, spelled, values)), stands) at =
     let left : bare (kept_in text) ≡ codes "1" ∷ property_line n ∷ (rows ++ codes "." ∷ []) = opens ∙ ap (λ ls. codes "1" ∷ property_line n ∷ ls) spelled in
     let ended : read_lines c Status (kept_readable text) ≡ Ok (Dotted n stimulus) =
-        ap (λ (ls : List Numbered). read_lines c Status ls) (all_readable text short)
-        ∙ stimulus_is_read c n stimulus (kept_in text) rows small there left values in
+    ap (λ (ls : List Numbered). read_lines c Status ls) (all_readable text short)
+    ∙ stimulus_is_read c n stimulus (kept_in text) rows small there left values in
     let same : s ≡ Dotted n stimulus = same_state s (Dotted n stimulus) (read_lines c Status (kept_readable text)) read ended in
     let is : kept ≡ Some (lasso_of stimulus positions from) = subst (λ (t : State). IsLassoAtEnd t (Lasso n positions from) kept) same at in
-    let many : length (take positions stimulus.inputs) ≡ positions = length-take-le positions stimulus.inputs stands.has.inside in
-    (
+    let many : length (take positions stimulus.inputs) ≡ positions = length-take-le positions stimulus.inputs stands.has.inside in (
       text,
       may,
       lasso_of stimulus positions from,

@@ -1,4 +1,6 @@
 //! Dumps of small models, worked out by hand.
+ghost use Rattle.std.specs.Prelude.{◌≡◌, ◌↔◌, ◌<◌, length, All, IsTrue};
+
 use super::*;
 use aig_semantics::Lasso;
 use aiger_names::Model;
@@ -7,18 +9,12 @@ use items::Items;
 use std::alloc::{AllocError, Global};
 use std::test::*;
 
-ghost use Rattle.std.specs.Prelude.{◌≡◌, ◌↔◌, ◌<◌, length, All, IsTrue};
-
 // Whether each list of values has one for each input.
 fn inputs_fit(circuit: &Circuit, lasso: &Lasso) -> bool
     ensures { IsTrue result ↔ All (λ now. length now ≡ length circuit.now.inputs) lasso.now.inputs }
 {
     let width = circuit.inputs().len();
-    lasso
-        .inputs
-        .as_slice()
-        .iter()
-        .all(|now| now.len() == width)
+    lasso.inputs.as_slice().iter().all(|now| now.len() == width)
 }
 
 // The dump of the lasso, where it fits the model.
@@ -99,7 +95,8 @@ $enddefinitions $end
 
 // An input, a latch that keeps 0, an output, a bad state literal, a constraint, a property of two literals and fairness,
 // each with a symbol: with a space, a percent sign, one that is another's label, two for one element, one named loop.
-const NAMED: &[u8] = b"aag 2 1 1 1 0 1 1 1 1\n2\n4 4\n2\n5\n5\n2\n2\n5\n3\ni0 a b%\nl0 loop\no0 i0\nb0 old\nb0 new\nc0 new\nj0 fair\nf0 \x80\nc\nnames\n";
+const NAMED: &[u8] =
+    b"aag 2 1 1 1 0 1 1 1 1\n2\n4 4\n2\n5\n5\n2\n2\n5\n3\ni0 a b%\nl0 loop\no0 i0\nb0 old\nb0 new\nc0 new\nj0 fair\nf0 \x80\nc\nnames\n";
 
 const NAMED_DUMP: &[u8] = b"$timescale 1ns $end
 $comment fairlive j0 $end
