@@ -46,12 +46,12 @@ values_back (character ∷ line) (v ∷ values) e =
     let later : values_in line ≡ Some values = values_back line values both.1 in
     λ j. with_value (both.0 j) (later j)
 
-dot_has_none : (line : List ℕ) (values : List Bool) → map value_of line ≡ map Some values → line ≡ codes "." → ⊥
+pub dot_has_none : (line : List ℕ) (values : List Bool) → map value_of line ≡ map Some values → line ≡ codes "." → ⊥
 dot_has_none line [] e dot = let wrong : map value_of (codes ".") ≡ [] = sym (ap (map value_of) dot) ∙ e in cc
 dot_has_none line (v ∷ values) e dot =
     let both = heads None (Some v) [] (map Some values) (sym (ap (map value_of) dot) ∙ e) in none-some v both.0
 
-no_dot : (line : List ℕ) (t : Bool) → bytes_eq line (codes ".") ≡ t → (line ≡ codes "." → ⊥) → t ≡ false
+pub no_dot : (line : List ℕ) (t : Bool) → bytes_eq line (codes ".") ≡ t → (line ≡ codes "." → ⊥) → t ≡ false
 no_dot line true e other = absurd (other ((bytes_eq-Decides line (codes ".")).0 e))
 no_dot line false e other = refl
 
@@ -177,7 +177,7 @@ module _ (c : Circuit) (n : ℕ) (a : Accepted) where
 
 -- ---- the line of the property
 
-named : (line : List ℕ) (n : ℕ) → n < 2 ^ 63 → line ≡ property_line n → property_in line ≡ Some n
+pub named : (line : List ℕ) (n : ℕ) → n < 2 ^ 63 → line ≡ property_line n → property_in line ≡ Some n
 named line n small e = ap property_in e ∙ number_back n small
 
 name_by : (byte : ℕ) (digits : List ℕ) (n : ℕ) (t : Bool) → eqb byte 106 ≡ t → (if t then number_in digits else None) ≡ Some n

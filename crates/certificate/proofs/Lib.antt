@@ -21,3 +21,4 @@ mod Playing
 mod AddedLines
 mod PlainLines
 mod WrittenCertificates
+mod Kept

@@ -233,6 +233,17 @@ end_said c told r s number result reached most none finishes =
     (omega (arith, p.taken, most, length-append p.front rest, ap length empty))
     (subst (λ (n : ℕ). Finishes c s n result) (reached.numbered ∙ sym (ap (λ (ls : List (List ℕ)). 1 + length ls) (ap lines_of (front_only p.front rest empty) ∙ lines))) finishes))
 
+-- where the text ends its lines have led to the state
+pub text_at_end : (c : Circuit) (told : Option (List ℕ)) (r : Reading) (s : State) (number : ℕ) → Reached c told r s number → r.taken ≤ most_bytes → IfTold told (λ text. left_of r text ≡ []) → (text : List ℕ) × MayBe told text × ((read_lines c Status (kept_from 1 (readable text)) ≡ Ok s) × (length text ≤ most_bytes))
+text_at_end c told r s number reached most none =
+    let p : Passed told r reached.given = reached.passed in
+    let lines : lines_of p.front ≡ reached.given = front_lines r.last reached.given p.front p.lack p.spells in
+    said told p.front (left_of r) (λ rest. rest ≡ []) (λ text. (read_lines c Status (kept_from 1 (readable text)) ≡ Ok s) × (length text ≤ most_bytes)) ([], refl) p.split none
+    (λ rest empty. (
+      ap (λ (ls : List (List ℕ)). read_lines c Status (kept_from 1 ls)) (front_readable p.front rest reached.given (omega (arith, p.taken, most)) empty lines) ∙ reached.read,
+      omega (arith, p.taken, most, length-append p.front rest, ap length empty),
+    ))
+
 -- ---- the clauses of each end
 
 -- the next line is not given

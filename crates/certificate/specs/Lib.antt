@@ -10,3 +10,4 @@ pub mod Seen
 pub mod Steps
 pub mod Texts
 pub mod Adding
+pub mod Lassos

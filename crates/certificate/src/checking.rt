@@ -1,4 +1,5 @@
-//! The check of an answer against a circuit. The main call is `check_answer`.
+//! The check of an answer against a circuit. The main calls are `check_answer`, and `check_with_lasso`, which keeps the
+//! lasso of a stimulus.
 
 ghost use Rattle.std.specs.Prelude.{◌≡◌, ◌<◌, ◌≤◌, List, [], ◌∷◌, ℕ, true, false, Some, Result, Ok, Err, IfOk, IfErr, IsTrue, IsFalse};
 ghost use Rattle.edge.specs.Faults.{Rose, NoneFell};
@@ -8,6 +9,7 @@ ghost use Rattle.text_grammar.specs.Pieces.{Lacks};
 ghost use Rattle.answer_lines.specs.Left.{left_of, most_bytes, Took};
 ghost use Rattle.certificate.specs.Answers.{Shows};
 ghost use Rattle.certificate.specs.Ends.{DecidesEnd, CheckSays, EndsWith, ReadsAs, has_unread};
+ghost use Rattle.certificate.specs.Lassos.{KeepsLasso};
 ghost use Rattle.certificate.specs.Lines.{kept_from};
 ghost use Rattle.certificate.specs.Reading.{read_lines};
 ghost use Rattle.certificate.specs.Seen.{seen, IsKept};
@@ -18,6 +20,7 @@ use crate::ends::{Accepted, AnswerEnd};
 use crate::laws::good_answers_are_true;
 use crate::state::State;
 use crate::steps::{finish, step};
+use aig_semantics::Lasso;
 use answer_lines::Lines;
 use circuit::Circuit;
 use edge::Shelf;
@@ -47,8 +50,33 @@ pub fn check_answer<H: Shelf>(
     ensures counts { NoneFell (H.faults shelf.old) (H.faults shelf.new) }
     ensures kept { KeepsTexts (H.held shelf.old) (H.held shelf.new) }
 {
+    let mut kept = None;
+    check_with_lasso(alloc, circuit, shelf, name, &mut kept)
+}
+
+/// The same, and where a stimulus is accepted the lasso that it stands for is left in `kept`.
+pub fn check_with_lasso<H: Shelf>(
+    alloc: Global,
+    circuit: &Circuit,
+    shelf: &mut H,
+    name: &str,
+    kept: &mut Option<Lasso>,
+) -> Result<Accepted, AnswerEnd>
+    // What is answered is so, of the text that the shelf tells;
+    ensures found { CheckSays circuit.now (H.held shelf.old name.now) result }
+    // and what is so is answered, unless memory is refused or a read fails.
+    ensures exactly { (text : List ℕ) (verdict : Result Accepted AnswerEnd) → H.held shelf.old name.now ≡ Some text
+        → DecidesEnd circuit.now text verdict → EndsWith result verdict }
+    // What is accepted is true: there is such a fair lasso, or there is none, whatever the shelf tells.
+    ensures shown { IfOk result (Shows circuit.now) }
+    ensures read { result ≡ Err AnswerEnd.ReadFault → Rose (H.faults shelf.old name.now) (H.faults shelf.new name.now) }
+    ensures reads { Reads H.reads name.now (has_unread result) shelf.old shelf.new }
+    ensures counts { NoneFell (H.faults shelf.old) (H.faults shelf.new) }
+    ensures kept { KeepsTexts (H.held shelf.old) (H.held shelf.new) }
+    ensures lasso { IfOk result (λ accepted. KeepsLasso circuit.now (H.held shelf.old name.now) accepted kept.new) }
+{
     good_answers_are_true(circuit);
-    read_answer(alloc, circuit, shelf, name)
+    read_answer(alloc, circuit, shelf, name, kept)
 }
 
 /// Reads the text that the shelf holds under the name, line by line, and says how it ends.
@@ -57,6 +85,7 @@ fn read_answer<H: Shelf>(
     circuit: &Circuit,
     shelf: &mut H,
     name: &str,
+    kept: &mut Option<Lasso>,
 ) -> Result<Accepted, AnswerEnd>
     ensures found { ReadingSays circuit.now (H.held shelf.old name.now) result }
     ensures exactly { (text : List ℕ) (verdict : Result Accepted AnswerEnd) → H.held shelf.old name.now ≡ Some text
@@ -65,6 +94,7 @@ fn read_answer<H: Shelf>(
     ensures reads { Reads H.reads name.now (has_unread result) shelf.old shelf.new }
     ensures counts { NoneFell (H.faults shelf.old) (H.faults shelf.new) }
     ensures kept { KeepsTexts (H.held shelf.old) (H.held shelf.new) }
+    ensures lasso { IfOk result (λ accepted. KeepsLasso circuit.now (H.held shelf.old name.now) accepted kept.new) }
 {
     let mut lines = Lines::new(alloc)?;
     let mut state = State::Status;
@@ -73,7 +103,7 @@ fn read_answer<H: Shelf>(
         state = line_step(alloc, circuit, state, number, lines.line())?;
         number += 1;
     }
-    finish(alloc, circuit, state, number)
+    finish(alloc, circuit, state, number, kept)
 }
 
 /// Reads the next line, and says whether there was one. The condition is that nothing is left behind a line that the

@@ -1,32 +1,39 @@
 //! How an answer ends behind its last line.
 
-ghost use Rattle.std.specs.Prelude.{ℕ, Ok};
+ghost use Rattle.std.specs.Prelude.{ℕ, Ok, IfOk};
+ghost use Rattle.certificate.specs.Lassos.{IsLassoAtEnd};
 ghost use Rattle.certificate.specs.Reading.State.{Dotted as DottedOf};
 ghost use Rattle.certificate.specs.Seen.{seen, IsKept};
 ghost use Rattle.certificate.specs.Steps.{TellsEnd};
 
 use crate::ends::{Accepted, AnswerEnd, AnswerFault, misplaced};
 use crate::state::{Body, State};
-use aig_semantics::Stimulus;
+use aig_semantics::{Lasso, Stimulus};
 use circuit::Circuit;
 use std::alloc::Global;
 use stimulus::{ReplayEnd, replay};
 
-// Replays the stimulus of an answer for this property.
+// Replays the stimulus of an answer for this property, and keeps its lasso.
 fn replay_stimulus(
     alloc: Global,
     circuit: &Circuit,
     property: u32,
     stimulus: &Stimulus,
+    kept: &mut Option<Lasso>,
 ) -> Result<Accepted, AnswerEnd>
-    ensures { (number : ℕ) → TellsEnd circuit.now (DottedOf property stimulus.now) number result }
+    ensures tells { (number : ℕ) → TellsEnd circuit.now (DottedOf property stimulus.now) number result }
+    ensures lasso { IfOk result (λ accepted. IsLassoAtEnd (DottedOf property stimulus.now) accepted kept.new) }
 {
     match replay(alloc, circuit, property, stimulus) {
-        Ok(lasso) => Ok(Accepted::Lasso {
-            property,
-            positions: lasso.inputs.len() as u64,
-            from: lasso.from,
-        }),
+        Ok(lasso) => {
+            let accepted = Accepted::Lasso {
+                property,
+                positions: lasso.inputs.len() as u64,
+                from: lasso.from,
+            };
+            *kept = Some(lasso);
+            Ok(accepted)
+        }
         Err(ReplayEnd::Fault(fault)) => Err(AnswerEnd::Refused(AnswerFault::Replay(fault))),
         Err(ReplayEnd::Memory) => Err(AnswerEnd::Memory),
     }
@@ -43,18 +50,23 @@ fn held(_circuit: &Circuit, body: &Body) -> Accepted
     }
 }
 
-/// How an answer ends in a state, where a line behind the last one would have this number.
+/// How an answer ends in a state, where a line behind the last one would have this number. The lasso of a stimulus is
+/// kept.
 pub(crate) fn end_in(
     alloc: Global,
     circuit: &Circuit,
     state: &State,
     number: u64,
+    kept: &mut Option<Lasso>,
 ) -> Result<Accepted, AnswerEnd>
     requires { IsKept circuit.now state.now }
-    ensures { TellsEnd circuit.now (seen state.now) number result }
+    ensures tells { TellsEnd circuit.now (seen state.now) number result }
+    ensures lasso { IfOk result (λ accepted. IsLassoAtEnd (seen state.now) accepted kept.new) }
 {
     match state {
-        State::Dotted(property, stimulus) => replay_stimulus(alloc, circuit, *property, stimulus),
+        State::Dotted(property, stimulus) => {
+            replay_stimulus(alloc, circuit, *property, stimulus, kept)
+        }
         State::Ended(body) => Ok(held(circuit, body)),
         _ => Err(misplaced(number)),
     }

@@ -4,6 +4,7 @@ ghost use Rattle.std.specs.Prelude.{◌≡◌, ◌<◌, ◌^◌, Ok, Err, IfOk, 
 ghost use Rattle.unless_memory.specs.Answers.{Gives};
 ghost use Rattle.certificate.specs.declared.ends.Accepted.{Accepted as AcceptedOf};
 ghost use Rattle.certificate.specs.declared.ends.AnswerFault.{AnswerFault as FaultOf};
+ghost use Rattle.certificate.specs.Lassos.{IsLassoAtEnd};
 ghost use Rattle.certificate.specs.Reading.{step, certificate_step};
 ghost use Rattle.certificate.specs.Ends.{IsGoodAtEnd, IsFaultAtEnd};
 ghost use Rattle.certificate.specs.Seen.{seen, seen_body, seen_wanted, IsKept};
@@ -16,6 +17,7 @@ use crate::heads::{property_step, status_step, version_step};
 use crate::refuting::{last_step, refutation_uses_step, refuting_step};
 use crate::rows::{latches_step, row_step};
 use crate::state::{Body, State, Wanted};
+use aig_semantics::Lasso;
 use circuit::Circuit;
 use std::alloc::Global;
 
@@ -89,12 +91,14 @@ pub(crate) fn step(
     step_in(alloc, circuit, state, number, line)
 }
 
-/// How an answer ends in a state, where a line behind the last one would have this number.
+/// How an answer ends in a state, where a line behind the last one would have this number. The lasso of a stimulus is
+/// kept.
 pub(crate) fn finish(
     alloc: Global,
     circuit: &Circuit,
     state: State,
     number: u64,
+    kept: &mut Option<Lasso>,
 ) -> Result<Accepted, AnswerEnd>
     requires { IsKept circuit.now state }
     ensures ok { IfOk result (λ accepted. IsGoodAtEnd circuit.now (seen state) accepted) }
@@ -103,6 +107,7 @@ pub(crate) fn finish(
         → Gives (Err AnswerEnd.Memory) (Ok accepted) result }
     ensures each_fault { (fault : FaultOf) → IsFaultAtEnd circuit.now (seen state) number fault
         → Gives (Err AnswerEnd.Memory) (Err (AnswerEnd.Refused fault)) result }
+    ensures lasso { IfOk result (λ accepted. IsLassoAtEnd (seen state) accepted kept.new) }
 {
-    end_in(alloc, circuit, &state, number)
+    end_in(alloc, circuit, &state, number, kept)
 }

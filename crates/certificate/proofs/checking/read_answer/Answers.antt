@@ -13,6 +13,7 @@ use Rattle.certificate.specs.Reading.{Status, read_lines}
 use Rattle.certificate.specs.Seen.{seen}
 use Rattle.certificate.specs.Texts.{OfLines, ReadingSays}
 use Rattle.certificate.proofs.Ended.{says_found, says_exactly}
+use Rattle.certificate.proofs.Kept.{kept_at_end}
 use Rattle.certificate.proofs.Reached.{Reached, reached_start, reached_next, lines_found, lines_exactly, step_found, step_exactly, at_line, step_unread, end_unread, end_said}
 use Rattle.certificate.proofs.checking.read_answer.Goals as goal
 
@@ -129,3 +130,11 @@ returns-clause-reads g c =
     let unread : false ≡ has_unread c.finish.result = sym (end_unread (λ fault. IsFaultAtEnd c.args.circuit.now (seen c.lines.state) c.lines.number fault) c.finish.result c.finish.ensures.fault) in
     subst (λ (failed : Bool). Reads g.H.Shelf.reads c.args.name.now failed c.args.shelf.now c.next_line.new.shelf) unread
     (reads_after g.H.Shelf.reads c.args.name.now false c.args.shelf.now c.lines.shelf c.next_line.new.shelf c.lines.invariant.reads c.in_ok-next_line.ensures.reads)
+
+pub returns-clause-lasso : goal.returns-clause-lasso
+returns-clause-lasso g c =
+    let told : Option (List ℕ) = g.H.Shelf.held c.args.shelf.now c.args.name.now in
+    let none : IsFalse c.in_ok-next_line.field-0 = search rules in
+    let end : IfTold told (λ text. left_of c.lines.lines text ≡ []) = subst (λ (t : Option (List ℕ)). IfTold t (λ text. left_of c.lines.lines text ≡ [])) (c.lines.invariant.kept c.args.name.now) (c.in_ok-next_line.ensures.end none) in
+    kept_at_end c.args.circuit.now told c.lines.lines (seen c.lines.state) c.lines.number c.finish.new.kept c.finish.result c.lines.invariant.reached
+    c.lines.invariant.within end c.finish.ensures.ok c.finish.ensures.lasso

@@ -1,5 +1,5 @@
 use Rattle.certificate.proofs.Judged.{check_says, check_exactly, check_shows}
-use Rattle.certificate.proofs.checking.check_answer.Goals as goal
+use Rattle.certificate.proofs.checking.check_with_lasso.Goals as goal
 
 pub returns-clause-found : goal.returns-clause-found
 returns-clause-found g c =

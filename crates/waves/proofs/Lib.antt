@@ -1,0 +1,6 @@
+pub mod NameLaws
+pub mod Lines
+pub mod Unrolling
+pub mod Apart
+pub mod Spelled
+pub mod ReadBack

@@ -1,0 +1,63 @@
+-- The value change dump of a lasso (IEEE 1364-2005, clause 18): header, names, all values at each position, and the loop
+-- once more behind the last position. Which declarations and times there are is this program's.
+use Rattle.std.specs.Prelude.{ℕ, ◌+◌, ◌*◌, Bool, nat_le, List, [], ◌∷◌, ◌++◌, map, drop, length, decimal, codes, if◌then◌else◌}
+use Rattle.text_grammar.specs.Lines.{ended_lines}
+use Rattle.aig_semantics.specs.declared.traces.Position.{Position}
+use Rattle.aig_semantics.specs.declared.traces.Lasso.{Lasso}
+use Rattle.aig_semantics.specs.Circuits.{Circuit}
+use Rattle.aig_semantics.specs.Runs.{valuation_at}
+use Rattle.aig_semantics.specs.Stimuli.{simulated}
+use Rattle.aiger_grammar.specs.Models.{Model}
+use Rattle.waves.specs.declared.signals.Signal.{Signal}
+use Rattle.waves.specs.Wires.{value_in}
+use Rattle.waves.specs.Names.{signals_of}
+
+-- the lasso's positions, and then those of its loop once more
+abbrev pub unrolled : Circuit → Lasso → List Position
+unrolled c lasso = simulated c lasso.start (lasso.inputs ++ drop lasso.from lasso.inputs)
+
+-- the declaration of a signal: a wire of one bit
+abbrev pub var_line : Signal → List ℕ
+var_line s = codes "$var wire 1 " ++ s.code ++ 32 ∷ (s.name ++ codes " $end")
+
+-- the program and the property
+abbrev pub comment_line : ℕ → List ℕ
+comment_line j = codes "$comment fairlive j" ++ decimal j ++ codes " $end"
+
+abbrev pub header_lines : ℕ → List Signal → List (List ℕ)
+header_lines j signals =
+    codes "$timescale 1ns $end"
+    ∷ comment_line j
+    ∷ codes "$scope module fairlive $end"
+    ∷ (map var_line signals ++ codes "$upscope $end" ∷ codes "$enddefinitions $end" ∷ [])
+
+-- the time of a position: ten units each
+abbrev pub time_line : ℕ → List ℕ
+time_line t = 35 ∷ decimal (10 * t)
+
+abbrev pub digit_of : Bool → ℕ
+digit_of value = if value then 49 else 48
+
+abbrev pub value_line : List Bool → Bool → Signal → List ℕ
+value_line values looping s = digit_of (value_in values looping s.wire) ∷ s.code
+
+-- the time of position t, and the values of all signals at it; from the place `from` on it is in the loop
+abbrev pub position_lines : Circuit → ℕ → List Signal → ℕ → Position → List (List ℕ)
+position_lines c from signals t p = time_line t ∷ map (value_line (valuation_at c p) (nat_le from t)) signals
+
+-- positions from position t on
+abbrev pub run_lines : Circuit → ℕ → List Signal → ℕ → List Position → List (List ℕ)
+run_lines c from signals t [] = []
+run_lines c from signals t (p ∷ run) = position_lines c from signals t p ++ run_lines c from signals (t + 1) run
+
+-- all positions of a run, and behind the last one more time, at which nothing changes
+abbrev pub all_lines : Circuit → ℕ → List Signal → List Position → List (List ℕ)
+all_lines c from signals run = run_lines c from signals 0 run ++ time_line (length run) ∷ []
+
+-- the lines of the dump of these signals
+abbrev pub dump_lines : Circuit → ℕ → List Signal → Lasso → List (List ℕ)
+dump_lines c j signals lasso = header_lines j signals ++ all_lines c lasso.from signals (unrolled c lasso)
+
+-- the waves of a lasso, which is one of property j of the model
+abbrev pub waves_text : Model → ℕ → Lasso → List ℕ
+waves_text m j lasso = ended_lines (dump_lines m.circuit j (signals_of m j) lasso)

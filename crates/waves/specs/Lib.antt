@@ -1,0 +1,4 @@
+pub mod Wires
+pub mod Names
+pub mod Dumps
+pub mod Laws

@@ -1,0 +1,14 @@
+//! The laws of dumps, as the contract of a function that does nothing.
+
+ghost use Rattle.waves.specs.Laws.{NamesAreApart, IdentifiersAreApart, AreSpelled, ValuesAreRead, LoopsAreUnrolled};
+
+/// Does nothing. Its contract: no two wires of a dump have one name or one identifier, and none has a space in it; the
+/// values that a dump gives at a position's time are those of the position; and of a fair lasso the positions are its
+/// own and then those of its loop once more.
+pub fn dump_laws()
+    ensures names { NamesAreApart }
+    ensures identifiers { IdentifiersAreApart }
+    ensures spelled { AreSpelled }
+    ensures values { ValuesAreRead }
+    ensures unrolled { LoopsAreUnrolled }
+{}
