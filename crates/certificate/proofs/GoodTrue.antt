@@ -8,7 +8,7 @@ use Rattle.fair_semantics.specs.Entries.{Entry}
 use Rattle.entry.specs.Laws.{IsGoodList, GoodListsGrow, RefutedHasNoLasso}
 use Rattle.certificate.specs.declared.ends.Accepted.TheVariants.{Lasso, Holds}
 use Rattle.certificate.specs.Certificates.{Written, entry_with, AreProvedBehind}
-use Rattle.certificate.specs.Laws.{GoodIsTrue}
+use Rattle.certificate.specs.Laws.{GoodIsTrue, VerdictsAgree}
 
 -- entries that are proved one behind the other are a good list
 pub proved_list : (c : Circuit) → GoodListsGrow c → (before : List Entry) (es : List Written) (all : List Entry)
@@ -30,3 +30,8 @@ good_is_true c grow none text (Lasso n positions from) (_, _, s, _, stands) = (
 )
 good_is_true c grow none text (Holds n entries) (below, _, certificate, _, good, _) =
     none good.entries n certificate.uses certificate.proof (proved_list c grow [] certificate.entries good.entries grow.none good.proved) below good.refuted
+
+pub verdicts_agree : (c : Circuit) → GoodIsTrue c → VerdictsAgree c
+verdicts_agree c true_one text other n positions from entries lasso holds =
+    let shown = true_one text (Lasso n positions from) lasso in
+    true_one other (Holds n entries) holds shown.0 from shown.2

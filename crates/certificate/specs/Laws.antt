@@ -28,6 +28,12 @@ ReadsGood c = (text : List ℕ) (accepted : Accepted) → ReadsWell c text accep
 abbrev pub GoodIsTrue : Circuit → Type 0
 GoodIsTrue c = (text : List ℕ) (accepted : Accepted) → IsGood c text accepted → Shows c accepted
 
+-- No property has a good stimulus and a good certificate: two good answers for it have the same status.
+abbrev pub VerdictsAgree : Circuit → Type 0
+VerdictsAgree c =
+    (text other : List ℕ) (n positions from entries : ℕ)
+    → IsGood c text (Lasso n positions from) → IsGood c other (Holds n entries) → ⊥
+
 -- any text is good for something, or has a fault
 abbrev pub EachHasEnd : Circuit → Type 0
 EachHasEnd c = (text : List ℕ) → ((accepted : Accepted) × IsGood c text accepted) ⊎ ((fault : AnswerFault) × IsRefused c text fault)

@@ -1,6 +1,6 @@
 //! The laws of answers. Each call does nothing; its contract is the law.
 
-ghost use Rattle.certificate.specs.Laws.{ReadsGood, GoodIsTrue, EachHasEnd, OneIsGood, GoodHasNoFault, OneFault, FaultsStay, JudgedBefore, WrittenIsGood, WrittenCertificatesAreGood};
+ghost use Rattle.certificate.specs.Laws.{ReadsGood, GoodIsTrue, VerdictsAgree, EachHasEnd, OneIsGood, GoodHasNoFault, OneFault, FaultsStay, JudgedBefore, WrittenIsGood, WrittenCertificatesAreGood};
 
 use circuit::Circuit;
 use entry::{good_lists_grow, refutations_leave_no_lasso};
@@ -16,6 +16,13 @@ pub fn good_answers_are_true(c: &Circuit)
 {
     good_lists_grow(c);
     refutations_leave_no_lasso(c);
+}
+
+/// No property has both a good stimulus and a good certificate: whatever decided it, two good answers agree.
+pub fn good_answers_agree(c: &Circuit)
+    ensures { VerdictsAgree c.now }
+{
+    good_answers_are_true(c);
 }
 
 /// Any text is good for something or is refused for a fault; it is good for one thing at most, and then it is not

@@ -7,6 +7,7 @@
 //! | `write` | writes the answer with the certificate of checked entries and a refutation |
 //! | `answers_are_read_as_good` | a law: what is read as a good answer is one, and every good answer is so read |
 //! | `good_answers_are_true` | a law: a good answer shows a fair lasso, or that there is none |
+//! | `good_answers_agree` | a law: no property has a good answer of each status |
 //! | `answers_have_one_end` | a law: any text is good for one thing, or has one first fault, never both |
 //! | `first_faults_stay` | a law: a fault that is not one of the text's end stays, whatever follows |
 //! | `written_stimuli_are_good` | a law: what `stimulus::write` writes is good, where the stimulus is |
@@ -30,8 +31,8 @@ mod writing;
 pub use checking::{check_answer, check_with_lasso};
 pub use ends::{Accepted, AnswerEnd, AnswerFault};
 pub use laws::{
-    answers_are_read_as_good, answers_have_one_end, first_faults_stay, good_answers_are_true,
-    written_certificates_are_good, written_stimuli_are_good,
+    answers_are_read_as_good, answers_have_one_end, first_faults_stay, good_answers_agree,
+    good_answers_are_true, written_certificates_are_good, written_stimuli_are_good,
 };
 pub use limits::MAX_ENTRIES;
 pub use writing::write;
