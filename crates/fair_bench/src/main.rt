@@ -9,6 +9,7 @@ mod lines;
 mod lrat_run;
 mod outside;
 mod questions_run;
+mod reach_run;
 mod rewrite_run;
 mod sat_run;
 mod stamps;
@@ -18,6 +19,7 @@ use crate::failure::Failure;
 use crate::lrat_run::run_lrat;
 use crate::outside::print_text;
 use crate::questions_run::run_questions;
+use crate::reach_run::run_reach;
 use crate::rewrite_run::run_rewrite;
 use crate::sat_run::run_sat;
 use std::process::ExitCode;
@@ -26,6 +28,7 @@ use std::{env, io};
 const USAGE: &str = "\
 usage: fair_bench lrat CNF PROOF
        fair_bench questions CNF QUESTIONS
+       fair_bench reach MODEL
        fair_bench rewrite MODEL
        fair_bench sat CNF
 ";
@@ -46,6 +49,9 @@ fn run(rt: &HostRuntime) -> Result<u8, Failure> {
     }
     if let Some((formula, questions)) = two_names(&words, "questions") {
         return run_questions(rt, formula, questions);
+    }
+    if let Some(model) = file_name(&words, "reach") {
+        return run_reach(rt, model);
     }
     if let Some(model) = file_name(&words, "rewrite") {
         return run_rewrite(rt, model);

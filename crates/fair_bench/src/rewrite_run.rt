@@ -94,8 +94,8 @@ fn time_reading(rt: &HostRuntime, bytes: &[u8]) -> Result<(Model, u64), Failure>
     Ok((model, start.processor_to(end)))
 }
 
-// The model of a text, by its first two bytes.
-fn read_model(alloc: Global, bytes: &[u8]) -> Result<Model, ModelEnd> {
+/// The model of a text in either form, by its first two bytes.
+pub(crate) fn read_model(alloc: Global, bytes: &[u8]) -> Result<Model, ModelEnd> {
     if bytes.starts_with(b"ai") {
         return aiger_binary::read(alloc, bytes);
     }

@@ -4,3 +4,13 @@ pub mod Asking
 pub mod GoalLaws
 pub mod Holding
 pub mod Apart
+pub mod Sounds
+pub mod Stuck
+pub mod Starts
+pub mod Closes
+pub mod Ended
+pub mod Begins
+pub mod Separating
+pub mod Excluding
+pub mod Excluded
+pub mod Obliging

@@ -54,58 +54,44 @@ fn ask(
     }
 }
 
+// The clauses in which no values serve, then in another order.
+const SQUARE: &[i64] = &[1, 2, 0, -1, 2, 0, 1, -2, 0, -1, -2, 0];
+
+const TURNED: &[i64] = &[-1, -2, 0, 1, -2, 0, -1, 2, 0, 1, 2, 0];
+
+// Clauses, each ended by 0; the assumptions; a limit of conflicts; what is said; the core; how many conflicts are counted.
+const ROWS: [(&[i64], &[i64], u64, &str, &[i64], u64); 11] = [
+    (SQUARE, &[], 1, "unsat", &[], 1),
+    (SQUARE, &[], 0, "spent", &[], 0),
+    (SQUARE, &[], 4_294_967_295, "unsat", &[], 1),
+    (TURNED, &[], 1, "unsat", &[], 1),
+    (&[1, 0], &[-1], 0, "unsat", &[-1], 0),
+    (&[1, 2, 0], &[-1], 0, "sat", &[], 0),
+    (&[0], &[], 0, "unsat", &[], 0),
+    (&[], &[5], 0, "sat", &[], 0),
+    (&[1, -1, 0, 2, 2, 0], &[-2], 0, "unsat", &[-2], 0),
+    (&[-1, 2, 0, -2, 3, 0], &[1, 1, -3], 0, "unsat", &[-3, 1], 0),
+    (&[1, 100_000, 0, -100_000, 0], &[], 0, "sat", &[], 0),
+];
+
+// Whether a core is of these literals; their order is free.
+fn is_core(core: &[Lit], wanted: &[Lit]) -> bool {
+    core.len() == wanted.len() && wanted.iter().all(|literal| core.contains(literal))
+}
+
 #[test]
 fn answers(rt: HostRuntime) -> Result<(), Fail> {
     let alloc = rt.alloc();
-    let square = [1i64, 2, 0, -1, 2, 0, 1, -2, 0, -1, -2, 0];
-    for (numbers, assumed, limit, wanted, wanted_core, conflicts) in [
-        (
-            square.as_slice(),
-            [].as_slice(),
-            1u64,
-            "unsat",
-            [].as_slice(),
-            1u64,
-        ),
-        (square.as_slice(), &[], 0, "spent", &[], 0),
-        (square.as_slice(), &[], 4_294_967_295, "unsat", &[], 1),
-        (
-            &[-1i64, -2, 0, 1, -2, 0, -1, 2, 0, 1, 2, 0],
-            &[],
-            1,
-            "unsat",
-            &[],
-            1,
-        ),
-        (&[1i64, 0], &[-1i64], 0, "unsat", &[-1i64], 0),
-        (&[1i64, 2, 0], &[-1i64], 0, "sat", &[], 0),
-        (&[0i64], &[], 0, "unsat", &[], 0),
-        (&[], &[5i64], 0, "sat", &[], 0),
-        (&[1i64, -1, 0, 2, 2, 0], &[-2i64], 0, "unsat", &[-2i64], 0),
-        (
-            &[-1i64, 2, 0, -2, 3, 0],
-            &[1i64, 1, -3],
-            0,
-            "unsat",
-            &[-3i64, 1],
-            0,
-        ),
-        (&[1i64, 100_000, 0, -100_000, 0], &[], 0, "sat", &[], 0),
-    ] {
+    for (numbers, assumed, limit, wanted, wanted_core, conflicts) in &ROWS {
         let mut asked = solver(alloc, numbers)?;
-        let mut meter = Meter::new(limit, 0);
+        let mut meter = Meter::new(*limit, 0);
         let (said, core) = ask(alloc, numbers, &mut asked, assumed, &mut meter)?;
-        assert_eq!(rt; said, wanted, "of {numbers:?} under {assumed:?}");
-        // the order of a core is free
-        let wanted_core = literals(alloc, wanted_core)?;
-        assert_eq!(rt; core.len(), wanted_core.len(), "of {numbers:?} under {assumed:?}");
-        for literal in wanted_core.as_slice() {
-            assert!(rt; core.as_slice().contains(literal));
-        }
-        assert_eq!(rt; meter.spending().conflicts(), conflicts);
+        assert_eq!(rt; said, *wanted, "of {numbers:?} under {assumed:?}");
+        assert!(rt; is_core(core.as_slice(), literals(alloc, wanted_core)?.as_slice()));
+        assert_eq!(rt; meter.spending().conflicts(), *conflicts);
         // after a limit was reached it can be asked again
         let (again, _core) = ask(alloc, numbers, &mut asked, assumed, &mut Meter::new(9, 0))?;
-        assert!(rt; again == wanted || wanted == "spent");
+        assert!(rt; again == *wanted || *wanted == "spent");
     }
     Ok(())
 }

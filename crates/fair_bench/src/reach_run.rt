@@ -1,0 +1,139 @@
+//! The subcommand `reach`: asks a fixed list of searches of a model, without entries, and measures each. The main call is
+//! `run_reach`.
+
+use crate::failure::Failure;
+use crate::outside::{print_text, read_file};
+use crate::rewrite_run::read_model;
+use crate::sat_run::NO_LIMIT;
+use crate::stamps::Stamp;
+use aig_semantics::MAX_MODEL_BYTES;
+use circuit::{Circuit, Position};
+use edge::Meter;
+use ic3::{Goal, ReachEnd, Reached, Start, reach};
+use items::Items;
+use std::alloc::Global;
+use std::io;
+
+/// What a search answered: the positions of a path and the state of its last one, or how many clauses a closed set has.
+#[derive(Debug, Drop)]
+enum Answer {
+    Path { positions: usize, last: Items<bool> },
+    Closed { clauses: usize },
+}
+
+/// Searches the circuit of the model in this file from its initial states to a position at which a literal is true, for
+/// each literal of each property and of fairness; and from the last state of the first path to each of them. Writes what
+/// each search found; what it took goes to standard error. Gives 0, the number with which the program ends.
+pub(crate) fn run_reach(rt: &HostRuntime, name: &str) -> Result<u8, Failure> {
+    let bytes = read_file(rt, name, MAX_MODEL_BYTES)?;
+    let model = read_model(rt.alloc(), &bytes)?;
+    let c = model.circuit();
+    let goals = goals_of(rt.alloc(), c)?;
+    let first = search_all(rt, c, &Start::Initial, "initial", goals.as_slice())?;
+    if let Some(state) = first {
+        search_all(rt, c, &Start::State(state), "state", goals.as_slice())?;
+    }
+    Ok(0)
+}
+
+/// The literals of the properties and of fairness, in their order.
+fn goals_of(alloc: Global, c: &Circuit) -> Result<Vec<u64>, Failure> {
+    let mut goals = Vec::new(alloc);
+    for j in 0..c.property_count() {
+        goals.extend_from_slice(c.property(j))?;
+    }
+    goals.extend_from_slice(c.fairness())?;
+    Ok(goals)
+}
+
+// Searches for each literal in turn, and answers the last state of the first path.
+fn search_all(
+    rt: &HostRuntime,
+    c: &Circuit,
+    start: &Start,
+    from: &str,
+    goals: &[u64],
+) -> Result<Option<Items<bool>>, Failure> {
+    let mut first = None;
+    for literal in goals {
+        let found = search(rt, c, start, from, *literal)?;
+        if first.is_none() {
+            first = found;
+        }
+    }
+    Ok(first)
+}
+
+// One search: what it answered is written, and what it took.
+fn search(
+    rt: &HostRuntime,
+    c: &Circuit,
+    start: &Start,
+    from: &str,
+    literal: u64,
+) -> Result<Option<Items<bool>>, Failure> {
+    let mut meter = Meter::new(NO_LIMIT, NO_LIMIT);
+    let before = Stamp::now(rt)?;
+    let answer = answer_of(rt.alloc(), c, start, literal, &mut meter)?;
+    let after = Stamp::now(rt)?;
+    print_costs(rt, &meter, before, after)?;
+    match answer {
+        Answer::Path { positions, last } => {
+            let text = format!(in rt.alloc(); "{from} to {literal}: path {positions}\n")?;
+            print_text(rt, text.as_str())?;
+            Ok(Some(last))
+        }
+        Answer::Closed { clauses } => {
+            let text = format!(in rt.alloc(); "{from} to {literal}: closed {clauses}\n")?;
+            print_text(rt, text.as_str())?;
+            Ok(None)
+        }
+    }
+}
+
+fn answer_of(
+    alloc: Global,
+    c: &Circuit,
+    start: &Start,
+    literal: u64,
+    meter: &mut Meter,
+) -> Result<Answer, Failure> {
+    if !is_start(c, start) || literal / 2 > c.max() {
+        return Err(Failure::BadInput);
+    }
+    let goal = Goal::Literal {
+        literal,
+        avoid: &[],
+    };
+    match reach(alloc, c, &[], start, &goal, meter) {
+        Ok(Reached::Path(positions)) => path_of(alloc, positions.as_slice()),
+        Ok(Reached::Closed { clauses, uses: _ }) => Ok(Answer::Closed {
+            clauses: clauses.len(),
+        }),
+        Err(ReachEnd::Memory) => Err(Failure::Memory),
+        Err(ReachEnd::SpentConflicts | ReachEnd::SpentSteps) => Err(Failure::Spent),
+    }
+}
+
+fn is_start(c: &Circuit, start: &Start) -> bool {
+    match start {
+        Start::Initial => true,
+        Start::State(state) => state.len() == c.latches().len(),
+    }
+}
+
+fn path_of(alloc: Global, positions: &[Position]) -> Result<Answer, Failure> {
+    match positions.last() {
+        Some(position) => Ok(Answer::Path {
+            positions: positions.len(),
+            last: position.latches.try_copy(alloc)?,
+        }),
+        None => Err(Failure::WrongAnswer),
+    }
+}
+
+fn print_costs(rt: &HostRuntime, meter: &Meter, before: Stamp, after: Stamp) -> io::Result<()> {
+    let spent = meter.spending();
+    let nanoseconds = before.processor_to(after);
+    eprintln!(rt; "conflicts {} steps {} nanoseconds {}", spent.conflicts(), spent.steps(), nanoseconds)
+}

@@ -1,0 +1,184 @@
+//! Runs of `solve` over texts in memory: what it prints of models that were worked out by hand, and that `check` accepts it.
+
+ghost use Rattle.std.specs.Prelude.{◌≤◌};
+
+use crate::tests::{Outcome, USAGE, run_words};
+use std::alloc::Global;
+use std::sync::Wait;
+use std::test::Fail;
+use std::thread::Threads;
+
+// The latch begins with 0 and changes at each step; it stays at 0; the property is that it is 1.
+const TOGGLE: &[u8] = b"aag 1 0 1 0 0 0 0 1 0\n2 3\n1\n2\n";
+
+const STUCK: &[u8] = b"aag 1 0 1 0 0 0 0 1 0\n2 2\n1\n2\n";
+
+// The latch is 1 from the second position on, and is to be 0 again and again.
+const RISES: &[u8] = b"aag 1 0 1 0 0 0 0 1 0\n2 1\n1\n3\n";
+
+const FREE: &[u8] = b"aag 1 0 1 0 0 0 0 1 0\n2 2 2\n1\n2\n";
+
+const FREE_AT_0: &[u8] = b"aag 1 0 1 0 0 0 1 1 0\n2 2 2\n3\n1\n2\n";
+
+const NO_LATCH: &[u8] = b"aag 1 1 0 0 0 0 0 1 0\n2\n1\n2\n";
+
+// A property without literals, and one whose literal is false.
+const NO_LITERAL: &[u8] = b"aag 1 0 1 0 0 0 0 1 0\n2 3\n0\n";
+
+const NEVER: &[u8] = b"aag 1 0 1 0 0 0 0 1 0\n2 3\n1\n0\n";
+
+// A counter of two bits; the property is that both are 1.
+const COUNTER: &[u8] =
+    b"aag 6 0 2 0 4 0 0 1 0\n2 3\n4 11\n1\n12\n6 5 2\n8 4 3\n10 9 7\n12 4 2\n";
+
+// The toggle, and a latch that a gate of the false literal feeds, with a symbol and a comment.
+const BINARY_TOGGLE: &[u8] = b"aig 1 0 1 0 0 0 0 1 0\n3\n1\n2\n";
+
+const BINARY_STUCK: &[u8] = b"aig 3 1 1 0 1 0 0 1 0\n6\n1\n4\n\x02\x02l0 t\nc\nany";
+
+// The literal is a conjunction of two formulas over two inputs that exclude each other.
+const APART: &[u8] = b"aag 9 2 0 0 7 0 0 1 0\n2\n4\n1\n18\n6 5 3\n8 5 2\n10 4 3\n12 4 2\n14 9 7\n16 13 11\n18 16 14\n";
+
+// A gate that reads itself.
+const CYCLE: &[u8] = b"aag 2 1 0 0 1 0 0 1 0\n2\n1\n4\n4 4 2\n";
+
+// A bit goes round in two and in four latches, and each of them is to be 1 again and again.
+const RING_2: &[u8] = b"aag 2 0 2 0 0 0 0 1\n2 4 1\n4 2\n2\n2\n4\n";
+
+const RING_4: &[u8] = b"aag 4 0 4 0 0 0 0 1\n2 8 1\n4 2\n6 4\n8 6\n4\n2\n4\n6\n8\n";
+
+const TWICE: &str = "1\nj0\n0\n\n\n.\n";
+
+const CERTIFICATE: &str = "0\nj0\nversion 2\n";
+
+const ROUND: &str = "1\nj0\n00\n\n\n\n\n.\n";
+
+// What limits that serve say.
+const ENOUGH: &[&str] = &["--conflicts", "1000", "--steps", "1000"];
+
+// Models, the words behind `solve m`, the number with which the run ends, and what is written: all of it, or of a
+// certificate and of a report how it begins.
+const ROWS: [(&[u8], &[&str], u8, &str); 29] = [
+    (TOGGLE, ENOUGH, 0, TWICE),
+    (TOGGLE, &[], 0, TWICE),
+    (STUCK, ENOUGH, 0, CERTIFICATE),
+    (RISES, ENOUGH, 0, CERTIFICATE),
+    (FREE, ENOUGH, 0, "1\nj0\n1\n\n.\n"),
+    (FREE_AT_0, ENOUGH, 0, CERTIFICATE),
+    (COUNTER, ENOUGH, 0, ROUND),
+    (NO_LATCH, ENOUGH, 0, "1\nj0\n\n1\n.\n"),
+    (BINARY_TOGGLE, ENOUGH, 0, TWICE),
+    (BINARY_STUCK, ENOUGH, 0, CERTIFICATE),
+    (NO_LITERAL, ENOUGH, 0, TWICE),
+    (RING_2, &[], 0, "1\nj0\n10\n\n\n.\n"),
+    (RING_4, &[], 0, "1\nj0\n1000\n\n\n\n\n.\n"),
+    (COUNTER, &["--workers", "4"], 0, ROUND),
+    (STUCK, &["--workers", "3"], 0, CERTIFICATE),
+    (NEVER, &["--conflicts", "0"], 0, CERTIFICATE),
+    (TOGGLE, &["--skeletons", "0"], 0, TWICE),
+    (
+        STUCK,
+        &["--skeletons", "0"],
+        2,
+        "2\nj0\nc entries 0 of 0\nc worker 0 conflicts ",
+    ),
+    (
+        STUCK,
+        &["--steps", "0"],
+        2,
+        "2\nj0\nc entries 0 of 10000\nc worker 0 conflicts 0 of 1000000 steps 0 of 0\n.\n",
+    ),
+    (
+        APART,
+        &["--conflicts", "0"],
+        2,
+        "2\nj0\nc entries 0 of 10000\nc worker 0 conflicts 0 of 0 steps 0 of 100000\n.\n",
+    ),
+    (
+        APART,
+        &["--conflicts", "0", "--workers", "2"],
+        2,
+        "2\nj0\nc entries 0 of 10000\nc worker 0 conflicts 0 of 0 steps 0 of 100000\nc worker 1 conflicts 0 of 0 steps 0 of 100000\n.\n",
+    ),
+    (TOGGLE, &["--property", "1"], 8, "no property 1\n"),
+    (b"aag 1048576 0 0 0 0\n", &[], 8, "no property 0\n"),
+    (b"aag 16777217 0 0 0 0\n", &[], 3, "model refused limit 0\n"),
+    (b"", &[], 3, "model refused truncated 0\n"),
+    (CYCLE, &[], 3, "model refused cycle 2\n"),
+    (COUNTER, &["--workers", "0"], 64, USAGE),
+    (COUNTER, &["--workers", "65"], 64, USAGE),
+    (COUNTER, &["--skeletons", "65537"], 64, USAGE),
+];
+
+// Runs `solve m` with these words behind it, with these calls failing.
+fn solved<R: Threads + Wait + Sync>(
+    rt: &R,
+    alloc: Global,
+    model: &[u8],
+    options: &[&str],
+    most: u64,
+    reads: &[u64],
+    writes: &[u64],
+) -> Result<Outcome, Fail>
+    requires { 1 ≤ most }
+{
+    let mut words = Vec::new(alloc);
+    words.extend_from_slice(&["fairlive", "solve", "m"])?;
+    words.extend_from_slice(options)?;
+    run_words(rt, alloc, &words, model, "", most, reads, writes)
+}
+
+// Whether `check` accepts what was printed of the model.
+fn is_accepted<R: Threads + Wait + Sync>(
+    rt: &R,
+    alloc: Global,
+    model: &[u8],
+    printed: &[u8],
+) -> Result<bool, Fail> {
+    let Ok(answer) = str::from_utf8(printed) else {
+        return Ok(false);
+    };
+    let words = ["fairlive", "check", "m", "a"];
+    let checked = run_words(rt, alloc, &words, model, answer, 1000, &[], &[])?;
+    Ok(checked.status.number() == 0 && checked.text.as_slice().starts_with(b"accepted "))
+}
+
+// Whether a text is the one of a row: a stimulus and all that is no answer as a whole, else how it begins.
+fn is_text(text: &[u8], wanted: &str) -> bool {
+    if wanted.starts_with("0") || !wanted.ends_with("\n") {
+        text.starts_with(wanted.as_bytes())
+    } else {
+        text == wanted.as_bytes()
+    }
+}
+
+/// The rows, each printed verdict with its check.
+#[test]
+fn answers_of_solve(rt: HostRuntime) -> Result<(), Fail> {
+    for (model, options, number, text) in &ROWS {
+        let ran = solved(&rt, rt.alloc(), model, options, 1000, &[], &[])?;
+        assert_eq!(rt; ran.status.number(), *number, "{text}");
+        assert!(rt; is_text(ran.text.as_slice(), text), "{text}");
+        if *number == 0 {
+            assert!(rt; is_accepted(&rt, rt.alloc(), model, ran.text.as_slice())?, "{text}");
+        }
+    }
+    Ok(())
+}
+
+/// Each read failing in turn ends the run without a text; each write failing in turn leaves the front of the answer.
+#[test]
+fn failing_calls_of_solve(rt: HostRuntime) -> Result<(), Fail> {
+    for (most, reads, writes) in [(1, 31, 11), (3, 11, 4), (1000, 2, 1)] {
+        for k in 1..40 {
+            let ran = solved(&rt, rt.alloc(), TOGGLE, &[], most, &[k], &[])?;
+            let wanted = if k <= reads { (4, 0) } else { (0, 11) };
+            assert_eq!(rt; (ran.status.number(), ran.text.len()), wanted, "read {k}");
+            let ran = solved(&rt, rt.alloc(), TOGGLE, &[], most, &[], &[k])?;
+            assert_eq!(rt; ran.status.number(), if k <= writes { 5 } else { 0 }, "write {k}");
+            assert!(rt; TWICE.as_bytes().starts_with(ran.text.as_slice()), "write {k}");
+            assert_eq!(rt; ran.text.len() < 11, k <= writes, "write {k}");
+        }
+    }
+    Ok(())
+}
