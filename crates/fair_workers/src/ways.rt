@@ -1,6 +1,7 @@
 //! Questions to the search for a path, and what they come to. The main calls are `stem` and `closing`.
 
 ghost use Rattle.std.specs.Prelude.{◌<◌, ◌-◌, [], length, slice_index_or, IfOk, IfErr};
+ghost use Rattle.edge.specs.Ends.{CountsConflicts};
 ghost use Rattle.entry.specs.CheckedEntries.{viewed};
 ghost use Rattle.entry.specs.Laws.{IsGoodList};
 ghost use Rattle.ic3_questions.specs.Searching.{IsStart, IsGoal, IsReached};
@@ -9,10 +10,11 @@ ghost use Rattle.fair_workers.specs.Walks.{IsStop, KeepsLimits, Asks, IsStem, Is
 
 use circuit::{Circuit, Position};
 use cnf::Clause;
-use edge::Meter;
+use edge::{Meter, SolveEnd};
 use entry::Checked;
 use fair_semantics::{Kind, Situation, Use};
 use ic3::{Goal, ReachEnd, Reached, Start, reach};
+use ic3_closing::{ClosedSet, shrink};
 use items::Items;
 use std::alloc::{AllocError, Global};
 use std::sync::Arc;
@@ -52,7 +54,39 @@ pub(crate) enum Way {
     Barred(Bar),
 }
 
-/// What the search answers, whichever count it ends by.
+// The closed set of a search without the clauses and uses that it does not need.
+fn shrunk(
+    alloc: Global,
+    c: &Circuit,
+    view: &[Arc<Checked>],
+    start: &Start,
+    goal: &Goal<'_>,
+    whole: ClosedSet,
+    meter: &mut Meter,
+) -> Result<Reached, Stop>
+    requires view { IsGoodList c.now (viewed view.now) }
+    requires goal { IsGoal c.now goal.now }
+    requires reached { IsReached (record {
+      circuit = c.now;
+      view = viewed view.now;
+      start = start.now;
+    }) goal.now (Reached.Closed whole.clauses whole.uses) }
+    ensures reached { IfOk result (IsReached (record {
+      circuit = c.now;
+      view = viewed view.now;
+      start = start.now;
+    }) goal.now) }
+    ensures stop { IfErr result (IsStop meter.new) }
+    ensures counted { CountsConflicts meter.old meter.new }
+{
+    match shrink(alloc, c, view, start, goal, whole, meter) {
+        Ok(ClosedSet { clauses, uses }) => Ok(Reached::Closed { clauses, uses }),
+        Err(SolveEnd::Spent(_)) => Err(Stop::Spent),
+        Err(SolveEnd::Memory) => Err(Stop::Memory),
+    }
+}
+
+/// What the search answers, whichever count it ends by; a closed set without what it does not need.
 pub(crate) fn asked(
     alloc: Global,
     c: &Circuit,
@@ -74,7 +108,11 @@ pub(crate) fn asked(
     ensures steps { Asks (length c.now.latches) 1 meter.old meter.new }
 {
     match reach(alloc, c, view, start, goal, meter) {
-        Ok(reached) => Ok(reached),
+        Ok(Reached::Closed { clauses, uses }) => {
+            let whole = ClosedSet { clauses, uses };
+            shrunk(alloc, c, view, start, goal, whole, meter)
+        }
+        Ok(Reached::Path(positions)) => Ok(Reached::Path(positions)),
         Err(ReachEnd::SpentConflicts) => Err(Stop::Spent),
         Err(ReachEnd::SpentSteps) => Err(Stop::Spent),
         Err(ReachEnd::Memory) => Err(Stop::Memory),

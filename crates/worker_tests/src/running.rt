@@ -1,0 +1,62 @@
+//! Runs of workers on a model's text.
+
+ghost use Rattle.std.specs.Prelude.{◌<◌, ◌≤◌, length, IfSome};
+ghost use Rattle.std.specs.Arc.{arc_value};
+ghost use Rattle.fair_workers.specs.Runs.{AreLimits};
+
+use circuit::Circuit;
+use fair_workers::{Board, Ended, Limits, run_turns};
+use std::alloc::Global;
+use std::sync::Arc;
+use wall_store::sound_lists_grow;
+
+/// The circuit, where it has property 0.
+pub fn with_property(c: Arc<Circuit>) -> Option<Arc<Circuit>>
+    ensures { IfSome result (λ found. 0 < length (arc_value found).justice) }
+{
+    if c.property_count() == 0 {
+        return None;
+    }
+    Some(c)
+}
+
+/// Limits of so many workers, at least one and at most 64, with no limit on conflicts.
+pub fn limits(workers: u32, steps: u64, skeletons: u32) -> Limits
+    ensures { AreLimits result }
+{
+    Limits {
+        workers: within(workers, 1, 64),
+        conflicts: 4_294_967_295,
+        steps,
+        skeletons: within(skeletons, 0, 65_536),
+    }
+}
+
+// The number, or the nearest one of these.
+fn within(number: u32, least: u32, most: u32) -> u32
+    requires { least ≤ most }
+    ensures low { least ≤ result }
+    ensures high { result ≤ most }
+{
+    if number < least {
+        return least;
+    }
+    if most < number {
+        return most;
+    }
+    number
+}
+
+/// Workers that search for an outcome of property 0, with no entry given.
+pub fn run(
+    alloc: Global,
+    c: &Arc<Circuit>,
+    limits: Limits,
+    schedule: &[u32],
+) -> Result<Board, Ended>
+    requires property { 0 < length (arc_value c.now).justice }
+    requires limits { AreLimits limits }
+{
+    sound_lists_grow(&**c);
+    run_turns(alloc, c, 0, limits, schedule, &[])
+}
