@@ -86,8 +86,8 @@ fn shrunk(
     }
 }
 
-/// What the search answers, whichever count it ends by; a closed set without what it does not need.
-pub(crate) fn asked(
+// What the search answers, whichever count it ends by.
+fn searched(
     alloc: Global,
     c: &Circuit,
     view: &[Arc<Checked>],
@@ -108,14 +108,40 @@ pub(crate) fn asked(
     ensures steps { Asks (length c.now.latches) 1 meter.old meter.new }
 {
     match reach(alloc, c, view, start, goal, meter) {
-        Ok(Reached::Closed { clauses, uses }) => {
-            let whole = ClosedSet { clauses, uses };
-            shrunk(alloc, c, view, start, goal, whole, meter)
-        }
-        Ok(Reached::Path(positions)) => Ok(Reached::Path(positions)),
+        Ok(reached) => Ok(reached),
         Err(ReachEnd::SpentConflicts) => Err(Stop::Spent),
         Err(ReachEnd::SpentSteps) => Err(Stop::Spent),
         Err(ReachEnd::Memory) => Err(Stop::Memory),
+    }
+}
+
+/// A path, or a closed set without what it does not need.
+pub(crate) fn asked(
+    alloc: Global,
+    c: &Circuit,
+    view: &[Arc<Checked>],
+    start: &Start,
+    goal: &Goal<'_>,
+    meter: &mut Meter,
+) -> Result<Reached, Stop>
+    requires view { IsGoodList c.now (viewed view.now) }
+    requires start { IsStart c.now start.now }
+    requires goal { IsGoal c.now goal.now }
+    ensures reached { IfOk result (IsReached (record {
+      circuit = c.now;
+      view = viewed view.now;
+      start = start.now;
+    }) goal.now) }
+    ensures stop { IfErr result (IsStop meter.new) }
+    ensures limits { KeepsLimits meter.old meter.new }
+    ensures steps { Asks (length c.now.latches) 1 meter.old meter.new }
+{
+    match searched(alloc, c, view, start, goal, meter)? {
+        Reached::Path(positions) => Ok(Reached::Path(positions)),
+        Reached::Closed { clauses, uses } => {
+            let whole = ClosedSet { clauses, uses };
+            shrunk(alloc, c, view, start, goal, whole, meter)
+        }
     }
 }
 

@@ -1,6 +1,6 @@
 use Rattle.std.proofs.Common.{length}
 use Rattle.fair_workers.proofs.Counting.{asks-one}
-use Rattle.fair_workers.proofs.ways.asked.Goals as goal
+use Rattle.fair_workers.proofs.ways.searched.Goals as goal
 
 pub returns-in-Ok-clause-steps : goal.returns-in-Ok-clause-steps
 returns-in-Ok-clause-steps c = asks-one (length c.args.c.now.latches) c.args.meter.now.steps c.reach.new.meter.steps c.reach.ensures.counted.bound
