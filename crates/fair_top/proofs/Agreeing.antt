@@ -1,5 +1,5 @@
 -- Two runs for one property print one status line.
-use Rattle.std.proofs.Common.{◌≡◌, ℕ, Bool, true, false, List, take, refl, sym, ◌∙◌, ap, subst, Some, codes}
+use Rattle.std.proofs.Common.{◌≡◌, ℕ, Bool, true, false, List, take, refl, sym, ◌∙◌, ap, subst, codes}
 use Rattle.aig_semantics.specs.Circuits.{Circuit}
 use Rattle.aiger_grammar.specs.Models.{Model}
 use Rattle.aiger_grammar.specs.AsciiTexts.{HasOneModel}

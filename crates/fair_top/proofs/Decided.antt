@@ -26,7 +26,6 @@ use Rattle.fair_top.specs.declared.status.Status.TheVariants as statuses
 use Rattle.fair_top.specs.declared.texts.Outcome.{Outcome}
 use Rattle.fair_top.specs.Check.{done_of}
 use Rattle.certificate.specs.Writing.{written_entry}
-use Rattle.certificate.specs.Certificates.{Written}
 use Rattle.fair_top.specs.Solve.{task_of, IsWrittenAs, HasAsked, GivesSolve, ShownBySolve}
 use Rattle.fair_top.specs.Solved.{IsPrinted, EndsFor, SolvesUnlessCut}
 use Rattle.fair_top.specs.Statuses.{status_in}
@@ -170,8 +169,7 @@ good_certificate c j b list refutation count text written true_one board of_circ
     (written j list refutation refuted (subst (λ (t : List ℕ). length t ≤ most_bytes) same short)).1 in
     let as_text : IsGood c text (accepted.Holds j (length list)) = subst (λ (t : List ℕ). IsGood c t (accepted.Holds j (length list))) (sym same) certificate in
     let as_count : IsGood c text (accepted.Holds j count) = subst (λ (n : ℕ). IsGood c text (accepted.Holds j n)) (sym counted) as_text in
-    let entries_are : length (map written_entry list) ≡ count = length-map list written_entry ∙ sym counted in
-    (
+    let entries_are : length (map written_entry list) ≡ count = length-map list written_entry ∙ sym counted in (
       accepted.Holds j count,
       refl,
       refl,
