@@ -1,7 +1,7 @@
 -- What `solve` gives, from the model and from what it comes to for the circuit.
-use Rattle.std.proofs.Common.{◌≡◌, ◌<◌, ◌≤◌, ◌^◌, ℕ, List, [], ◌∷◌, ◌++◌, length, refl, sym, ◌∙◌, ap, subst, inl, inr, arith, Ok, Err}
+use Rattle.std.proofs.Common.{◌≡◌, ◌⊎◌, ◌<◌, ◌≤◌, ◌^◌, ℕ, List, [], ◌∷◌, ◌++◌, map, length, refl, sym, ◌∙◌, ap, subst, inl, inr, arith, Ok, Err}
 use Rattle.std.specs.Prelude.{Option, Result, IfOk, IfErr}
-use Rattle.std.proofs.lemmas.List.{map-append, append_assoc}
+use Rattle.std.proofs.lemmas.List.{map-append, append_assoc, length-map}
 use Rattle.aig_semantics.specs.Circuits.{Circuit}
 use Rattle.aiger_grammar.specs.Models.{Model}
 use Rattle.certificate.specs.declared.ends.Accepted.{Accepted}
@@ -25,10 +25,11 @@ use Rattle.fair_top.specs.declared.status.Status.{Status}
 use Rattle.fair_top.specs.declared.status.Status.TheVariants as statuses
 use Rattle.fair_top.specs.declared.texts.Outcome.{Outcome}
 use Rattle.fair_top.specs.Check.{done_of}
-use Rattle.fair_top.specs.Solve.{task_of, GivesSolve, ShownBySolve}
-use Rattle.fair_top.specs.Solved.{IsPrinted, EndsFor}
+use Rattle.certificate.specs.Writing.{written_entry}
+use Rattle.fair_top.specs.Solve.{task_of, IsWrittenAs, HasAsked, GivesSolve, ShownBySolve}
+use Rattle.fair_top.specs.Solved.{IsPrinted, EndsFor, SolvesUnlessCut}
 use Rattle.fair_top.specs.Statuses.{status_in}
-use Rattle.fair_top.specs.Judged.{IsModelOf}
+use Rattle.fair_top.specs.Judged.{IsModelOf, EndsWithoutModel}
 
 -- Entries of a board.
 
@@ -58,7 +59,7 @@ same_accepted (accepted.Holds j n) (accepted.Holds k o) e = cc
 shows : (c : Circuit) (request : SolveRequest) (status : Status) (text : List ℕ) (found : Accepted) → EndsFor c request status text
     → status ≡ statuses.Done (done_of found) → Shows c found
 shows c request status text found (inl (without, e)) is = let wrong : statuses.NoProperty request.property ≡ statuses.Done (done_of found) = sym without.0 ∙ is in cc
-shows c request status text found (inr (inl p)) is = subst (λ (a : Accepted). Shows c a) (same_accepted p.0 found (sym p.1 ∙ is)) p.4
+shows c request status text found (inr (inl p)) is = subst (λ (a : Accepted). Shows c a) (same_accepted p.0 found (sym p.1 ∙ is)) p.5
 shows c request status text found (inr (inr (r, e))) is = let wrong : statuses.Unknown r.0 ≡ statuses.Done (done_of found) = sym r.1 ∙ is in cc
 
 gives : (c : Circuit) (m : Model) (told : Option (List ℕ)) (request : SolveRequest) (status : Status) (text : List ℕ) → c ≡ m.circuit → IsModelOf told m
@@ -66,7 +67,12 @@ gives : (c : Circuit) (m : Model) (told : Option (List ℕ)) (request : SolveReq
 gives c m told request status text same h (inl (without, e)) =
     inr (inl ((without.0, (h.text.0, h.text.1, (m, h.text.2, subst (λ (k : Circuit). length k.justice ≤ request.property) same without.1))), e))
 gives c m told request status text same h (inr (inl p)) =
-    inr (inr (inl (p.0, p.1, p.2, (h.text.0, h.text.1, (m, h.text.2, subst (λ (k : Circuit). IsGood k text p.0) same p.3)))))
+    inr (inr (inl (
+      p.0,
+      p.1,
+      p.2,
+      (h.text.0, h.text.1, (m, h.text.2, (subst (λ (k : Circuit). IsGood k text p.0) same p.3, subst (λ (k : Circuit). IsWrittenAs k text p.0) same p.4))),
+    )))
 gives c m told request status text same h (inr (inr (r, e))) =
     inr (inr (inr (
       (
@@ -101,15 +107,51 @@ solved_shown c m told request (Err status) same h ends ended found e = let wrong
 solved_shown c m told request (Ok outcome) same h ends ended found e =
     (h.text.0, h.text.1, (m, h.text.2, subst (λ (k : Circuit). Shows k found) same (shows c request outcome.status outcome.text.items found ends e)))
 
+-- Completeness.
+
+ends_solved : (c : Circuit) (request : SolveRequest) (status : Status) (text : List ℕ) → request.property < length c.justice
+    → EndsFor c request status text → SolvesUnlessCut status
+ends_solved c request status text there (inl (without, e)) = absurd (omega (arith, there, without.1))
+ends_solved c request status text there (inr (inl p)) = inl (inl (inl (p.0, p.1)))
+ends_solved c request status text there (inr (inr (r, e))) = inl (inl (inr (r.0, r.1)))
+
+-- the circuit has the property of which MODEL's told text has it
+has_property : (c : Circuit) (m : Model) (told : Option (List ℕ)) (request : SolveRequest) → c ≡ m.circuit → IsModelOf told m → HasAsked told request
+    → request.property < length c.justice
+has_property c m told request same h (text, e, (n, form, there)) =
+    let is : n.circuit ≡ c = ap (λ (x : Model). x.circuit) (sym (h.one text n e form)) ∙ sym same in
+    subst (λ (k : Circuit). request.property < length k.justice) is there
+
+pub solved_asked : (c : Circuit) (m : Model) (told : Option (List ℕ)) (request : SolveRequest) (result : Result Outcome Status) → c ≡ m.circuit → IsModelOf told m
+    → IfOk result (λ outcome. EndsFor c request outcome.status outcome.text.items) → IfErr result (λ status. status ≡ statuses.Memory)
+    → HasAsked told request → SolvesUnlessCut (status_in result)
+solved_asked c m told request (Err status) same h ends ended asked = inr ended
+solved_asked c m told request (Ok outcome) same h ends ended asked =
+    ends_solved c request outcome.status outcome.text.items (has_property c m told request same h asked) ends
+
+-- where there is no model, MODEL's told text is none of one, or memory was refused or a read failed
+pub without_asked : (told : Option (List ℕ)) (request : SolveRequest) (status result : Status) → EndsWithoutModel told status
+    → (result ≡ status) ⊎ (result ≡ statuses.Memory) → HasAsked told request → SolvesUnlessCut result
+without_asked told request status result ends (inr memory) asked = inr memory
+without_asked told request (statuses.BadModel fault) result ends (inl same) (text, e, (m, form, there)) = absurd (ends.none text m e form)
+without_asked told request statuses.ReadFault result ends (inl same) asked = inl (inr (inl same))
+without_asked told request statuses.Memory result ends (inl same) asked = inr same
+without_asked told request (statuses.Done done) result ends (inl same) asked = absurd ends
+without_asked told request (statuses.Refused fault) result ends (inl same) asked = absurd ends
+without_asked told request statuses.WriteFault result ends (inl same) asked = absurd ends
+without_asked told request statuses.Usage result ends (inl same) asked = absurd ends
+without_asked told request (statuses.Unknown report) result ends (inl same) asked = absurd ends
+without_asked told request (statuses.NoProperty n) result ends (inl same) asked = absurd ends
+
 -- What is printed.
 
 pub good_stimulus : (c : Circuit) (j : ℕ) (s : Stimulus) (positions from : ℕ) (text : List ℕ) → WrittenIsGood c → GoodIsTrue c → j < 2 ^ 63
-    → StandsFor c j s positions from → text ≡ answer_text j s → length text ≤ most_bytes
+    → length s.inputs ≡ positions → StandsFor c j s positions from → text ≡ answer_text j s → length text ≤ most_bytes
     → IsPrinted c j (statuses.Done (dones.Lasso j positions from)) text
-good_stimulus c j s positions from text written true_one small stands same short =
+good_stimulus c j s positions from text written true_one small all stands same short =
     let good : IsGood c text (accepted.Lasso j positions from) = subst (λ (t : List ℕ). IsGood c t (accepted.Lasso j positions from)) (sym same)
     (written j s positions from small stands (subst (λ (t : List ℕ). length t ≤ most_bytes) same short)) in
-    (accepted.Lasso j positions from, refl, refl, good, true_one text (accepted.Lasso j positions from) good)
+    (accepted.Lasso j positions from, refl, refl, good, (s, same, all, stands), true_one text (accepted.Lasso j positions from) good)
 
 pub good_certificate : (c : Circuit) (j : ℕ) (b : BoardState) (list : List CheckedEntry) (refutation : Refutation) (count : ℕ) (text : List ℕ)
     → WrittenCertificatesAreGood c → GoodIsTrue c → IsBoard b → b.circuit ≡ c → list ≡ b.entries → j < length c.justice
@@ -127,7 +169,14 @@ good_certificate c j b list refutation count text written true_one board of_circ
     (written j list refutation refuted (subst (λ (t : List ℕ). length t ≤ most_bytes) same short)).1 in
     let as_text : IsGood c text (accepted.Holds j (length list)) = subst (λ (t : List ℕ). IsGood c t (accepted.Holds j (length list))) (sym same) certificate in
     let as_count : IsGood c text (accepted.Holds j count) = subst (λ (n : ℕ). IsGood c text (accepted.Holds j n)) (sym counted) as_text in
-    (accepted.Holds j count, refl, refl, as_count, true_one text (accepted.Holds j count) as_count)
+    let entries_are : length (map written_entry list) ≡ count = length-map list written_entry ∙ sym counted in (
+      accepted.Holds j count,
+      refl,
+      refl,
+      as_count,
+      (certificate_of list refutation, same, entries_are, refl),
+      true_one text (accepted.Holds j count) as_count,
+    )
 
 pub nothing_before : (before after : List CheckedEntry) (e : CheckedEntry) → [] ≡ before ++ e ∷ after → ⊥
 nothing_before [] after e wrong = cc

@@ -1,5 +1,5 @@
 -- How a run ends, from what is asked for and from what its command gives.
-use Rattle.std.proofs.Common.{◌≡◌, ◌⊎◌, inl, inr, ℕ, Bool, false, List, refl, sym, ap, subst, Ok, Err}
+use Rattle.std.proofs.Common.{◌≡◌, ◌⊎◌, inl, inr, ℕ, Bool, false, List, refl, sym, ◌∙◌, ap, subst, Ok, Err}
 use Rattle.std.specs.Prelude.{Option, Result}
 use Rattle.aig_semantics.specs.Circuits.{Circuit}
 use Rattle.edge.specs.Writes.{Adds, AddsPart, Writes}
@@ -16,6 +16,7 @@ use Rattle.fair_top.specs.Check.{status_of, JudgesAs}
 use Rattle.fair_top.specs.declared.requests.SolveRequest.{SolveRequest}
 use Rattle.fair_top.specs.Asked.{Asked, Solve, Check, Gen, names_in}
 use Rattle.fair_top.specs.Solve.{GivesSolve}
+use Rattle.fair_top.specs.Solved.{SolvesAsked}
 use Rattle.fair_top.specs.Commands.{CommandGives, Decides}
 use Rattle.fair_top.specs.Headline.{AsksFor, IsUsage, Ends, IsVerdict, IsAnswered, IsTakenOrUsage, HasTaken, HasWritten, FailedOf, ReadFailed, ReadsModelFirst, HasRead}
 use Rattle.fair_top.specs.Statuses.{is_read_fault}
@@ -55,6 +56,26 @@ is_printed held words before now request status asks exact read = by (exact (sta
     by (inl (inr (inl e))) = absurd (unread (read e))
     by (inl (inr (inr e))) = inr (inr e)
     by (inr e) = inr (inl e)
+
+-- `solve` is answered with a verdict or a report
+
+pub solves_for : (held : List ℕ → Option (List ℕ)) (words : List (List ℕ)) (asked : Asked) (result : Status) → AsksFor words asked → SolvesAsked held asked result
+    → (other : Asked) → AsksFor words other → SolvesAsked held other result
+solves_for held words asked result asks solves other others =
+    subst (λ (a : Asked). SolvesAsked held a result) (one_asked words asked other asks others) solves
+
+memory_solves : (held : List ℕ → Option (List ℕ)) (asked : Asked) (result : Status) → result ≡ statuses.Memory → SolvesAsked held asked result
+memory_solves held (Solve model request) result e = λ given. inr e
+memory_solves held (Check model answer) result e = tt
+memory_solves held (Gen request) result e = tt
+
+-- words that ask for something are refused for want of memory alone
+pub unsolved : (held : List ℕ → Option (List ℕ)) (words : List (List ℕ)) (status result : Status)
+    → ((status ≡ statuses.Usage) × IsUsage words) ⊎ (status ≡ statuses.Memory) → (result ≡ status) ⊎ (result ≡ statuses.Memory)
+    → (asked : Asked) → AsksFor words asked → SolvesAsked held asked result
+unsolved held words status result (inl usage) same asked asks = absurd (not_usage words asked asks usage.1)
+unsolved held words status result (inr e) (inl same) asked asks = memory_solves held asked result (same ∙ e)
+unsolved held words status result (inr e) (inr memory) asked asks = memory_solves held asked result memory
 
 -- no read failed where the text of the end was not written whole
 pub read_before : {Shelf : Type 0} (Read : Shelf → List ℕ → Bool → Shelf → Type 0) (held : List ℕ → Option (List ℕ)) (words : List (List ℕ)) (status : Status) (old new : Shelf)

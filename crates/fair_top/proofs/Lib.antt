@@ -4,3 +4,4 @@ mod Decided
 mod Values
 mod Taken
 mod Ending
+mod Agreeing

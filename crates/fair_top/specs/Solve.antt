@@ -1,12 +1,18 @@
 -- The command `solve MODEL [--property N] [--workers W] [--conflicts C] [--steps S] [--skeletons K]`: what its words mean,
 -- and what it gives. The search is FAIR (Bradley, Somenzi, Hassan, Zhang, 2011).
-use Rattle.std.specs.Prelude.{◌≡◌, ◌⊎◌, ◌≤◌, ◌<◌, ℕ, List, [], ◌∷◌, length, Option, codes}
+use Rattle.std.specs.Prelude.{◌≡◌, ◌⊎◌, ◌≤◌, ◌<◌, ℕ, List, [], ◌∷◌, length, take, Option, Some, codes}
 use Rattle.clap.specs.Walk.{Row}
 use Rattle.clap.specs.Simple.{App, new_app, with_rule}
+use Rattle.aig_semantics.specs.declared.traces.Stimulus.{Stimulus}
 use Rattle.aig_semantics.specs.Circuits.{Circuit}
+use Rattle.aig_semantics.specs.Stimuli.{StandsFor}
+use Rattle.stimulus.specs.Texts.{answer_text}
+use Rattle.certificate_lines.specs.declared.words.Version.TheVariants.{Two}
 use Rattle.certificate.specs.declared.ends.Accepted.{Accepted}
 use Rattle.certificate.specs.declared.ends.Accepted.TheVariants as accepted
 use Rattle.certificate.specs.Answers.{IsGood}
+use Rattle.certificate.specs.Certificates.{Certificate}
+use Rattle.certificate.specs.Writing.{certificate_text}
 use Rattle.fair_workers.specs.declared.limits.Limits.{Limits}
 use Rattle.fair_workers.specs.declared.limits.Report.{Report}
 use Rattle.fair_workers.specs.Runs.{Task, IsReport}
@@ -64,21 +70,30 @@ SaysNoProperty Of model request status =
     (status ≡ statuses.NoProperty request.property)
     × Of model (λ text. OfModel text (λ c. length c.justice ≤ request.property))
 
--- The text is a good answer for the property, and the status says what `check` says of it.
+-- The text is as `solve` spells it. Of a stimulus all positions are needed: it stands for a fair lasso of so many, and
+-- none of its prefixes with fewer has a fair lasso of the property. A certificate is of version 2.
+abbrev pub IsWrittenAs : Circuit → List ℕ → Accepted → Type 0
+IsWrittenAs c text (accepted.Lasso n positions from) =
+    (stimulus : Stimulus) × (text ≡ answer_text n stimulus) × (length stimulus.inputs ≡ positions) × StandsFor c n stimulus positions from
+IsWrittenAs c text (accepted.Holds n entries) =
+    (certificate : Certificate) × (text ≡ certificate_text n certificate) × (length certificate.entries ≡ entries) × (certificate.version ≡ Two)
+
+-- The text is a good answer for the property, spelled as `solve` writes it, and the status says what `check` says of it.
 abbrev pub PrintsAnswer : Option (List ℕ) → SolveRequest → Status → List ℕ → Type 0
 PrintsAnswer model request status text =
     (found : Accepted) × (status ≡ statuses.Done (done_of found)) × (property_of found ≡ request.property)
-    × OfSomeText model (λ bytes. OfModel bytes (λ c. IsGood c text found))
+    × OfSomeText model (λ bytes. OfModel bytes (λ c. IsGood c text found × IsWrittenAs c text found))
 
--- the status carries a report of the workers, who have spent what they may
+-- The status carries a report of the workers: the list is full and leaves a skeleton, or each of them has spent its
+-- conflicts or its steps.
 abbrev pub SaysUnknown : Option (List ℕ) → SolveRequest → Status → Type 0
 SaysUnknown model request status =
     (report : Report) × (status ≡ statuses.Unknown report)
     × OfSomeText model (λ bytes. OfModel bytes (λ c. (request.property < length c.justice) × IsReport (task_of c request) report))
 
 -- What is so of the text that the shelf tells where `solve` ends with this status, and writes this text: MODEL is bad, or
--- has no such property; or the text is a good answer, and so `check` accepts it; or a budget is spent. There is no other
--- status.
+-- has no such property; or the text is a good answer, and so `check` accepts it; or a budget is spent, of entries or of
+-- each worker. There is no other status.
 abbrev pub GivesSolve : Option (List ℕ) → SolveRequest → Status → List ℕ → Type 0
 GivesSolve model request status text =
     (SaysBadModel OfSomeText model status × (text ≡ text_of status))
@@ -88,6 +103,23 @@ GivesSolve model request status text =
 -- the status that the text decides, where it is told: MODEL is bad, or has no such property
 abbrev pub DecidesSolve : Option (List ℕ) → SolveRequest → Status → Type 0
 DecidesSolve model request status = SaysBadModel OfText model status ⊎ SaysNoProperty OfText model request status
+
+-- MODEL is told, and is the text of a model that has the property
+abbrev pub HasAsked : Option (List ℕ) → SolveRequest → Type 0
+HasAsked model request = OfText model (λ text. OfModel text (λ c. request.property < length c.justice))
+
+-- a verdict, or a report
+abbrev pub IsSolved : Status → Type 0
+IsSolved status =
+    ((found : Accepted) × (status ≡ statuses.Done (done_of found))) ⊎ ((report : Report) × (status ≡ statuses.Unknown report))
+
+-- Two runs of `solve` for one property of a model with this circuit that both print an answer print the same status line,
+-- a digit and a line feed.
+abbrev pub RunsAgree : Circuit → Type 0
+RunsAgree c =
+    (bytes : List ℕ) (a b : SolveRequest) (status other : Status) (text written : List ℕ)
+    → OfModel bytes (λ k. k ≡ c) → a.property ≡ b.property
+    → PrintsAnswer (Some bytes) a status text → PrintsAnswer (Some bytes) b other written → take 2 text ≡ take 2 written
 
 -- what is true where `solve` prints an answer, as where `check` accepts it
 abbrev pub ShownBySolve : Option (List ℕ) → Accepted → Type 0

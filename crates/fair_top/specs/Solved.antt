@@ -1,5 +1,6 @@
 -- Scaffolding of inner functions: what `solve` comes to for a circuit.
-use Rattle.std.specs.Prelude.{◌≡◌, ◌⊎◌, ◌≤◌, ◌<◌, ◌^◌, ℕ, List, length}
+use Rattle.std.specs.Prelude.{◌≡◌, ◌⊎◌, ◌≤◌, ◌<◌, ℕ, List, Option, length}
+use Rattle.unless_memory.specs.Answers.{GivesSome}
 use Rattle.aig_semantics.specs.Circuits.{Circuit}
 use Rattle.certificate.specs.declared.ends.Accepted.{Accepted}
 use Rattle.certificate.specs.Answers.{IsGood, Shows}
@@ -9,13 +10,17 @@ use Rattle.fair_top.specs.declared.requests.SolveRequest.{SolveRequest}
 use Rattle.fair_top.specs.declared.status.Status.{Status}
 use Rattle.fair_top.specs.declared.status.Status.TheVariants as statuses
 use Rattle.fair_top.specs.Check.{done_of}
-use Rattle.fair_top.specs.Solve.{limits_of, task_of, property_of}
+use Rattle.fair_top.specs.Asked.{Asked, Solve}
+use Rattle.fair_top.specs.Solve.{limits_of, task_of, property_of, IsWrittenAs, HasAsked, IsSolved}
+use Rattle.fair_top.specs.Headline.{IsCut}
 use Rattle.fair_top.specs.Texts.{text_of}
 
--- the text is a good answer for property j of the circuit, the status says what `check` says of it, and that is true
+-- the text is a good answer for property j of the circuit, as `solve` spells it, the status says what `check` says of it,
+-- and that is true
 abbrev pub IsPrinted : Circuit → ℕ → Status → List ℕ → Type 0
 IsPrinted c j status text =
-    (found : Accepted) × (status ≡ statuses.Done (done_of found)) × (property_of found ≡ j) × IsGood c text found × Shows c found
+    (found : Accepted) × (status ≡ statuses.Done (done_of found)) × (property_of found ≡ j) × IsGood c text found × IsWrittenAs c text found
+    × Shows c found
 
 -- the status says that the circuit has no such property
 abbrev pub EndsWithoutProperty : Circuit → SolveRequest → Status → Type 0
@@ -34,3 +39,12 @@ EndsFor c request status text =
 -- what the words of a request are tested for
 abbrev pub AreWithin : SolveRequest → Type 0
 AreWithin request = AreLimits (limits_of request)
+
+-- a verdict, or a report, unless memory is refused or a read or write fails
+abbrev pub SolvesUnlessCut : Status → Type 0
+SolvesUnlessCut status = GivesSome statuses.Memory (λ end. IsSolved end ⊎ IsCut end) status
+
+-- where `solve` is asked for, of a model that has the property, the status is that of a verdict or of a report
+abbrev pub SolvesAsked : (List ℕ → Option (List ℕ)) → Asked → Status → Type 0
+SolvesAsked held (Solve model request) status = HasAsked (held model) request → SolvesUnlessCut status
+SolvesAsked held _ status = Unit {0}

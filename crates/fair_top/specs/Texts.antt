@@ -84,6 +84,7 @@ refusal_text answers.TooLong = codes "refused too long\n"
 refusal_text (answers.Trailing line) = line_with (codes "refused trailing line ") line
 refusal_text answers.UnknownStatus = codes "refused unknown status\n"
 
+-- what `check` writes of an accepted answer
 abbrev pub done_text : Done → List ℕ
 done_text (Lasso property positions from) =
     codes "accepted lasso j" ++ decimal property ++ codes " positions " ++ decimal positions ++ codes " loop " ++ decimal from ++ codes "\n"
@@ -120,7 +121,8 @@ unknown_text report =
     codes "2\nj" ++ decimal (first_property report.board.served) ++ codes "\nc entries " ++ decimal (length report.board.entries)
     ++ codes " of " ++ decimal report.board.limit ++ codes "\n" ++ workers_text 0 report.workers ++ codes ".\n"
 
--- the text of a status; four have none of their own (of a model that is printed it is the model's)
+-- The text that a status tells, where the command has none of its own: `solve` writes the answer for a verdict, and `gen`
+-- the model.
 abbrev pub text_of : Status → List ℕ
 text_of (statuses.Done done) = done_text done
 text_of (statuses.Refused fault) = refusal_text fault

@@ -5,10 +5,11 @@ ghost use Rattle.edge.specs.Faults.{NoneFell};
 ghost use Rattle.edge.specs.Reads.{KeepsTexts};
 ghost use Rattle.certificate.specs.declared.ends.Accepted.{Accepted as AcceptedOf};
 ghost use Rattle.fair_top.specs.Words.{bytes_of};
-ghost use Rattle.fair_top.specs.Asked.{names_in, meant};
+ghost use Rattle.fair_top.specs.Asked.{Asked as AskedFor, names_in, meant};
 ghost use Rattle.fair_top.specs.Check.{done_of};
 ghost use Rattle.fair_top.specs.Commands.{CommandGives, Decides, ShownBy};
 ghost use Rattle.fair_top.specs.Headline.{AsksFor, IsTakenOrUsage, ReadsNothing, Ends, IsSilent, IsVerdict, IsAnswered, IsShown, FailedOf, ReadFailed, ReadsModelFirst, HasRead};
+ghost use Rattle.fair_top.specs.Solved.{SolvesAsked};
 ghost use Rattle.fair_top.specs.Statuses.{status_in, is_read_fault};
 
 use crate::checking::check;
@@ -34,6 +35,7 @@ pub(crate) fn outcome_of<H: Shelf>(
     ensures exactly { (verdict : Status) → IsVerdict (H.held shelf.old) (bytes_of words.now) verdict → IsAnswered verdict (status_in result) }
     ensures shown { IsShown (H.held shelf.old) (bytes_of words.now) (status_in result) }
     ensures words { IsTakenOrUsage (bytes_of words.now) }
+    ensures solved { (asked : AskedFor) → AsksFor (bytes_of words.now) asked → SolvesAsked (H.held shelf.old) asked (status_in result) }
     ensures read { status_in result ≡ Status.ReadFault → ReadFailed (H.held shelf.old) (bytes_of words.now) (H.faults shelf.old) (H.faults shelf.new) }
     ensures reads { HasRead H.reads (H.held shelf.old) (bytes_of words.now) (status_in result) shelf.old shelf.new }
     ensures unread { ReadsNothing (bytes_of words.now) → shelf.new ≡ shelf.old }
@@ -54,6 +56,7 @@ fn outcome_for<H: Shelf>(alloc: Global, asked: Asked, shelf: &mut H) -> Result<O
     ensures aloud { IfOk result (λ outcome. is_read_fault outcome.status ≡ false) }
     ensures exactly { (verdict : Status) → Decides (H.held shelf.old) (meant asked.entry) verdict → IsAnswered verdict (status_in result) }
     ensures shown { (accepted : AcceptedOf) → status_in result ≡ Status.Done (done_of accepted) → ShownBy (H.held shelf.old) (meant asked.entry) accepted }
+    ensures solved { SolvesAsked (H.held shelf.old) (meant asked.entry) (status_in result) }
     ensures read { status_in result ≡ Status.ReadFault → FailedOf (H.held shelf.old) (names_in (meant asked.entry)) (H.faults shelf.old) (H.faults shelf.new) }
     ensures reads { ReadsModelFirst H.reads (H.held shelf.old) (names_in (meant asked.entry)) (is_read_fault (status_in result)) shelf.old shelf.new }
     ensures counts { NoneFell (H.faults shelf.old) (H.faults shelf.new) }

@@ -3,8 +3,9 @@
 //! | Call | What it does |
 //! |---|---|
 //! | `run` | does what the words ask for, with a runtime at hand |
-//! | `run_alone` | the same with no other threads; it owes its return, and its clauses are those of `run` |
+//! | `run_alone` | the same on one thread, where workers take turns; it owes its return, and its clauses are those of `run` |
 //! | `Status::number` | the number with which the program ends |
+//! | `runs_agree` | nothing: the law that two runs of `solve` on one property agree |
 //!
 //! A command is a line in `specs/Asked.antt`, `specs/Commands.antt`, `src/requests.rt`, `src/words.rt` and
 //! `src/commands.rt`, and files of its own, as `specs/Check.antt` and `src/checking.rt` are.
@@ -13,6 +14,7 @@
 mod checking;
 mod commands;
 mod generating;
+mod laws;
 mod models;
 mod reports;
 mod requests;
@@ -22,6 +24,7 @@ mod status;
 mod texts;
 mod words;
 
+pub use laws::runs_agree;
 pub use requests::{GenKind, GenRequest, SolveRequest};
 pub use running::{run, run_alone};
 pub use status::{Done, Status};

@@ -1,4 +1,4 @@
-//! The text of a search that has spent what it may. The main call is `text_of_report`.
+//! The text of a search that ends with a report: a stated budget is spent. The main call is `text_of_report`.
 
 ghost use Rattle.std.specs.Prelude.{◌≡◌, ◌++◌, OnOk, IfOk, codes, decimal};
 ghost use Rattle.fair_top.specs.Texts.{limit_number, worker_text, workers_text, first_property, unknown_text};

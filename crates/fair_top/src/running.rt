@@ -1,12 +1,15 @@
 //! The top call: the one place that decides what a run of the program answers and writes.
 
-ghost use Rattle.std.specs.Prelude.{◌≡◌, ◌≤◌, ◌⊎◌};
+ghost use Rattle.std.specs.Prelude.{◌≡◌, ◌≤◌, ◌⊎◌, ℕ, List};
 ghost use Rattle.edge.specs.Faults.{Rose, NoneFell};
 ghost use Rattle.edge.specs.Reads.{KeepsTexts};
 ghost use Rattle.fair_top.specs.Words.{bytes_of};
-ghost use Rattle.fair_top.specs.Asked.Asked.{Gen};
-ghost use Rattle.fair_top.specs.Headline.{AsksFor, IsTakenOrUsage, ReadsNothing, IsFound, IsVerdict, IsAnswered, IsShown, IsSilent, HasTaken, ReadFailed, HasRead, HasWritten};
+ghost use Rattle.fair_top.specs.Asked.Asked.{Solve, Gen};
+ghost use Rattle.fair_top.specs.Solve.{HasAsked, IsSolved};
+ghost use Rattle.fair_top.specs.Headline.{AsksFor, IsTakenOrUsage, ReadsNothing, IsFound, IsVerdict, IsAnswered, IsCut, IsShown, IsSilent, HasTaken, ReadFailed, HasRead, HasWritten};
 ghost use Rattle.fair_top.specs.declared.requests.GenRequest.{GenRequest};
+ghost use Rattle.fair_top.specs.declared.requests.SolveRequest.{SolveRequest};
+ghost use Rattle.unless_memory.specs.Answers.{GivesSome};
 ghost use Rattle.fair_top.specs.declared.status.Done.TheVariants.{Printed};
 
 use crate::commands::outcome_of;
@@ -32,6 +35,8 @@ pub fn run<R: Threads + Wait + Sync, H: Shelf, O: Sink, G: Gate>(
     ensures shown { IsShown (H.held shelf.old) (bytes_of words.now) result }
     ensures words { IsTakenOrUsage (bytes_of words.now) }
     ensures printed { (request : GenRequest) → AsksFor (bytes_of words.now) (Gen request) → (result ≡ Status.Done Printed) ⊎ ((result ≡ Status.Memory) ⊎ (result ≡ Status.WriteFault)) }
+    ensures solved { (model : List ℕ) (request : SolveRequest) → AsksFor (bytes_of words.now) (Solve model request) → HasAsked (H.held shelf.old model) request
+        → GivesSome Status.Memory (λ status. IsSolved status ⊎ IsCut status) result }
     ensures text { HasTaken (H.held shelf.old) (bytes_of words.now) (O.taken out.old) (O.taken out.new) result }
     ensures silent { IsSilent result → out.new ≡ out.old }
     ensures read { result ≡ Status.ReadFault → ReadFailed (H.held shelf.old) (bytes_of words.now) (H.faults shelf.old) (H.faults shelf.new) }
@@ -46,7 +51,7 @@ pub fn run<R: Threads + Wait + Sync, H: Shelf, O: Sink, G: Gate>(
     run_alone(alloc, words, shelf, out)
 }
 
-/// The same for the commands that need no other threads. It waits for nobody, and returns.
+/// The same on one thread, where the workers of `solve` take turns. It waits for nobody, and returns.
 pub fn run_alone<H: Shelf, O: Sink>(
     alloc: Global,
     words: &[String],
@@ -65,6 +70,10 @@ pub fn run_alone<H: Shelf, O: Sink>(
     // is refused or a write fails.
     ensures words { IsTakenOrUsage (bytes_of words.now) }
     ensures printed { (request : GenRequest) → AsksFor (bytes_of words.now) (Gen request) → (result ≡ Status.Done Printed) ⊎ ((result ≡ Status.Memory) ⊎ (result ≡ Status.WriteFault)) }
+    // `solve` of a model that is told and has the property comes to a verdict or to a report, unless memory is refused or
+    // a read or write fails.
+    ensures solved { (model : List ℕ) (request : SolveRequest) → AsksFor (bytes_of words.now) (Solve model request) → HasAsked (H.held shelf.old model) request
+        → GivesSome Status.Memory (λ status. IsSolved status ⊎ IsCut status) result }
 
     // The sink has taken the text that goes with the answer; after a failed write a part of it; after a failed read or
     // want of memory nothing: then the sink is as before.

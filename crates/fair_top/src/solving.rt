@@ -11,8 +11,8 @@ ghost use Rattle.entry.specs.Proved.{IsGoodRefutation};
 ghost use Rattle.fair_workers.specs.Runs.{IsBoardOf, IsAnswered as IsAnsweredBy};
 ghost use Rattle.wall_store.specs.Boards.{plain};
 ghost use Rattle.fair_top.specs.Check.{done_of};
-ghost use Rattle.fair_top.specs.Solve.{limits_of, task_of, GivesSolve, DecidesSolve, ShownBySolve};
-ghost use Rattle.fair_top.specs.Solved.{AreWithin, EndsFor, IsPrinted};
+ghost use Rattle.fair_top.specs.Solve.{limits_of, task_of, HasAsked, GivesSolve, DecidesSolve, ShownBySolve};
+ghost use Rattle.fair_top.specs.Solved.{AreWithin, EndsFor, IsPrinted, SolvesUnlessCut};
 ghost use Rattle.fair_top.specs.Headline.{IsSilent, IsAnswered, FailedOf, ReadsModelFirst};
 ghost use Rattle.fair_top.specs.Statuses.{status_in, is_read_fault};
 
@@ -47,6 +47,7 @@ pub(crate) fn solve<H: Shelf>(
     ensures aloud { IfOk result (λ outcome. is_read_fault outcome.status ≡ false) }
     ensures exactly { (verdict : Status) → DecidesSolve (H.held shelf.old model.now) request.now verdict → IsAnswered verdict (status_in result) }
     ensures shown { (accepted : AcceptedOf) → status_in result ≡ Status.Done (done_of accepted) → ShownBySolve (H.held shelf.old model.now) accepted }
+    ensures solved { HasAsked (H.held shelf.old model.now) request.now → SolvesUnlessCut (status_in result) }
     ensures read { status_in result ≡ Status.ReadFault → FailedOf (H.held shelf.old) (model.now ∷ []) (H.faults shelf.old) (H.faults shelf.new) }
     ensures reads { ReadsModelFirst H.reads (H.held shelf.old) (model.now ∷ []) (is_read_fault (status_in result)) shelf.old shelf.new }
     ensures counts { NoneFell (H.faults shelf.old) (H.faults shelf.new) }

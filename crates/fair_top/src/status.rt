@@ -15,7 +15,7 @@ pub enum Status {
     Done(Done),
     /// `check`: the answer is not a good one, and this is its first failing item.
     Refused(AnswerFault),
-    /// `solve`: the workers have spent what they may, and this is what they leave.
+    /// `solve`: a stated budget is spent, of entries of the list or of each worker, and this is what the workers leave.
     Unknown(Report),
     /// The bytes of MODEL are the text of no model, and this is their first fault.
     BadModel(ModelFault),
@@ -27,22 +27,22 @@ pub enum Status {
     Memory,
     /// `solve`: the model has no property with this number, counted from 0.
     NoProperty(u32),
-    /// The words are no command, or ask `gen` for no model that there is. Nothing was read.
+    /// The words are no command, or their values are no request of it. Nothing was read.
     Usage,
 }
 
 /// What a command did.
 #[derive(Debug, PartialEq, Eq, Drop)]
 pub enum Done {
-    /// The stimulus of the answer, judged or printed, stands for a fair lasso of this property, counted from 0: its number of positions,
-    /// and the place, counted from 0, that its last position steps back to.
+    /// The stimulus of the answer, judged or printed, stands for a fair lasso of this property, counted from 0: its number
+    /// of positions, and the place, counted from 0, that its last position steps back to.
     Lasso {
         property: u32,
         positions: u64,
         from: u64,
     },
-    /// The certificate of the answer, judged or printed, leaves no fair lasso of this property, counted from 0: its number of entries, at
-    /// most 65,536.
+    /// The certificate of the answer, judged or printed, leaves no fair lasso of this property, counted from 0: its number
+    /// of entries, at most 65,536.
     Holds {
         property: u32,
         entries: u32,
@@ -52,9 +52,9 @@ pub enum Done {
 }
 
 impl Status {
-    /// The number with which the program ends: 0 for work done, 1 for a refused answer, 2 for a search that has
-    /// spent what it may, 3 for a bad model, 4 and 5 for failed reads and writes, 6 for want of memory, 8 for a property
-    /// that is not there, and 64 for words that are no command or ask for no model.
+    /// The number with which the program ends: 0 for work done, 1 for a refused answer, 2 for a search of which a stated
+    /// budget is spent, 3 for a bad model, 4 and 5 for failed reads and writes, 6 for want of memory, 8 for a property that
+    /// is not there, and 64 for words that are no command, or whose values are no request of it.
     pub fn number(&self) -> u8
         ensures { result ≡ exit_number self.now }
     {

@@ -1,8 +1,11 @@
-use Rattle.std.proofs.Common.{subst}
+use Rattle.std.proofs.Common.{subst, sym}
+use Rattle.std.specs.Prelude.{IfOk}
 use Rattle.fair_top.specs.declared.requests.Asked.{Asked as AskedInCode}
-use Rattle.fair_top.specs.Asked.{meant}
-use Rattle.fair_top.specs.Commands.{Decides}
-use Rattle.fair_top.specs.Statuses.{status_in}
+use Rattle.fair_top.specs.Asked.{meant, names_in}
+use Rattle.fair_top.specs.Commands.{CommandGives, Decides, ShownBy}
+use Rattle.fair_top.specs.Headline.{ReadsModelFirst}
+use Rattle.fair_top.specs.Solved.{SolvesAsked}
+use Rattle.fair_top.specs.Statuses.{status_in, is_read_fault}
 use Rattle.fair_top.proofs.Ending.{still_answered}
 use Rattle.fair_top.proofs.commands.outcome_for.Goals as goal
 
@@ -14,3 +17,22 @@ returns-in-Check-clause-exactly g c = λ verdict d.
 pub returns-in-Solve-clause-exactly : goal.returns-in-Solve-clause-exactly
 returns-in-Solve-clause-exactly g c = λ verdict d.
     c.solve.ensures.exactly verdict (subst (λ (a : AskedInCode). Decides (g.H.Shelf.held c.args.shelf.now) (meant a) verdict) c.in-Solve.is d)
+
+pub returns-in-Solve-clause-found : goal.returns-in-Solve-clause-found
+returns-in-Solve-clause-found g c =
+    subst (λ (a : AskedInCode). IfOk c.solve.result (λ outcome. CommandGives (g.H.Shelf.held c.args.shelf.now) (meant a) outcome.status outcome.text.items))
+    (sym c.in-Solve.is) c.solve.ensures.found
+
+pub returns-in-Solve-clause-shown : goal.returns-in-Solve-clause-shown
+returns-in-Solve-clause-shown g c = λ accepted e.
+    subst (λ (a : AskedInCode). ShownBy (g.H.Shelf.held c.args.shelf.now) (meant a) accepted) (sym c.in-Solve.is) (c.solve.ensures.shown accepted e)
+
+pub returns-in-Solve-clause-solved : goal.returns-in-Solve-clause-solved
+returns-in-Solve-clause-solved g c =
+    subst (λ (a : AskedInCode). SolvesAsked (g.H.Shelf.held c.args.shelf.now) (meant a) (status_in c.solve.result)) (sym c.in-Solve.is) c.solve.ensures.solved
+
+pub returns-in-Solve-clause-reads : goal.returns-in-Solve-clause-reads
+returns-in-Solve-clause-reads g c =
+    subst (λ (a : AskedInCode).
+    ReadsModelFirst g.H.Shelf.reads (g.H.Shelf.held c.args.shelf.now) (names_in (meant a)) (is_read_fault (status_in c.solve.result)) c.args.shelf.now c.solve.new.shelf)
+    (sym c.in-Solve.is) c.solve.ensures.reads

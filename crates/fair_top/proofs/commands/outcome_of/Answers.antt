@@ -2,7 +2,7 @@ use Rattle.std.proofs.Common.{◌∙◌}
 use Rattle.fair_top.specs.Words.{bytes_of}
 use Rattle.fair_top.specs.Asked.{meant}
 use Rattle.fair_top.specs.Statuses.{status_in}
-use Rattle.fair_top.proofs.Ending.{exact_for, nothing_read, not_a_read}
+use Rattle.fair_top.proofs.Ending.{exact_for, solves_for, unsolved, nothing_read, not_a_read}
 use Rattle.fair_top.proofs.commands.outcome_of.Goals as goal
 
 pub returns-in-Ok-clause-exactly : goal.returns-in-Ok-clause-exactly
@@ -14,3 +14,13 @@ pub returns-in-Err-clause-reads : goal.returns-in-Err-clause-reads
 returns-in-Err-clause-reads g c =
     nothing_read g.H.Shelf.reads (g.H.Shelf.held c.args.shelf.now) (bytes_of c.args.words.now) (status_in c.with_text.result) c.args.shelf.now
     c.in-Err.ensures.either (c.with_text.ensures.fault ∙ not_a_read (bytes_of c.args.words.now) c.in-Err.status c.in-Err.ensures.ended)
+
+pub returns-in-Ok-clause-solved : goal.returns-in-Ok-clause-solved
+returns-in-Ok-clause-solved g c =
+    solves_for (g.H.Shelf.held c.args.shelf.now) (bytes_of c.args.words.now) (meant c.in-Ok.asked) (status_in c.outcome_for.result)
+    c.in-Ok.ensures.found c.outcome_for.ensures.solved
+
+pub returns-in-Err-clause-solved : goal.returns-in-Err-clause-solved
+returns-in-Err-clause-solved g c =
+    unsolved (g.H.Shelf.held c.args.shelf.now) (bytes_of c.args.words.now) c.in-Err.status (status_in c.with_text.result)
+    c.in-Err.ensures.ended c.with_text.ensures.status

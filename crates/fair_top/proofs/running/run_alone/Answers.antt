@@ -1,4 +1,6 @@
+use Rattle.std.proofs.Common.{refl, inl, inr}
 use Rattle.fair_top.specs.Words.{bytes_of}
+use Rattle.fair_top.specs.Asked.Asked.{Solve}
 use Rattle.fair_top.proofs.Ending.{is_printed, read_before, written, part_written, good_writes}
 use Rattle.fair_top.proofs.running.run_alone.Goals as goal
 
@@ -26,3 +28,12 @@ pub returns-in-Ok-write_all-clause-written : goal.returns-in-Ok-write_all-clause
 returns-in-Ok-write_all-clause-written g c =
     good_writes g.O.Sink.writes (g.H.Shelf.held c.args.shelf.now) (bytes_of c.args.words.now) c.in-Ok.field-0.status c.in-Ok.field-0.text.items
     c.args.out.now c.write_all.new.sink c.in-Ok.ensures.found c.in-Ok-write_all.ensures.writes
+
+pub returns-in-Ok-write_all-clause-solved : goal.returns-in-Ok-write_all-clause-solved
+returns-in-Ok-write_all-clause-solved g c = λ model request asks. c.in-Ok.ensures.solved (Solve model request) asks
+
+pub returns-in-Err-write_all-clause-solved : goal.returns-in-Err-write_all-clause-solved
+returns-in-Err-write_all-clause-solved g c = λ model request asks has. inl (inr (inr refl))
+
+pub returns-in-Err-clause-solved : goal.returns-in-Err-clause-solved
+returns-in-Err-clause-solved g c = λ model request asks. c.in-Err.ensures.solved (Solve model request) asks
