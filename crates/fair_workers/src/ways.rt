@@ -3,16 +3,18 @@
 ghost use Rattle.std.specs.Prelude.{◌<◌, ◌-◌, [], length, slice_index_or, IfOk, IfErr};
 ghost use Rattle.entry.specs.CheckedEntries.{viewed};
 ghost use Rattle.entry.specs.Laws.{IsGoodList};
-ghost use Rattle.ic3_steps.specs.Searching.{IsStart, IsGoal, IsReached};
+ghost use Rattle.ic3_steps.specs.Searching.{IsStart, IsGoal, IsReached, Separates, closed_entry};
 ghost use Rattle.skeleton.specs.Finding.{IsAllowed};
 ghost use Rattle.fair_workers.specs.Walks.{IsStop, KeepsLimits, IsStem, IsWay, skeleton_of, states, successors};
 
 use circuit::{Circuit, Position};
 use cnf::Clause;
-use edge::Meter;
+use edge::{Meter, SolveEnd};
 use entry::Checked;
 use fair_semantics::{Kind, Situation, Use};
 use ic3::{Goal, ReachEnd, Reached, Start, reach};
+use ic3_closing::{ClosedSet, shrink};
+use ic3_steps::separated_goals_are_not_reached;
 use items::Items;
 use std::alloc::{AllocError, Global};
 use std::sync::Arc;
@@ -52,8 +54,44 @@ pub(crate) enum Way {
     Barred(Bar),
 }
 
-/// What the search answers, whichever count it ends by.
-pub(crate) fn asked(
+// A closed set without what it does not need.
+fn shrunk(
+    alloc: Global,
+    c: &Circuit,
+    view: &[Arc<Checked>],
+    start: &Start,
+    goal: &Goal<'_>,
+    whole: ClosedSet,
+    meter: &mut Meter,
+) -> Result<Reached, Stop>
+    requires view { IsGoodList c.now (viewed view.now) }
+    requires goal { IsGoal c.now goal.now }
+    requires separates { Separates (record {
+      circuit = c.now;
+      view = viewed view.now;
+      start = start.now;
+    }) goal.now (closed_entry start.now whole.clauses whole.uses) }
+    ensures reached { IfOk result (IsReached (record {
+      circuit = c.now;
+      view = viewed view.now;
+      start = start.now;
+    }) goal.now) }
+    ensures stop { IfErr result (IsStop meter.new) }
+    ensures limits { KeepsLimits meter.old meter.new }
+{
+    separated_goals_are_not_reached();
+    match shrink(alloc, c, view, start, goal, whole, meter) {
+        Ok(part) => Ok(Reached::Closed {
+            clauses: part.clauses,
+            uses: part.uses,
+        }),
+        Err(SolveEnd::Spent(_)) => Err(Stop::Spent),
+        Err(SolveEnd::Memory) => Err(Stop::Memory),
+    }
+}
+
+// What the search answers, whichever count it ends by.
+fn searched(
     alloc: Global,
     c: &Circuit,
     view: &[Arc<Checked>],
@@ -77,6 +115,35 @@ pub(crate) fn asked(
         Err(ReachEnd::SpentConflicts) => Err(Stop::Spent),
         Err(ReachEnd::SpentSteps) => Err(Stop::Spent),
         Err(ReachEnd::Memory) => Err(Stop::Memory),
+    }
+}
+
+/// What the search answers; a closed set without what it does not need.
+pub(crate) fn asked(
+    alloc: Global,
+    c: &Circuit,
+    view: &[Arc<Checked>],
+    start: &Start,
+    goal: &Goal<'_>,
+    meter: &mut Meter,
+) -> Result<Reached, Stop>
+    requires view { IsGoodList c.now (viewed view.now) }
+    requires start { IsStart c.now start.now }
+    requires goal { IsGoal c.now goal.now }
+    ensures reached { IfOk result (IsReached (record {
+      circuit = c.now;
+      view = viewed view.now;
+      start = start.now;
+    }) goal.now) }
+    ensures stop { IfErr result (IsStop meter.new) }
+    ensures limits { KeepsLimits meter.old meter.new }
+{
+    match searched(alloc, c, view, start, goal, meter)? {
+        Reached::Path(positions) => Ok(Reached::Path(positions)),
+        Reached::Closed { clauses, uses } => {
+            let whole = ClosedSet { clauses, uses };
+            shrunk(alloc, c, view, start, goal, whole, meter)
+        }
     }
 }
 
