@@ -1,10 +1,9 @@
 //! Questions to the search for a path, and what they come to. The main calls are `stem` and `closing`.
 
-ghost use Rattle.std.specs.Prelude.{◌<◌, ◌-◌, [], length, slice_index_or, IfOk, IfErr};
-ghost use Rattle.edge.specs.Ends.{CountsConflicts};
+ghost use Rattle.std.specs.Prelude.{◌≡◌, ◌<◌, ◌-◌, [], length, slice_index_or, IfOk, IfErr};
 ghost use Rattle.entry.specs.CheckedEntries.{viewed};
 ghost use Rattle.entry.specs.Laws.{IsGoodList};
-ghost use Rattle.ic3_questions.specs.Searching.{IsStart, IsGoal, IsReached};
+ghost use Rattle.ic3_questions.specs.Searching.{IsStart, IsGoal, IsReached, Separates, closed_entry};
 ghost use Rattle.skeleton.specs.Finding.{IsAllowed};
 ghost use Rattle.fair_workers.specs.Walks.{IsStop, KeepsLimits, Asks, IsStem, IsWay, skeleton_of, states, successors};
 
@@ -15,6 +14,7 @@ use entry::Checked;
 use fair_semantics::{Kind, Situation, Use};
 use ic3::{Goal, ReachEnd, Reached, Start, reach};
 use ic3_closing::{ClosedSet, shrink};
+use ic3_questions::separated_goals_are_not_reached;
 use items::Items;
 use std::alloc::{AllocError, Global};
 use std::sync::Arc;
@@ -54,7 +54,7 @@ pub(crate) enum Way {
     Barred(Bar),
 }
 
-// The closed set of a search without the clauses and uses that it does not need.
+// A closed set without what it does not need.
 fn shrunk(
     alloc: Global,
     c: &Circuit,
@@ -66,21 +66,26 @@ fn shrunk(
 ) -> Result<Reached, Stop>
     requires view { IsGoodList c.now (viewed view.now) }
     requires goal { IsGoal c.now goal.now }
-    requires reached { IsReached (record {
+    requires separates { Separates (record {
       circuit = c.now;
       view = viewed view.now;
       start = start.now;
-    }) goal.now (Reached.Closed whole.clauses whole.uses) }
+    }) goal.now (closed_entry start.now whole.clauses whole.uses) }
     ensures reached { IfOk result (IsReached (record {
       circuit = c.now;
       view = viewed view.now;
       start = start.now;
     }) goal.now) }
     ensures stop { IfErr result (IsStop meter.new) }
-    ensures counted { CountsConflicts meter.old meter.new }
+    ensures limits { KeepsLimits meter.old meter.new }
+    ensures steps { meter.new.steps ≡ meter.old.steps }
 {
+    separated_goals_are_not_reached();
     match shrink(alloc, c, view, start, goal, whole, meter) {
-        Ok(ClosedSet { clauses, uses }) => Ok(Reached::Closed { clauses, uses }),
+        Ok(part) => Ok(Reached::Closed {
+            clauses: part.clauses,
+            uses: part.uses,
+        }),
         Err(SolveEnd::Spent(_)) => Err(Stop::Spent),
         Err(SolveEnd::Memory) => Err(Stop::Memory),
     }
@@ -115,7 +120,7 @@ fn searched(
     }
 }
 
-/// A path, or a closed set without what it does not need.
+/// What the search answers; a closed set without what it does not need.
 pub(crate) fn asked(
     alloc: Global,
     c: &Circuit,

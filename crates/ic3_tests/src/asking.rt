@@ -1,0 +1,207 @@
+//! Searches asked for by texts. The main call is `answer`. A state is written with a digit for each latch.
+
+ghost use Rattle.std.specs.Prelude.{◌≡◌, [], ◌∷◌, IfOk};
+ghost use Rattle.proof_semantics.specs.declared.literals.Lit.{Lit};
+ghost use Rattle.ic3_questions.specs.Searching.{IsStart, IsGoal};
+
+use circuit::{Circuit, Position};
+use cnf::{Cube, Lit};
+use edge::Meter;
+use entry::good_lists_grow;
+use ic3::{Goal, ReachEnd, Reached, Start, reach};
+use ic3_closing::{ClosedSet, shrink};
+use items::Items;
+use std::alloc::{AllocError, Global};
+
+/// Where a search goes to: a state, by digits or values; a literal; or a literal at a position whose state has 0 in the latch of a number.
+#[derive(Clone, Copy)]
+pub(crate) enum To<'a> {
+    State(&'a str),
+    Values(&'a [bool]),
+    Literal(u64),
+    LiteralAt(u64, u64),
+}
+
+/// What a search is to answer: the states of a path, a closed set, perhaps of so many clauses, or an end.
+#[derive(Clone, Copy)]
+pub(crate) enum Wanted {
+    Path(&'static [&'static str]),
+    Closed,
+    /// A closed set of so many clauses.
+    ClosedOf(usize),
+    End(ReachEnd),
+}
+
+fn state_of(alloc: Global, text: &str) -> Result<Items<bool>, AllocError> {
+    let mut state = Items::new(alloc);
+    for digit in text.as_bytes() {
+        state.push(*digit == b'1')?;
+    }
+    Ok(state)
+}
+
+// What a search without entries answers. A closed set loses what it does not need.
+fn search(
+    alloc: Global,
+    c: &Circuit,
+    start: &Start,
+    goal: &Goal<'_>,
+    meter: &mut Meter,
+) -> Result<Reached, ReachEnd>
+    requires start { IsStart c.now start.now }
+    requires goal { IsGoal c.now goal.now }
+{
+    good_lists_grow(c);
+    match reach(alloc, c, &[], start, goal, meter)? {
+        Reached::Path(positions) => Ok(Reached::Path(positions)),
+        Reached::Closed { clauses, uses } => {
+            let whole = ClosedSet { clauses, uses };
+            let part = shrink(alloc, c, &[], start, goal, whole, meter)?;
+            Ok(Reached::Closed {
+                clauses: part.clauses,
+                uses: part.uses,
+            })
+        }
+    }
+}
+
+fn one_cube(alloc: Global, var: u64) -> Result<Cube, AllocError>
+    ensures { IfOk result (λ cube. cube ≡ record { var = var; positive = true } ∷ []) }
+{
+    let mut cube = Cube::new(alloc);
+    cube.push(Lit {
+        var,
+        positive: true,
+    })?;
+    Ok(cube)
+}
+
+// To the literal at a position whose state has 0 in latch `var`.
+fn to_literal_at(
+    alloc: Global,
+    c: &Circuit,
+    start: &Start,
+    literal: u64,
+    var: u64,
+    meter: &mut Meter,
+) -> Result<Reached, ReachEnd>
+    requires { IsStart c.now start.now }
+{
+    if literal / 2 > c.max() || var >= c.latches().len() as u64 {
+        return Err(ReachEnd::Memory);
+    }
+    let cubes = [one_cube(alloc, var)?];
+    let goal = Goal::Literal {
+        literal,
+        avoid: &cubes,
+    };
+    search(alloc, c, start, &goal, meter)
+}
+
+fn to_literal(
+    alloc: Global,
+    c: &Circuit,
+    start: &Start,
+    literal: u64,
+    meter: &mut Meter,
+) -> Result<Reached, ReachEnd>
+    requires { IsStart c.now start.now }
+{
+    if literal / 2 > c.max() {
+        return Err(ReachEnd::Memory);
+    }
+    let goal = Goal::Literal {
+        literal,
+        avoid: &[],
+    };
+    search(alloc, c, start, &goal, meter)
+}
+
+fn to_state(
+    alloc: Global,
+    c: &Circuit,
+    start: &Start,
+    to: &[bool],
+    meter: &mut Meter,
+) -> Result<Reached, ReachEnd>
+    requires { IsStart c.now start.now }
+{
+    if to.len() != c.latches().len() {
+        return Err(ReachEnd::Memory);
+    }
+    search(alloc, c, start, &Goal::State(to), meter)
+}
+
+fn to_goal(
+    alloc: Global,
+    c: &Circuit,
+    start: &Start,
+    to: To<'_>,
+    meter: &mut Meter,
+) -> Result<Reached, ReachEnd>
+    requires { IsStart c.now start.now }
+{
+    match to {
+        To::State(state) => to_state(alloc, c, start, state_of(alloc, state)?.as_slice(), meter),
+        To::Values(values) => to_state(alloc, c, start, values, meter),
+        To::Literal(literal) => to_literal(alloc, c, start, literal, meter),
+        To::LiteralAt(literal, var) => to_literal_at(alloc, c, start, literal, var, meter),
+    }
+}
+
+/// What a search without entries answers, from a state.
+pub(crate) fn from_state(
+    alloc: Global,
+    c: &Circuit,
+    state: Items<bool>,
+    to: To<'_>,
+    meter: &mut Meter,
+) -> Result<Reached, ReachEnd> {
+    if state.len() != c.latches().len() {
+        return Err(ReachEnd::Memory);
+    }
+    to_goal(alloc, c, &Start::State(state), to, meter)
+}
+
+/// What a search without entries answers, from a state, or from the initial states where none is written.
+pub(crate) fn answer(
+    alloc: Global,
+    c: &Circuit,
+    from: &str,
+    to: To<'_>,
+    meter: &mut Meter,
+) -> Result<Reached, ReachEnd> {
+    if from.is_empty() {
+        return to_goal(alloc, c, &Start::Initial, to, meter);
+    }
+    from_state(alloc, c, state_of(alloc, from)?, to, meter)
+}
+
+fn is_state(values: &[bool], text: &str) -> bool {
+    values.len() == text.len()
+        && values
+            .iter()
+            .zip(text.as_bytes())
+            .all(|(value, digit)| *value == (*digit == b'1'))
+}
+
+fn goes_through(positions: &[Position], states: &[&str]) -> bool {
+    positions.len() == states.len()
+        && positions
+            .iter()
+            .zip(states)
+            .all(|(p, state)| is_state(p.latches.as_slice(), state))
+}
+
+/// Whether an answer is the one that is wanted.
+pub(crate) fn is(reached: &Result<Reached, ReachEnd>, wanted: Wanted) -> bool {
+    match (reached, wanted) {
+        (Ok(Reached::Path(positions)), Wanted::Path(states)) => {
+            goes_through(positions.as_slice(), states)
+        }
+        (Ok(Reached::Closed { .. }), Wanted::Closed) => true,
+        (Ok(Reached::Closed { clauses, .. }), Wanted::ClosedOf(count)) => clauses.len() == count,
+        (Err(end), Wanted::End(other)) => *end == other,
+        _ => false,
+    }
+}
