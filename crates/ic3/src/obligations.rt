@@ -100,6 +100,8 @@ pub(crate) fn put_due(queue: &mut Vec<Obligation>, o: Obligation) -> Result<(), 
 fn level_above(frames: &Frames, level: u64, top: u64, state: &[bool]) -> Option<u64>
     ensures found { IfSome result (λ next. (level < next) × (next ≤ top)
         × (allowed_by (frame_at frames.now next) state.now ≡ true)) }
+    ensures lowest { IfSome result (λ next. (k : ℕ) → level < k → k < next
+        → allowed_by (frame_at frames.now k) state.now ≡ false) }
     ensures none { IfNone result ((next : ℕ) → level < next → next ≤ top
         → allowed_by (frame_at frames.now next) state.now ≡ false) }
 {
