@@ -16,6 +16,3 @@ pub use dumps::write;
 pub use laws::dump_laws;
 pub use signals::Signal;
 pub use wires::Wire;
-
-#[cfg(test)]
-mod tests;
