@@ -5,6 +5,7 @@ pub mod SpellingLaws
 pub mod WritingLaws
 pub mod MarkingLaws
 pub mod SearchLaws
+pub mod CoverLaws
 pub mod BackLaws
 pub mod WayLaws
 pub mod ConditionLaws
