@@ -12,7 +12,7 @@ use std::marker::Model;
 #[derive(Debug, Drop)]
 pub(crate) struct Cover {
     variables: Vec<Var>,
-    places: Table,
+    places: Table<usize>,
 }
 
 impl Model for Cover {

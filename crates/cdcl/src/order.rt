@@ -48,7 +48,7 @@ struct Rank {
 /// which in a circuit's clauses is what the other one is computed from.
 #[derive(Debug, Drop)]
 pub(crate) struct Order {
-    numbers: Table,
+    numbers: Table<usize>,
     ranks: Vec<Rank>,
     heap: Vec<usize>,
     met: usize,
