@@ -7,6 +7,7 @@ pub mod MarkingLaws
 pub mod SearchLaws
 pub mod CoverLaws
 pub mod BackLaws
+pub mod AboveLaws
 pub mod WayLaws
 pub mod ConditionLaws
 pub mod AnswerLaws

@@ -1,6 +1,7 @@
 //! Which variable is decided next, and with which value. After MiniSat (Eén, Sörensson, 2003): the
-//! most active variable, with the value that it had last. The main type is `Order`. No contract
-//! rests on what it keeps.
+//! most active variable, with the value that it had last. The main type is `Order`. No contract of a
+//! search rests on what it keeps: what it gives is tested where it is used.
+ghost use Rattle.std.specs.Prelude.{◌≡◌, [], length};
 
 use crate::log::Log;
 use cdcl_learn::Learned;
@@ -58,7 +59,9 @@ pub(crate) struct Order {
 
 impl Order {
     /// No variable. Takes no memory.
-    pub(crate) fn new(alloc: Global) -> Order {
+    pub(crate) fn new(alloc: Global) -> Order
+        ensures { result.heap.items ≡ [] }
+    {
         Order {
             numbers: Table::new(alloc),
             ranks: Vec::new(alloc),
@@ -107,8 +110,10 @@ impl Order {
     }
 
     /// How many variables may be decided. Takes no memory.
-    pub(crate) fn count(&self) -> usize {
-        self.heap.len()
+    pub(crate) fn count(&self) -> usize
+        ensures { result ≡ length self.now.heap.items }
+    {
+        self.heap.as_slice().len()
     }
 
     /// Takes the most active variable that may be decided. Takes no memory.
