@@ -5,7 +5,9 @@ pub mod SpellingLaws
 pub mod WritingLaws
 pub mod MarkingLaws
 pub mod SearchLaws
+pub mod CoverLaws
 pub mod BackLaws
+pub mod AboveLaws
 pub mod WayLaws
 pub mod ConditionLaws
 pub mod AnswerLaws

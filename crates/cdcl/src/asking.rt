@@ -34,7 +34,7 @@ pub enum Refuted {
 #[derive(Debug, Drop)]
 pub struct Assignment {
     literals: Vec<Lit>,
-    places: Table,
+    places: Table<usize>,
 }
 
 impl Model for Assignment {

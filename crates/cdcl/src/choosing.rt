@@ -1,16 +1,48 @@
 //! The choice of the next literal to assume. The main call is `choose`.
-ghost use Rattle.std.specs.Prelude.{◌≡◌, IfNone, IfSome, IsTrue, true, false, slice_get, option_copied};
-ghost use Rattle.std.specs.List.{list_any};
+ghost use Rattle.std.specs.Prelude.{◌≡◌, IfNone, IfSome, IsTrue, true, false, is_some, slice_get, option_copied};
+ghost use Rattle.std.specs.List.{list_any, list_all};
 ghost use Rattle.cdcl_trail.specs.Propagation.{is_complete, is_true, is_falsified};
+ghost use Rattle.cdcl_trail.specs.Trails.{value_of};
 ghost use Rattle.cdcl.specs.Searching.{IsOpen, IsOpenIn, has_variable, is_satisfied};
 
+use crate::log::Log;
 use crate::order::{Candidate, Order};
 use cdcl_trail::Trail;
 use cnf::{Clause, Lit, Var};
 
 /// The most active variable without a value, with the value that it had last. `None` where every
 /// clause has a true literal.
-pub(crate) fn choose(order: &mut Order, trail: &Trail, clauses: &[Clause]) -> Option<Lit>
+pub(crate) fn choose(order: &mut Order, trail: &Trail, log: &Log) -> Option<Lit>
+    requires { is_complete log.now.clauses trail.now.steps ≡ true }
+    ensures none { IfNone result (is_satisfied log.now.clauses trail.now.steps ≡ true) }
+    ensures open { IfSome result (λ a. IsOpen log.now.clauses trail.now.steps a) }
+{
+    if is_full(trail, log.variables()) {
+        return None;
+    }
+    choose_open(order, trail, log.clauses().as_slice())
+}
+
+// Whether each of the variables has a value. Where there are more variables than values, none is
+// looked at.
+fn is_full(trail: &Trail, variables: &[Var]) -> bool
+    ensures { IsTrue result → list_all (λ v. is_some (value_of trail.now.steps v)) variables.now ≡ true }
+{
+    if trail.literals().len() < variables.len() {
+        return false;
+    }
+    have_values(trail, variables)
+}
+
+// The same, by the values.
+fn have_values(trail: &Trail, variables: &[Var]) -> bool
+    ensures { result ≡ list_all (λ v. is_some (value_of trail.now.steps v)) variables.now }
+{
+    variables.iter().all(|var| trail.value(*var).is_some())
+}
+
+// The same choice, by the order and the clauses.
+fn choose_open(order: &mut Order, trail: &Trail, clauses: &[Clause]) -> Option<Lit>
     requires { is_complete clauses.now trail.now.steps ≡ true }
     ensures none { IfNone result (is_satisfied clauses.now trail.now.steps ≡ true) }
     ensures open { IfSome result (λ a. IsOpen clauses.now trail.now.steps a) }

@@ -15,6 +15,7 @@ mod answering;
 mod asking;
 mod choosing;
 mod conditions;
+mod cover;
 mod finding;
 mod log;
 mod marking;

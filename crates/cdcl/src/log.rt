@@ -1,30 +1,37 @@
 //! The clauses that a solver holds, with the hints of those that it learned. The main type is `Log`.
-ghost use Rattle.std.specs.Prelude.{◌≡◌, ◌+◌, ◌↔◌, [], ◌∷◌, ◌++◌, OnOk, OnErr, IfErr, IsErr, Some, None};
+ghost use Rattle.std.specs.Prelude.{◌≡◌, ◌+◌, ◌↔◌, [], ◌∷◌, ◌++◌, OnOk, OnErr, IfErr, IsErr, Some, None, true};
 ghost use Rattle.edge.specs.Units.{SpentConflict};
 ghost use Rattle.edge.specs.Faults.{one_more};
 ghost use Rattle.cdcl.specs.Solving.{IsEnd};
+ghost use Rattle.cdcl.specs.Variables.{are_over};
 
+use crate::cover::Cover;
 use cdcl_learn::Learned;
-use cnf::{Clause, Db};
+use cnf::{Clause, Db, Var};
 use edge::{Meter, SolveEnd};
 use items::Items;
 use std::alloc::{AllocError, Global};
 use std::marker::Model;
 
 /// The clauses that were added and learned, in the order in which they came, and beside each the
-/// hints that it was learned by; `None` where it was added.
+/// hints that it was learned by; `None` where it was added. And their variables.
 #[derive(Debug, Drop)]
 pub(crate) struct Log {
     db: Db,
     sources: Vec<Option<Items<u64>>>,
+    cover: Cover,
 }
 
 impl Model for Log {
+    ghost use Rattle.std.specs.Prelude.{◌≡◌, true};
     ghost use Rattle.cdcl.specs.Entries.{Entries};
+    ghost use Rattle.cdcl.specs.Variables.{are_over};
 
     ghost Value = { Entries };
 
     ghost view = { λ l. record { clauses = l.db.clauses; sources = l.sources.items } };
+
+    ghost invariant = { λ l. are_over l.cover l.db.clauses ≡ true };
 }
 
 impl Log {
@@ -36,6 +43,7 @@ impl Log {
         Log {
             db: Db::new(alloc),
             sources: Vec::new(alloc),
+            cover: Cover::new(alloc),
         }
     }
 
@@ -53,6 +61,13 @@ impl Log {
         self.sources.as_slice()
     }
 
+    /// The variables of the clauses, and maybe others. Takes no memory.
+    pub(crate) fn variables(&self) -> &[Var]
+        ensures { are_over result.now self.now.clauses ≡ true }
+    {
+        self.cover.variables()
+    }
+
     /// Adds a clause. The error is want of memory, and changes nothing.
     pub(crate) fn add(&mut self, clause: Clause) -> Result<(), AllocError>
         ensures clauses { OnOk result (self.new.clauses ≡ self.old.clauses ++ clause ∷ []) }
@@ -60,6 +75,7 @@ impl Log {
         ensures err { OnErr result (self.new ≡ self.old) }
     {
         self.sources.reserve(1)?;
+        self.cover.meet(clause.as_slice())?;
         self.db.push(clause)?;
         self.sources.push_reserved(None);
         Ok(())
@@ -78,6 +94,7 @@ impl Log {
     {
         self.db.reserve(1)?;
         self.sources.reserve(1)?;
+        self.cover.meet(learned.clause.as_slice())?;
         meter.conflict(&self.db, &learned.clause)?;
         let Learned { clause, hints } = learned;
         self.db.push_reserved(clause);

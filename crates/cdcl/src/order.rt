@@ -1,12 +1,13 @@
 //! Which variable is decided next, and with which value. After MiniSat (Eén, Sörensson, 2003): the
-//! most active variable, with the value that it had last. The main type is `Order`. No contract
-//! rests on what it keeps.
+//! most active variable, with the value that it had last. The main type is `Order`. No contract of a
+//! search rests on what it keeps: what it gives is tested where it is used.
+ghost use Rattle.std.specs.Prelude.{◌≡◌, [], length};
 
 use crate::log::Log;
 use cdcl_learn::Learned;
+use cdcl_trail::Table;
 use cnf::{Clause, Db, Lit, Var};
 use std::alloc::{AllocError, Global};
-use std::collections::HashMap;
 
 /// The weight of the first conflict.
 const FIRST_WEIGHT: u64 = 1 << 8;
@@ -44,10 +45,11 @@ struct Rank {
 /// The activities of variables, and the values that they had last. Each conflict adds its weight to
 /// the activities of the variables that it comes from, and weighs a twentieth more than the one
 /// before it. The variables are numbered as they come, and those that may be decided stand in a
-/// binary heap by their activities.
+/// binary heap by their activities; of two that are as active the smaller variable comes first,
+/// which in a circuit's clauses is what the other one is computed from.
 #[derive(Debug, Drop)]
 pub(crate) struct Order {
-    numbers: HashMap<u64, usize>,
+    numbers: Table<usize>,
     ranks: Vec<Rank>,
     heap: Vec<usize>,
     met: usize,
@@ -57,9 +59,11 @@ pub(crate) struct Order {
 
 impl Order {
     /// No variable. Takes no memory.
-    pub(crate) fn new(alloc: Global) -> Order {
+    pub(crate) fn new(alloc: Global) -> Order
+        ensures { result.heap.items ≡ [] }
+    {
         Order {
-            numbers: HashMap::new(alloc),
+            numbers: Table::new(alloc),
             ranks: Vec::new(alloc),
             heap: Vec::new(alloc),
             met: 0,
@@ -83,7 +87,7 @@ impl Order {
     // Meets the variables of the clause at a place.
     fn meet(&mut self, clause: &[Lit], place: usize) -> Result<(), AllocError> {
         for literal in clause {
-            if self.numbers.contains_key(&literal.var) {
+            if self.number(literal.var).is_some() {
                 continue;
             }
             let number = self.ranks.len();
@@ -106,8 +110,10 @@ impl Order {
     }
 
     /// How many variables may be decided. Takes no memory.
-    pub(crate) fn count(&self) -> usize {
-        self.heap.len()
+    pub(crate) fn count(&self) -> usize
+        ensures { result ≡ length self.now.heap.items }
+    {
+        self.heap.as_slice().len()
     }
 
     /// Takes the most active variable that may be decided. Takes no memory.
@@ -181,7 +187,7 @@ impl Order {
 
     // The number of a variable.
     fn number(&self, var: Var) -> Option<usize> {
-        self.numbers.get(&var).copied()
+        self.numbers.get(var)
     }
 
     // What is kept of the variable with a number.
@@ -212,7 +218,7 @@ impl Order {
                 return;
             }
             let above = (place - 1) / 2;
-            if self.activity_at(above) >= self.activity_at(place) {
+            if !self.precedes(place, above) {
                 return;
             }
             self.exchange(above, place);
@@ -226,14 +232,11 @@ impl Order {
         for _step in 0..DEEP {
             let left = place.saturating_mul(2).saturating_add(1);
             let right = left.saturating_add(1);
-            if left >= self.heap.len() {
-                return;
-            }
             let mut below = left;
-            if self.activity_at(right) > self.activity_at(left) {
+            if self.precedes(right, left) {
                 below = right;
             }
-            if self.activity_at(place) >= self.activity_at(below) {
+            if !self.precedes(below, place) {
                 return;
             }
             self.exchange(place, below);
@@ -255,15 +258,21 @@ impl Order {
         self.heap.as_slice().get(place).copied()
     }
 
-    // How active the variable at a place of the heap is; 0 where there is none.
-    fn activity_at(&self, place: usize) -> u64 {
-        let Some(number) = self.at(place) else {
-            return 0;
+    // Whether the variable at one place of the heap is decided before that at another.
+    fn precedes(&self, first: usize, second: usize) -> bool {
+        let (Some(one), Some(other)) = (self.ranked(first), self.ranked(second)) else {
+            return false;
         };
-        match self.rank(number) {
-            None => 0,
-            Some(rank) => rank.activity,
+        if one.activity == other.activity {
+            return one.candidate.literal.var < other.candidate.literal.var;
         }
+        one.activity > other.activity
+    }
+
+    // What is kept of the variable at a place of the heap.
+    fn ranked(&self, place: usize) -> Option<&Rank> {
+        let number = self.heap.as_slice().get(place)?;
+        self.ranks.as_slice().get(*number)
     }
 
     // Writes the variable at a place of the heap.

@@ -1,6 +1,7 @@
 //! When a search goes back to its assumptions and begins again, by the fixed sequence of Luby,
 //! Sinclair and Zuckerman (1993): after 1, 1, 2, 1, 1, 2, 4, .. hundreds of conflicts. The main type
-//! is `Restarts`. No contract rests on it.
+//! is `Restarts`. No contract of a search rests on it.
+ghost use Rattle.std.specs.Prelude.{◌≡◌, IsTrue, false};
 
 /// How many conflicts the number 1 of the sequence stands for.
 const UNIT: u64 = 100;
@@ -16,7 +17,9 @@ pub(crate) struct Restarts {
 
 impl Restarts {
     /// No conflict was counted.
-    pub(crate) fn new() -> Restarts {
+    pub(crate) fn new() -> Restarts
+        ensures { result.conflicts ≡ 0 }
+    {
         Restarts {
             round: 1,
             length: 1,
@@ -24,8 +27,13 @@ impl Restarts {
         }
     }
 
-    /// Counts a conflict, and tells whether the search is to begin again.
-    pub(crate) fn count(&mut self) -> bool {
+    /// Counts a conflict, and tells whether the search is to begin again. Where it is, none is
+    /// counted any more; and else the place in the sequence stays.
+    pub(crate) fn count(&mut self) -> bool
+        ensures again { IsTrue result → self.new.conflicts ≡ 0 }
+        ensures round { result ≡ false → self.new.round ≡ self.old.round }
+        ensures length { result ≡ false → self.new.length ≡ self.old.length }
+    {
         self.conflicts = self.conflicts.saturating_add(1);
         if self.conflicts < self.length.saturating_mul(UNIT) {
             return false;

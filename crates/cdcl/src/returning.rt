@@ -1,7 +1,7 @@
 //! To which level a search goes back after a conflict, and over which literals. The main calls are
 //! `level_after` and `above_level`.
-ghost use Rattle.std.specs.Prelude.{◌≡◌, ◌<◌, true};
-ghost use Rattle.cdcl_trail.specs.Trails.{level};
+ghost use Rattle.std.specs.Prelude.{◌≡◌, ◌<◌, ◌++◌, true};
+ghost use Rattle.cdcl_trail.specs.Trails.{level, literals_of, opened_by, up_to_level};
 ghost use Rattle.cdcl_trail.specs.Propagation.{is_falsified};
 ghost use Rattle.cdcl.specs.Searching.{IsBackLevel};
 
@@ -44,18 +44,27 @@ fn back_level(trail: &Trail, clause: &[Lit], base: u64) -> u64
     target
 }
 
-/// The literals above a level, in the order in which they came. Takes no memory.
-pub(crate) fn above_level(trail: &Trail, target: u64) -> &[Lit] {
-    let mut levels = trail.level().saturating_sub(target);
-    let mut place = trail.literals().len();
-    for reason in trail.reasons().iter().rev() {
-        if levels == 0 {
-            break;
-        }
-        place = place.saturating_sub(1);
-        if reason.is_none() {
-            levels -= 1;
-        }
+/// The literals above a level, in the order in which they came: those that going back to it leaves
+/// out. Takes no memory.
+pub(crate) fn above_level(trail: &Trail, target: u64) -> &[Lit]
+    ensures { literals_of (up_to_level target trail.now.steps) ++ result.now ≡ literals_of trail.now.steps }
+{
+    let reasons = trail.reasons();
+    let mut levels = trail.level();
+    let mut place = reasons.len();
+    'places: while levels > target {
+        place -= 1;
+        levels -= opened_by(reasons[place]);
     }
-    trail.literals().get(place..).unwrap_or(&[])
+    &trail.literals()[place..]
+}
+
+// How many levels a literal opens: one where it was assumed.
+fn opened_by(reason: Option<u64>) -> u64
+    ensures { result ≡ opened_by reason }
+{
+    match reason {
+        None => 1,
+        Some(_) => 0,
+    }
 }

@@ -110,7 +110,7 @@ fn decide(
     let mut restarts = Restarts::new();
     'decisions: loop {
         let Some(conflict) = trail.propagate(log.clauses())? else {
-            let Some(literal) = choose(order, trail, log.clauses().as_slice()) else {
+            let Some(literal) = choose(order, trail, log) else {
                 return Ok(Found::Satisfied);
             };
             trail.assume(literal)?;

@@ -13,7 +13,7 @@ use std::alloc::{AllocError, Global};
 
 /// The place of each variable among literals, of which no two have one variable. The error is want
 /// of memory.
-pub fn places_of(alloc: Global, literals: &[Lit]) -> Result<Table, AllocError>
+pub fn places_of(alloc: Global, literals: &[Lit]) -> Result<Table<usize>, AllocError>
     requires { IsTrue (once literals.now) }
     ensures { IfOk result (λ places. (var : ℕ) → told places var ≡ place_in literals.now var) }
 {
@@ -32,7 +32,7 @@ pub(crate) fn no_marks(alloc: Global, count: usize) -> Result<Vec<bool>, AllocEr
 }
 
 /// Marks the places of the variables of a clause.
-pub(crate) fn mark_all(marks: &mut Vec<bool>, places: &Table, clause: &[Lit])
+pub(crate) fn mark_all(marks: &mut Vec<bool>, places: &Table<usize>, clause: &[Lit])
     ensures long { length marks.new.items ≡ length marks.old.items }
     ensures marks { (q : ℕ) → q < length marks.old.items → is_marked marks.new.items q ≡ (is_marked marks.old.items q || list_any (λ b. is_at (told places.now b.var) q) clause.now) }
 {

@@ -12,7 +12,7 @@ use Rattle.std.proofs.Math.Dec.{leb}
 use Rattle.proof_semantics.specs.declared.literals.Lit.{Lit}
 use Rattle.cdcl_trail.specs.Trails.{Step, step, assumed, opened_by, literals_of, reasons_in, step_of, value_of, reason_in, reason_of, level, up_to_variable, level_of, up_to_level, once}
 use Rattle.cdcl_trail.specs.Tables.{told}
-use Rattle.cdcl_trail.specs.AssignmentOf.{steps_from, place_in, positive_at, reason_at, count_assumed, state_of, IsOrderly}
+use Rattle.cdcl_trail.specs.AssignmentOf.{steps_from, place_in, reason_at, count_assumed, state_of, IsOrderly}
 use Rattle.cdcl_trail.specs.declared.assignment.Assignment.TheInside.{Inside}
 
 pub either : (b : Bool) → (b ≡ true) ⊎ (b ≡ false)
@@ -122,7 +122,7 @@ map_cond : (b : Bool) (n : ℕ) (later : Option ℕ) → option_map (λ place. p
 map_cond true n later = refl
 map_cond false n later = refl
 
-swap_cond : (b c : Bool) (x y z : Option ℕ) → (b ≡ true → c ≡ false) → cond b x (cond c y z) ≡ cond c y (cond b x z)
+swap_cond : {T : Type 0} (b c : Bool) (x y z : T) → (b ≡ true → c ≡ false) → cond b x (cond c y z) ≡ cond c y (cond b x z)
 swap_cond true true x y z apart = absurd (false≢true (sym (apart refl)))
 swap_cond true false x y z apart = refl
 swap_cond false c x y z apart = refl
@@ -276,15 +276,6 @@ nothing_some : {o : Option Bool} → o ≡ None → IsSome o → ⊥
 nothing_some {o = None} e some = false≢true some
 nothing_some {o = Some b} e some = none-some b (sym e)
 
-pub value_told : (lits : List Lit) (reasons : List (Option ℕ)) (v : ℕ) (place : Option ℕ) → length reasons ≡ length lits → place_in lits v ≡ place
-    → positive_at lits place ≡ value_of (steps_from lits reasons) v
-value_told lits reasons v None e found = sym (ap (option_map (λ (s : Step). s.literal.positive)) (no_place lits reasons v found))
-value_told lits reasons v (Some p) e found =
-    let d : Lit = record { var = 0; positive = true } in
-    let told = at_place lits reasons v p d None e found in
-    ap (option_map (λ (a : Lit). a.positive)) (slice_get-get_or lits p d told.below)
-    ∙ sym (ap (option_map (λ (s : Step). s.literal.positive)) told.found)
-
 pub reason_told : (lits : List Lit) (reasons : List (Option ℕ)) (v : ℕ) (place : Option ℕ) → length reasons ≡ length lits → place_in lits v ≡ place
     → reason_at reasons place ≡ reason_of (steps_from lits reasons) v
 reason_told lits reasons v None e found = sym (ap reason_in (no_place lits reasons v found))
@@ -295,11 +286,6 @@ reason_told lits reasons v (Some p) e found =
     ∙ sym (ap reason_in told.found)
 
 -- what the fields tell of a variable, by what was read of them
-pub value_read : (told : Option Bool) (seen lits : List Lit) (reasons : List (Option ℕ)) (v : ℕ) (found place : Option ℕ) → told ≡ positive_at seen found
-    → seen ≡ lits → found ≡ place → length reasons ≡ length lits → place ≡ place_in lits v → told ≡ value_of (steps_from lits reasons) v
-value_read told seen lits reasons v found place is same at beside placed =
-    is ∙ ap (λ xs. positive_at xs found) same ∙ ap (positive_at lits) at ∙ value_told lits reasons v place beside (sym placed)
-
 pub reason_read : (told : Option ℕ) (lits : List Lit) (seen reasons : List (Option ℕ)) (v : ℕ) (found place : Option ℕ) → told ≡ reason_at seen found
     → seen ≡ reasons → found ≡ place → length reasons ≡ length lits → place ≡ place_in lits v → told ≡ reason_of (steps_from lits reasons) v
 reason_read told lits seen reasons v found place is same at beside placed =
@@ -337,11 +323,42 @@ popped_steps t u a r orderly literals reasons =
     ap (λ lits. steps_from lits t.reasons.items) literals ∙ ap (steps_from (u.literals.items ++ a ∷ [])) reasons
     ∙ steps_push u.literals.items u.reasons.items a r (popped_beside t u a r orderly literals reasons)
 
+step_nowhere : (b : Bool) (x : Step) (later : Option Step) → cond b (Some x) later ≡ None → (b ≡ false) × (later ≡ None)
+step_nowhere true x later e = absurd (none-some x (sym e))
+step_nowhere false x later e = (refl, e)
+
+step_pushed : (xs : List Step) (s : Step) (v : ℕ) → step_of xs s.literal.var ≡ None → step_of (xs ++ s ∷ []) v ≡ cond (eqb s.literal.var v) (Some s) (step_of xs v)
+step_pushed [] s v none = refl
+step_pushed (x ∷ xs) s v none =
+    let parts = step_nowhere _ x _ none in
+    ap (cond (eqb x.literal.var v) (Some x)) (step_pushed xs s v parts.1)
+    ∙ swap_cond (eqb x.literal.var v) (eqb s.literal.var v) (Some x) (Some s) (step_of xs v) (apart_at x.literal.var s.literal.var v parts.0)
+
+map_step : (b : Bool) (s : Step) (later : Option Step)
+    → option_map (λ (x : Step). x.literal.positive) (cond b (Some s) later) ≡ cond b (Some s.literal.positive) (option_map (λ (x : Step). x.literal.positive) later)
+map_step true s later = refl
+map_step false s later = refl
+
+pub value_pushed : (xs : List Step) (s : Step) (v : ℕ) → step_of xs s.literal.var ≡ None
+    → value_of (xs ++ s ∷ []) v ≡ cond (eqb s.literal.var v) (Some s.literal.positive) (value_of xs v)
+value_pushed xs s v none =
+    ap (option_map (λ (x : Step). x.literal.positive)) (step_pushed xs s v none) ∙ map_step (eqb s.literal.var v) s (step_of xs v)
+
+pub value_popped : (xs : List Step) (s : Step) (v : ℕ) → step_of xs s.literal.var ≡ None → cond (eqb s.literal.var v) None (value_of (xs ++ s ∷ []) v) ≡ value_of xs v
+value_popped xs s v none =
+    elim (either (eqb s.literal.var v)) [
+      | inl same ↦
+          cond-true (eqb s.literal.var v) None _ same
+          ∙ sym (ap (option_map (λ (x : Step). x.literal.positive)) (ap (step_of xs) (sym (eqb-true s.literal.var v same)) ∙ none))
+      | inr differs ↦ cond-false (eqb s.literal.var v) None _ differs ∙ value_pushed xs s v none ∙ cond-false (eqb s.literal.var v) _ _ differs
+    ]
+
 pub pushed : (t u : Inside) (a : Lit) (r : Option ℕ) → IsOrderly t → value_of (state_of t).steps a.var ≡ None
     → u.literals.items ≡ t.literals.items ++ a ∷ [] → u.reasons.items ≡ t.reasons.items ++ r ∷ []
     → ((v : ℕ) → told u.places v ≡ cond (eqb a.var v) (Some (length t.literals.items)) (told t.places v))
+    → ((v : ℕ) → told u.values v ≡ cond (eqb a.var v) (Some a.positive) (told t.values v))
     → u.level ≡ t.level + opened_by r → IsOrderly u
-pushed t u a r orderly fresh literals reasons places deep =
+pushed t u a r orderly fresh literals reasons places values deep =
     let none_there = without_value t.literals.items t.reasons.items a.var (place_in t.literals.items a.var) orderly.beside refl fresh in
     let steps : (state_of u).steps ≡ (state_of t).steps ++ step a r ∷ [] = pushed_steps t u a r orderly literals reasons in
     record {
@@ -352,14 +369,20 @@ pushed t u a r orderly fresh literals reasons places deep =
           ∙ ap (cond (eqb a.var v) (Some (length t.literals.items))) (orderly.places v)
           ∙ sym (place_push t.literals.items a v none_there)
           ∙ ap (λ lits. place_in lits v) (sym literals);
+      values = λ v.
+          values v
+          ∙ ap (cond (eqb a.var v) (Some a.positive)) (orderly.values v)
+          ∙ sym (value_pushed (state_of t).steps (step a r) v (no_place t.literals.items t.reasons.items a.var none_there))
+          ∙ ap (λ xs. value_of xs v) (sym steps);
       depth = deep ∙ ap (λ n. n + opened_by r) orderly.depth ∙ sym (level_push (state_of t).steps (step a r)) ∙ ap level (sym steps);
     }
 
 pub popped : (t u : Inside) (a : Lit) (r : Option ℕ) → IsOrderly t
     → t.literals.items ≡ u.literals.items ++ a ∷ [] → t.reasons.items ≡ u.reasons.items ++ r ∷ []
     → ((v : ℕ) → told u.places v ≡ cond (eqb a.var v) None (told t.places v))
+    → ((v : ℕ) → told u.values v ≡ cond (eqb a.var v) None (told t.values v))
     → u.level ≡ t.level - opened_by r → IsOrderly u
-popped t u a r orderly literals reasons places deep =
+popped t u a r orderly literals reasons places values deep =
     let beside : length u.reasons.items ≡ length u.literals.items = popped_beside t u a r orderly literals reasons in
     let parts = once_pop u.literals.items a (ap once (sym literals) ∙ orderly.apart) in
     let steps : (state_of t).steps ≡ (state_of u).steps ++ step a r ∷ [] = popped_steps t u a r orderly literals reasons in
@@ -370,6 +393,10 @@ popped t u a r orderly literals reasons places deep =
           places v
           ∙ ap (cond (eqb a.var v) None) (orderly.places v ∙ ap (λ lits. place_in lits v) literals)
           ∙ place_pop u.literals.items a v parts.1;
+      values = λ v.
+          values v
+          ∙ ap (cond (eqb a.var v) None) (orderly.values v ∙ ap (λ xs. value_of xs v) steps)
+          ∙ value_popped (state_of u).steps (step a r) v (no_place u.literals.items u.reasons.items a.var parts.1);
       depth = omega (arith, deep, orderly.depth, ap level steps, level_push (state_of u).steps (step a r));
     }
 

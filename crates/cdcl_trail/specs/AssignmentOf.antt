@@ -3,7 +3,7 @@ use Rattle.std.specs.Prelude.{◌≡◌, ℕ, ◌+◌, Bool, true, List, [], ◌
 use Rattle.std.specs.Option.{option_map, option_flatten}
 use Rattle.proof_semantics.specs.declared.literals.Lit.{Lit}
 use Rattle.cdcl_trail.specs.Tables.{told}
-use Rattle.cdcl_trail.specs.Trails.{Step, Steps, step, opened_by, once, level}
+use Rattle.cdcl_trail.specs.Trails.{Step, Steps, step, opened_by, once, level, value_of}
 use Rattle.cdcl_trail.specs.declared.assignment.Assignment.TheInside.{Inside}
 
 -- literals and their reasons, side by side
@@ -35,9 +35,10 @@ abbrev pub count_assumed : List (Option ℕ) → ℕ
 count_assumed [] = 0
 count_assumed (reason ∷ reasons) = opened_by reason + count_assumed reasons
 
--- Each literal has a reason or none beside it, no variable comes twice, and places and level are told right.
+-- Each literal has a reason or none beside it, no variable comes twice, and places, values and level are told right.
 pub record IsOrderly (t : Inside) : Type 0 where
   pub beside : length t.reasons.items ≡ length t.literals.items
   pub apart : once t.literals.items ≡ true
   pub places : (var : ℕ) → told t.places var ≡ place_in t.literals.items var
+  pub values : (var : ℕ) → told t.values var ≡ value_of (steps_from t.literals.items t.reasons.items) var
   pub depth : t.level ≡ level (steps_from t.literals.items t.reasons.items)

@@ -1,7 +1,8 @@
 //! The literals that are true, in the order in which they came. The main type is `Assignment`.
-ghost use Rattle.std.specs.Prelude.{◌≡◌, ◌≤◌, ◌<◌, ◌+◌, ℕ, [], ◌∷◌, ◌++◌, IsTrue, IsSome, OnOk, OnErr, Option, None, length, take};
+ghost use Rattle.std.specs.Prelude.{◌≡◌, ◌≤◌, ◌<◌, ◌+◌, ℕ, [], ◌∷◌, ◌++◌, IsTrue, IsSome, OnOk, OnErr, Option, Some, None, length, take, if◌then◌else◌, ◌==◌};
 ghost use Rattle.cdcl_trail.specs.Trails.{Step, step, opened_by, assumed, literals_of, reasons_in, step_of, value_of, reason_of, level, level_of, up_to_level, once};
-ghost use Rattle.cdcl_trail.specs.AssignmentOf.{positive_at, reason_at, count_assumed};
+ghost use Rattle.cdcl_trail.specs.AssignmentOf.{reason_at, count_assumed};
+ghost use Rattle.cdcl_trail.specs.Tables.{told};
 
 use crate::table::Table;
 use cnf::{Lit, Var};
@@ -13,7 +14,8 @@ use std::marker::Model;
 pub struct Assignment {
     literals: Vec<Lit>,
     reasons: Vec<Option<u64>>,
-    places: Table,
+    places: Table<usize>,
+    values: Table<bool>,
     level: usize,
 }
 
@@ -38,6 +40,7 @@ impl Assignment {
             literals: Vec::new(alloc),
             reasons: Vec::new(alloc),
             places: Table::new(alloc),
+            values: Table::new(alloc),
             level: 0,
         }
     }
@@ -58,7 +61,7 @@ impl Assignment {
     pub fn value(&self, var: Var) -> Option<bool>
         ensures { result ≡ value_of self.now.steps var }
     {
-        positive_at(self.literals.as_slice(), self.places.get(var))
+        self.values.get(var)
     }
 
     /// The level: how many literals are assumed. Takes no memory.
@@ -124,7 +127,7 @@ impl Assignment {
         self.literals.reserve(1)?;
         self.reasons.reserve(1)?;
         let place = self.literals.as_slice().len();
-        self.places.insert(literal.var, place)?;
+        tell(&mut self.places, &mut self.values, literal, place)?;
         self.level += opened_by(reason);
         self.literals.push_reserved(literal);
         self.reasons.push_reserved(reason);
@@ -138,17 +141,32 @@ impl Assignment {
     {
         if let (Some(literal), Some(reason)) = (self.literals.pop(), self.reasons.pop()) {
             self.places.remove(literal.var);
+            self.values.remove(literal.var);
             self.level -= opened_by(reason);
         }
     }
 }
 
-// The value that a literal at a place gives its variable.
-fn positive_at(literals: &[Lit], place: Option<usize>) -> Option<bool>
-    ensures { result ≡ positive_at literals.now place }
+// Tells the place and the value of a variable. The error is want of memory, and leaves both tables
+// as they were.
+fn tell(
+    places: &mut Table<usize>,
+    values: &mut Table<bool>,
+    literal: Lit,
+    place: usize,
+) -> Result<(), AllocError>
+    requires { told values.old literal.var ≡ None }
+    ensures places { OnOk result ((v : ℕ) → told places.new v ≡ (if literal.var == v then Some place else told places.old v)) }
+    ensures values { OnOk result ((v : ℕ) → told values.new v ≡ (if literal.var == v then Some literal.positive else told values.old v)) }
+    ensures same_places { OnErr result ((v : ℕ) → told places.new v ≡ told places.old v) }
+    ensures same_values { OnErr result ((v : ℕ) → told values.new v ≡ told values.old v) }
 {
-    let literal = literals.get(place?)?;
-    Some(literal.positive)
+    values.insert(literal.var, literal.positive)?;
+    let told = places.insert(literal.var, place);
+    if told.is_err() {
+        values.remove(literal.var);
+    }
+    told
 }
 
 // The reason at a place.

@@ -29,13 +29,13 @@ returns-in_default-choose-clause-found c =
     (subst (λ cs. Propagates cs c.decisions.trail.steps c.propagate.new.self.steps) c.clauses.ensures c.propagate.ensures.reasons) in
     let steps = c.propagate.new.self.steps in
     record {
-      clauses_true = subst (λ cs. is_satisfied cs steps ≡ true) (c.as_slice.ensures ∙ c.clauses-in_default.ensures) c.in_default-choose.ensures.none;
+      clauses_true = c.in_default-choose.ensures.none;
       assumed = way_assumed c.decisions.log.clauses c.args.assumptions.now c.level-base.result steps way;
     }
 
 pub decisions-smaller-in_default : goal.decisions-smaller-in_default
 decisions-smaller-in_default c =
-    let open_one = subst (λ cs. IsOpen cs c.propagate.new.self.steps c.in-Some-choose.literal) (c.as_slice.ensures ∙ c.clauses-in_default.ensures) c.in-Some-choose.ensures.open in
+    let open_one = c.in-Some-choose.ensures.open in
     let vars : List ℕ = first_variables c.args.log.now.clauses c.args.assumptions.now in
     let over = (c.decisions.invariant.searched.less vars (all_over c.args.log.now.clauses (variables_of c.args.assumptions.now))
     (own_over c.args.assumptions.now (variables_in c.args.log.now.clauses))).over in
@@ -47,7 +47,7 @@ pub decisions-preserved-in_default : goal.decisions-preserved-in_default
 decisions-preserved-in_default c =
     let way = way_propagates c.decisions.log.clauses c.args.assumptions.now c.level-base.result c.decisions.trail.steps c.propagate.new.self.steps c.decisions.invariant.on_way
     (subst (λ cs. Propagates cs c.decisions.trail.steps c.propagate.new.self.steps) c.clauses.ensures c.propagate.ensures.reasons) in
-    let open_one = subst (λ cs. IsOpen cs c.propagate.new.self.steps c.in-Some-choose.literal) (c.as_slice.ensures ∙ c.clauses-in_default.ensures) c.in-Some-choose.ensures.open in
+    let open_one = c.in-Some-choose.ensures.open in
     let complete = subst (λ cs. is_complete cs c.propagate.new.self.steps ≡ true) c.clauses.ensures (c.in_ok-conflict.ensures.complete.0 c.in_default.is) in
     record {
       log = c.decisions.invariant.log;
@@ -120,7 +120,7 @@ decisions-preserved c =
     let next = searched_more c.args.assumptions.now c.args.log.now c.decisions.log c.learn-in-decisions.new.self c.args.meter.now c.decisions.meter c.learn-in-decisions.new.meter
     c.in_ok-learned.learned c.decisions.invariant.log c.requires.sizes says c.in_ok-learn.ensures.clauses c.in_ok-learn.ensures.sources c.in_ok-learn.ensures.counted
     c.decisions.invariant.searched in
-    let back = subst (λ xs. IsBackLevel c.propagate.new.self.steps xs c.level-base.result c.level_after-target.result) c.as_slice-in-decisions.ensures c.level_after-target.ensures in
+    let back = subst (λ xs. IsBackLevel c.propagate.new.self.steps xs c.level-base.result c.level_after-target.result) c.as_slice.ensures c.level_after-target.ensures in
     record {
       log = next.0;
       searched = next.1;
