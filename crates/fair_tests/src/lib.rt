@@ -4,6 +4,8 @@
 #[cfg(test)]
 mod certificates;
 #[cfg(test)]
+mod dumps;
+#[cfg(test)]
 mod generated;
 #[cfg(test)]
 mod solving;

@@ -1,5 +1,5 @@
 -- Guarded clauses: what guards are true, what clauses that are switched off leave, and what a question leaves.
-use Rattle.std.proofs.Common.{◌≡◌, ℕ, zero, suc, ◌+◌, ◌*◌, Bool, true, false, not, ◌&&◌, ◌||◌, List, [], ◌∷◌, ◌++◌, refl, sym, ap, subst, ◌∙◌, arith}
+use Rattle.std.proofs.Common.{◌≡◌, ◌≤◌, ℕ, zero, suc, ◌+◌, ◌*◌, Bool, true, false, not, ◌&&◌, ◌||◌, List, [], ◌∷◌, ◌++◌, refl, sym, ap, subst, ◌∙◌, arith}
 use Rattle.proof_semantics.specs.declared.literals.Lit.{Lit}
 use Rattle.proof_semantics.specs.Clauses.{clause_value, clauses_value}
 use Rattle.cnf_unroll.proofs.Truth.{both, together}
@@ -96,7 +96,42 @@ retires_question added held free asked clause r = record {
       (guarded_off v (question_guard free (asked + 1)) clause (offs (asked + 1) (omega arith) (omega arith))));
 }
 
+-- a unit clause that switches the last question off for good
+pub retires_guard : (added held : List (List Lit)) (free asked : ℕ) → 1 ≤ asked → Retires added held free asked
+    → Retires (added ++ guarded (question_guard free asked) [] ∷ []) held free asked
+retires_guard added held free asked low r = record {
+  fewer = λ v h. r.fewer v (both v added (guarded (question_guard free asked) [] ∷ []) h).0;
+  more =
+      λ v h offs.
+      together v added (guarded (question_guard free asked) [] ∷ []) (r.more v h offs)
+      (one_clause v (guarded (question_guard free asked) [])
+      (guarded_off v (question_guard free asked) [] (offs asked low (omega arith))));
+}
+
 -- ---- what questions keep
+
+pub guard_keeps : (old new : Questions) → KeepsNumbers old new → new.asked ≡ old.asked → 1 ≤ old.asked
+    → new.solver.added ≡ old.solver.added ++ guarded (question_guard old.free old.asked) [] ∷ [] → Keeps old new
+guard_keeps old new numbers asked low added = record {
+  numbers = numbers;
+  retires =
+      λ held r.
+      subst (λ n. Retires new.solver.added held new.free n) (sym asked)
+      (subst (λ f. Retires new.solver.added held f old.asked) (sym numbers.free)
+      (subst (λ cs. Retires cs held old.free old.asked) (sym added)
+      (retires_guard old.solver.added held old.free old.asked low r)));
+}
+
+pub keeps_on : (old middle new : Questions) → Keeps old middle → Keeps middle new → Keeps old new
+keeps_on old middle new first second = record {
+  numbers = record {
+    here = second.numbers.here ∙ first.numbers.here;
+    next = second.numbers.next ∙ first.numbers.next;
+    free = second.numbers.free ∙ first.numbers.free;
+    levels = second.numbers.levels ∙ first.numbers.levels;
+  };
+  retires = λ held r. second.retires held (first.retires held r);
+}
 
 pub rests_keep : (old new : Questions) → KeepsNumbers old new → Rests old new → Keeps old new
 rests_keep old new numbers rests = record {

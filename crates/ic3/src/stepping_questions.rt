@@ -244,8 +244,20 @@ fn ask_into(
     ask(&mut s.solver, alloc, s.free, assumptions.as_slice(), meter)
 }
 
-/// A step into the cube, from a state outside it; or a part of the cube that no such step leads into.
-pub(crate) fn predecessor(
+// The guard of the last question is false for good, so that its clause is true and is not looked at again.
+fn retire(alloc: Global, s: &mut Questions) -> Result<(), AllocError>
+    ensures { Keeps s.old s.new }
+{
+    if s.asked == 0 {
+        return Ok(());
+    }
+    let guard = question_guard(s.free, s.asked)?;
+    let unit = guarded(alloc, guard, &[], &[])?;
+    add(&mut s.solver, unit)
+}
+
+// What the question for a step into the cube answers.
+fn found_into(
     alloc: Global,
     c: &Circuit,
     s: &mut Questions,
@@ -268,6 +280,26 @@ pub(crate) fn predecessor(
             cube,
         )?)),
     }
+}
+
+/// A step into the cube, from a state outside it; or a part of the cube that no such step leads into.
+pub(crate) fn predecessor(
+    alloc: Global,
+    c: &Circuit,
+    s: &mut Questions,
+    level: u64,
+    cube: &Cube,
+    meter: &mut Meter,
+) -> Result<Found, SolveEnd>
+    requires { s.old.here ≡ state_place c.now 0 }
+    ensures found { IfOk result (TellsInto s.old c.now level cube.now) }
+    ensures kept { Keeps s.old s.new }
+    ensures end { IfErr result (IsEnd meter.new) }
+    ensures counted { CountsConflicts meter.old meter.new }
+{
+    let found = found_into(alloc, c, s, level, cube, meter)?;
+    retire(alloc, s)?;
+    Ok(found)
 }
 
 /// The assumptions of the question for a position from a level at which these literals are true.

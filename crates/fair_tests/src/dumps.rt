@@ -1,0 +1,191 @@
+//! Dumps of small models, worked out by hand.
+ghost use Rattle.std.specs.Prelude.{◌≡◌, ◌↔◌, ◌<◌, length, All, IsTrue};
+
+use aig_semantics::Lasso;
+use aiger_names::Model;
+use circuit::Circuit;
+use items::Items;
+use std::alloc::{AllocError, Global};
+use std::test::*;
+use waves::write;
+
+// Whether each list of values has one for each input.
+fn inputs_fit(circuit: &Circuit, lasso: &Lasso) -> bool
+    ensures { IsTrue result ↔ All (λ now. length now ≡ length circuit.now.inputs) lasso.now.inputs }
+{
+    let width = circuit.inputs().len();
+    lasso.inputs.as_slice().iter().all(|now| now.len() == width)
+}
+
+// The dump of the lasso, where it fits the model.
+fn dump(alloc: Global, model: &Model, j: u32, lasso: &Lasso) -> Result<Vec<u8>, AllocError> {
+    let circuit = model.circuit();
+    if j as usize >= circuit.property_count() || lasso.from >= lasso.inputs.len() as u64 {
+        return Err(AllocError);
+    }
+    if lasso.start.len() != circuit.latches().len() || !inputs_fit(circuit, lasso) {
+        return Err(AllocError);
+    }
+    write(alloc, model, j, lasso)
+}
+
+// A digit for each value.
+fn values(alloc: Global, digits: &[u8]) -> Result<Items<bool>, AllocError> {
+    let mut list = Items::new(alloc);
+    for digit in digits {
+        list.push(*digit == b'1')?;
+    }
+    Ok(list)
+}
+
+// Whether the dump of the model's first property is this text.
+fn is_dump(
+    alloc: Global,
+    model: &[u8],
+    start: &[u8],
+    inputs: &[&[u8]],
+    from: u64,
+    text: &[u8],
+) -> Result<bool, AllocError> {
+    let mut rows = Items::new(alloc);
+    for row in inputs {
+        rows.push(values(alloc, row)?)?;
+    }
+    let lasso = Lasso {
+        start: values(alloc, start)?,
+        inputs: rows,
+        from,
+    };
+    let Ok(model) = aiger_ascii::read(alloc, model) else {
+        return Err(AllocError);
+    };
+    let written = dump(alloc, &model, 0, &lasso)?;
+    Ok(written.as_slice() == text)
+}
+
+// A latch that takes its negation, from 0 on; the property is that it is 1.
+const TOGGLE: &[u8] = b"aag 1 0 1 0 0 0 0 1\n2 3\n1\n2\n";
+
+const TOGGLE_DUMP: &[u8] = b"$timescale 1ns $end
+$comment fairlive j0 $end
+$scope module fairlive $end
+$var wire 1 ! l0 $end
+$var wire 1 \" j0.0 $end
+$var wire 1 # loop $end
+$upscope $end
+$enddefinitions $end
+#0
+0!
+0\"
+1#
+#10
+1!
+1\"
+1#
+#20
+0!
+0\"
+1#
+#30
+1!
+1\"
+1#
+#40
+";
+
+// An input, a latch that keeps 0, an output, a bad state literal, a constraint, a property of two literals and fairness,
+// each with a symbol: with a space, a percent sign, one that is another's label, two for one element, one named loop.
+const NAMED: &[u8] =
+    b"aag 2 1 1 1 0 1 1 1 1\n2\n4 4\n2\n5\n5\n2\n2\n5\n3\ni0 a b%\nl0 loop\no0 i0\nb0 old\nb0 new\nc0 new\nj0 fair\nf0 \x80\nc\nnames\n";
+
+const NAMED_DUMP: &[u8] = b"$timescale 1ns $end
+$comment fairlive j0 $end
+$scope module fairlive $end
+$var wire 1 ! a%20b%25 $end
+$var wire 1 \" loop $end
+$var wire 1 # i0 $end
+$var wire 1 $ new $end
+$var wire 1 % new.c0 $end
+$var wire 1 & fair $end
+$var wire 1 ' fair.j0.1 $end
+$var wire 1 ( %80 $end
+$var wire 1 ) loop.loop $end
+$upscope $end
+$enddefinitions $end
+#0
+1!
+0\"
+1#
+1$
+1%
+1&
+1'
+0(
+0)
+#10
+0!
+0\"
+0#
+1$
+1%
+0&
+1'
+1(
+1)
+#20
+1!
+0\"
+1#
+1$
+1%
+1&
+1'
+0(
+1)
+#30
+0!
+0\"
+0#
+1$
+1%
+0&
+1'
+1(
+1)
+#40
+1!
+0\"
+1#
+1$
+1%
+1&
+1'
+0(
+1)
+#50
+";
+
+// No input and no latch: a property without a literal.
+const NOTHING: &[u8] = b"aag 0 0 0 0 0 0 0 1\n0\n";
+
+const NOTHING_DUMP: &[u8] = b"$timescale 1ns $end
+$comment fairlive j0 $end
+$scope module fairlive $end
+$var wire 1 ! loop $end
+$upscope $end
+$enddefinitions $end
+#0
+1!
+#10
+1!
+#20
+";
+
+#[test]
+fn dumps_are_as_worked_out(rt: HostRuntime) -> Result<(), AllocError> {
+    let alloc = rt.alloc();
+    assert!(rt; is_dump(alloc, TOGGLE, b"0", &[b"", b""], 0, TOGGLE_DUMP)?);
+    assert!(rt; is_dump(alloc, NAMED, b"0", &[b"1", b"0", b"1"], 1, NAMED_DUMP)?);
+    assert!(rt; is_dump(alloc, NOTHING, b"", &[b""], 0, NOTHING_DUMP)?);
+    Ok(())
+}
