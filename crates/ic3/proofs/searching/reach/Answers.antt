@@ -1,14 +1,15 @@
-use Rattle.std.proofs.Common.{◌≡◌, ◌≤◌, List, [], length, sym, ap, subst, ◌∙◌}
+use Rattle.std.proofs.Common.{◌≡◌, ◌≤◌, List, [], length, IfErr, sym, ap, subst, ◌∙◌}
+use Rattle.std.proofs.lemmas.Result.{err_from_is_err_and}
 use Rattle.proof_semantics.specs.declared.literals.Lit.{Lit}
 use Rattle.edge.specs.Units.{Spendings}
 use Rattle.entry.specs.CheckedEntries.{viewed}
 use Rattle.ic3_frames.specs.Room.{room}
 use Rattle.ic3_questions.specs.Stepping.{Stepping, no_lemmas}
-use Rattle.ic3_questions.specs.Searching.{Question, CountsSearch}
+use Rattle.ic3_questions.specs.Searching.{Question, CountsSearch, IsReachEnd}
 use Rattle.ic3.specs.Sound.{IsStartCube, IsSound, KeepsQuestion, CountsUpTo}
 use Rattle.ic3.specs.Turning.{IsTurned, IsClosedAt}
 use Rattle.ic3.proofs.Starts.{is_start_cube}
-use Rattle.ic3.proofs.Ended.{search_counts}
+use Rattle.ic3.proofs.Ended.{memory_end, search_counts}
 use Rattle.ic3.proofs.Separating.{closed_reached}
 use Rattle.ic3.proofs.searching.reach.Goals as goal
 
@@ -68,3 +69,8 @@ returns-in-Closed-clause-reached c =
     (subst (λ x. IsClosedAt x c.args.goal.now c.turn_on.new.frames c.in-Closed.level) opened
     (subst (IsTurned c.open_frames.new.steps.question c.args.goal.now c.turn_on.new.frames) c.in-Closed.is c.in_ok-positions.ensures.turned))
     c.in_ok-close-in-Closed.ensures
+
+pub returns-in_err-close-in-Closed-clause-end : goal.returns-in_err-close-in-Closed-clause-end
+returns-in_err-close-in-Closed-clause-end c =
+    let p = err_from_is_err_and c.from_residual-in_err-close-in-Closed.result c.from_residual-in_err-close-in-Closed.ensures.1 in
+    subst (λ r. IfErr r (IsReachEnd c.turn_on.new.meter)) (sym p.1) (memory_end c.turn_on.new.meter p.0 p.2)
