@@ -135,5 +135,10 @@ fn path_of(alloc: Global, positions: &[Position]) -> Result<Answer, Failure> {
 fn print_costs(rt: &HostRuntime, meter: &Meter, before: Stamp, after: Stamp) -> io::Result<()> {
     let spent = meter.spending();
     let nanoseconds = before.processor_to(after);
-    eprintln!(rt; "conflicts {} steps {} nanoseconds {}", spent.conflicts(), spent.steps(), nanoseconds)
+    eprintln!(rt;
+        "conflicts {} steps {} nanoseconds {}",
+        spent.conflicts(),
+        spent.steps(),
+        nanoseconds
+    )
 }

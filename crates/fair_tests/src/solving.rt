@@ -28,8 +28,7 @@ const NO_LITERAL: &[u8] = b"aag 1 0 1 0 0 0 0 1 0\n2 3\n0\n";
 const NEVER: &[u8] = b"aag 1 0 1 0 0 0 0 1 0\n2 3\n1\n0\n";
 
 // A counter of two bits; the property is that both are 1.
-const COUNTER: &[u8] =
-    b"aag 6 0 2 0 4 0 0 1 0\n2 3\n4 11\n1\n12\n6 5 2\n8 4 3\n10 9 7\n12 4 2\n";
+const COUNTER: &[u8] = b"aag 6 0 2 0 4 0 0 1 0\n2 3\n4 11\n1\n12\n6 5 2\n8 4 3\n10 9 7\n12 4 2\n";
 
 // The toggle, and a latch that a gate of the false literal feeds, with a symbol and a comment.
 const BINARY_TOGGLE: &[u8] = b"aig 1 0 1 0 0 0 0 1 0\n3\n1\n2\n";
@@ -37,7 +36,8 @@ const BINARY_TOGGLE: &[u8] = b"aig 1 0 1 0 0 0 0 1 0\n3\n1\n2\n";
 const BINARY_STUCK: &[u8] = b"aig 3 1 1 0 1 0 0 1 0\n6\n1\n4\n\x02\x02l0 t\nc\nany";
 
 // The literal is a conjunction of two formulas over two inputs that exclude each other.
-const APART: &[u8] = b"aag 9 2 0 0 7 0 0 1 0\n2\n4\n1\n18\n6 5 3\n8 5 2\n10 4 3\n12 4 2\n14 9 7\n16 13 11\n18 16 14\n";
+const APART: &[u8] =
+    b"aag 9 2 0 0 7 0 0 1 0\n2\n4\n1\n18\n6 5 3\n8 5 2\n10 4 3\n12 4 2\n14 9 7\n16 13 11\n18 16 14\n";
 
 // A gate that reads itself.
 const CYCLE: &[u8] = b"aag 2 1 0 0 1 0 0 1 0\n2\n1\n4\n4 4 2\n";
@@ -160,7 +160,10 @@ fn answers_of_solve(rt: HostRuntime) -> Result<(), Fail> {
         assert_eq!(rt; ran.status.number(), *number, "{text}");
         assert!(rt; is_text(ran.text.as_slice(), text), "{text}");
         if *number == 0 {
-            assert!(rt; is_accepted(&rt, rt.alloc(), model, ran.text.as_slice())?, "{text}");
+            assert!(rt;
+                is_accepted(&rt, rt.alloc(), model, ran.text.as_slice())?,
+                "{text}"
+            );
         }
     }
     Ok(())
@@ -175,8 +178,15 @@ fn failing_calls_of_solve(rt: HostRuntime) -> Result<(), Fail> {
             let wanted = if k <= reads { (4, 0) } else { (0, 11) };
             assert_eq!(rt; (ran.status.number(), ran.text.len()), wanted, "read {k}");
             let ran = solved(&rt, rt.alloc(), TOGGLE, &[], most, &[], &[k])?;
-            assert_eq!(rt; ran.status.number(), if k <= writes { 5 } else { 0 }, "write {k}");
-            assert!(rt; TWICE.as_bytes().starts_with(ran.text.as_slice()), "write {k}");
+            assert_eq!(rt;
+                ran.status.number(),
+                if k <= writes { 5 } else { 0 },
+                "write {k}"
+            );
+            assert!(rt;
+                TWICE.as_bytes().starts_with(ran.text.as_slice()),
+                "write {k}"
+            );
             assert_eq!(rt; ran.text.len() < 11, k <= writes, "write {k}");
         }
     }

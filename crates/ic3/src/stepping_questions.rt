@@ -10,7 +10,7 @@ ghost use Rattle.ic3_questions.specs.SteppingClauses.{level_guard, question_guar
 ghost use Rattle.ic3.specs.SteppingInside.{KeepsNumbers, Begins, Rests, Keeps, AnswersInto, TellsInto};
 ghost use Rattle.ic3.specs.SteppingInside.{AnswersGoal, TellsGoal, TellsLiteral, Holds, is_read};
 
-use crate::stepping_clauses::{add};
+use crate::stepping_clauses::add;
 use cdcl::{Asked, Assignment, Solver, are_sized, has_opposites};
 use circuit::{Circuit, Position};
 use cnf::{Cube, Lit};
