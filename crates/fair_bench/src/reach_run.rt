@@ -1,6 +1,9 @@
 //! The subcommand `reach`: asks a fixed list of searches of a model, without entries, and measures each. The main call is
 //! `run_reach`.
 
+ghost use Rattle.std.specs.Prelude.{◌≡◌, true};
+ghost use Rattle.ic3_questions.specs.Searching.{IsStart};
+
 use crate::failure::Failure;
 use crate::outside::{print_text, read_file};
 use crate::rewrite_run::read_model;
@@ -9,6 +12,7 @@ use crate::stamps::Stamp;
 use aig_semantics::MAX_MODEL_BYTES;
 use circuit::{Circuit, Position};
 use edge::Meter;
+use entry::good_lists_grow;
 use ic3::{Goal, ReachEnd, Reached, Start, reach};
 use items::Items;
 use std::alloc::Global;
@@ -105,6 +109,7 @@ fn answer_of(
         literal,
         avoid: &[],
     };
+    good_lists_grow(c);
     match reach(alloc, c, &[], start, &goal, meter) {
         Ok(Reached::Path(positions)) => path_of(alloc, positions.as_slice()),
         Ok(Reached::Closed { clauses, uses: _ }) => Ok(Answer::Closed {
@@ -115,7 +120,10 @@ fn answer_of(
     }
 }
 
-fn is_start(c: &Circuit, start: &Start) -> bool {
+// Whether the start is one of the circuit.
+fn is_start(c: &Circuit, start: &Start) -> bool
+    ensures { result ≡ true → IsStart c.now start.now }
+{
     match start {
         Start::Initial => true,
         Start::State(state) => state.len() == c.latches().len(),

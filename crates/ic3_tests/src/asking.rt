@@ -1,6 +1,6 @@
 //! Searches asked for by texts. The main call is `answer`. A state is written with a digit for each latch.
 
-ghost use Rattle.std.specs.Prelude.{◌≡◌, [], ◌∷◌, IfOk};
+ghost use Rattle.std.specs.Prelude.{◌≡◌, true, [], ◌∷◌, IfOk};
 ghost use Rattle.proof_semantics.specs.declared.literals.Lit.{Lit};
 ghost use Rattle.ic3_questions.specs.Searching.{IsStart, IsGoal};
 
