@@ -1,5 +1,5 @@
-//! The closed set of a search: the lemmas of a frame, and the uses of all entries that restrict the steps. The main call
-//! is `closed_set`.
+//! The closed set of a search: the lemmas of a frame, and the uses of all entries that restrict the steps. The main
+//! calls are `lemmas_from` and `start_uses`.
 ghost use Rattle.std.specs.Prelude.{◌≡◌, ◌+◌, ◌≤◌, ◌<◌, ◌++◌, length, slice_index_or, IfOk, OnOk};
 ghost use Rattle.fair_semantics.specs.Entries.{entry_at, set_at};
 ghost use Rattle.entry.specs.CheckedEntries.{viewed};
