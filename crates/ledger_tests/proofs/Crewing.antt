@@ -1,0 +1,130 @@
+-- Passes that stay who they are.
+use Rattle.std.proofs.Common.{◌≡◌, ℕ, zero, suc, ◌+◌, ◌<◌, ◌≤◌, Bool, true, false, List, [], ◌∷◌, length, map, refl, sym, ap, ◌∙◌, subst, arith}
+use Rattle.std.specs.List.{Any, Contains}
+use Rattle.std.proofs.Math.ListN.{get_or, set}
+use Rattle.std.proofs.Math.Seq.{map-set_same}
+use Rattle.std.proofs.lemmas.List.{get_or-map, get_or_default, length-map}
+use Rattle.std.proofs.lemmas.List.Elements.{All-nil, All-cons, All-set}
+use Rattle.aig_semantics.specs.Circuits.{Circuit}
+use Rattle.fair_semantics.specs.Entries.{Numbered}
+use Rattle.fair_semantics.specs.Skeletons.{IsSkeleton}
+use Rattle.fair_semantics.specs.Examples.{one_situation}
+use Rattle.entry.specs.declared.origins.Origin.{Origin}
+use Rattle.entry.specs.CheckedEntries.{CheckedEntry, StandIn}
+use Rattle.fair_semantics.specs.declared.skeletons.Skeleton.{Skeleton}
+use Rattle.fair_semantics.specs.Entries.{Entry}
+use Rattle.entry.specs.Proved.{IsGoodRefutation}
+use Rattle.entry.specs.declared.refutations.Refutation.{Refutation}
+use Rattle.wall_store.specs.declared.outcomes.Outcome.TheVariants.{Holds}
+use Rattle.wall_store.specs.Boards.{FromWorker, Allow, plain, IsTrueOf}
+use Rattle.wall_ledger.specs.Passes.{PassState, LedgerState, MayPassPost, IsPassPost, new_pass, new_passes}
+use Rattle.wall_ledger.specs.Turns.{AreAll, AreOf, IsBegun}
+use Rattle.ledger_tests.specs.Crews.{model, properties, IsFindOf, IsOf, numbers, count_up}
+use Rattle.ledger_tests.proofs.Modelling.{is_skeleton}
+
+of_served : (two : Bool) → Any (λ (j : ℕ). IsSkeleton (model two) j (one_situation true true)) (properties two)
+of_served false = (0, 0, (omega arith), refl, is_skeleton false)
+of_served true = (0, 0, (omega arith), refl, is_skeleton true)
+
+pub may_post : (two : Bool) (l : LedgerState) (p : PassState) (e : CheckedEntry) → IsOf two l
+    → IsFindOf (model two) p.number p.turns e → Allow p.list (one_situation true true) → MayPassPost l p e
+may_post two l p e of found allowed =
+    let here : Any (λ (j : ℕ). IsSkeleton l.circuit j (one_situation true true)) l.properties =
+    subst (λ (js : List ℕ). Any (λ (j : ℕ). IsSkeleton l.circuit j (one_situation true true)) js) (sym of.properties)
+    (subst (λ (c : Circuit). Any (λ (j : ℕ). IsSkeleton c j (one_situation true true)) (properties two)) (sym of.circuit) (of_served two))
+    in
+    subst (λ (o : Origin). FromWorker o (IsPassPost l p e)) (sym found.origin)
+    (record {
+      circuit = found.circuit ∙ sym of.circuit;
+      author = refl;
+      turn = refl;
+      uses = subst (λ (used : List Numbered). StandIn (plain p.list) used) (sym found.used) (λ k d inside. absurd (omega (arith, inside)));
+      skeleton = here;
+      allowed = allowed;
+    })
+
+-- ---- passes by their numbers
+
+number_at : (ps : List PassState) (n more k : ℕ) (d : PassState) → numbers ps ≡ count_up n more → k < length ps
+    → (get_or ps k d).number ≡ get_or (count_up n more) k 0
+number_at ps n more k d same below =
+    sym (get_or-map (λ (p : PassState). p.number) ps k d 0 below) ∙ ap (λ (ns : List ℕ). get_or ns k 0) same
+
+counted : (n more k : ℕ) → k < more → get_or (count_up n more) k 0 ≡ n + k
+counted n zero k below = absurd (omega (arith, below))
+counted n (suc more) zero below = omega arith
+counted n (suc more) (suc k) below =
+    let rest : get_or (count_up (n + 1) more) k 0 ≡ (n + 1) + k = counted (n + 1) more k (omega (arith, below)) in
+    let turned : (n + 1) + k ≡ n + suc k = omega arith in
+    rest ∙ turned
+
+count_length : (n more : ℕ) → length (count_up n more) ≡ more
+count_length n zero = refl
+count_length n (suc more) = ap suc (count_length (n + 1) more)
+
+pub all_by_numbers : (l : LedgerState) (ps : List PassState) → numbers ps ≡ count_up 0 l.workers → AreAll l ps
+all_by_numbers l ps same = λ n below.
+    let count : length ps ≡ l.workers =
+    sym (length-map ps (λ (p : PassState). p.number)) ∙ ap length same ∙ count_length 0 l.workers in
+    let inside : n < length ps = omega (arith, below, count) in
+    let turned : 0 + n ≡ n = omega arith in
+    let q = get_or ps n (new_pass l 0) in (
+      n,
+      q,
+      inside,
+      get_or_default ps n q (new_pass l 0) inside,
+      number_at ps 0 l.workers n (new_pass l 0) same inside ∙ counted 0 l.workers n below ∙ turned,
+    )
+
+pub set_numbers : (ps : List PassState) (i : ℕ) (q d : PassState) → q.number ≡ (get_or ps i d).number → numbers (set ps i q) ≡ numbers ps
+set_numbers ps i q d number = map-set_same (λ (p : PassState). p.number) ps i q d number
+
+pub set_own : (l : LedgerState) (ps : List PassState) (i : ℕ) (q : PassState) → q.home ≡ l.home → AreOf l ps → AreOf l (set ps i q)
+set_own l ps i q home own = All-set (λ (p : PassState). p.home ≡ l.home) ps i q home own
+
+-- ---- new passes
+
+pub own_new : (l : LedgerState) (n more : ℕ) → AreOf l (new_passes l n more)
+own_new l n zero = All-nil (λ (p : PassState). p.home ≡ l.home)
+own_new l n (suc more) = All-cons (λ (p : PassState). p.home ≡ l.home) (new_pass l n) (new_passes l (n + 1) more) refl (own_new l (n + 1) more)
+
+pub numbers_new : (l : LedgerState) (n more : ℕ) → numbers (new_passes l n more) ≡ count_up n more
+numbers_new l n zero = refl
+numbers_new l n (suc more) = ap (λ (ns : List ℕ). n ∷ ns) (numbers_new l (n + 1) more)
+
+pub begun_own : {c : Circuit} {js : List ℕ} {w more : ℕ} {es : List CheckedEntry} {l : LedgerState} {ps : List PassState}
+    → IsBegun c js w more es l ps → AreOf l ps
+begun_own {w = w} {l = l} b = subst (λ (qs : List PassState). AreOf l qs) (sym b.passes) (own_new l 0 w)
+
+pub begun_numbers : {c : Circuit} {js : List ℕ} {w more : ℕ} {es : List CheckedEntry} {l : LedgerState} {ps : List PassState}
+    → IsBegun c js w more es l ps → numbers ps ≡ count_up 0 l.workers
+begun_numbers {w = w} {l = l} b =
+    ap numbers b.passes ∙ numbers_new l 0 w ∙ ap (λ (n : ℕ). count_up 0 n) (sym b.workers)
+
+-- ---- posts, from what calls tell
+
+pub may_post_found : (two : Bool) (l : LedgerState) (p : PassState) (e : CheckedEntry) (d : Circuit) (n t : ℕ) (list : List CheckedEntry)
+    (skeleton : Skeleton) → IsOf two l → d ≡ model two → n ≡ p.number → t ≡ p.turns → IsFindOf d n t e → list ≡ p.list
+    → skeleton ≡ one_situation true true → Allow list skeleton → MayPassPost l p e
+may_post_found two l p e d n t list skeleton of same number turn found seen target allowed =
+    may_post two l p e of
+    (subst (λ (c : Circuit). IsFindOf c p.number p.turns e) same
+    (subst (λ (m : ℕ). IsFindOf d m p.turns e) number (subst (λ (m : ℕ). IsFindOf d n m e) turn found)))
+    (subst (λ (s : Skeleton). Allow p.list s) target (subst (λ (es : List CheckedEntry). Allow es skeleton) seen allowed))
+
+pub true_of : (two : Bool) (l : LedgerState) (p : PassState) (j : ℕ) (d : Circuit) (entries : List Entry) (r : Refutation) → IsOf two l
+    → d ≡ model two → entries ≡ plain p.list → IsGoodRefutation d entries j r.uses r.proof → IsTrueOf l.circuit p.list j (Holds r)
+true_of two l p j d entries r of same seen good =
+    subst (λ (es : List Entry). IsGoodRefutation l.circuit es j r.uses r.proof) seen
+    (subst (λ (c : Circuit). IsGoodRefutation c entries j r.uses r.proof) (same ∙ sym of.circuit) good)
+
+among : (two : Bool) (j : ℕ) → j < length (properties two) → Contains (properties two) j
+among false zero below = (0, (omega arith), refl)
+among false (suc j) below = absurd (omega (arith, below))
+among true zero below = (0, (omega arith), refl)
+among true (suc zero) below = (1, (omega arith), refl)
+among true (suc (suc j)) below = absurd (omega (arith, below))
+
+pub served : (two : Bool) (l : LedgerState) (j : ℕ) → IsOf two l → j < length (properties two) → Contains l.properties j
+served two l j of below =
+    subst (λ (js : List ℕ). Contains js j) (sym of.properties) (among two j below)

@@ -1,0 +1,2 @@
+mod Crewing
+mod Modelling

@@ -1,0 +1,310 @@
+//! A circuit whose latch stays at 0, and what is found of it.
+
+ghost use Rattle.std.specs.Prelude.{◌≡◌, ◌≤◌, ◌<◌, [], ◌∷◌, true, false, Bool, map, length, All, IfOk, IfSome, OnOk};
+ghost use Rattle.std.specs.Arc.{arc_value};
+ghost use Rattle.aig_semantics.specs.Circuits.{Circuit};
+ghost use Rattle.fair_semantics.specs.Examples.{latch_entry, one_situation};
+ghost use Rattle.entry.specs.declared.origins.Origin.TheVariants.{Given};
+ghost use Rattle.entry.specs.Entries.{said};
+ghost use Rattle.entry.specs.Proved.{IsProved, IsGoodRefutation};
+ghost use Rattle.entry.specs.Listing.{entry_of, entries_of};
+ghost use Rattle.entry.specs.CheckedEntries.{viewed};
+ghost use Rattle.wall_store.specs.Boards.{IsSound, IsSoundList, Allow, most_entries};
+ghost use Rattle.wall_store.specs.Scanning.{NoneWithin};
+ghost use Rattle.ledger_tests.specs.Crews.{model, with_justice, IsFindOf};
+
+use aig_semantics::{Latch, Position, Reset};
+use circuit::{Circuit, ModelEnd, Parts, check_circuit};
+use cnf::{Clause, Lit};
+use cnf_unroll::ClauseSet;
+use entry::{
+    Checked, Entry, EntryEnd, Kind, Listed, Refutation, check_entry, excludes, good_lists_grow,
+    proved_entries_are_valid, refutation_fault,
+};
+use fair_semantics::{Side, Situation, Skeleton, Use};
+use items::Items;
+use std::alloc::{AllocError, Global};
+use std::sync::Arc;
+use wall_store::sound_lists_grow;
+
+// The properties: one or two, each that the latch is 1.
+fn justice(alloc: Global, two: bool) -> Result<Items<Items<u64>>, AllocError>
+    ensures { IfOk result (λ js. js ≡ (model two).justice) }
+{
+    let mut justice = Items::new(alloc);
+    justice.push(Items::from_slice(alloc, &[2])?)?;
+    if two {
+        justice.push(Items::from_slice(alloc, &[2])?)?;
+    }
+    Ok(justice)
+}
+
+fn circuit_with(alloc: Global, justice: Items<Items<u64>>) -> Result<Circuit, ModelEnd>
+    ensures { IfOk result (λ c. c ≡ with_justice justice) }
+{
+    let latch = Latch {
+        var: 1,
+        next: 2,
+        reset: Reset::Zero,
+    };
+    let parts = Parts {
+        max: 1,
+        inputs: Items::new(alloc),
+        latches: Items::from_slice(alloc, &[latch])?,
+        gates: Items::new(alloc),
+        outputs: Items::new(alloc),
+        bad: Items::new(alloc),
+        constraints: Items::new(alloc),
+        justice,
+        fairness: Items::new(alloc),
+    };
+    if !parts.is_in_range() {
+        return Err(ModelEnd::Memory);
+    }
+    check_circuit(alloc, &parts)
+}
+
+/// The circuit whose latch stays at 0, with one property or two, each that the latch is 1.
+#[tactic(auto, using(crate::proofs::Modelling::model_with))]
+pub fn circuit(alloc: Global, two: bool) -> Result<Circuit, ModelEnd>
+    ensures { IfOk result (λ c. c ≡ model two) }
+{
+    let justice = justice(alloc, two)?;
+    Ok(circuit_with(alloc, justice)?)
+}
+
+/// The skeleton in which the latch is 1.
+pub fn skeleton(alloc: Global) -> Result<Skeleton, AllocError>
+    ensures { IfOk result (λ s. s ≡ one_situation true true) }
+{
+    let position = Position {
+        latches: Items::from_slice(alloc, &[true])?,
+        inputs: Items::new(alloc),
+    };
+    let mut situations = Items::new(alloc);
+    situations.push(Situation {
+        position,
+        successor: Items::from_slice(alloc, &[true])?,
+    })?;
+    Ok(Skeleton { situations })
+}
+
+// The entry that the latch is 0 in each state that is reached, with its proof.
+fn at_0(alloc: Global) -> Result<Entry, AllocError>
+    ensures said { IfOk result (λ e. said e ≡ latch_entry Kind.Reach false []) }
+    ensures count { IfOk result (λ e. length e.proofs ≡ 1) }
+{
+    let literal = Lit {
+        var: 0,
+        positive: false,
+    };
+    let mut set = Items::new(alloc);
+    set.push(Clause::from_slice(alloc, &[literal])?)?;
+    let mut proof = Items::new(alloc);
+    proof.push(Items::from_slice(alloc, "6 0 4 2 5 0".as_bytes())?)?;
+    let mut proofs = Items::new(alloc);
+    proofs.push(proof)?;
+    Ok(Entry {
+        kind: Kind::Reach,
+        set,
+        uses: Items::new(alloc),
+        proofs,
+    })
+}
+
+// The entry that says nothing.
+fn nothing(alloc: Global) -> Entry
+    ensures said { said result ≡ record { kind = Kind.Reach; clauses = []; uses = [] } }
+    ensures proofs { result.proofs ≡ [] }
+{
+    Entry {
+        kind: Kind::Reach,
+        set: Items::new(alloc),
+        uses: Items::new(alloc),
+        proofs: Items::new(alloc),
+    }
+}
+
+fn judge(alloc: Global, c: &Circuit, e: &Entry) -> Result<(), EntryEnd>
+    requires latches { length c.now.latches ≡ 1 }
+    requires said { said e.now ≡ latch_entry Kind.Reach false [] }
+    requires count { length e.now.proofs ≡ 1 }
+    ensures { OnOk result (IsProved c.now [] (said e.now) e.now.proofs) }
+{
+    check_entry(alloc, c, &[], e)?;
+    Ok(())
+}
+
+fn judge_nothing(alloc: Global, c: &Circuit, e: &Entry) -> Result<(), EntryEnd>
+    requires said { said e.now ≡ record { kind = Kind.Reach; clauses = []; uses = [] } }
+    requires count { e.now.proofs ≡ [] }
+    ensures { OnOk result (IsProved c.now [] (said e.now) e.now.proofs) }
+{
+    check_entry(alloc, c, &[], e)?;
+    Ok(())
+}
+
+fn checked(
+    alloc: Global,
+    shared: &Arc<Circuit>,
+    author: u32,
+    turn: u32,
+    e: Entry,
+) -> Result<Checked, EntryEnd>
+    requires circuit { (two : Bool) × (arc_value shared.now ≡ model two) }
+    requires said { said e ≡ latch_entry Kind.Reach false [] }
+    requires count { length e.proofs ≡ 1 }
+    ensures { IfOk result (λ found. IsFindOf (arc_value shared.now) author turn found) }
+{
+    let c: &Circuit = &**shared;
+    judge(alloc, c, &e)?;
+    proved_entries_are_valid(c);
+    good_lists_grow(c);
+    let skeleton = skeleton(alloc)?;
+    Ok(Checked::new(alloc, shared, &[], e, author, turn, skeleton)?)
+}
+
+/// What this worker finds in that turn, behind no entry: the latch is 0 in each state that is reached.
+pub fn find(
+    alloc: Global,
+    shared: &Arc<Circuit>,
+    author: u32,
+    turn: u32,
+) -> Result<Arc<Checked>, EntryEnd>
+    requires { (two : Bool) × (arc_value shared.now ≡ model two) }
+    ensures { IfOk result (λ found. IsFindOf (arc_value shared.now) author turn (arc_value found)) }
+{
+    let e = at_0(alloc)?;
+    Ok(Arc::new(alloc, checked(alloc, shared, author, turn, e)?)?)
+}
+
+fn given(alloc: Global, shared: &Arc<Circuit>) -> Result<Checked, EntryEnd>
+    ensures sound { IfOk result (λ e. IsSound (arc_value shared.now) [] e) }
+    ensures origin { IfOk result (λ e. e.origin ≡ Given) }
+{
+    let c: &Circuit = &**shared;
+    let e = nothing(alloc);
+    judge_nothing(alloc, c, &e)?;
+    proved_entries_are_valid(c);
+    good_lists_grow(c);
+    let checked = Checked::given(alloc, shared, &[], e)?;
+    checked.holds_where_uses_stand();
+    Ok(checked)
+}
+
+fn list_of_given(alloc: Global, shared: &Arc<Circuit>) -> Result<Vec<Arc<Checked>>, EntryEnd>
+    ensures sound { IfOk result (λ es. IsSoundList (arc_value shared.now) (map arc_value es.items)) }
+    ensures origins { IfOk result (λ es. All (λ e. e.origin ≡ Given) (map arc_value es.items)) }
+    ensures few { IfOk result (λ es. length es.items ≤ 1) }
+{
+    sound_lists_grow(&**shared);
+    let e = given(alloc, shared)?;
+    let mut entries = Vec::new(alloc);
+    entries.push(Arc::new(alloc, e)?)?;
+    Ok(entries)
+}
+
+/// Entries that are given: none, or the one that says nothing.
+pub fn front(alloc: Global, shared: &Arc<Circuit>, one: bool) -> Result<Vec<Arc<Checked>>, EntryEnd>
+    ensures sound { IfOk result (λ es. IsSoundList (arc_value shared.now) (map arc_value es.items)) }
+    ensures origins { IfOk result (λ es. All (λ e. e.origin ≡ Given) (map arc_value es.items)) }
+    ensures few { IfOk result (λ es. length es.items ≤ 1) }
+{
+    if one {
+        return list_of_given(alloc, shared);
+    }
+    sound_lists_grow(&**shared);
+    Ok(Vec::new(alloc))
+}
+
+fn none_bars(view: &[Arc<Checked>], skeleton: &Skeleton, scratch: &mut [bool]) -> bool
+    requires few { length view.now ≤ most_entries }
+    requires room { length view.now ≤ length scratch.old }
+    ensures { result ≡ true → NoneWithin (viewed view.now) skeleton.now 0 (length view.now) }
+{
+    for n in 0..view.len() as u32 {
+        if excludes(view, n, skeleton, scratch) {
+            return false;
+        }
+    }
+    true
+}
+
+/// Whether the entries of the view allow the skeleton.
+pub fn allows(alloc: Global, view: &[Arc<Checked>], skeleton: &Skeleton) -> Result<bool, AllocError>
+    ensures { IfOk result (λ b. b ≡ true → Allow (map arc_value view.now) skeleton.now) }
+{
+    if view.len() > 65_536 {
+        return Ok(false);
+    }
+    let mut scratch = vec![in alloc; false; view.len()]?;
+    Ok(none_bars(view, skeleton, &mut scratch))
+}
+
+fn set_again(alloc: Global, set: &ClauseSet) -> Result<ClauseSet, AllocError>
+    ensures { IfOk result (λ copy. copy ≡ set.now) }
+{
+    let mut copy = Items::new(alloc);
+    for clause in set.as_slice() {
+        copy.push(clause.clone()?)?;
+    }
+    Ok(copy)
+}
+
+fn listed_again(alloc: Global, listed: &Listed) -> Result<Listed, AllocError>
+    ensures { IfOk result (λ copy. entry_of copy ≡ entry_of listed.now) }
+{
+    let set = set_again(alloc, &listed.set)?;
+    let uses = listed.uses.try_copy(alloc)?;
+    Ok(Listed {
+        kind: listed.kind,
+        set,
+        uses,
+    })
+}
+
+fn list_of(alloc: Global, view: &[Arc<Checked>]) -> Result<Vec<Listed>, AllocError>
+    ensures { IfOk result (λ list. entries_of list.items ≡ viewed view.now) }
+{
+    let mut list = Vec::new(alloc);
+    for checked in view {
+        list.push(listed_again(alloc, checked.listed())?)?;
+    }
+    Ok(list)
+}
+
+// The refutation that uses this entry; the other proof differs in the number of its line.
+fn refutation(alloc: Global, entry: u32, other: bool) -> Result<Refutation, AllocError> {
+    let used = Use {
+        entry,
+        side: Side::Any,
+    };
+    let mut proof = Items::new(alloc);
+    let line = if other { "8 0 4 5 0" } else { "7 0 4 5 0" };
+    proof.push(Items::from_slice(alloc, line.as_bytes())?)?;
+    Ok(Refutation {
+        uses: Items::from_slice(alloc, &[used])?,
+        proof,
+    })
+}
+
+/// A refutation of the property that uses the entry of the view with this number, by the one proof or the other, where it is
+/// good.
+pub fn refuted(
+    alloc: Global,
+    c: &Circuit,
+    view: &[Arc<Checked>],
+    property: u32,
+    by: (u32, bool),
+) -> Result<Option<Refutation>, AllocError>
+    requires { property < length c.now.justice }
+    ensures { IfOk result (λ found. IfSome found (λ r. IsGoodRefutation c.now (viewed view.now) property r.uses r.proof)) }
+{
+    let list = list_of(alloc, view)?;
+    let (entry, other) = by;
+    let r = refutation(alloc, entry, other)?;
+    match refutation_fault(alloc, c, &list, property, &r)? {
+        None => Ok(Some(r)),
+        Some(_) => Ok(None),
+    }
+}

@@ -1,0 +1,8 @@
+use Rattle.std.proofs.Common.{◌≡◌, ◌∷◌, Some, sym, ap, ◌∙◌}
+use Rattle.atomic_table.specs.Table.{rest}
+use Rattle.wall_ledger.proofs.lock.Lock.take.Goals as goal
+
+pub exchange-requires : goal.exchange-requires
+exchange-requires g c =
+    let full = c.requires.full in
+    (c.requires.own, (Some full.0, full.1 ∙ ap (λ cs. (0, Some full.0) ∷ rest cs) (sym full.1)))
