@@ -1,6 +1,6 @@
 //! Runs of `check` on certificates: tables of models and answers with the line that must be written.
 
-use crate::tests::{FREE_AT_0, STUCK, TOGGLE, ends_so};
+use crate::tests::{FREE_AT_0, STUCK, TOGGLE, ends_so, run_words};
 use std::alloc::Global;
 use std::sync::Wait;
 use std::test::Fail;
@@ -465,6 +465,26 @@ fn many_says<R: Threads + Wait + Sync>(
 fn wrong_row<R: Threads + Wait + Sync>(rt: &R, alloc: Global) -> Result<Option<usize>, Fail> {
     for (k, (model, answer, line)) in ROWS.iter().enumerate() {
         if !says(rt, alloc, model, answer, line)? {
+            return Ok(Some(k));
+        }
+    }
+    Ok(None)
+}
+
+/// The place of the first row that `wave` does not refuse, from 0: as `check` does, or since a good one has no run.
+pub(crate) fn says_of_waves<R: Threads + Wait + Sync>(
+    rt: &R,
+    alloc: Global,
+) -> Result<Option<usize>, Fail> {
+    let words = ["fairlive", "wave", "m", "a"];
+    for (k, (model, answer, line)) in ROWS.iter().enumerate() {
+        let wanted = if line.as_bytes().starts_with(b"accepted") {
+            "refused unknown status\n"
+        } else {
+            line
+        };
+        let ran = run_words(rt, alloc, &words, model.as_bytes(), answer, 1000, &[], &[])?;
+        if ran.text.as_slice() != wanted.as_bytes() || ran.status.number() != 1 {
             return Ok(Some(k));
         }
     }

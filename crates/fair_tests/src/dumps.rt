@@ -64,9 +64,9 @@ fn is_dump(
 }
 
 // A latch that takes its negation, from 0 on; the property is that it is 1.
-const TOGGLE: &[u8] = b"aag 1 0 1 0 0 0 0 1\n2 3\n1\n2\n";
+pub(crate) const TOGGLE: &[u8] = b"aag 1 0 1 0 0 0 0 1\n2 3\n1\n2\n";
 
-const TOGGLE_DUMP: &[u8] = b"$timescale 1ns $end
+pub(crate) const TOGGLE_DUMP: &[u8] = b"$timescale 1ns $end
 $comment fairlive j0 $end
 $scope module fairlive $end
 $var wire 1 ! l0 $end
@@ -166,9 +166,9 @@ $enddefinitions $end
 ";
 
 // No input and no latch: a property without a literal.
-const NOTHING: &[u8] = b"aag 0 0 0 0 0 0 0 1\n0\n";
+pub(crate) const NOTHING: &[u8] = b"aag 0 0 0 0 0 0 0 1\n0\n";
 
-const NOTHING_DUMP: &[u8] = b"$timescale 1ns $end
+pub(crate) const NOTHING_DUMP: &[u8] = b"$timescale 1ns $end
 $comment fairlive j0 $end
 $scope module fairlive $end
 $var wire 1 ! loop $end

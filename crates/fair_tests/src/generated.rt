@@ -2,8 +2,7 @@
 
 ghost use Rattle.std.specs.Prelude.{◌≤◌};
 
-use crate::tests::{Outcome, TWO_FROM_0, USAGE, ends_so, is_done, run_words};
-use fair_top::Done;
+use crate::tests::{Outcome, TWO_FROM_0, USAGE, ends_so, is_printed, run_words};
 use std::alloc::Global;
 use std::sync::Wait;
 use std::test::Fail;
@@ -93,7 +92,7 @@ fn models_of_gen(rt: HostRuntime) -> Result<(), Fail> {
         7,
         &[],
     )?;
-    assert!(rt; is_done(&ran.status, &Done::Printed));
+    assert!(rt; is_printed(&ran.status));
     Ok(())
 }
 

@@ -4,6 +4,8 @@
 #[cfg(test)]
 mod certificates;
 #[cfg(test)]
+mod demonstrated;
+#[cfg(test)]
 mod dumps;
 #[cfg(test)]
 mod generated;
@@ -11,3 +13,5 @@ mod generated;
 mod solving;
 #[cfg(test)]
 mod tests;
+#[cfg(test)]
+mod waving;

@@ -41,12 +41,12 @@ const CYCLE: &str = "aag 2 1 0 0 1 0 0 1 0\n2\n1\n4\n4 4 2\n";
 const TWO_POSITIONS: &str = "1\nj0\n0\n\n\n.\n";
 
 pub(crate) const USAGE: &str =
-    "usage: fairlive solve MODEL [--property N] [--workers W] [--conflicts C] [--steps S] [--skeletons K]\n       fairlive check MODEL ANSWER\n       fairlive gen KIND SEED SIZE [--binary]\n";
+    "usage: fairlive solve MODEL [--property N] [--workers W] [--conflicts C] [--steps S] [--skeletons K]\n       fairlive check MODEL ANSWER\n       fairlive gen KIND SEED SIZE [--binary]\n       fairlive demo SEED SIZE\n       fairlive wave MODEL ANSWER\n";
 
 pub(crate) const TWO_FROM_0: &str = "accepted lasso j0 positions 2 loop 0\n";
 
 // Models and answers, with the text that must be written and the number that the program must end with.
-const ROWS: [(&str, &str, &str, u8); 53] = [
+pub(crate) const ROWS: [(&str, &str, &str, u8); 53] = [
     (TOGGLE, TWO_POSITIONS, TWO_FROM_0, 0),
     (TOGGLE, "1\nj0\nc hello\nx\n\n\n\n.\n", TWO_FROM_0, 0),
     (
@@ -184,10 +184,21 @@ pub(crate) struct Outcome {
     pub(crate) text: Vec<u8>,
 }
 
-/// Whether the status says that this was done.
-pub(crate) fn is_done(status: &Status, done: &Done) -> bool {
+/// Whether the status says that the text of a model was written.
+pub(crate) fn is_printed(status: &Status) -> bool {
+    matches!(status, Status::Done(Done::Printed))
+}
+
+/// Whether the status says that this lasso was found.
+fn is_lasso(status: &Status, lasso: (u32, u64, u64)) -> bool {
     match status {
-        Status::Done(found) => found == done,
+        Status::Done(
+            Done::Lasso {
+                property,
+                positions,
+                from,
+            },
+        ) => lasso == (*property, *positions, *from),
         _ => false,
     }
 }
@@ -295,12 +306,7 @@ fn status_of_a_lasso(rt: HostRuntime) -> Result<(), Fail> {
         &[],
         &[],
     )?;
-    let lasso = Done::Lasso {
-        property: 0,
-        positions: 2,
-        from: 0,
-    };
-    assert!(rt; is_done(&toggled.status, &lasso));
+    assert!(rt; is_lasso(&toggled.status, (0, 2, 0)));
     Ok(())
 }
 
@@ -475,6 +481,8 @@ fn words_that_are_no_command(rt: HostRuntime) -> Result<(), Fail> {
         &["fairlive", "check", "m"],
         &["fairlive", "check", "m", "a", "a"],
         &["fairlive", "solve", "m", "a"],
+        &["fairlive", "wave", "m"],
+        &["fairlive", "wave", "m", "a", "a"],
         &["fairlive", "check", "-m", "a"],
         &["fairlive", "check", "m", "--a"],
         &["fairlive", "check", "m", "a", "--help"],
@@ -519,6 +527,14 @@ fn words_and_names(rt: HostRuntime) -> Result<(), Fail> {
         (&["fairlive", "check", "m", "x"], TOGGLE, "", 4),
         (
             &["fairlive", "check", "m", "x"],
+            "aag\n",
+            "model refused header 0\n",
+            3,
+        ),
+        (&["fairlive", "wave", "x", "a"], TOGGLE, "", 4),
+        (&["fairlive", "wave", "m", "x"], TOGGLE, "", 4),
+        (
+            &["fairlive", "wave", "m", "x"],
             "aag\n",
             "model refused header 0\n",
             3,

@@ -1,5 +1,5 @@
 -- What `solve` gives, from the model and from what it comes to for the circuit.
-use Rattle.std.proofs.Common.{◌≡◌, ◌⊎◌, ◌<◌, ◌≤◌, ◌^◌, ℕ, List, [], ◌∷◌, ◌++◌, map, length, refl, sym, ◌∙◌, ap, subst, inl, inr, arith, Ok, Err}
+use Rattle.std.proofs.Common.{◌≡◌, ◌⊎◌, ◌<◌, ◌≤◌, ◌^◌, ℕ, List, [], ◌∷◌, ◌++◌, map, length, take, refl, sym, ◌∙◌, ap, ap₂, subst, Bool, inl, inr, arith, Ok, Err}
 use Rattle.std.specs.Prelude.{Option, Result, IfOk, IfErr}
 use Rattle.std.proofs.lemmas.List.{map-append, append_assoc, length-map}
 use Rattle.aig_semantics.specs.Circuits.{Circuit}
@@ -11,7 +11,9 @@ use Rattle.certificate.specs.Writing.{AreProvedInOrder, IsRefutedBy, certificate
 use Rattle.certificate.specs.Laws.{GoodIsTrue, WrittenIsGood, WrittenCertificatesAreGood}
 use Rattle.answer_lines.specs.Left.{most_bytes}
 use Rattle.aig_semantics.specs.Stimuli.{StandsFor}
+use Rattle.aig_semantics.specs.declared.traces.Lasso.{Lasso}
 use Rattle.aig_semantics.specs.declared.traces.Stimulus.{Stimulus}
+use Rattle.lasso_join.specs.Prefixes.{stimulus_of}
 use Rattle.stimulus.specs.Texts.{answer_text}
 use Rattle.entry.specs.declared.refutations.Refutation.{Refutation}
 use Rattle.fair_top.specs.declared.status.Done.TheVariants as dones
@@ -26,7 +28,7 @@ use Rattle.fair_top.specs.declared.status.Status.TheVariants as statuses
 use Rattle.fair_top.specs.declared.texts.Outcome.{Outcome}
 use Rattle.fair_top.specs.Check.{done_of}
 use Rattle.certificate.specs.Writing.{written_entry}
-use Rattle.fair_top.specs.Solve.{task_of, IsWrittenAs, HasAsked, GivesSolve, ShownBySolve}
+use Rattle.fair_top.specs.Solve.{task_of, IsWrittenAs, HasAsked, GivesSolve, ShownBySolve, IsStimulusOf}
 use Rattle.fair_top.specs.Solved.{IsPrinted, EndsFor, SolvesUnlessCut}
 use Rattle.fair_top.specs.Statuses.{status_in}
 use Rattle.fair_top.specs.Judged.{IsModelOf, EndsWithoutModel}
@@ -177,6 +179,17 @@ good_certificate c j b list refutation count text written true_one board of_circ
       (certificate_of list refutation, same, entries_are, refl),
       true_one text (accepted.Holds j count) as_count,
     )
+
+-- the text of the first positions of a lasso
+pub text_of_prefix : (c : Circuit) (j : ℕ) (lasso short : Lasso) (text : List ℕ) → StandsFor c j (stimulus_of lasso) (length short.inputs) short.from
+    → short.start ≡ lasso.start → short.inputs ≡ take (length short.inputs) lasso.inputs
+    → text ≡ answer_text j (record { latches = short.start; inputs = short.inputs }) → IsStimulusOf c j lasso text
+text_of_prefix c j lasso short text stands start inputs same = (
+  length short.inputs,
+  short.from,
+  stands,
+  same ∙ ap₂ (λ (s : List Bool) (i : List (List Bool)). answer_text j (record { latches = s; inputs = i })) start inputs,
+)
 
 pub nothing_before : (before after : List CheckedEntry) (e : CheckedEntry) → [] ≡ before ++ e ∷ after → ⊥
 nothing_before [] after e wrong = cc

@@ -1,25 +1,22 @@
 -- How a run ends, from what is asked for and from what its command gives.
-use Rattle.std.proofs.Common.{◌≡◌, ◌⊎◌, inl, inr, ℕ, Bool, false, List, refl, sym, ◌∙◌, ap, subst, Ok, Err}
-use Rattle.std.specs.Prelude.{Option, Result}
-use Rattle.aig_semantics.specs.Circuits.{Circuit}
+use Rattle.std.proofs.Common.{◌≡◌, ◌⊎◌, inl, inr, ℕ, Bool, false, List, [], ◌∷◌, refl, sym, ◌∙◌, ap, subst}
+use Rattle.std.specs.Prelude.{Option}
 use Rattle.edge.specs.Writes.{Adds, AddsPart, Writes}
 use Rattle.fair_top.specs.declared.requests.GenRequest.{GenRequest}
 use Rattle.fair_top.specs.declared.status.Status.{Status}
 use Rattle.fair_top.specs.declared.status.Status.TheVariants as statuses
 use Rattle.fair_top.specs.declared.status.Done.TheVariants.{Printed}
-use Rattle.certificate.specs.declared.ends.Accepted.{Accepted}
-use Rattle.certificate.specs.declared.ends.AnswerEnd.{AnswerEnd}
-use Rattle.certificate.specs.declared.ends.AnswerEnd.TheVariants as ends
-use Rattle.certificate.specs.Ends.{DecidesEnd}
-use Rattle.fair_top.specs.ModelGiven.{OfSomeText}
-use Rattle.fair_top.specs.Check.{status_of, JudgesAs}
 use Rattle.fair_top.specs.declared.requests.SolveRequest.{SolveRequest}
-use Rattle.fair_top.specs.Asked.{Asked, Solve, Check, Gen, names_in}
-use Rattle.fair_top.specs.Solve.{GivesSolve}
+use Rattle.fair_top.specs.declared.requests.DemoRequest.{DemoRequest}
+use Rattle.fair_top.specs.Asked.{Asked, Solve, Check, Gen, Demo, Wave, names_in}
+use Rattle.fair_top.specs.Demo.{GivesDemo, IsSummedUp, demo_circuit}
 use Rattle.fair_top.specs.Solved.{SolvesAsked}
 use Rattle.fair_top.specs.Commands.{CommandGives, Decides}
-use Rattle.fair_top.specs.Headline.{AsksFor, IsUsage, Ends, IsVerdict, IsAnswered, IsTakenOrUsage, HasTaken, HasWritten, FailedOf, ReadFailed, ReadsModelFirst, HasRead}
+use Rattle.fair_top.specs.Headline.{AsksFor, IsUsage, Ends, IsVerdict, IsAnswered, IsTakenOrUsage, IsSilent, HasTaken, HasWritten, FailedOf, ReadFailed, ReadsModelFirst, HasRead}
 use Rattle.fair_top.specs.Statuses.{is_read_fault}
+use Rattle.unless_memory.specs.Answers.{GivesSome}
+use Rattle.fair_top.proofs.EachCommand.{of_command}
+use Rattle.fair_top.proofs.Summed.{sums_up}
 use Rattle.fair_top.proofs.Taken.{one_asked, not_usage}
 
 -- what is decided for what is asked for is decided for the words
@@ -68,6 +65,8 @@ memory_solves : (held : List ℕ → Option (List ℕ)) (asked : Asked) (result 
 memory_solves held (Solve model request) result e = λ given. inr e
 memory_solves held (Check model answer) result e = tt
 memory_solves held (Gen request) result e = tt
+memory_solves held (Demo request) result e = tt
+memory_solves held (Wave model answer) result e = tt
 
 -- words that ask for something are refused for want of memory alone
 pub unsolved : (held : List ℕ → Option (List ℕ)) (words : List (List ℕ)) (status result : Status)
@@ -77,6 +76,24 @@ unsolved held words status result (inl usage) same asked asks = absurd (not_usag
 unsolved held words status result (inr e) (inl same) asked asks = memory_solves held asked result (same ∙ e)
 unsolved held words status result (inr e) (inr memory) asked asks = memory_solves held asked result memory
 
+-- `demo` is answered with a board or a report
+
+pub demo_sums_up : (held : List ℕ → Option (List ℕ)) (words : List (List ℕ)) (request : DemoRequest) (status : Status) (text : List ℕ)
+    → AsksFor words (Demo request) → Ends held words status text → GivesSome statuses.Memory (λ end. IsSummedUp end ⊎ (end ≡ statuses.WriteFault)) status
+demo_sums_up held words request status text asks (inl (usage, _, _)) = absurd (not_usage words (Demo request) asks usage)
+demo_sums_up held words request status text asks (inr (other, others, gives)) =
+    let summed : GivesDemo request status text = subst (λ (a : Asked). CommandGives held a status text) (one_asked words other (Demo request) others asks) gives in
+    inl (inl (sums_up (demo_circuit request) request status text summed))
+
+pub demo_is_silent : (held : List ℕ → Option (List ℕ)) (words : List (List ℕ)) (before now : List ℕ → ℕ) (request : DemoRequest) (status : Status)
+    → AsksFor words (Demo request) → IsSilent status → (status ≡ statuses.ReadFault → ReadFailed held words before now)
+    → GivesSome statuses.Memory (λ end. IsSummedUp end ⊎ (end ≡ statuses.WriteFault)) status
+demo_is_silent held words before now request status asks (inl e) read = absurd (unread (read e))
+  where
+    unread : ReadFailed held words before now → ⊥
+    unread (other, others, failed) = subst (λ (a : Asked). FailedOf held (names_in a) before now) (one_asked words other (Demo request) others asks) failed
+demo_is_silent held words before now request status asks (inr e) read = inr e
+
 -- no read failed where the text of the end was not written whole
 pub read_before : {Shelf : Type 0} (Read : Shelf → List ℕ → Bool → Shelf → Type 0) (held : List ℕ → Option (List ℕ)) (words : List (List ℕ)) (status : Status) (old new : Shelf)
     → is_read_fault status ≡ false → HasRead Read held words status old new → HasRead Read held words statuses.WriteFault old new
@@ -85,17 +102,16 @@ read_before Read held words status old new none (inr (asked, asks, reads)) =
     inr (asked, asks, subst (λ (failed : Bool). ReadsModelFirst Read held (names_in asked) failed old new) none reads)
 
 -- where words are refused, or memory is, nothing was read
-none_of : {Shelf : Type 0} (Read : Shelf → List ℕ → Bool → Shelf → Type 0) (held : List ℕ → Option (List ℕ)) (asked : Asked) (old : Shelf)
-    → ReadsModelFirst Read held (names_in asked) false old old
-none_of Read held (Solve model request) old = inl (0, refl)
-none_of Read held (Check model answer) old = inl (0, refl)
-none_of Read held (Gen request) old = (refl, refl)
+none_of : {Shelf : Type 0} (Read : Shelf → List ℕ → Bool → Shelf → Type 0) (held : List ℕ → Option (List ℕ)) (names : List (List ℕ)) (old : Shelf)
+    → ReadsModelFirst Read held names false old old
+none_of Read held [] old = (refl, refl)
+none_of Read held (model ∷ others) old = inl (0, refl)
 
 pub nothing_read : {Shelf : Type 0} (Read : Shelf → List ℕ → Bool → Shelf → Type 0) (held : List ℕ → Option (List ℕ)) (words : List (List ℕ)) (status : Status) (old : Shelf)
     → IsTakenOrUsage words → is_read_fault status ≡ false → HasRead Read held words status old old
 nothing_read Read held words status old (inl usage) none = inl (usage, refl, none)
 nothing_read Read held words status old (inr (asked, asks)) none =
-    inr (asked, asks, subst (λ (failed : Bool). ReadsModelFirst Read held (names_in asked) failed old old) (sym none) (none_of Read held asked old))
+    inr (asked, asks, subst (λ (failed : Bool). ReadsModelFirst Read held (names_in asked) failed old old) (sym none) (none_of Read held (names_in asked) old))
 
 pub not_a_read : (words : List (List ℕ)) (status : Status) → ((status ≡ statuses.Usage) × IsUsage words) ⊎ (status ≡ statuses.Memory) → is_read_fault status ≡ false
 not_a_read words status (inl usage) = ap is_read_fault usage.0
@@ -113,36 +129,6 @@ part_written held words old new status text bytes same ends part =
     inr (inr (refl, status, text, ends, subst (λ (b : List ℕ). AddsPart old new b) same part))
 
 -- The writes that the sink saw.
-
-of_answer : {Sink : Type 0} (Write : Sink → Bool → Sink → Type 0) (c : Circuit) (text : List ℕ) (end : Result Accepted AnswerEnd)
-    (old new : Sink) → DecidesEnd c text end → Writes Write false old new → HasWritten Write (status_of end) old new
-of_answer Write c text (Ok found) old new said writes = writes
-of_answer Write c text (Err (ends.Refused fault)) old new said writes = writes
-of_answer Write c text (Err ends.ReadFault) old new said writes = absurd said
-of_answer Write c text (Err ends.Memory) old new said writes = absurd said
-
-of_check : {Sink : Type 0} (Write : Sink → Bool → Sink → Type 0) (model answer : Option (List ℕ)) (status : Status)
-    (old new : Sink) → JudgesAs OfSomeText model answer status → Writes Write false old new → HasWritten Write status old new
-of_check Write model answer status old new (inl (fault, e, bad)) writes =
-    subst (λ (s : Status). HasWritten Write s old new) (sym e) writes
-of_check Write model answer status old new (inr (end, e, (_, _, (claimed, _, (m, _, said))))) writes =
-    subst (λ (s : Status). HasWritten Write s old new) (sym e) (of_answer Write m.circuit claimed end old new said writes)
-
-of_solve : {Sink : Type 0} (Write : Sink → Bool → Sink → Type 0) (model : Option (List ℕ)) (request : SolveRequest) (status : Status)
-    (text : List ℕ) (old new : Sink) → GivesSolve model request status text → Writes Write false old new → HasWritten Write status old new
-of_solve Write model request status text old new (inl ((fault, e, bad), t)) writes = subst (λ (s : Status). HasWritten Write s old new) (sym e) writes
-of_solve Write model request status text old new (inr (inl ((e, none), t))) writes = subst (λ (s : Status). HasWritten Write s old new) (sym e) writes
-of_solve Write model request status text old new (inr (inr (inl p))) writes = subst (λ (s : Status). HasWritten Write s old new) (sym p.1) writes
-of_solve Write model request status text old new (inr (inr (inr (r, t)))) writes = subst (λ (s : Status). HasWritten Write s old new) (sym r.1) writes
-
-of_command : {Sink : Type 0} (Write : Sink → Bool → Sink → Type 0) (held : List ℕ → Option (List ℕ)) (asked : Asked)
-    (status : Status) (text : List ℕ) (old new : Sink) → CommandGives held asked status text → Writes Write false old new → HasWritten Write status old new
-of_command Write held (Solve model request) status text old new gives writes =
-    of_solve Write (held model) request status text old new gives writes
-of_command Write held (Check model answer) status text old new gives writes =
-    of_check Write (held model) (held answer) status old new gives.0 writes
-of_command Write held (Gen request) status text old new gives writes =
-    subst (λ (s : Status). HasWritten Write s old new) (sym gives.0) writes
 
 -- a status with a text is answered after good writes
 pub good_writes : {Sink : Type 0} (Write : Sink → Bool → Sink → Type 0) (held : List ℕ → Option (List ℕ)) (words : List (List ℕ))

@@ -2,6 +2,10 @@ mod TextsRead
 mod Judging
 mod Decided
 mod Values
+mod Sinks
+mod Dumped
+mod EachCommand
 mod Taken
 mod Ending
 mod Agreeing
+mod Summed

@@ -13,7 +13,8 @@ use Rattle.fair_top.specs.Asked.{Asked}
 use Rattle.fair_top.specs.Commands.{fairlive, Means}
 use Rattle.fair_top.specs.Headline.{IsTaken, AsksFor, IsUsage, IsTakenOrUsage}
 use Rattle.fair_top.specs.Asking.{MetFor}
-use Rattle.fair_top.proofs.Values.{SomeOrNone, asked_or_none, one_meant}
+use Rattle.fair_top.proofs.Values.{SomeOrNone}
+use Rattle.fair_top.proofs.EachCommand.{asked_or_none, one_meant}
 
 or_else-none : (a b : Kinds) → or_else a b ≡ [] → b ≡ []
 or_else-none [] b e = e

@@ -1,6 +1,6 @@
 -- The values of a command are a request of it, or are none; and they are one at most.
 use Rattle.std.specs.Prelude.{Option, None, Some}
-use Rattle.std.proofs.Common.{◌≡◌, ◌⊎◌, inl, inr, ℕ, ◌<◌, ◌^◌, Bool, true, false, List, refl, sym, ◌∙◌, ap, subst, arith, codes}
+use Rattle.std.proofs.Common.{◌≡◌, ◌⊎◌, inl, inr, ℕ, ◌<◌, ◌^◌, Bool, true, false, List, refl, sym, ◌∙◌, ap, ap₂, subst, arith, codes}
 use Rattle.std.specs.Str.{bytes_eq}
 use Rattle.std.specs.Str.Parse.{digits_value, without_leading_plus}
 use Rattle.std.proofs.lemmas.Bool.{false≢true}
@@ -14,12 +14,13 @@ use Rattle.fair_top.specs.declared.requests.GenKind.{GenKind}
 use Rattle.fair_top.specs.declared.requests.GenKind.TheVariants.{Ring, Scramble}
 use Rattle.fair_top.specs.declared.requests.GenRequest.{GenRequest}
 use Rattle.fair_top.specs.declared.requests.SolveRequest.{SolveRequest}
-use Rattle.fair_top.specs.Asked.{Asked, Solve, Check, Gen}
+use Rattle.fair_top.specs.declared.requests.DemoRequest.{DemoRequest}
+use Rattle.fair_top.specs.Asked.{Asked, Solve}
 use Rattle.fair_top.specs.Words.{IsGiven, IsNumberIn, IsNumberGiven, IsNumberOr, flag_in}
 use Rattle.fair_top.specs.Check.{MeansCheck}
 use Rattle.fair_top.specs.Solve.{MeansSolve}
 use Rattle.fair_top.specs.Gen.{name_of_kind, MeansGen}
-use Rattle.fair_top.specs.Commands.{Means}
+use Rattle.fair_top.specs.Demo.{MeansDemo}
 
 -- something has the property, or nothing
 abbrev pub SomeOrNone : {A : Type 0} → (A → Type 0) → Type 0
@@ -100,7 +101,7 @@ one_number rows name low high n m a b =
 same_request : (a b : GenRequest) → a.kind ≡ b.kind → a.seed ≡ b.seed → a.size ≡ b.size → a.binary ≡ b.binary → a ≡ b
 same_request a b k s z f = λ i. record { kind = k i; seed = s i; size = z i; binary = f i }
 
-one_request : (rows : List Row) (a b : GenRequest) → MeansGen rows a → MeansGen rows b → a ≡ b
+pub one_request : (rows : List Row) (a b : GenRequest) → MeansGen rows a → MeansGen rows b → a ≡ b
 one_request rows a b h k =
     same_request a b (one_kind a.kind b.kind (one_text (first_of (codes "KIND") rows) (name_of_kind a.kind) (name_of_kind b.kind) h.kind_name k.kind_name))
     (one_number rows (codes "SEED") 0 4294967295 a.seed b.seed h.seed_number k.seed_number)
@@ -141,7 +142,7 @@ one_number_or rows name low high default n m (inr a) (inl b) = let wrong : Some 
 one_number_or rows name low high default n m (inr a) (inr b) = one_number rows name low high n m a b
 
 -- the name and the request of `solve`
-abbrev Asks : Type 0
+abbrev pub Asks : Type 0
 Asks = List ℕ × SolveRequest
 
 pub solve_or_none : (rows : List Row) → SomeOrNone (λ (asks : Asks). MeansSolve rows asks.0 asks.1)
@@ -170,7 +171,7 @@ same_solve : (m n : List ℕ) (a b : SolveRequest) → m ≡ n → a.property �
 same_solve m n a b e p w c s k =
     λ i. Solve (e i) (record { property = p i; workers = w i; conflicts = c i; steps = s i; skeletons = k i })
 
-one_solve : (rows : List Row) (m n : List ℕ) (a b : SolveRequest) → MeansSolve rows m a → MeansSolve rows n b → Solve m a ≡ Solve n b
+pub one_solve : (rows : List Row) (m n : List ℕ) (a b : SolveRequest) → MeansSolve rows m a → MeansSolve rows n b → Solve m a ≡ Solve n b
 one_solve rows m n a b h k =
     same_solve m n a b (one_text (first_of (codes "MODEL") rows) m n h.model_name k.model_name)
     (one_number_or rows (codes "property") 0 4294967295 0 a.property b.property h.property k.property)
@@ -179,68 +180,26 @@ one_solve rows m n a b h k =
     (one_number_or rows (codes "steps") 0 4294967295 100000 a.steps b.steps h.steps k.steps)
     (one_number_or rows (codes "skeletons") 0 65536 10000 a.skeletons b.skeletons h.skeletons k.skeletons)
 
--- ---- any of them
+-- ---- `demo`
 
-two_names : (name a b : List ℕ) → bytes_eq a b ≡ false → name ≡ a → name ≡ b → ⊥
-two_names name a b differ e f = apart a b differ (sym e ∙ f)
-
-pub no_solve : (name : List ℕ) (rows : List Row) → name ≡ codes "solve" → ((asks : Asks) → MeansSolve rows asks.0 asks.1 → ⊥)
-    → (asked : Asked) → Means asked name rows → ⊥
-no_solve name rows e none (Solve model request) h = none (model, request) h.1
-no_solve name rows e none (Check model answer) h = two_names name (codes "solve") (codes "check") refl e h.0
-no_solve name rows e none (Gen request) h = two_names name (codes "solve") (codes "gen") refl e h.0
-
-pub no_check : (name : List ℕ) (rows : List Row) → name ≡ codes "check" → ((names : List ℕ × List ℕ) → MeansCheck rows names.0 names.1 → ⊥)
-    → (asked : Asked) → Means asked name rows → ⊥
-no_check name rows e none (Solve model request) h = two_names name (codes "solve") (codes "check") refl h.0 e
-no_check name rows e none (Check model answer) h = none (model, answer) h.1
-no_check name rows e none (Gen request) h = two_names name (codes "check") (codes "gen") refl e h.0
-
-no_gen : (name : List ℕ) (rows : List Row) → name ≡ codes "gen" → ((request : GenRequest) → MeansGen rows request → ⊥)
-    → (asked : Asked) → Means asked name rows → ⊥
-no_gen name rows e none (Solve model request) h = two_names name (codes "solve") (codes "gen") refl h.0 e
-no_gen name rows e none (Check model answer) h = two_names name (codes "check") (codes "gen") refl h.0 e
-no_gen name rows e none (Gen request) h = none request h.1
-
-no_other : (name : List ℕ) (rows : List Row) → bytes_eq name (codes "solve") ≡ false → bytes_eq name (codes "check") ≡ false
-    → bytes_eq name (codes "gen") ≡ false → (asked : Asked) → Means asked name rows → ⊥
-no_other name rows d e f (Solve model request) h = apart name (codes "solve") d h.0
-no_other name rows d e f (Check model answer) h = apart name (codes "check") e h.0
-no_other name rows d e f (Gen request) h = apart name (codes "gen") f h.0
-
-pub asked_or_none : (name : List ℕ) (rows : List Row) → SomeOrNone (λ (asked : Asked). Means asked name rows)
-asked_or_none name rows = by (bytes_eq name (codes "solve")) (bytes_eq name (codes "check")) (bytes_eq name (codes "gen")) refl refl refl
+pub demo_or_none : (rows : List Row) → SomeOrNone (MeansDemo rows)
+demo_or_none rows =
+    by (number_given_or_none rows (codes "SEED") 0 4294967295 (omega arith)) (number_given_or_none rows (codes "SIZE") 1 256 (omega arith))
   where
-    of_solve : name ≡ codes "solve" → SomeOrNone (λ (asks : Asks). MeansSolve rows asks.0 asks.1) → SomeOrNone (λ (asked : Asked). Means asked name rows)
-    of_solve e (inl found) = inl (Solve found.0.0 found.0.1, (e, found.1))
-    of_solve e (inr none) = inr (no_solve name rows e none)
+    by : SomeOrNone (IsNumberGiven rows (codes "SEED") 0 4294967295) → SomeOrNone (IsNumberGiven rows (codes "SIZE") 1 256) → SomeOrNone (MeansDemo rows)
+    by (inl seed) (inl size) = inl (record { seed = seed.0; size = size.0 }, record { seed_number = seed.1; size_number = size.1 })
+    by (inr none) size = inr (λ request h. none request.seed h.seed_number)
+    by (inl seed) (inr none) = inr (λ request h. none request.size h.size_number)
 
-    of_check : name ≡ codes "check" → SomeOrNone (λ (names : List ℕ × List ℕ). MeansCheck rows names.0 names.1) → SomeOrNone (λ (asked : Asked). Means asked name rows)
-    of_check e (inl found) = inl (Check found.0.0 found.0.1, (e, found.1))
-    of_check e (inr none) = inr (no_check name rows e none)
+same_demo : (a b : DemoRequest) → a.seed ≡ b.seed → a.size ≡ b.size → a ≡ b
+same_demo a b s z = λ i. record { seed = s i; size = z i }
 
-    of_gen : name ≡ codes "gen" → SomeOrNone (MeansGen rows) → SomeOrNone (λ (asked : Asked). Means asked name rows)
-    of_gen e (inl found) = inl (Gen found.0, (e, found.1))
-    of_gen e (inr none) = inr (no_gen name rows e none)
+pub one_demo : (rows : List Row) (a b : DemoRequest) → MeansDemo rows a → MeansDemo rows b → a ≡ b
+one_demo rows a b h k =
+    same_demo a b (one_number rows (codes "SEED") 0 4294967295 a.seed b.seed h.seed_number k.seed_number)
+    (one_number rows (codes "SIZE") 1 256 a.size b.size h.size_number k.size_number)
 
-    by : (a b d : Bool) → bytes_eq name (codes "solve") ≡ a → bytes_eq name (codes "check") ≡ b → bytes_eq name (codes "gen") ≡ d
-        → SomeOrNone (λ (asked : Asked). Means asked name rows)
-    by true b d e f g = of_solve ((bytes_eq-Decides name (codes "solve")).0 e) (solve_or_none rows)
-    by false true d e f g = of_check ((bytes_eq-Decides name (codes "check")).0 f) (names_or_none rows)
-    by false false true e f g = of_gen ((bytes_eq-Decides name (codes "gen")).0 g) (request_or_none rows)
-    by false false false e f g = inr (no_other name rows e f g)
-
--- the values are of one request at most
-pub one_meant : (name : List ℕ) (rows : List Row) (a b : Asked) → Means a name rows → Means b name rows → a ≡ b
-one_meant name rows (Solve m r) (Solve n s) h k = one_solve rows m n r s h.1 k.1
-one_meant name rows (Solve m r) (Check p q) h k = absurd (two_names name (codes "solve") (codes "check") refl h.0 k.0)
-one_meant name rows (Solve m r) (Gen s) h k = absurd (two_names name (codes "solve") (codes "gen") refl h.0 k.0)
-one_meant name rows (Check m n) (Solve p s) h k = absurd (two_names name (codes "solve") (codes "check") refl k.0 h.0)
-one_meant name rows (Check m n) (Check p q) h k = one_check (one_text (first_of (codes "MODEL") rows) m p h.1.model_name k.1.model_name) (one_text (first_of (codes "ANSWER") rows) n q h.1.answer_name k.1.answer_name)
-  where
-    one_check : m ≡ p → n ≡ q → Check m n ≡ Check p q
-    one_check e f = cc
-one_meant name rows (Check m n) (Gen r) h k = absurd (two_names name (codes "check") (codes "gen") refl h.0 k.0)
-one_meant name rows (Gen r) (Solve p s) h k = absurd (two_names name (codes "solve") (codes "gen") refl k.0 h.0)
-one_meant name rows (Gen r) (Check m n) h k = absurd (two_names name (codes "check") (codes "gen") refl k.0 h.0)
-one_meant name rows (Gen r) (Gen s) h k = ap (λ (request : GenRequest). Gen request) (one_request rows r s h.1 k.1)
+-- two names, of a command that has them
+pub one_pair : (rows : List Row) (form : List ℕ → List ℕ → Asked) (a b : List ℕ × List ℕ) → MeansCheck rows a.0 a.1 → MeansCheck rows b.0 b.1 → form a.0 a.1 ≡ form b.0 b.1
+one_pair rows form a b h k =
+    ap₂ form (one_text (first_of (codes "MODEL") rows) a.0 b.0 h.model_name k.model_name) (one_text (first_of (codes "ANSWER") rows) a.1 b.1 h.answer_name k.answer_name)

@@ -5,6 +5,9 @@ pub mod Asked
 pub mod Check
 pub mod Solve
 pub mod Gen
+pub mod Demo
+pub mod Wave
+pub mod Waved
 pub mod Commands
 pub mod Asking
 pub mod Statuses

@@ -1,8 +1,9 @@
 -- The command `solve MODEL [--property N] [--workers W] [--conflicts C] [--steps S] [--skeletons K]`: what its words mean,
 -- and what it gives. The search is FAIR (Bradley, Somenzi, Hassan, Zhang, 2011).
-use Rattle.std.specs.Prelude.{◌≡◌, ◌⊎◌, ◌≤◌, ◌<◌, ℕ, List, [], ◌∷◌, length, take, Option, Some, codes}
+use Rattle.std.specs.Prelude.{◌≡◌, ◌⊎◌, ◌≤◌, ◌<◌, ℕ, List, [], ◌∷◌, length, take, Option, None, Some, codes}
 use Rattle.clap.specs.Walk.{Row}
 use Rattle.clap.specs.Simple.{App, new_app, with_rule}
+use Rattle.aig_semantics.specs.declared.traces.Lasso.{Lasso}
 use Rattle.aig_semantics.specs.declared.traces.Stimulus.{Stimulus}
 use Rattle.aig_semantics.specs.Circuits.{Circuit}
 use Rattle.aig_semantics.specs.Stimuli.{StandsFor}
@@ -12,7 +13,11 @@ use Rattle.certificate.specs.declared.ends.Accepted.{Accepted}
 use Rattle.certificate.specs.declared.ends.Accepted.TheVariants as accepted
 use Rattle.certificate.specs.Answers.{IsGood}
 use Rattle.certificate.specs.Certificates.{Certificate}
-use Rattle.certificate.specs.Writing.{certificate_text}
+use Rattle.certificate.specs.Writing.{certificate_of, certificate_text}
+use Rattle.entry.specs.CheckedEntries.{CheckedEntry}
+use Rattle.lasso_join.specs.Prefixes.{stimulus_of}
+use Rattle.wall_store.specs.declared.outcomes.Outcome.{Outcome}
+use Rattle.wall_store.specs.declared.outcomes.Outcome.TheVariants as outcomes
 use Rattle.fair_workers.specs.declared.limits.Limits.{Limits}
 use Rattle.fair_workers.specs.declared.limits.Report.{Report}
 use Rattle.fair_workers.specs.Runs.{Task, IsReport}
@@ -77,6 +82,19 @@ IsWrittenAs c text (accepted.Lasso n positions from) =
     (stimulus : Stimulus) × (text ≡ answer_text n stimulus) × (length stimulus.inputs ≡ positions) × StandsFor c n stimulus positions from
 IsWrittenAs c text (accepted.Holds n entries) =
     (certificate : Certificate) × (text ≡ certificate_text n certificate) × (length certificate.entries ≡ entries) × (certificate.version ≡ Two)
+
+-- the answer with the stimulus of a lasso, cut where it first stands for one
+abbrev pub IsStimulusOf : Circuit → ℕ → Lasso → List ℕ → Type 0
+IsStimulusOf c j lasso answer =
+    (positions : ℕ) × (from : ℕ) × StandsFor c j (stimulus_of lasso) positions from
+    × (answer ≡ answer_text j (record { latches = lasso.start; inputs = take positions lasso.inputs }))
+
+-- The text that `solve` prints of an outcome of property j over these entries: of a lasso its stimulus, of a refutation
+-- the certificate of the entries with it.
+abbrev pub IsTextOfOutcome : Circuit → ℕ → List CheckedEntry → Option Outcome → List ℕ → Type 0
+IsTextOfOutcome c j entries (Some (outcomes.Lasso lasso)) answer = IsStimulusOf c j lasso answer
+IsTextOfOutcome c j entries (Some (outcomes.Holds refutation)) answer = answer ≡ certificate_text j (certificate_of entries refutation)
+IsTextOfOutcome c j entries None answer = ⊥
 
 -- The text is a good answer for the property, spelled as `solve` writes it, and the status says what `check` says of it.
 abbrev pub PrintsAnswer : Option (List ℕ) → SolveRequest → Status → List ℕ → Type 0

@@ -15,7 +15,7 @@ use Rattle.fair_top.specs.Asked.{usage_text}
 use Rattle.fair_top.specs.declared.status.Status.{Status}
 use Rattle.fair_top.specs.declared.status.Status.TheVariants as statuses
 use Rattle.fair_top.specs.declared.status.Done.{Done}
-use Rattle.fair_top.specs.declared.status.Done.TheVariants.{Lasso, Holds, Printed}
+use Rattle.fair_top.specs.declared.status.Done.TheVariants.{Lasso, Holds, Printed, Demo}
 use Rattle.certificate.specs.declared.ends.AnswerFault.{AnswerFault}
 use Rattle.certificate.specs.declared.ends.AnswerFault.TheVariants as answers
 
@@ -91,6 +91,7 @@ done_text (Lasso property positions from) =
 done_text (Holds property entries) =
     codes "accepted certificate j" ++ decimal property ++ codes " entries " ++ decimal entries ++ codes "\n"
 done_text Printed = []
+done_text (Demo board) = []
 
 -- the limit of a count, as a number: one that says that there is none where there is none
 abbrev pub limit_number : Option ℕ → ℕ
@@ -121,8 +122,8 @@ unknown_text report =
     codes "2\nj" ++ decimal (first_property report.board.served) ++ codes "\nc entries " ++ decimal (length report.board.entries)
     ++ codes " of " ++ decimal report.board.limit ++ codes "\n" ++ workers_text 0 report.workers ++ codes ".\n"
 
--- The text that a status tells, where the command has none of its own: `solve` writes the answer for a verdict, and `gen`
--- the model.
+-- The text that a status tells, where the command has none of its own: `solve` writes the answer for a verdict, `gen` the
+-- model, and `demo` its summary.
 abbrev pub text_of : Status → List ℕ
 text_of (statuses.Done done) = done_text done
 text_of (statuses.Refused fault) = refusal_text fault

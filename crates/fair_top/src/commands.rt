@@ -13,11 +13,13 @@ ghost use Rattle.fair_top.specs.Solved.{SolvesAsked};
 ghost use Rattle.fair_top.specs.Statuses.{status_in, is_read_fault};
 
 use crate::checking::check;
+use crate::demonstrating::demonstrate;
 use crate::generating::generate;
 use crate::requests::Asked;
 use crate::solving::solve;
 use crate::status::Status;
 use crate::texts::{Outcome, with_text};
+use crate::waving::wave;
 use crate::words::asked_of;
 use edge::Shelf;
 use std::alloc::Global;
@@ -66,5 +68,7 @@ fn outcome_for<H: Shelf>(alloc: Global, asked: Asked, shelf: &mut H) -> Result<O
         Asked::Solve { model, request } => solve(alloc, shelf, model, &request),
         Asked::Check { model, answer } => with_text(alloc, check(alloc, shelf, model, answer)),
         Asked::Gen(request) => generate(alloc, &request),
+        Asked::Demo(request) => demonstrate(alloc, &request),
+        Asked::Wave { model, answer } => wave(alloc, shelf, model, answer),
     }
 }

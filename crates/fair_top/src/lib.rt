@@ -13,6 +13,7 @@
 
 mod checking;
 mod commands;
+mod demonstrating;
 mod generating;
 mod laws;
 mod models;
@@ -22,9 +23,10 @@ mod running;
 mod solving;
 mod status;
 mod texts;
+mod waving;
 mod words;
 
 pub use laws::runs_agree;
-pub use requests::{GenKind, GenRequest, SolveRequest};
+pub use requests::{DemoRequest, GenKind, GenRequest, SolveRequest};
 pub use running::{run, run_alone};
 pub use status::{Done, Status};

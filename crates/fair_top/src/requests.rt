@@ -15,11 +15,18 @@ pub(crate) enum Asked<'a> {
     },
     /// Write a generated model.
     Gen(GenRequest),
+    /// Decide a property of a generated model, and print a summary.
+    Demo(DemoRequest),
+    /// Write the waves of the answer's lasso.
+    Wave {
+        model: &'a str,
+        answer: &'a str,
+    },
 }
 
 /// What is written where the words are no command: a line for each command.
 pub(crate) const USAGE: &str =
-    "usage: fairlive solve MODEL [--property N] [--workers W] [--conflicts C] [--steps S] [--skeletons K]\n       fairlive check MODEL ANSWER\n       fairlive gen KIND SEED SIZE [--binary]\n";
+    "usage: fairlive solve MODEL [--property N] [--workers W] [--conflicts C] [--steps S] [--skeletons K]\n       fairlive check MODEL ANSWER\n       fairlive gen KIND SEED SIZE [--binary]\n       fairlive demo SEED SIZE\n       fairlive wave MODEL ANSWER\n";
 
 /// Which property is to be decided, and by what means.
 #[derive(Clone, Copy, Debug, PartialEq, Eq)]
@@ -46,6 +53,15 @@ pub struct GenRequest {
     pub size: u64,
     /// In binary, else in ASCII.
     pub binary: bool,
+}
+
+/// The model of `scramble` that `demo` decides.
+#[derive(Clone, Copy, Debug, PartialEq, Eq)]
+pub struct DemoRequest {
+    /// 0 to 4,294,967,295.
+    pub seed: u64,
+    /// The number of latches, 1 to 256.
+    pub size: u64,
 }
 
 /// The kinds of generated models.

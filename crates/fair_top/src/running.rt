@@ -4,9 +4,11 @@ ghost use Rattle.std.specs.Prelude.{◌≡◌, ◌≤◌, ◌⊎◌, ℕ, List};
 ghost use Rattle.edge.specs.Faults.{Rose, NoneFell};
 ghost use Rattle.edge.specs.Reads.{KeepsTexts};
 ghost use Rattle.fair_top.specs.Words.{bytes_of};
-ghost use Rattle.fair_top.specs.Asked.Asked.{Solve, Gen};
+ghost use Rattle.fair_top.specs.Asked.Asked.{Solve, Gen, Demo};
 ghost use Rattle.fair_top.specs.Solve.{HasAsked, IsSolved};
+ghost use Rattle.fair_top.specs.Demo.{IsSummedUp};
 ghost use Rattle.fair_top.specs.Headline.{AsksFor, IsTakenOrUsage, ReadsNothing, IsFound, IsVerdict, IsAnswered, IsCut, IsShown, IsSilent, HasTaken, ReadFailed, HasRead, HasWritten};
+ghost use Rattle.fair_top.specs.declared.requests.DemoRequest.{DemoRequest};
 ghost use Rattle.fair_top.specs.declared.requests.GenRequest.{GenRequest};
 ghost use Rattle.fair_top.specs.declared.requests.SolveRequest.{SolveRequest};
 ghost use Rattle.unless_memory.specs.Answers.{GivesSome};
@@ -37,6 +39,8 @@ pub fn run<R: Threads + Wait + Sync, H: Shelf, O: Sink, G: Gate>(
     ensures printed { (request : GenRequest) → AsksFor (bytes_of words.now) (Gen request) → (result ≡ Status.Done Printed) ⊎ ((result ≡ Status.Memory) ⊎ (result ≡ Status.WriteFault)) }
     ensures solved { (model : List ℕ) (request : SolveRequest) → AsksFor (bytes_of words.now) (Solve model request) → HasAsked (H.held shelf.old model) request
         → GivesSome Status.Memory (λ status. IsSolved status ⊎ IsCut status) result }
+    ensures summed { (request : DemoRequest) → AsksFor (bytes_of words.now) (Demo request)
+        → GivesSome Status.Memory (λ status. IsSummedUp status ⊎ (status ≡ Status.WriteFault)) result }
     ensures text { HasTaken (H.held shelf.old) (bytes_of words.now) (O.taken out.old) (O.taken out.new) result }
     ensures silent { IsSilent result → out.new ≡ out.old }
     ensures read { result ≡ Status.ReadFault → ReadFailed (H.held shelf.old) (bytes_of words.now) (H.faults shelf.old) (H.faults shelf.new) }
@@ -74,6 +78,9 @@ pub fn run_alone<H: Shelf, O: Sink>(
     // a read or write fails.
     ensures solved { (model : List ℕ) (request : SolveRequest) → AsksFor (bytes_of words.now) (Solve model request) → HasAsked (H.held shelf.old model) request
         → GivesSome Status.Memory (λ status. IsSolved status ⊎ IsCut status) result }
+    // `demo` comes to a board with an outcome or to a report, unless memory is refused or a write fails.
+    ensures summed { (request : DemoRequest) → AsksFor (bytes_of words.now) (Demo request)
+        → GivesSome Status.Memory (λ status. IsSummedUp status ⊎ (status ≡ Status.WriteFault)) result }
 
     // The sink has taken the text that goes with the answer; after a failed write a part of it; after a failed read or
     // want of memory nothing: then the sink is as before.
@@ -88,7 +95,8 @@ pub fn run_alone<H: Shelf, O: Sink>(
     ensures written { HasWritten O.writes result out.old out.new }
     ensures write { result ≡ Status.WriteFault → Rose (O.faults out.old) (O.faults out.new) }
 
-    // The texts stay as they are, and no count of faults falls; words that are no command and `gen` leave the shelf alone.
+    // The texts stay as they are, and no count of faults falls; words that are no command, `gen` and `demo` leave the shelf
+    // alone.
     ensures kept { KeepsTexts (H.held shelf.old) (H.held shelf.new) }
     ensures counts { NoneFell (H.faults shelf.old) (H.faults shelf.new) }
     ensures unread { ReadsNothing (bytes_of words.now) → shelf.new ≡ shelf.old }

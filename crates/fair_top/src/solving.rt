@@ -7,11 +7,12 @@ ghost use Rattle.aig_semantics.specs.Stimuli.{StandsFor, IsFairLassoOf};
 ghost use Rattle.edge.specs.Faults.{NoneFell};
 ghost use Rattle.edge.specs.Reads.{KeepsTexts};
 ghost use Rattle.certificate.specs.declared.ends.Accepted.{Accepted as AcceptedOf};
+ghost use Rattle.certificate.specs.Writing.{certificate_of, certificate_text};
 ghost use Rattle.entry.specs.Proved.{IsGoodRefutation};
 ghost use Rattle.fair_workers.specs.Runs.{IsBoardOf, IsAnswered as IsAnsweredBy};
-ghost use Rattle.wall_store.specs.Boards.{plain};
+ghost use Rattle.wall_store.specs.Boards.{outcome_of, plain};
 ghost use Rattle.fair_top.specs.Check.{done_of};
-ghost use Rattle.fair_top.specs.Solve.{limits_of, task_of, HasAsked, GivesSolve, DecidesSolve, ShownBySolve};
+ghost use Rattle.fair_top.specs.Solve.{limits_of, task_of, HasAsked, GivesSolve, DecidesSolve, ShownBySolve, IsStimulusOf, IsTextOfOutcome};
 ghost use Rattle.fair_top.specs.Solved.{AreWithin, EndsFor, IsPrinted, SolvesUnlessCut};
 ghost use Rattle.fair_top.specs.Headline.{IsSilent, IsAnswered, FailedOf, ReadsModelFirst};
 ghost use Rattle.fair_top.specs.Statuses.{status_in, is_read_fault};
@@ -90,7 +91,7 @@ fn searched(alloc: Global, circuit: Circuit, request: &SolveRequest) -> Result<O
     }
 }
 
-fn limits_of(request: &SolveRequest) -> Limits
+pub(crate) fn limits_of(request: &SolveRequest) -> Limits
     ensures { result ≡ limits_of request.now }
 {
     Limits {
@@ -102,7 +103,7 @@ fn limits_of(request: &SolveRequest) -> Limits
 }
 
 // The text of the outcome of the property, which the board has.
-fn printed(
+pub(crate) fn printed(
     alloc: Global,
     circuit: &Circuit,
     request: &SolveRequest,
@@ -111,6 +112,8 @@ fn printed(
     requires answered { IsAnsweredBy (task_of circuit.now request.now) board.now }
     requires property { request.now.property < length circuit.now.justice }
     ensures found { IfOk result (λ outcome. IsPrinted circuit.now request.now.property outcome.status outcome.text.items) }
+    ensures text { IfOk result (λ outcome. IsTextOfOutcome circuit.now request.now.property board.now.entries
+        (outcome_of board.now.served request.now.property) outcome.text.items) }
     ensures ended { IfErr result (λ status. status ≡ Status.Memory) }
 {
     let written = match board.outcome(request.property) {
@@ -149,7 +152,8 @@ fn stimulus_text(
 ) -> Result<Outcome, AllocError>
     requires fair { IsFairLassoOf circuit.now j lasso.now }
     requires property { j < length circuit.now.justice }
-    ensures { IfOk result (λ outcome. IsPrinted circuit.now j outcome.status outcome.text.items) }
+    ensures printed { IfOk result (λ outcome. IsPrinted circuit.now j outcome.status outcome.text.items) }
+    ensures text { IfOk result (λ outcome. IsStimulusOf circuit.now j lasso.now outcome.text.items) }
 {
     written_stimuli_are_good(circuit);
     good_answers_are_true(circuit);
@@ -186,7 +190,8 @@ fn certificate_text(
     requires good { IsGoodRefutation circuit.now (plain board.now.entries) j refutation.now.uses refutation.now.proof }
     requires circuit { board.now.circuit ≡ circuit.now }
     requires property { j < length circuit.now.justice }
-    ensures { IfOk result (λ outcome. IsPrinted circuit.now j outcome.status outcome.text.items) }
+    ensures printed { IfOk result (λ outcome. IsPrinted circuit.now j outcome.status outcome.text.items) }
+    ensures text { IfOk result (λ outcome. outcome.text.items ≡ certificate_text j (certificate_of board.now.entries refutation.now)) }
 {
     written_certificates_are_good(circuit);
     good_answers_are_true(circuit);
@@ -201,7 +206,7 @@ fn certificate_text(
     })
 }
 
-fn entry_count(board: &Board) -> u32
+pub(crate) fn entry_count(board: &Board) -> u32
     ensures { result ≡ length board.now.entries }
 {
     board.holds();

@@ -6,7 +6,7 @@ ghost use Rattle.fair_top.specs.Texts.{exit_number};
 use certificate::AnswerFault;
 use circuit::ModelFault;
 use edge::ReadEnd;
-use fair_workers::Report;
+use fair_workers::{Board, Report};
 
 /// How a run of the program ended.
 #[derive(Drop)]
@@ -15,7 +15,7 @@ pub enum Status {
     Done(Done),
     /// `check`: the answer is not a good one, and this is its first failing item.
     Refused(AnswerFault),
-    /// `solve`: a stated budget is spent, of entries of the list or of each worker, and this is what the workers leave.
+    /// `solve` and `demo`: a stated budget is spent, of entries of the list or of each worker, and this is what the workers leave.
     Unknown(Report),
     /// The bytes of MODEL are the text of no model, and this is their first fault.
     BadModel(ModelFault),
@@ -32,7 +32,7 @@ pub enum Status {
 }
 
 /// What a command did.
-#[derive(Debug, PartialEq, Eq, Drop)]
+#[derive(Drop)]
 pub enum Done {
     /// The stimulus of the answer, judged or printed, stands for a fair lasso of this property, counted from 0: its number
     /// of positions, and the place, counted from 0, that its last position steps back to.
@@ -49,6 +49,8 @@ pub enum Done {
     },
     /// `gen`: the text of the model was written.
     Printed,
+    /// `demo`: property 0 of the generated model was decided, and this is the board of the workers, with its outcome.
+    Demo(Board),
 }
 
 impl Status {

@@ -196,7 +196,7 @@ fn text_of_done(alloc: Global, done: &Done) -> Result<Vec<u8>, AllocError>
             from,
         } => text_of_lasso(alloc, property, positions, from),
         Done::Holds { property, entries } => text_of_certificate(alloc, property, entries),
-        Done::Printed => Ok(Vec::new(alloc)),
+        Done::Printed | Done::Demo(_) => Ok(Vec::new(alloc)),
     }
 }
 

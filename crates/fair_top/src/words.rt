@@ -10,16 +10,19 @@ ghost use Rattle.clap.specs.Faults.{fault_of};
 ghost use Rattle.fair_top.specs.declared.requests.GenKind.{GenKind as KindOf};
 ghost use Rattle.fair_top.specs.declared.requests.GenRequest.{GenRequest as RequestOf};
 ghost use Rattle.fair_top.specs.declared.requests.SolveRequest.{SolveRequest as SolveRequestOf};
+ghost use Rattle.fair_top.specs.declared.requests.DemoRequest.{DemoRequest as DemoRequestOf};
 ghost use Rattle.fair_top.specs.Words.{bytes_of, flag_in, number_option, IsGiven, IsNumberIn, IsNumberGiven, IsNumberOr};
 ghost use Rattle.fair_top.specs.Asked.{Asked as AskedFor, meant};
 ghost use Rattle.fair_top.specs.Check.{check_command, MeansCheck};
 ghost use Rattle.fair_top.specs.Solve.{solve_command, MeansSolve};
 ghost use Rattle.fair_top.specs.Gen.{gen_command, name_of_kind, MeansGen};
+ghost use Rattle.fair_top.specs.Demo.{demo_command, MeansDemo};
+ghost use Rattle.fair_top.specs.Wave.{wave_command, MeansWave};
 ghost use Rattle.fair_top.specs.Commands.{fairlive, Means};
 ghost use Rattle.fair_top.specs.Headline.{AsksFor, IsUsage, IsTakenOrUsage};
 ghost use Rattle.fair_top.specs.Asking.{MetFor};
 
-use crate::requests::{Asked, GenKind, GenRequest, SolveRequest};
+use crate::requests::{Asked, DemoRequest, GenKind, GenRequest, SolveRequest};
 use crate::status::Status;
 use clap::builder::ValueParser;
 use clap::error::ErrorKind;
@@ -63,7 +66,9 @@ fn program<'a>(alloc: Global) -> Result<Command<'a>, AllocError>
         .disable_help_subcommand(true)
         .subcommand(solve_command(alloc)?)?
         .subcommand(check_command(alloc)?)?
-        .subcommand(gen_command(alloc)?)
+        .subcommand(gen_command(alloc)?)?
+        .subcommand(demo_command(alloc)?)?
+        .subcommand(wave_command(alloc)?)
 }
 
 /// What the command that was met asks for, if it is one of the program's and its values are a request: a case for each.
@@ -79,6 +84,12 @@ fn asked_by<'a>(matches: &ArgMatches<'a>) -> Option<Asked<'a>>
     }
     if let Some(given) = matches.subcommand_matches("gen") {
         return gen_of(given);
+    }
+    if let Some(given) = matches.subcommand_matches("demo") {
+        return demo_of(given);
+    }
+    if let Some(given) = matches.subcommand_matches("wave") {
+        return wave_of(given);
     }
     None
 }
@@ -158,6 +169,25 @@ fn check_of<'a>(given: &ArgMatches<'a>) -> Option<Asked<'a>>
     Some(Asked::Check { model, answer })
 }
 
+fn wave_command<'a>(alloc: Global) -> Result<Command<'a>, AllocError>
+    ensures shape { IfOk result (λ command. app_of command ≡ wave_command) }
+    ensures local { IfOk result (λ command. (fields_of command).has_globals ≡ false) }
+{
+    let model = Arg::new(alloc, "MODEL").required(true);
+    let answer = Arg::new(alloc, "ANSWER").required(true);
+    Command::new(alloc, "wave").arg(model)?.arg(answer)
+}
+
+/// The names that `wave` is given.
+fn wave_of<'a>(given: &ArgMatches<'a>) -> Option<Asked<'a>>
+    ensures found { IfSome result (λ asked. Means (meant asked) (codes "wave") (rows_of (found_of given.now))) }
+    ensures none { IfNone result ((model : List ℕ) (answer : List ℕ) → MeansWave (rows_of (found_of given.now)) model answer → ⊥) }
+{
+    let model = value_of(given, "MODEL")?;
+    let answer = value_of(given, "ANSWER")?;
+    Some(Asked::Wave { model, answer })
+}
+
 /// KIND is tested by the program itself, see `kind_of`.
 fn gen_command<'a>(alloc: Global) -> Result<Command<'a>, AllocError>
     ensures shape { IfOk result (λ command. app_of command ≡ gen_command) }
@@ -202,6 +232,29 @@ fn request_of(given: &ArgMatches) -> Option<GenRequest>
         size,
         binary,
     })
+}
+
+fn demo_command<'a>(alloc: Global) -> Result<Command<'a>, AllocError>
+    ensures shape { IfOk result (λ command. app_of command ≡ demo_command) }
+    ensures local { IfOk result (λ command. (fields_of command).has_globals ≡ false) }
+{
+    let seed = Arg::new(alloc, "SEED")
+        .required(true)
+        .value_parser(ValueParser::unsigned(0, 4_294_967_295));
+    let size = Arg::new(alloc, "SIZE")
+        .required(true)
+        .value_parser(ValueParser::unsigned(1, 256));
+    Command::new(alloc, "demo").arg(seed)?.arg(size)
+}
+
+/// The request that the values of `demo` are.
+fn demo_of<'a>(given: &ArgMatches<'a>) -> Option<Asked<'a>>
+    ensures found { IfSome result (λ asked. Means (meant asked) (codes "demo") (rows_of (found_of given.now))) }
+    ensures none { IfNone result ((request : DemoRequestOf) → MeansDemo (rows_of (found_of given.now)) request → ⊥) }
+{
+    let seed = number_of(given, "SEED", 0, 4_294_967_295)?;
+    let size = number_of(given, "SIZE", 1, 256)?;
+    Some(Asked::Demo(DemoRequest { seed, size }))
 }
 
 /// The kind of this name.

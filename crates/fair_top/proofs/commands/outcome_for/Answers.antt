@@ -1,4 +1,4 @@
-use Rattle.std.proofs.Common.{subst, sym}
+use Rattle.std.proofs.Common.{subst, sym, refl}
 use Rattle.std.specs.Prelude.{IfOk}
 use Rattle.fair_top.specs.declared.requests.Asked.{Asked as AskedInCode}
 use Rattle.fair_top.specs.Asked.{meant, names_in}
@@ -36,3 +36,29 @@ returns-in-Solve-clause-reads g c =
     subst (λ (a : AskedInCode).
     ReadsModelFirst g.H.Shelf.reads (g.H.Shelf.held c.args.shelf.now) (names_in (meant a)) (is_read_fault (status_in c.solve.result)) c.args.shelf.now c.solve.new.shelf)
     (sym c.in-Solve.is) c.solve.ensures.reads
+
+pub returns-in-Demo-clause-exactly : goal.returns-in-Demo-clause-exactly
+returns-in-Demo-clause-exactly g c = λ verdict d.
+    absurd (subst (λ (a : AskedInCode). Decides (g.H.Shelf.held c.args.shelf.now) (meant a) verdict) c.in-Demo.is d)
+
+pub returns-in-Demo-clause-found : goal.returns-in-Demo-clause-found
+returns-in-Demo-clause-found g c =
+    subst (λ (a : AskedInCode). IfOk c.demonstrate.result (λ outcome. CommandGives (g.H.Shelf.held c.args.shelf.now) (meant a) outcome.status outcome.text.items))
+    (sym c.in-Demo.is) c.demonstrate.ensures.found
+
+pub returns-in-Demo-clause-shown : goal.returns-in-Demo-clause-shown
+returns-in-Demo-clause-shown g c = λ accepted e. absurd (c.demonstrate.ensures.hidden accepted e)
+
+pub returns-in-Demo-clause-solved : goal.returns-in-Demo-clause-solved
+returns-in-Demo-clause-solved g c =
+    subst (λ (a : AskedInCode). SolvesAsked (g.H.Shelf.held c.args.shelf.now) (meant a) (status_in c.demonstrate.result)) (sym c.in-Demo.is) tt
+
+pub returns-in-Demo-clause-reads : goal.returns-in-Demo-clause-reads
+returns-in-Demo-clause-reads g c =
+    subst (λ (a : AskedInCode).
+    ReadsModelFirst g.H.Shelf.reads (g.H.Shelf.held c.args.shelf.now) (names_in (meant a)) (is_read_fault (status_in c.demonstrate.result)) c.args.shelf.now c.args.shelf.now)
+    (sym c.in-Demo.is) (refl, c.demonstrate.ensures.unread)
+
+pub returns-in-Wave-clause-exactly : goal.returns-in-Wave-clause-exactly
+returns-in-Wave-clause-exactly g c = λ verdict d.
+    c.wave.ensures.exactly verdict (subst (λ (a : AskedInCode). Decides (g.H.Shelf.held c.args.shelf.now) (meant a) verdict) c.in-Wave.is d)

@@ -1,7 +1,7 @@
 use Rattle.std.proofs.Common.{refl, inl, inr}
 use Rattle.fair_top.specs.Words.{bytes_of}
 use Rattle.fair_top.specs.Asked.Asked.{Solve}
-use Rattle.fair_top.proofs.Ending.{is_printed, read_before, written, part_written, good_writes}
+use Rattle.fair_top.proofs.Ending.{is_printed, demo_sums_up, demo_is_silent, read_before, written, part_written, good_writes}
 use Rattle.fair_top.proofs.running.run_alone.Goals as goal
 
 pub returns-in-Ok-write_all-clause-printed : goal.returns-in-Ok-write_all-clause-printed
@@ -37,3 +37,16 @@ returns-in-Err-write_all-clause-solved g c = λ model request asks has. inl (inr
 
 pub returns-in-Err-clause-solved : goal.returns-in-Err-clause-solved
 returns-in-Err-clause-solved g c = λ model request asks. c.in-Err.ensures.solved (Solve model request) asks
+
+pub returns-in-Ok-write_all-clause-summed : goal.returns-in-Ok-write_all-clause-summed
+returns-in-Ok-write_all-clause-summed g c = λ request asks.
+    demo_sums_up (g.H.Shelf.held c.args.shelf.now) (bytes_of c.args.words.now) request c.in-Ok.field-0.status c.in-Ok.field-0.text.items
+    asks c.in-Ok.ensures.found
+
+pub returns-in-Err-write_all-clause-summed : goal.returns-in-Err-write_all-clause-summed
+returns-in-Err-write_all-clause-summed g c = λ request asks. inl (inr refl)
+
+pub returns-in-Err-clause-summed : goal.returns-in-Err-clause-summed
+returns-in-Err-clause-summed g c = λ request asks.
+    demo_is_silent (g.H.Shelf.held c.args.shelf.now) (bytes_of c.args.words.now) (g.H.Shelf.faults c.args.shelf.now) (g.H.Shelf.faults c.outcome_of.new.shelf)
+    request c.in-Err.status asks c.in-Err.ensures.silent c.in-Err.ensures.read

@@ -1,0 +1,44 @@
+-- The writes that a sink saw, of `check`, of `solve` and of `demo`.
+use Rattle.std.proofs.Common.{◌≡◌, inl, inr, Bool, false, List, ℕ, sym, subst, Ok, Err}
+use Rattle.std.specs.Prelude.{Option, Result}
+use Rattle.aig_semantics.specs.Circuits.{Circuit}
+use Rattle.edge.specs.Writes.{Writes}
+use Rattle.certificate.specs.declared.ends.Accepted.{Accepted}
+use Rattle.certificate.specs.declared.ends.AnswerEnd.{AnswerEnd}
+use Rattle.certificate.specs.declared.ends.AnswerEnd.TheVariants as ends
+use Rattle.certificate.specs.Ends.{DecidesEnd}
+use Rattle.fair_top.specs.declared.requests.SolveRequest.{SolveRequest}
+use Rattle.fair_top.specs.declared.requests.DemoRequest.{DemoRequest}
+use Rattle.fair_top.specs.declared.status.Status.{Status}
+use Rattle.fair_top.specs.ModelGiven.{OfSomeText}
+use Rattle.fair_top.specs.Check.{status_of, JudgesAs}
+use Rattle.fair_top.specs.Solve.{GivesSolve}
+use Rattle.fair_top.specs.Demo.{GivesDemo}
+use Rattle.fair_top.specs.Headline.{HasWritten}
+
+of_answer : {Sink : Type 0} (Write : Sink → Bool → Sink → Type 0) (c : Circuit) (text : List ℕ) (end : Result Accepted AnswerEnd)
+    (old new : Sink) → DecidesEnd c text end → Writes Write false old new → HasWritten Write (status_of end) old new
+of_answer Write c text (Ok found) old new said writes = writes
+of_answer Write c text (Err (ends.Refused fault)) old new said writes = writes
+of_answer Write c text (Err ends.ReadFault) old new said writes = absurd said
+of_answer Write c text (Err ends.Memory) old new said writes = absurd said
+
+pub of_check : {Sink : Type 0} (Write : Sink → Bool → Sink → Type 0) (model answer : Option (List ℕ)) (status : Status)
+    (old new : Sink) → JudgesAs OfSomeText model answer status → Writes Write false old new → HasWritten Write status old new
+of_check Write model answer status old new (inl (fault, e, bad)) writes =
+    subst (λ (s : Status). HasWritten Write s old new) (sym e) writes
+of_check Write model answer status old new (inr (end, e, (_, _, (claimed, _, (m, _, said))))) writes =
+    subst (λ (s : Status). HasWritten Write s old new) (sym e) (of_answer Write m.circuit claimed end old new said writes)
+
+pub of_solve : {Sink : Type 0} (Write : Sink → Bool → Sink → Type 0) (model : Option (List ℕ)) (request : SolveRequest) (status : Status)
+    (text : List ℕ) (old new : Sink) → GivesSolve model request status text → Writes Write false old new → HasWritten Write status old new
+of_solve Write model request status text old new (inl ((fault, e, bad), t)) writes = subst (λ (s : Status). HasWritten Write s old new) (sym e) writes
+of_solve Write model request status text old new (inr (inl ((e, none), t))) writes = subst (λ (s : Status). HasWritten Write s old new) (sym e) writes
+of_solve Write model request status text old new (inr (inr (inl p))) writes = subst (λ (s : Status). HasWritten Write s old new) (sym p.1) writes
+of_solve Write model request status text old new (inr (inr (inr (r, t)))) writes = subst (λ (s : Status). HasWritten Write s old new) (sym r.1) writes
+
+pub of_demo : {Sink : Type 0} (Write : Sink → Bool → Sink → Type 0) (request : DemoRequest) (status : Status) (text : List ℕ) (old new : Sink)
+    → GivesDemo request status text → Writes Write false old new → HasWritten Write status old new
+of_demo Write request status text old new (inl (board, e, summed)) writes =
+    subst (λ (s : Status). HasWritten Write s old new) (sym e) writes
+of_demo Write request status text old new (inr (report, e, reports, t)) writes = subst (λ (s : Status). HasWritten Write s old new) (sym e) writes

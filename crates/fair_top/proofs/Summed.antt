@@ -1,0 +1,62 @@
+-- What `demo` sums up.
+use Rattle.std.proofs.Common.{◌≡◌, ◌⊎◌, inl, inr, ℕ, false, List, refl, sym, ◌∙◌, ap, subst, Ok, Err, Some, take}
+use Rattle.std.specs.Prelude.{Option, Result, IfOk, IfErr}
+use Rattle.aig_semantics.specs.Circuits.{Circuit}
+use Rattle.certificate.specs.declared.ends.Accepted.{Accepted}
+use Rattle.certificate.specs.declared.ends.Accepted.TheVariants as accepted
+use Rattle.certificate.specs.declared.ends.AnswerEnd.{AnswerEnd}
+use Rattle.certificate.specs.declared.ends.AnswerEnd.TheVariants as ends
+use Rattle.certificate.specs.Answers.{IsGood}
+use Rattle.certificate.specs.Ends.{CheckSays}
+use Rattle.wall_store.specs.Boards.{BoardState}
+use Rattle.fair_top.specs.declared.requests.DemoRequest.{DemoRequest}
+use Rattle.fair_top.specs.declared.status.Status.{Status}
+use Rattle.fair_top.specs.declared.status.Status.TheVariants as statuses
+use Rattle.fair_top.specs.declared.status.Done.TheVariants as dones
+use Rattle.fair_top.specs.declared.texts.Outcome.{Outcome}
+use Rattle.fair_top.specs.Check.{done_of}
+use Rattle.fair_top.specs.Statuses.{status_in, is_read_fault}
+use Rattle.fair_top.specs.Demo.{SumsUp, IsSummedUp}
+
+-- a text that is told and accepted is good for what it is accepted as
+pub said : (c : Circuit) (told : Option (List ℕ)) (text : List ℕ) (found : Accepted) → told ≡ Some text → CheckSays c told (Ok found)
+    → (other : Accepted) × IsGood c text other
+said c told text found e (inl (inl wrong)) = absurd (cc)
+said c told text found e (inl (inr (read, may, good))) = (found, subst (λ (t : List ℕ). IsGood c t found) (sym (may text e)) good)
+said c told text found e (inr wrong) = absurd (cc)
+
+-- the status is that of a board or of a report
+
+pub sums_up : (c : Circuit) (request : DemoRequest) (status : Status) (text : List ℕ) → SumsUp c request status text → IsSummedUp status
+sums_up c request status text (inl (board, e, summed)) = inl (board, e)
+sums_up c request status text (inr (report, e, reports, same)) = inr (report, e)
+
+no_fault : (status : Status) → IsSummedUp status → is_read_fault status ≡ false
+no_fault status (inl (board, e)) = ap is_read_fault e
+no_fault status (inr (report, e)) = ap is_read_fault e
+
+not_accepted : (board : BoardState) (found : Accepted) → ◌≡◌ {A = Status} (statuses.Done (dones.Demo board)) (statuses.Done (done_of found)) → ⊥
+not_accepted board (accepted.Lasso j p f) e = absurd (cc)
+not_accepted board (accepted.Holds j n) e = absurd (cc)
+
+no_answer : (status : Status) → IsSummedUp status → (found : Accepted) → status ≡ statuses.Done (done_of found) → ⊥
+no_answer status (inl (board, e)) found is = not_accepted board found (sym e ∙ is)
+no_answer status (inr (report, e)) found is = let wrong : statuses.Unknown report ≡ statuses.Done (done_of found) = sym e ∙ is in absurd (cc)
+
+pub loud : (c : Circuit) (request : DemoRequest) (result : Result Outcome Status)
+    → IfOk result (λ outcome. SumsUp c request outcome.status outcome.text.items)
+    → IfOk result (λ outcome. is_read_fault outcome.status ≡ false)
+loud c request (Ok outcome) summed = no_fault outcome.status (sums_up c request outcome.status outcome.text.items summed)
+loud c request (Err status) summed = tt
+
+pub unread : (c : Circuit) (request : DemoRequest) (result : Result Outcome Status)
+    → IfOk result (λ outcome. SumsUp c request outcome.status outcome.text.items) → IfErr result (λ status. status ≡ statuses.Memory)
+    → is_read_fault (status_in result) ≡ false
+unread c request (Ok outcome) summed ended = no_fault outcome.status (sums_up c request outcome.status outcome.text.items summed)
+unread c request (Err status) summed ended = ap is_read_fault ended
+
+pub hidden : (c : Circuit) (request : DemoRequest) (result : Result Outcome Status)
+    → IfOk result (λ outcome. SumsUp c request outcome.status outcome.text.items) → IfErr result (λ status. status ≡ statuses.Memory)
+    → (found : Accepted) → status_in result ≡ statuses.Done (done_of found) → ⊥
+hidden c request (Ok outcome) summed ended found e = no_answer outcome.status (sums_up c request outcome.status outcome.text.items summed) found e
+hidden c request (Err status) summed ended found e = let wrong : statuses.Memory ≡ statuses.Done (done_of found) = sym ended ∙ e in absurd (cc)

@@ -1,0 +1,86 @@
+-- The command `demo SEED SIZE`: two workers decide property 0 of a generated model, the answer is checked, and a summary
+-- is printed. What its words mean, and what it gives.
+use Rattle.std.specs.Prelude.{◌≡◌, ◌⊎◌, ℕ, List, ◌++◌, length, decimal, codes, Option, Some, None}
+use Rattle.clap.specs.Walk.{Row}
+use Rattle.clap.specs.Simple.{App, new_app, with_rule}
+use Rattle.aig_semantics.specs.Circuits.{Circuit}
+use Rattle.model_gen.specs.Generated.{scramble_circuit}
+use Rattle.certificate.specs.declared.ends.Accepted.{Accepted}
+use Rattle.certificate.specs.Answers.{IsGood}
+use Rattle.wall_store.specs.declared.outcomes.Outcome.{Outcome}
+use Rattle.wall_store.specs.declared.outcomes.Outcome.TheVariants.{Lasso, Holds}
+use Rattle.wall_store.specs.Boards.{BoardState, outcome_of}
+use Rattle.fair_workers.specs.declared.limits.Report.{Report}
+use Rattle.fair_workers.specs.Runs.{Task, IsAnswered, IsReport}
+use Rattle.fair_top.specs.declared.requests.DemoRequest.{DemoRequest}
+use Rattle.fair_top.specs.declared.requests.SolveRequest.{SolveRequest}
+use Rattle.fair_top.specs.declared.status.Status.{Status}
+use Rattle.fair_top.specs.declared.status.Status.TheVariants as statuses
+use Rattle.fair_top.specs.declared.status.Done.TheVariants as done
+use Rattle.fair_top.specs.Words.{wanted_number, IsNumberGiven}
+use Rattle.fair_top.specs.Solve.{task_of, IsTextOfOutcome}
+
+abbrev pub demo_command : App
+demo_command =
+    with_rule (with_rule (new_app (codes "demo")) (wanted_number (codes "SEED") 0 4294967295)) (wanted_number (codes "SIZE") 1 256)
+
+-- the numbers that are given
+pub record MeansDemo (rows : List Row) (request : DemoRequest) : Type 0 where
+  pub seed_number : IsNumberGiven rows (codes "SEED") 0 4294967295 request.seed
+  pub size_number : IsNumberGiven rows (codes "SIZE") 1 256 request.size
+
+-- the circuit that `gen scramble` writes for the seed and the size
+abbrev pub demo_circuit : DemoRequest → Circuit
+demo_circuit request = scramble_circuit request.seed request.size
+
+-- property 0, two workers, and the default budgets of `solve`
+abbrev pub demo_request : SolveRequest
+demo_request = record { property = 0; workers = 2; conflicts = 1000000; steps = 100000; skeletons = 10000 }
+
+abbrev pub demo_task : Circuit → Task
+demo_task c = task_of c demo_request
+
+-- 1 for a fair lasso, 0 where there is none, 2 without an outcome
+abbrev pub verdict_text : Option Outcome → List ℕ
+verdict_text (Some (Lasso lasso)) = codes "1"
+verdict_text (Some (Holds refutation)) = codes "0"
+verdict_text None = codes "2"
+
+-- four lines: what is asked for, the verdict, how many entries the shared list has, and what the check said
+abbrev pub summary_text : DemoRequest → List ℕ → ℕ → List ℕ → List ℕ
+summary_text request verdict entries checked =
+    codes "demo scramble " ++ decimal request.seed ++ codes " " ++ decimal request.size ++ codes "\nverdict " ++ verdict
+    ++ codes "\nentries " ++ decimal entries ++ codes "\ncheck " ++ checked ++ codes "\n"
+
+-- The text sums up a board of the task with an outcome: its verdict, and the length of its list. The answer that `solve`
+-- prints of the outcome is a good one, so `check` accepts it, and the summary says so.
+pub record SumsUpBoard (c : Circuit) (request : DemoRequest) (text : List ℕ) (board : BoardState) : Type 0 where
+  pub answered : IsAnswered (demo_task c) board
+  pub summary : text ≡ summary_text request (verdict_text (outcome_of board.served 0)) (length board.entries) (codes "accepted")
+  pub answer : List ℕ
+  pub printed : IsTextOfOutcome c 0 board.entries (outcome_of board.served 0) answer
+  pub found : Accepted
+  pub good : IsGood c answer found
+
+abbrev pub SumsUpAnswer : Circuit → DemoRequest → Status → List ℕ → Type 0
+SumsUpAnswer c request status text =
+    (board : BoardState) × (status ≡ statuses.Done (done.Demo board)) × SumsUpBoard c request text board
+
+-- The workers leave a report, so a budget is spent, of entries or of each worker, and there is nothing to check: the
+-- summary says so.
+abbrev pub SumsUpReport : Circuit → DemoRequest → Status → List ℕ → Type 0
+SumsUpReport c request status text =
+    (report : Report) × (status ≡ statuses.Unknown report) × IsReport (demo_task c) report
+    × (text ≡ summary_text request (codes "2") (length report.board.entries) (codes "none"))
+
+abbrev pub SumsUp : Circuit → DemoRequest → Status → List ℕ → Type 0
+SumsUp c request status text = SumsUpAnswer c request status text ⊎ SumsUpReport c request status text
+
+-- One of the two of the generated circuit. There is no other status.
+abbrev pub GivesDemo : DemoRequest → Status → List ℕ → Type 0
+GivesDemo request status text = SumsUp (demo_circuit request) request status text
+
+-- a board with an outcome, or a report
+abbrev pub IsSummedUp : Status → Type 0
+IsSummedUp status =
+    ((board : BoardState) × (status ≡ statuses.Done (done.Demo board))) ⊎ ((report : Report) × (status ≡ statuses.Unknown report))
