@@ -1,5 +1,6 @@
 //! Questions drawn from a seed. The main call is `draw_question`.
 
+use crate::session::{NO_LIMIT, Way};
 use std::alloc::{AllocError, Global};
 
 /// Clauses in two parts, of which the second is added later, and assumptions.
@@ -22,6 +23,47 @@ pub(crate) fn draw_question(alloc: Global, seed: u64) -> Result<Drawn, AllocErro
         first: draw_clauses(alloc, &mut draws, variables, half)?,
         second: draw_clauses(alloc, &mut draws, variables, half)?,
         assumed: draw_assumptions(alloc, &mut draws, variables)?,
+    })
+}
+
+/// One turn of a sequence: clauses that are added, and a question of a call with its assumptions, or units, and its limit
+/// of conflicts.
+#[derive(Debug, Drop)]
+pub(crate) struct Turn {
+    pub(crate) added: Vec<i64>,
+    pub(crate) way: Way,
+    pub(crate) assumed: Vec<i64>,
+    pub(crate) limit: u64,
+}
+
+/// Eight turns over three to twelve variables, with four clauses a variable in all, on the average. The same from the
+/// same seed.
+pub(crate) fn draw_sequence(alloc: Global, seed: u64) -> Result<Vec<Turn>, AllocError> {
+    let mut draws = Draws { state: seed };
+    let variables = draws.below(10).saturating_add(3);
+    let mut turns = Vec::new(alloc);
+    for _ in 0..8 {
+        let turn = draw_turn(alloc, &mut draws, variables)?;
+        turns.push(turn)?;
+    }
+    Ok(turns)
+}
+
+fn draw_turn(alloc: Global, draws: &mut Draws, variables: u64) -> Result<Turn, AllocError> {
+    let count = draws.below(variables.saturating_add(1));
+    Ok(Turn {
+        added: draw_clauses(alloc, draws, variables, count)?,
+        way: match draws.below(3) {
+            0 => Way::Solve,
+            1 => Way::Ask,
+            _ => Way::Refute,
+        },
+        assumed: draw_assumptions(alloc, draws, variables)?,
+        limit: match draws.below(4) {
+            0 => 0,
+            1 => 1,
+            _ => NO_LIMIT,
+        },
     })
 }
 

@@ -20,6 +20,20 @@ pub(crate) fn literals(alloc: Global, numbers: &[i64]) -> Result<Vec<Lit>, Alloc
     Ok(made)
 }
 
+/// The numbers of literals; 0 for one that has none.
+pub(crate) fn numbers_of(alloc: Global, literals: &[Lit]) -> Result<Vec<i64>, AllocError> {
+    let mut made = Vec::new(alloc);
+    for one in literals {
+        let number = i64::try_from(one.var).unwrap_or(0);
+        made.push(if one.positive {
+            number
+        } else {
+            0i64.saturating_sub(number)
+        })?;
+    }
+    Ok(made)
+}
+
 /// The clauses of numbers, with a 0 behind each clause.
 pub(crate) fn clauses(alloc: Global, numbers: &[i64]) -> Result<Vec<Clause>, AllocError> {
     let mut made = Vec::new(alloc);

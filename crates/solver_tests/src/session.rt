@@ -1,7 +1,7 @@
 //! A solver beside a record of what it was given. The main type is `Session`.
 
 use crate::judging::{Said, judge, judge_asked, judge_refuted};
-use crate::questions::{clauses, literals};
+use crate::questions::{clauses, literals, numbers_of};
 use cdcl::{Answer, Asked, Refuted, Solver, are_sized, has_opposites};
 use cnf::{Clause, Lit};
 use edge::{Meter, SolveEnd};
@@ -100,6 +100,35 @@ impl Session {
         match refute_apart(self.alloc, &mut self.solver, literals, meter)? {
             Ok(found) => judge_refuted(self.alloc, self.added.as_slice(), units, &found),
             Err(end) => Ok(said_at(&end)),
+        }
+    }
+
+    /// From now on questions go to this call.
+    pub(crate) fn turn_to(&mut self, way: Way) {
+        self.way = way;
+    }
+
+    /// The core that the call answers under assumptions, as numbers; for `refute`, and where there is a model, nothing.
+    pub(crate) fn core(&mut self, assumed: &[i64]) -> Result<Vec<i64>, AllocError> {
+        let assumptions = literals(self.alloc, assumed)?;
+        let mut meter = Meter::new(NO_LIMIT, 0);
+        match self.way {
+            Way::Solve => match solve_apart(&mut self.solver, assumptions.as_slice(), &mut meter)? {
+                Ok(Answer::Unsat(core, _)) => numbers_of(self.alloc, core.as_slice()),
+                _ => Ok(Vec::new(self.alloc)),
+            },
+            Way::Ask => {
+                match ask_apart(
+                    self.alloc,
+                    &mut self.solver,
+                    assumptions.as_slice(),
+                    &mut meter,
+                )? {
+                    Ok(Asked::Unsat(core)) => numbers_of(self.alloc, core.as_slice()),
+                    _ => Ok(Vec::new(self.alloc)),
+                }
+            }
+            Way::Refute => Ok(Vec::new(self.alloc)),
         }
     }
 

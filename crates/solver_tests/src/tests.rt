@@ -1,6 +1,6 @@
 //! Questions whose answers a search through all values gives, or that were worked out by hand.
 use super::*;
-use crate::drawing::draw_question;
+use crate::drawing::{draw_question, draw_sequence};
 use crate::judging::Said;
 use crate::session::{NO_LIMIT, Session, Way};
 use std::alloc::{AllocError, Global};
@@ -59,6 +59,65 @@ fn drawn_questions(rt: HostRuntime) -> Result<(), Fail> {
         sat >= 50 && unsat >= 50 && spent >= 20,
         "{sat} {unsat} {spent}"
     );
+    Ok(())
+}
+
+// Whether each answer of a drawn sequence of turns on one solver is right.
+fn are_right_in_turn(alloc: Global, seed: u64) -> Result<bool, AllocError> {
+    let mut session = Session::new(alloc, Way::Solve, &[])?;
+    for turn in draw_sequence(alloc, seed)? {
+        session.turn_to(turn.way);
+        session.add(turn.added.as_slice())?;
+        let said = session.ask(turn.assumed.as_slice(), turn.limit)?;
+        if !is_right(said, turn.limit < NO_LIMIT) || session.conflicts() > turn.limit {
+            return Ok(false);
+        }
+    }
+    Ok(true)
+}
+
+#[test]
+fn drawn_sequences(rt: HostRuntime) -> Result<(), Fail> {
+    for seed in 0..100u64 {
+        assert!(rt; are_right_in_turn(rt.alloc(), seed)?, "of {seed}");
+    }
+    Ok(())
+}
+
+// Clauses, assumptions of which some are not needed, and the core, in ascending order of the numbers.
+const CORES: [(&[i64], &[i64], &[i64]); 7] = [
+    (&[-1, 0], &[2, 1], &[1]),
+    (&[-1, 0], &[1, 2], &[1]),
+    (&[-1, 2, 0, -2, 3, 0], &[5, 1, 6, -3], &[-3, 1]),
+    (&[-1, 2, 0, -2, 3, 0], &[4, -3, 2], &[-3, 2]),
+    (&WITH_3, &[4, -3, 5], &[-3]),
+    (&[-1, -2, -3, 0], &[1, 4, 2, -5, 3], &[1, 2, 3]),
+    (&[1, 0, -1, 0], &[2, 3], &[]),
+];
+
+// Whether the core is the one that is wanted, in any order.
+fn core_is(
+    alloc: Global,
+    way: Way,
+    numbers: &[i64],
+    assumed: &[i64],
+    wanted: &[i64],
+) -> Result<bool, AllocError> {
+    let mut session = Session::new(alloc, way, numbers)?;
+    let core = session.core(assumed)?;
+    Ok(core.len() == wanted.len() && wanted.iter().all(|number| core.contains(number)))
+}
+
+#[test]
+fn cores_are_without_what_is_not_needed(rt: HostRuntime) -> Result<(), Fail> {
+    for (numbers, assumed, wanted) in CORES {
+        for way in [Way::Solve, Way::Ask] {
+            assert!(rt;
+                core_is(rt.alloc(), way, numbers, assumed, wanted)?,
+                "{way:?} of {numbers:?} under {assumed:?}"
+            );
+        }
+    }
     Ok(())
 }
 
