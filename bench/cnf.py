@@ -3,17 +3,25 @@
 
     cnf.py holes N CNF              n + 1 pigeons, each in a hole, and no two in one hole: no model
     cnf.py random N SEED CNF        3-SAT: clauses of three literals over N variables, 4.26 for each variable
+    cnf.py counter BITS STEPS CNF   a counter that an input may stop, unrolled over STEPS steps, behind which it stands at
+                                    the least power of two above STEPS: no model
+    cnf.py shifter BITS STEPS PLACE CNF
+                                    a shift register that an input may stop, unrolled over STEPS steps; a 1 enters only
+                                    where the two places behind it are 0, and in the end PLACE and the next one are 1:
+                                    no model
     cnf.py questions GATES COUNT SEED CNF QUESTIONS
-                                    a circuit of GATES gates over 50 inputs, and COUNT lists of 20 assumptions, in the
-                                    same form: each tenth list is what one run of the circuit gives, in the others one
-                                    of the literals is negated
+                                    a circuit of GATES gates over 50 inputs, and COUNT lists of up to 61 assumptions, in
+                                    the same form, with the values of one run of the circuit each: in each tenth list
+                                    those of any variables; in the others those of a cut, from which the value of a gate
+                                    above it follows, and of this gate the other value; in each fifth list the cut lacks
+                                    a variable
 """
 import random
 import sys
 
 RATIO = 4.26
 INPUTS = 50
-ASSUMED = 20
+FEWEST, MOST = 20, 60
 
 
 def below(chance, count):
@@ -46,6 +54,61 @@ def draw_clause(chance, n):
     return [variable if below(chance, 2) else -variable for variable in variables]
 
 
+class Unrolled:
+    """Variables that are counted up, and clauses of gates."""
+
+    def __init__(self):
+        self.variables, self.clauses = 0, []
+
+    def new(self):
+        self.variables += 1
+        return self.variables
+
+    def both(self, first, second):
+        gate = self.new()
+        self.clauses += [[-gate, first], [-gate, second], [gate, -first, -second]]
+        return gate
+
+    def one_of(self, first, second):
+        gate = self.new()
+        self.clauses += [[-gate, first, second], [-gate, -first, -second], [gate, -first, second], [gate, first, -second]]
+        return gate
+
+    def choice(self, which, first, second):
+        gate = self.new()
+        self.clauses += [[-which, -first, gate], [-which, first, -gate], [which, -second, gate], [which, second, -gate]]
+        return gate
+
+    def zeros(self, count):
+        state = [self.new() for _ in range(count)]
+        self.clauses += [[-bit] for bit in state]
+        return state
+
+
+def counter(bits, steps):
+    made = Unrolled()
+    state = made.zeros(bits)
+    for _ in range(steps):
+        carry, after = made.new(), []
+        for bit in state:
+            after.append(made.one_of(bit, carry))
+            carry = made.both(bit, carry)
+        state = after
+    made.clauses += [[bit if place == steps.bit_length() else -bit] for place, bit in enumerate(state)]
+    return made.variables, made.clauses
+
+
+def shifter(bits, steps, place):
+    made = Unrolled()
+    state = made.zeros(bits)
+    for _ in range(steps):
+        moves, enters = made.new(), made.new()
+        made.clauses += [[-enters, -state[0]], [-enters, -state[1]]]
+        state = [made.choice(moves, before, bit) for before, bit in zip([enters, *state], state)]
+    made.clauses += [[state[place]], [state[place + 1]]]
+    return made.variables, made.clauses
+
+
 def circuit(gates, chance):
     """Gates with two operands each, as literals of earlier variables; the first variables are inputs."""
     found = []
@@ -62,16 +125,30 @@ def values_in_run(gates, chance):
     return values
 
 
+def cut_below(gates, gate, size):
+    """Variables below a gate from which its value follows, so many where there are as many."""
+    found = {gate}
+    while len(found) < size and max(found) > INPUTS:
+        _, first, second = gates[max(found) - INPUTS - 1]
+        found = found - {max(found)} | {abs(first), abs(second)}
+    return sorted(found)
+
+
 def questions(count, gates, chance):
     lists = []
     for number in range(count):
         values = values_in_run(gates, chance)
-        chosen = sorted({1 + below(chance, len(values) - 1) for _ in range(ASSUMED)})
-        lits = [variable if values[variable] else -variable for variable in chosen]
-        if number % 10:
-            place = below(chance, len(lits))
-            lits[place] = -lits[place]
-        lists.append(lits)
+        size = FEWEST + below(chance, MOST - FEWEST + 1)
+        if number % 10 == 0:
+            chosen = sorted({1 + below(chance, len(values) - 1) for _ in range(size)})
+        else:
+            gate = len(values) - 1 - below(chance, len(gates) // 2)
+            chosen = cut_below(gates, gate, size)
+            if number % 5 == 1:
+                del chosen[below(chance, len(chosen))]
+            values[gate] = not values[gate]
+            chosen.append(gate)
+        lists.append([variable if values[variable] else -variable for variable in chosen])
     return lists
 
 
@@ -95,6 +172,10 @@ def write(path, variables, clauses):
 def main(words):
     if len(words) == 3 and words[0] == "holes":
         write(words[2], *holes(int(words[1])))
+    elif len(words) == 4 and words[0] == "counter":
+        write(words[3], *counter(int(words[1]), int(words[2])))
+    elif len(words) == 5 and words[0] == "shifter":
+        write(words[4], *shifter(*map(int, words[1:4])))
     elif len(words) == 6 and words[0] == "questions":
         write_questions(words[1:])
     elif len(words) == 4 and words[0] == "random":
