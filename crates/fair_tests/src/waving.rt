@@ -1,5 +1,7 @@
 //! Runs of `wave` over texts in memory: waves worked out by hand, refusals, and calls that fail one by one.
 
+ghost use Rattle.std.specs.Prelude.{◌≤◌};
+
 use crate::certificates::says_of_waves;
 use crate::dumps::{NOTHING, NOTHING_DUMP, TOGGLE, TOGGLE_DUMP};
 use crate::tests::{ROWS, ends_so, run_words};
