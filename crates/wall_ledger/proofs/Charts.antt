@@ -1,13 +1,12 @@
 -- Lists of faces, marks, and charts.
-use Rattle.std.proofs.Common.{◌≡◌, ◌≢◌, ℕ, zero, suc, ◌+◌, ◌<◌, ◌≤◌, ◌⊎◌, inl, inr, ⊎_elim, List, [], ◌∷◌, ◌++◌, map, length, take, refl, sym, ap, ◌∙◌, subst, arith, append-nil, append_assoc}
+use Rattle.std.proofs.Common.{◌≡◌, ◌≢◌, ℕ, ◌<◌, ◌≤◌, inl, inr, List, [], ◌∷◌, ◌++◌, refl, sym, ap, ◌∙◌, subst, arith, append-nil, append_assoc}
 use Rattle.std.specs.Prelude.{Option, Some, None, IfSome}
 use Rattle.std.specs.List.{AllByRecursion}
-use native.Mathlib.Decide.{ℕ_discrete, dec_le}
-use Rattle.std.proofs.lemmas.List.{take-append-le, length-append}
+use native.Mathlib.Decide.{dec_le}
 use Rattle.entry.specs.CheckedEntries.{CheckedEntry}
 use Rattle.wall_store.specs.declared.outcomes.Outcome.{Outcome}
 use Rattle.wall_store.specs.declared.outcomes.Served.{Served}
-use Rattle.wall_store.specs.Boards.{BoardState, outcome_of}
+use Rattle.wall_store.specs.Boards.{outcome_of}
 use Rattle.wall_ledger.specs.Passes.{Mark, blank, won, closed, Marked, StartsWith, IsMarkOf, AreMarksOf}
 use Rattle.wall_ledger.specs.Turns.{HasWon}
 use Rattle.wall_ledger.specs.Rules.{Face, AmongThem}

@@ -1,17 +1,16 @@
 -- The end of a ledger: what all passes know of the last board.
-use Rattle.std.proofs.Common.{◌≡◌, ℕ, zero, suc, ◌+◌, ◌<◌, ◌≤◌, ◌⊎◌, inl, inr, List, [], ◌∷◌, ◌++◌, map, length, get_or, refl, sym, ap, ◌∙◌, subst, arith}
-use Rattle.std.specs.Prelude.{Option, Some, None, IfSome}
+use Rattle.std.proofs.Common.{◌≡◌, ℕ, zero, suc, ◌+◌, ◌<◌, ◌≤◌, inl, inr, List, [], ◌∷◌, length, get_or, refl, sym, ap, ◌∙◌, subst, arith}
+use Rattle.std.specs.Prelude.{Option, Some}
 use Rattle.std.specs.List.{All, Any, Contains, AllByRecursion, remove}
-use mathlib.Core.Option.{some, some-injective}
+use mathlib.Core.Option.{some-injective}
 use lib.ListN.{get_elem?}
-use Rattle.std.proofs.lemmas.List.Elements.{All-from_recursion}
 use Rattle.atomic_table.specs.Seated.{TableId}
 use Rattle.wall_store.specs.declared.outcomes.Outcome.{Outcome}
-use Rattle.wall_store.specs.Boards.{BoardState, IsBoard, outcome_of}
-use Rattle.wall_ledger.specs.Passes.{PassState, LedgerState, StartsWith, GoesOn, IsBoardOf}
+use Rattle.wall_store.specs.Boards.{BoardState, IsBoard}
+use Rattle.wall_ledger.specs.Passes.{PassState, LedgerState, GoesOn}
 use Rattle.wall_ledger.specs.Turns.{HasWon, WonBy, AreAll, AreOf, IsClosed}
 use Rattle.wall_ledger.specs.Tickets.{IsLast}
-use Rattle.wall_ledger.specs.Rules.{Face, IsFrom, IsOwned, Chart, IsSeated, Fits, AmongThem, HasNumber, Kept}
+use Rattle.wall_ledger.specs.Rules.{Face, Fits, AmongThem, HasNumber, Kept}
 use Rattle.wall_ledger.specs.declared.pass.Hand.{Hand}
 use Rattle.wall_ledger.specs.Hands.{number_or, pass_of, face_in, state_of, ledger_of, IsResting}
 use Rattle.wall_ledger.specs.Seats.{face_of, faces_of}
@@ -75,7 +74,7 @@ module _ (lock : TableId) (first b : BoardState) (seat : ℕ) (ps : List PassSta
         (all_numbered lock first ps all (kept.chart.champion j) (subst (λ (n : ℕ). kept.chart.champion j < n) kept.origin.workers w.0))).1 in
         won_among ps j o (subst (AmongThem (λ (f : Face). HasWon j o f.marks))
         (some-injective w.1.0 (faces_of ps) (sym w.1.1 ∙ (ap (get_elem? last.1) here ∙ last.3))) w.1.2);
-    winners = λ j m n o u p q inp inq wp wq.
+    winners = λ j o u p q inp inq wp wq.
         sym ((fits_in (Fits first b last.0 kept.chart seat) ps p fits inp).owned.1.champions j o wp)
         ∙ (fits_in (Fits first b last.0 kept.chart seat) ps q fits inq).owned.1.champions j u wq;
   }

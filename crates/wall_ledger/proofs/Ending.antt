@@ -1,30 +1,28 @@
 -- Turns of a pass in memory, by what happens in them.
-use Rattle.std.proofs.Common.{Global, ◌≡◌, ◌≢◌, ℕ, zero, suc, ◌+◌, ◌<◌, ◌≤◌, ◌^◌, inl, inr, true, List, [], ◌∷◌, ◌++◌, map, length, get_or, vec_capacity, refl, sym, ap, ◌∙◌, subst, arith}
-use Rattle.std.specs.Prelude.{Option, Some, None, IfSome, ◌==◌}
+use Rattle.std.proofs.Common.{Global, ◌≡◌, ℕ, ◌+◌, ◌<◌, ◌≤◌, inl, inr, true, List, map, length, vec_capacity, refl, sym, ap, ◌∙◌, subst, arith}
+use Rattle.std.specs.Prelude.{Option, Some, None, ◌==◌}
 use Rattle.std.specs.List.{All, AllPairs, Contains}
 use Rattle.std.specs.Arc.{arc_value}
 use Rattle.std.specs.declared.vec.Vec.{Vec}
 use Rattle.std.specs.declared.sync.Arc.{Arc}
 use Rattle.entry.specs.declared.checked.Checked.{Checked}
 use Rattle.atomic_table.specs.Seated.{TableId}
-use Rattle.std.proofs.lemmas.List.Elements.{All-weaker, All-append, All-cons, All-nil}
+use Rattle.std.proofs.lemmas.List.Elements.{All-weaker}
 use Rattle.aig_semantics.specs.Circuits.{Circuit}
 use Rattle.entry.specs.CheckedEntries.{CheckedEntry}
-use Rattle.entry.specs.declared.origins.Origin.TheVariants.{Given, Worker}
-use Rattle.entry.specs.declared.origins.Work.{Work}
 use Rattle.wall_store.specs.declared.outcomes.Outcome.{Outcome}
 use Rattle.wall_store.specs.declared.outcomes.Finished.{Finished}
 use Rattle.wall_store.specs.declared.outcomes.Finished.TheVariants as ends
-use Rattle.wall_store.specs.Boards.{BoardState, IsBoard, IsTrueOf, properties_of, outcome_of}
-use Rattle.wall_store.specs.Events.{seen_by, shown_to, served_after, Looks, Finishes, OpensNext}
+use Rattle.wall_store.specs.Boards.{BoardState, IsBoard, IsSoundList, IsTrueOf, properties_of}
+use Rattle.wall_store.specs.Events.{seen_by, shown_to, Looks, Finishes, OpensNext}
 use Rattle.wall_store.specs.Laws.{OutcomesStay}
 use Rattle.wall_ledger.specs.declared.marks.PassMark.{PassMark}
 use Rattle.wall_ledger.specs.declared.pass.Hand.{Hand}
-use Rattle.wall_ledger.specs.Passes.{Marked, PassState, LedgerState, StartsWith, found_by, turn_of, IsBoardOf, GoesOn}
+use Rattle.wall_ledger.specs.Passes.{PassState, LedgerState, found_by, turn_of, IsBoardOf, GoesOn}
 use Rattle.wall_ledger.specs.Turns.{Turn, HasLooked, HasFinished, HasOpened, IsRefused, marks_finished, marks_opened, is_passed}
-use Rattle.wall_ledger.specs.Rules.{Face, IsFrom, IsOwned, IsTold, Event, Ascend, added, shown_face, kept_face}
-use Rattle.wall_ledger.specs.Shows.{mark_shown, shown_finished, shown_opened}
-use Rattle.wall_ledger.specs.Hands.{face_in, board_in, ticket_in, number_or, pass_of, state_of, ledger_of, noting, IsMirror, IsResting, HasTurn, IsEnding}
+use Rattle.wall_ledger.specs.Rules.{Face, IsFrom, IsOwned, Event, Ascend, shown_face, kept_face}
+use Rattle.wall_ledger.specs.Shows.{shown_finished, shown_opened}
+use Rattle.wall_ledger.specs.Hands.{face_in, board_in, ticket_in, number_or, pass_of, state_of, ledger_of, noting, IsMirror, HasTurn, IsEnding}
 use Rattle.wall_ledger.specs.Tickets.{IsSameSeat}
 use Rattle.wall_ledger.proofs.Charts.{starts_more}
 use Rattle.wall_ledger.proofs.Events.{at_number, event_goes}
@@ -78,6 +76,8 @@ module _ (m : Hand) (h : HasTurn m) (mirror : (l : List CheckedEntry) × IsMirro
       kinds = now.kinds;
       room = now.room;
       within = now.within;
+      few = now.few;
+      sound = now.sound;
     };
     turns = refl;
     ascend = ascend_more m.number (face_in m).list (face_in m).list (face_in m).turns refl h.ascend;
@@ -98,6 +98,8 @@ module _ (m : Hand) (h : HasTurn m) (mirror : (l : List CheckedEntry) × IsMirro
       kinds = now.kinds;
       room = now.room;
       within = now.within;
+      few = now.few;
+      sound = now.sound;
     };
     turns = refl;
     ascend = ascend_more m.number (face_in m).list (board_in m).entries (face_in m).turns owned_in.own h.ascend;
@@ -125,6 +127,8 @@ module _ (m : Hand) (h : HasTurn m) (mirror : (l : List CheckedEntry) × IsMirro
       kinds = finished_kinds j o r ∙ now.kinds;
       room = now.room;
       within = now.within;
+      few = now.few;
+      sound = now.sound;
     };
     turns = refl;
     ascend = ascend_more m.number (face_in m).list (face_in m).list (face_in m).turns refl h.ascend;
@@ -151,6 +155,8 @@ module _ (m : Hand) (h : HasTurn m) (mirror : (l : List CheckedEntry) × IsMirro
       kinds = opened_kinds least r ∙ now.kinds;
       room = now.room;
       within = now.within;
+      few = now.few;
+      sound = now.sound;
     };
     turns = refl;
     ascend = ascend_more m.number (face_in m).list (face_in m).list (face_in m).turns refl h.ascend;
@@ -270,8 +276,9 @@ pub turn_with : (m : Hand) (v : Vec (Arc Checked Global) Global) → HasTurn m �
 turn_with m v h = record { only = h.only; stage = h.stage; out = h.out; budget = h.budget; ascend = h.ascend; told = h.told }
 
 pub mirror_with : (m : Hand) (v : Vec (Arc Checked Global) Global) (l : List CheckedEntry) → IsMirror m (face_in m).list (face_in m) → l ≡ map arc_value v.items
-    → vec_capacity v ≡ vec_capacity m.entries → length l ≤ (face_in m).first.limit → IsMirror (record m { entries = v }) l (face_in m)
-mirror_with m v l now is room within = record {
+    → vec_capacity v ≡ vec_capacity m.entries → length l ≤ (face_in m).first.limit → IsSoundList (face_in m).first.circuit l
+    → IsMirror (record m { entries = v }) l (face_in m)
+mirror_with m v l now is room within sound = record {
   first = now.first;
   number = now.number;
   list = is;
@@ -281,6 +288,8 @@ mirror_with m v l now is room within = record {
   kinds = now.kinds;
   room = subst (λ (n : ℕ). (face_in m).first.limit ≤ n) (sym room) now.room;
   within = within;
+  few = now.few;
+  sound = sound;
 }
 
 -- ---- a turn in which memory was refused
@@ -304,7 +313,8 @@ pub mirror_copied : (m : Hand) (v : Vec (Arc Checked Global) Global) → HasTurn
 mirror_copied m v h mirror board is room =
     let within : length (board_in m).entries ≤ (face_in m).first.limit = (let a = board.within in let b = h.told.origin.limit in omega arith) in
     mirror_with m v (board_in m).entries mirror (sym is) room within
+    (subst (λ (c : Circuit). IsSoundList c (board_in m).entries) h.told.origin.circuit board.sound)
 
 pub mirror_again : (m : Hand) (v : Vec (Arc Checked Global) Global) → IsMirror m (face_in m).list (face_in m) → map arc_value v.items ≡ map arc_value m.entries.items
     → vec_capacity v ≡ vec_capacity m.entries → IsMirror (record m { entries = v }) (face_in m).list (face_in m)
-mirror_again m v mirror is room = mirror_with m v (face_in m).list mirror (mirror.list ∙ sym is) room mirror.within
+mirror_again m v mirror is room = mirror_with m v (face_in m).list mirror (mirror.list ∙ sym is) room mirror.within mirror.sound

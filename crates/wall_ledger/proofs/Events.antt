@@ -1,23 +1,22 @@
 -- A turn of a pass keeps what passes and the board keep.
-use Rattle.std.proofs.Common.{◌≡◌, ◌≢◌, ℕ, zero, suc, ◌+◌, ◌<◌, ◌≤◌, ◌⊎◌, inl, inr, ⊎_elim, List, [], ◌∷◌, ◌++◌, map, length, take, drop, set, refl, sym, ap, ◌∙◌, subst, arith, append-nil, append_assoc}
+use Rattle.std.proofs.Common.{◌≡◌, ◌≢◌, ℕ, zero, suc, ◌+◌, ◌<◌, ◌≤◌, ◌⊎◌, inl, inr, ⊎_elim, List, [], ◌∷◌, ◌++◌, length, take, drop, set, refl, sym, ap, ◌∙◌, subst, arith}
 use Rattle.std.specs.Prelude.{Option, Some, None, IfSome}
 use Rattle.std.specs.List.{AllByRecursion}
 use mathlib.Core.Logic.{dite}
 use mathlib.Core.Option.{some, some-injective, some-ne-none}
-use native.Mathlib.Decide.{ℕ_discrete, dec_le}
+use native.Mathlib.Decide.{ℕ_discrete}
 use lib.ListN.{get_elem?}
 use Rattle.atomic_table.proofs.Lists.{at_set, set_else}
 use Rattle.std.proofs.lemmas.List.{take-append-le, length-append, take_all, take-append-drop}
 use Rattle.entry.specs.CheckedEntries.{CheckedEntry}
 use Rattle.wall_store.specs.declared.outcomes.Outcome.{Outcome}
-use Rattle.wall_store.specs.declared.outcomes.Served.{Served}
-use Rattle.wall_store.specs.Boards.{BoardState, properties_of, outcome_of}
+use Rattle.wall_store.specs.Boards.{BoardState, outcome_of}
 use Rattle.wall_store.specs.Events.{seen_by}
-use Rattle.wall_ledger.specs.Passes.{Mark, Marked, PassState, StartsWith, found_by, AreMarksOf, GoesOn}
+use Rattle.wall_ledger.specs.Passes.{Marked, PassState, StartsWith, found_by, AreMarksOf, GoesOn}
 use Rattle.wall_ledger.specs.Turns.{HasWon}
 use Rattle.wall_ledger.specs.Tickets.{Turns, Learns}
-use Rattle.wall_ledger.specs.Rules.{Face, IsFrom, IsOwned, Chart, IsSeated, Fits, AmongThem, HasNumber, Kept, IsTold, Told, Event}
-use Rattle.wall_ledger.proofs.Charts.{weaken, among_map, if_some, marks_stay, won_true, reach_after, reach_low, reach_high, reach_within, reach_rising, champion_of, starts_more, starts_whole}
+use Rattle.wall_ledger.specs.Rules.{Face, IsFrom, IsOwned, Chart, IsSeated, Fits, AmongThem, Kept, IsTold, Told, Event}
+use Rattle.wall_ledger.proofs.Charts.{weaken, if_some, marks_stay, won_true, reach_after, reach_low, reach_high, reach_within, reach_rising, champion_of, starts_more, starts_whole}
 
 whole : (l : List CheckedEntry) → take (length l) l ≡ l
 whole l = take_all (length l) l (omega arith)

@@ -1,5 +1,5 @@
 -- The ledger that a pass is of.
-use Rattle.std.proofs.Common.{◌≡◌, ℕ, ◌+◌, ◌<◌, ◌^◌, sym, ap, ◌∙◌, subst, arith}
+use Rattle.std.proofs.Common.{◌≡◌, ◌+◌, ◌<◌, ◌^◌, sym, ap, ◌∙◌, subst, arith}
 use Rattle.atomic_table.specs.Seated.{TableId}
 use Rattle.wall_store.specs.Boards.{BoardState}
 use Rattle.wall_ledger.specs.declared.pass.Hand.{Hand}

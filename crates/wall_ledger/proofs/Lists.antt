@@ -1,5 +1,5 @@
 -- Lists that are copied onto.
-use Rattle.std.proofs.Common.{◌≡◌, ℕ, zero, suc, ◌+◌, ◌-◌, ◌<◌, ◌≤◌, List, [], ◌∷◌, ◌++◌, map, length, take, drop, refl, sym, ap, ◌∙◌, arith, append-nil}
+use Rattle.std.proofs.Common.{◌≡◌, ℕ, suc, ◌+◌, ◌-◌, ◌≤◌, List, [], ◌∷◌, ◌++◌, map, length, take, drop, refl, sym, ap, ◌∙◌, arith, append-nil}
 use Rattle.std.proofs.lemmas.List.{take_all, length-append, length-map}
 
 pub starts_short : {A B : Type 0} (f : A → B) (xs ys : List A) (rest : List B) → map f ys ≡ map f xs ++ rest → length xs ≤ length ys

@@ -1,21 +1,16 @@
 -- Marks after a turn.
-use Rattle.std.proofs.Common.{◌≡◌, ◌≢◌, ℕ, zero, suc, ◌+◌, ◌<◌, ◌≤◌, ◌⊎◌, inl, inr, ⊎_elim, Bool, true, false, List, [], ◌∷◌, ◌++◌, map, length, refl, sym, ap, ◌∙◌, subst, arith}
-use Rattle.std.specs.Prelude.{Option, Some, None, ◌==◌, ◌&&◌, nat_le, nat_lt, if◌then◌else◌}
-use Rattle.std.specs.List.{Contains, AllByRecursion, All}
+use Rattle.std.proofs.Common.{◌≡◌, ◌≢◌, ℕ, zero, suc, ◌<◌, ◌≤◌, ◌⊎◌, inl, inr, ⊎_elim, Bool, true, false, List, [], ◌∷◌, map, refl, sym, ap, ◌∙◌, subst, arith}
+use Rattle.std.specs.Prelude.{Option, Some, None, ◌==◌, if◌then◌else◌}
+use Rattle.std.specs.List.{Contains, AllByRecursion}
 use Rattle.std.proofs.lemmas.Bool.{cases_eq, cases_lt, eq-eqb, ne_eqb}
 use Rattle.std.proofs.lemmas.Bool.Decides.{nat_tests}
 use Rattle.std.proofs.lemmas.List.Elements.{recursion_from_All, All-contains_itself}
 use Rattle.wall_store.specs.declared.outcomes.Outcome.{Outcome}
 use Rattle.wall_store.specs.declared.outcomes.Served.{Served}
-use Rattle.wall_store.specs.declared.outcomes.Posted.{Posted}
-use Rattle.wall_store.specs.declared.outcomes.Posted.TheVariants as posts
-use Rattle.wall_store.specs.declared.outcomes.Finished.{Finished}
-use Rattle.wall_store.specs.declared.outcomes.Finished.TheVariants as ends
 use Rattle.wall_store.specs.Boards.{properties_of, outcome_of}
-use Rattle.wall_store.specs.Events.{IsOpen, IsSettled, IsNextOpen, IsLeastOpen, NoneOpenFrom, with_outcome}
-use Rattle.wall_store.proofs.Serving.{outcome_after}
+use Rattle.wall_store.specs.Events.{IsOpen, IsNextOpen, NoneOpenFrom, with_outcome}
 use Rattle.wall_ledger.specs.Passes.{Mark, blank, won, closed, Marked, IsMarkOf, AreMarksOf}
-use Rattle.wall_ledger.specs.Turns.{HasWon, closed_unless_won, closing, marks_posted, marks_finished, is_passed, marks_opened}
+use Rattle.wall_ledger.specs.Turns.{HasWon, closed_unless_won, closing, is_passed, marks_opened}
 
 abbrev pub marked_properties : List Marked → List ℕ
 marked_properties marks = map (λ m. m.property) marks

@@ -1,6 +1,6 @@
 -- Passes that meet, in memory.
-use Rattle.std.proofs.Common.{Global, ◌≡◌, ℕ, zero, suc, ◌+◌, ◌-◌, ◌<◌, ◌≤◌, List, [], ◌∷◌, ◌++◌, map, length, vec_capacity, refl, sym, ap, ◌∙◌, subst, arith, append-nil}
-use Rattle.std.specs.Prelude.{Option, Some, None, IfSome}
+use Rattle.std.proofs.Common.{Global, ◌≡◌, ℕ, ◌-◌, ◌<◌, ◌≤◌, List, [], ◌∷◌, ◌++◌, map, length, vec_capacity, sym, ap, ◌∙◌, subst, arith, append-nil}
+use Rattle.std.specs.Prelude.{Option, None}
 use Rattle.std.specs.List.{All, AllPairs}
 use Rattle.std.specs.Arc.{arc_value}
 use Rattle.std.proofs.lemmas.List.{length-map}
@@ -9,12 +9,12 @@ use Rattle.std.specs.declared.sync.Arc.{Arc}
 use Rattle.atomic_table.specs.declared.shared.Seat.{Seat}
 use Rattle.entry.specs.declared.checked.Checked.{Checked}
 use Rattle.entry.specs.CheckedEntries.{CheckedEntry}
-use Rattle.wall_store.specs.Boards.{BoardState}
+use Rattle.wall_store.specs.Boards.{BoardState, IsSoundList}
 use Rattle.wall_ledger.specs.declared.pass.Hand.{Hand}
 use Rattle.wall_ledger.specs.declared.lock.Doing.{Doing}
 use Rattle.wall_ledger.specs.declared.lock.Stage.TheVariants.{Idle}
 use Rattle.wall_ledger.specs.Passes.{PassState, StartsWith, found_by, turn_of}
-use Rattle.wall_ledger.specs.Turns.{taking, Takes, HasTaken, HaveMet}
+use Rattle.wall_ledger.specs.Turns.{taking, HasTaken, HaveMet}
 use Rattle.wall_ledger.specs.Tickets.{Sees, idle}
 use Rattle.wall_ledger.specs.Rules.{Face, Kept, Ascend}
 use Rattle.wall_ledger.specs.Seats.{note_of, AreMeeting, IsBefore}
@@ -44,9 +44,9 @@ module _ (s : Hand) (h : Face) (rests : IsResting s) (place : Chair) (v : Vec (A
   taken_face = ap (head_or (record { first = s.first.value.value; number = None; list = []; stamp = 0; turns = 0; marks = [] })) client
 
   pub taken_rests : IsBefore (face_in s) (note h) → place.me.0.stage ≡ Idle → place.me.1 ≡ [] → place.me.0.budget ≡ s.place.me.0.budget
-      → h.list ≡ map arc_value v.items → vec_capacity v ≡ vec_capacity s.entries → length h.list ≤ (face_in s).first.limit → h.stamp ≡ stamp
-      → IsResting (record s { place = place; entries = v; stamp = stamp })
-  taken_rests before stage empty budget list room within stamped =
+      → h.list ≡ map arc_value v.items → vec_capacity v ≡ vec_capacity s.entries → length h.list ≤ (face_in s).first.limit
+      → IsSoundList (face_in s).first.circuit h.list → h.stamp ≡ stamp → IsResting (record s { place = place; entries = v; stamp = stamp })
+  taken_rests before stage empty budget list room within sound stamped =
       let t : Hand = record s { place = place; entries = v; stamp = stamp } in
       let m = rests.mirror in
       record {
@@ -61,6 +61,8 @@ module _ (s : Hand) (h : Face) (rests : IsResting s) (place : Chair) (v : Vec (A
           kinds = m.kinds;
           room = subst (λ (n : ℕ). (face_in s).first.limit ≤ n) (sym room) m.room;
           within = within;
+          few = m.few;
+          sound = sound;
         });
         ascend = subst (λ (f : Face). Ascend s.number f.list s.turns) (sym taken_face)
             (subst (λ (es : List CheckedEntry). AllPairs (λ i j. i < j) (map (λ e. turn_of e.origin) es) × All (λ e. turn_of e.origin < s.turns) es)
@@ -122,6 +124,9 @@ no_less s m rs rm le = let a = rs.mirror.stamp in let b = rm.mirror.stamp in ome
 pub room_for : (s m : Hand) → IsResting s → IsResting m → (face_in s).first ≡ (face_in m).first → length (face_in m).list ≤ (face_in s).first.limit
 room_for s m rs rm same = let a = rm.mirror.within in let b : (face_in s).first.limit ≡ (face_in m).first.limit = ap (λ (z : BoardState). z.limit) same in omega arith
 
+pub sound_for : (s m : Hand) → IsResting m → (face_in s).first ≡ (face_in m).first → IsSoundList (face_in s).first.circuit (face_in m).list
+sound_for s m rm same = subst (λ (z : BoardState). IsSoundList z.circuit (face_in m).list) (sym same) rm.mirror.sound
+
 -- the same pass, with handles that were copied again
 pub resting_with : (s : Hand) (v : Vec (Arc Checked Global) Global) → IsResting s → map arc_value v.items ≡ map arc_value s.entries.items
     → vec_capacity v ≡ vec_capacity s.entries → IsResting (record s { entries = v })
@@ -137,6 +142,8 @@ resting_with s v r same room = record {
     kinds = r.mirror.kinds;
     room = subst (λ (n : ℕ). (face_in s).first.limit ≤ n) (sym room) r.mirror.room;
     within = r.mirror.within;
+    few = r.mirror.few;
+    sound = r.mirror.sound;
   };
   ascend = r.ascend;
   stage = r.stage;
@@ -179,6 +186,8 @@ module _ (s : Hand) (place : Chair) (r : IsResting s) (left : place.me ≡ (idle
       kinds = r.mirror.kinds;
       room = r.mirror.room;
       within = r.mirror.within;
+      few = r.mirror.few;
+      sound = r.mirror.sound;
     });
     ascend = subst (λ (f : Face). Ascend s.number f.list s.turns) (sym noted_face) r.ascend;
     stage = ap (λ z. z.0.stage) left;

@@ -1,6 +1,6 @@
 -- The passes of a new ledger.
-use Rattle.std.proofs.Common.{◌≡◌, ◌≢◌, ℕ, zero, suc, ◌+◌, ◌-◌, ◌<◌, ◌≤◌, ◌⊎◌, inl, inr, Bool, true, false, List, [], ◌∷◌, ◌++◌, map, length, take, vec_capacity, refl, sym, ap, ◌∙◌, subst, arith, append-nil}
-use Rattle.std.specs.Prelude.{Option, Some, None, IfSome, ◌==◌, min, if◌then◌else◌}
+use Rattle.std.proofs.Common.{◌≡◌, ◌≢◌, ℕ, zero, suc, ◌+◌, ◌-◌, ◌<◌, ◌≤◌, inl, inr, Bool, true, false, List, [], ◌∷◌, ◌++◌, map, length, take, vec_capacity, refl, sym, ap, ◌∙◌, subst, arith, append-nil}
+use Rattle.std.specs.Prelude.{Option, Some, None, IfSome, ◌==◌, if◌then◌else◌}
 use Rattle.std.specs.List.{All, AllPairs, AllByRecursion}
 use Rattle.std.specs.Arc.{arc_value}
 use mathlib.Core.Option.{some, some-injective, some-ne-none}
@@ -10,16 +10,13 @@ use Rattle.std.proofs.lemmas.List.{take_all}
 use Rattle.std.proofs.lemmas.List.Elements.{All-nil}
 use Rattle.aig_semantics.specs.Circuits.{Circuit}
 use Rattle.entry.specs.CheckedEntries.{CheckedEntry}
-use Rattle.entry.specs.declared.origins.Origin.{Origin}
 use Rattle.entry.specs.declared.origins.Origin.TheVariants.{Given}
 use Rattle.wall_store.specs.declared.outcomes.Outcome.{Outcome}
 use Rattle.wall_store.specs.declared.outcomes.Served.{Served}
 use Rattle.wall_store.specs.Boards.{BoardState, IsBoard, properties_of, outcome_of, first_board}
-use Rattle.wall_store.specs.Events.{seen_by}
 use Rattle.wall_ledger.specs.declared.marks.PassMark.{PassMark}
 use Rattle.wall_ledger.specs.declared.pass.Hand.{Hand}
-use Rattle.wall_ledger.specs.declared.lock.Stage.TheVariants.{Idle}
-use Rattle.wall_ledger.specs.Passes.{Mark, blank, won, Marked, PassState, LedgerState, is_by, found_by, turn_of, AreMarksOf, new_pass, new_passes}
+use Rattle.wall_ledger.specs.Passes.{blank, won, Marked, PassState, LedgerState, is_by, found_by, turn_of, AreMarksOf, new_pass, new_passes}
 use Rattle.wall_ledger.specs.Turns.{HasWon, IsBegun}
 use Rattle.wall_ledger.specs.Tickets.{Forks, idle}
 use Rattle.wall_ledger.specs.Rules.{Face, added, Chart, Fits, Kept, Ascend, fresh, fresh_from, blank_marks, first_faces}
@@ -132,6 +129,8 @@ module _ (s : Hand) (start : IsStart s.first.value.value) (client : List Face)
           kinds = blank_kinds (properties_of s.first.value.value.served);
           room = room;
           within = start.board.within;
+          few = start.board.limit;
+          sound = start.board.sound;
         });
         ascend = subst (λ (g : Face). Ascend s.number g.list s.turns) (sym new_face) (ascend_none s.number s.first.value.value.entries s.turns start.origins);
         stage = ap (λ m. m.0.stage) me;

@@ -1,12 +1,11 @@
 -- A post, as a turn of a pass in memory.
-use Rattle.std.proofs.Common.{Global, ◌≡◌, ◌≢◌, ℕ, zero, suc, ◌+◌, ◌-◌, ◌<◌, ◌≤◌, ◌⊎◌, inl, inr, true, false, List, [], ◌∷◌, ◌++◌, map, length, take, drop, get_or, vec_capacity, refl, sym, ap, ◌∙◌, subst, arith, append-nil}
-use Rattle.std.specs.Prelude.{Option, Some, None, IfSome, ◌==◌}
+use Rattle.std.proofs.Common.{Global, ◌≡◌, ℕ, suc, ◌+◌, ◌<◌, ◌≤◌, ◌⊎◌, inl, inr, true, false, List, [], ◌∷◌, ◌++◌, map, length, take, drop, get_or, vec_capacity, refl, sym, ap, ◌∙◌, subst, arith}
 use Rattle.std.specs.List.{All, AllPairs, Any}
 use Rattle.std.specs.Arc.{arc_value}
 use Rattle.std.specs.declared.vec.Vec.{Vec}
 use Rattle.std.specs.declared.sync.Arc.{Arc}
 use Rattle.std.proofs.lemmas.Bool.{eq-eqb}
-use Rattle.std.proofs.lemmas.List.{length-append, length-map, length-take-le, take-append-le}
+use Rattle.std.proofs.lemmas.List.{length-append, length-map, take-append-le}
 use Rattle.std.proofs.lemmas.List.Elements.{All-weaker, All-append, All-cons, All-nil, filter-append}
 use Rattle.std.proofs.lemmas.List.Quantifiers.{all_pairs_push}
 use Rattle.aig_semantics.specs.Circuits.{Circuit}
@@ -19,16 +18,16 @@ use Rattle.entry.specs.declared.origins.Origin.TheVariants.{Given, Worker}
 use Rattle.entry.specs.declared.origins.Work.{Work}
 use Rattle.wall_store.specs.declared.outcomes.Posted.{Posted}
 use Rattle.wall_store.specs.declared.outcomes.Posted.TheVariants as posts
-use Rattle.wall_store.specs.Boards.{BoardState, IsBoard, FromWorker, Allow, plain, properties_of}
+use Rattle.wall_store.specs.Boards.{BoardState, IsBoard, IsSoundList, FromWorker, Allow, plain}
 use Rattle.wall_store.specs.Events.{seen_by, list_of, shown_to, with_post, entries_after, IsPostOf, MayPost, Posts, IsPosted}
 use Rattle.wall_store.specs.Scanning.{IsRefused}
-use Rattle.wall_store.proofs.Excluding.{allowed_excludes, none_excludes, excludes_earlier, plain-append, plain-length, plain-split}
+use Rattle.wall_store.proofs.Excluding.{allowed_excludes, none_excludes, excludes_earlier, plain-append, plain-split}
 use Rattle.wall_ledger.specs.declared.marks.PassMark.{PassMark}
 use Rattle.wall_ledger.specs.declared.pass.Hand.{Hand}
-use Rattle.wall_ledger.specs.Passes.{Marked, StartsWith, is_by, found_by, turn_of, IsPassPost, MayPassPost}
+use Rattle.wall_ledger.specs.Passes.{is_by, found_by, turn_of, IsPassPost, MayPassPost}
 use Rattle.wall_ledger.specs.Turns.{HasPosted, marks_posted}
-use Rattle.wall_ledger.specs.Rules.{Face, IsOwned, Event, Ascend, added, shown_face}
-use Rattle.wall_ledger.specs.Shows.{mark_shown, shown_posted, was_appended}
+use Rattle.wall_ledger.specs.Rules.{Event, Ascend, added, shown_face}
+use Rattle.wall_ledger.specs.Shows.{shown_posted, was_appended}
 use Rattle.wall_ledger.specs.Hands.{face_in, board_in, ticket_in, number_or, pass_of, ledger_of, IsMirror, HasTurn, IsEnding}
 use Rattle.wall_ledger.proofs.Marking.{marked_properties, closing_properties}
 use Rattle.wall_ledger.proofs.Turned.{posts_}
@@ -160,6 +159,8 @@ module _ (m : Hand) (h : HasTurn m) (now : IsMirror m (board_in m).entries (face
       kinds = posted_kinds r ∙ now.kinds;
       room = subst (λ (n : ℕ). (face_in m).first.limit ≤ n) (sym room) now.room;
       within = (let a = board.within in let b : y.limit ≡ (face_in m).first.limit = the_limit in omega arith);
+      few = now.few;
+      sound = subst (λ (c : Circuit). IsSoundList c y.entries) the_circuit board.sound;
     };
     turns = refl;
     ascend = subst (λ (l : List CheckedEntry). Ascend m.number l ((face_in m).turns + 1)) (sym entries_now)
@@ -168,6 +169,9 @@ module _ (m : Hand) (h : HasTurn m) (now : IsMirror m (board_in m).entries (face
         (owned_in m h ((board_in m).entries, now)).own h.ascend);
   }
     where
+      the_circuit : y.circuit ≡ (face_in m).first.circuit
+      the_circuit = ap (λ (z : BoardState). z.circuit) event.after ∙ h.told.origin.circuit
+
       the_limit : y.limit ≡ (face_in m).first.limit
       the_limit = ap (λ (z : BoardState). z.limit) event.after ∙ h.told.origin.limit
 

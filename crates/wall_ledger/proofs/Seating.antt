@@ -1,5 +1,5 @@
 -- Seats that are split, joined, and that meet; and the end.
-use Rattle.std.proofs.Common.{◌≡◌, ◌≢◌, ℕ, zero, suc, ◌+◌, ◌<◌, ◌≤◌, ◌⊎◌, inl, inr, ⊎_elim, List, [], ◌∷◌, ◌++◌, map, length, take, drop, set, refl, sym, ap, ◌∙◌, subst, arith, append-nil, append_assoc, length-set}
+use Rattle.std.proofs.Common.{◌≡◌, ◌≢◌, ℕ, zero, suc, ◌<◌, ◌≤◌, ◌⊎◌, inl, inr, ⊎_elim, List, [], ◌∷◌, ◌++◌, length, take, drop, set, refl, sym, ap, ◌∙◌, subst, arith, append-nil}
 use Rattle.std.specs.Prelude.{Option, Some, None, IfSome}
 use Rattle.std.specs.List.{AllByRecursion}
 use mathlib.Core.Logic.{dite}
@@ -11,14 +11,14 @@ use Rattle.std.proofs.lemmas.List.{take-append-drop, length-append}
 use Rattle.std.proofs.lemmas.List.Elements.{filter-append}
 use Rattle.entry.specs.CheckedEntries.{CheckedEntry}
 use Rattle.wall_store.specs.declared.outcomes.Outcome.{Outcome}
-use Rattle.wall_store.specs.Boards.{BoardState, outcome_of}
+use Rattle.wall_store.specs.Boards.{BoardState}
 use Rattle.wall_ledger.specs.Passes.{StartsWith, found_by, is_by}
 use Rattle.wall_ledger.specs.Turns.{HasWon}
 use Rattle.wall_ledger.specs.Tickets.{Forks, Merges, Sees, IsAlone}
-use Rattle.wall_ledger.specs.Rules.{Face, IsFrom, IsOwned, Chart, IsSeated, Fits, AmongThem, HasNumber, IsNumbered, Kept}
-use Rattle.wall_ledger.specs.Seats.{note_of, met, AreMeeting, IsBefore}
+use Rattle.wall_ledger.specs.Rules.{Face, IsOwned, Chart, IsSeated, Fits, AmongThem, HasNumber, IsNumbered, Kept}
+use Rattle.wall_ledger.specs.Seats.{note_of, AreMeeting}
 use Rattle.wall_ledger.proofs.Tickets.{put, put_here, put_else}
-use Rattle.wall_ledger.proofs.Charts.{weaken, all_append, among_map, among_left, among_right, if_some}
+use Rattle.wall_ledger.proofs.Charts.{weaken, all_append, among_left, among_right, if_some}
 
 at_end : {A : Type 0} (l : List A) (a b : A) (j : ℕ) → get_elem? (l ++ a ∷ []) j ≡ some b → (get_elem? l j ≡ some b) ⊎ ((j ≡ length l) × (a ≡ b))
 at_end [] a b zero e = inr (refl, some-injective a b e)

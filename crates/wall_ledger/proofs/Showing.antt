@@ -1,5 +1,5 @@
 -- Marks as memory has them, after a turn.
-use Rattle.std.proofs.Common.{◌≡◌, ℕ, zero, suc, ◌+◌, ◌<◌, Bool, true, false, List, [], ◌∷◌, ◌++◌, map, length, take, drop, get_or, set, refl, sym, ap, ◌∙◌, arith}
+use Rattle.std.proofs.Common.{◌≡◌, ℕ, zero, suc, ◌<◌, Bool, true, false, List, [], ◌∷◌, ◌++◌, map, length, take, drop, get_or, set, refl, sym, ap, ◌∙◌, arith}
 use Rattle.std.specs.Prelude.{Option, Some, None, ◌==◌, if◌then◌else◌}
 use Rattle.wall_store.specs.declared.outcomes.Outcome.{Outcome}
 use Rattle.wall_store.specs.declared.outcomes.Posted.{Posted}
@@ -10,7 +10,7 @@ use Rattle.wall_ledger.specs.declared.marks.PassMark.{PassMark}
 use Rattle.wall_ledger.specs.declared.marks.Shown.TheVariants as shows
 use Rattle.wall_ledger.specs.Passes.{Mark, blank, won, closed, Marked, shown_by, shown_of}
 use Rattle.wall_ledger.specs.Turns.{closed_unless_won, closing, marks_posted, marks_finished, marks_opened, is_passed}
-use Rattle.wall_ledger.specs.Shows.{mark_shown, shut_shown, shut_one, closing_shown, crown_one, winning_shown, shown_at, shown_posted, shown_finished, shown_opened}
+use Rattle.wall_ledger.specs.Shows.{mark_shown, shut_shown, shut_one, closing_shown, winning_shown, shown_at, shown_posted, shown_finished, shown_opened}
 use Rattle.wall_ledger.proofs.Marking.{shut, crown, crowning}
 
 -- ---- a loop that writes each element

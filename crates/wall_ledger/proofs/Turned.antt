@@ -1,30 +1,27 @@
 -- Each event of the board is a turn of a pass.
-use Rattle.std.proofs.Common.{◌≡◌, ◌≢◌, ℕ, zero, suc, ◌+◌, ◌<◌, ◌≤◌, ◌⊎◌, inl, inr, ⊎_elim, true, false, Bool, List, [], ◌∷◌, ◌++◌, map, length, get_or, set, refl, sym, ap, ◌∙◌, subst, arith, append-nil, append_assoc}
-use Rattle.std.specs.Prelude.{Option, Some, None, IfSome, ◌==◌}
-use Rattle.std.specs.List.{Contains}
+use Rattle.std.proofs.Common.{◌≡◌, ◌≢◌, ℕ, zero, suc, ◌≤◌, ◌⊎◌, inl, inr, ⊎_elim, true, false, List, [], ◌∷◌, ◌++◌, length, get_or, set, refl, sym, ap, ◌∙◌, subst, arith, append-nil}
+use Rattle.std.specs.Prelude.{Option, Some, None, ◌==◌}
 use Rattle.std.proofs.lemmas.Bool.{ne_eqb}
 use Rattle.std.proofs.lemmas.List.{get_or-set_other}
 use Rattle.std.proofs.lemmas.List.Elements.{filter-append}
 use Rattle.entry.specs.CheckedEntries.{CheckedEntry}
-use Rattle.entry.specs.declared.origins.Origin.{Origin}
-use Rattle.entry.specs.declared.origins.Origin.TheVariants.{Given, Worker}
+use Rattle.entry.specs.declared.origins.Origin.TheVariants.{Worker}
 use Rattle.entry.specs.declared.origins.Work.{Work}
 use Rattle.fair_semantics.specs.declared.skeletons.Skeleton.{Skeleton}
 use Rattle.wall_store.specs.declared.outcomes.Outcome.{Outcome}
-use Rattle.wall_store.specs.declared.outcomes.Served.{Served}
 use Rattle.wall_store.specs.declared.outcomes.Posted.{Posted}
 use Rattle.wall_store.specs.declared.outcomes.Posted.TheVariants as posts
 use Rattle.wall_store.specs.declared.outcomes.Finished.{Finished}
 use Rattle.wall_store.specs.declared.outcomes.Finished.TheVariants as ends
 use Rattle.wall_store.specs.Boards.{BoardState, properties_of, outcome_of}
-use Rattle.wall_store.specs.Events.{seen_by, shown_to, with_post, entries_after, served_after, with_outcome, IsPosted, IsFinished, IsNextOpen}
+use Rattle.wall_store.specs.Events.{shown_to, with_post, entries_after, served_after, IsPosted, IsFinished, IsNextOpen}
 use Rattle.wall_store.proofs.Serving.{properties_stay, outcome_after}
-use Rattle.wall_ledger.specs.Passes.{Mark, Marked, StartsWith, is_by, found_by, AreMarksOf}
-use Rattle.wall_ledger.specs.Turns.{HasWon, closing, marks_posted, marks_finished, marks_opened, is_passed}
-use Rattle.wall_ledger.specs.Rules.{Face, IsFrom, IsOwned, IsTold, Event, shown_face, kept_face}
+use Rattle.wall_ledger.specs.Passes.{is_by, found_by, AreMarksOf}
+use Rattle.wall_ledger.specs.Turns.{HasWon, marks_posted, marks_finished, marks_opened, is_passed}
+use Rattle.wall_ledger.specs.Rules.{Face, IsOwned, IsTold, Event, shown_face, kept_face}
 use Rattle.wall_ledger.proofs.Charts.{won_true}
-use Rattle.wall_ledger.proofs.Events.{at_number, some_same, none_not_some}
-use Rattle.wall_ledger.proofs.Marking.{marked_properties, closing_true, each_property, closing_old, closing_new, crowning_true, crowning_new, crowning_old, crowning_here, there_from, IsThere, outcome_here, outcome_else, opened_true, eq_from}
+use Rattle.wall_ledger.proofs.Events.{at_number, none_not_some}
+use Rattle.wall_ledger.proofs.Marking.{marked_properties, closing_true, each_property, closing_old, closing_new, crowning_true, crowning_new, crowning_old, crowning_here, IsThere, outcome_here, outcome_else, opened_true, eq_from}
 
 set_below : (l : List ℕ) (k m : ℕ) → get_or (set l k m) k 0 ≤ m
 set_below [] k m = omega arith

@@ -1,15 +1,13 @@
 -- A pass in memory, as it takes and ends its turns.
-use Rattle.std.proofs.Common.{◌≡◌, ◌≢◌, ℕ, zero, suc, ◌+◌, ◌-◌, ◌<◌, ◌≤◌, ◌^◌, inl, inr, List, [], ◌∷◌, map, length, refl, sym, ap, ◌∙◌, subst, arith}
-use Rattle.std.specs.Prelude.{Option, Some, None, IfSome}
-use Rattle.std.specs.List.{AllByRecursion}
-use Rattle.atomic_table.specs.Table.{Me}
+use Rattle.std.proofs.Common.{◌≡◌, ℕ, ◌+◌, ◌-◌, ◌<◌, ◌^◌, inl, List, [], ◌∷◌, sym, ap, ◌∙◌, subst, arith}
+use Rattle.std.specs.Prelude.{Option, None}
 use Rattle.atomic_table.specs.declared.shared.Seat.{Seat}
 use Rattle.wall_store.specs.Boards.{BoardState}
 use Rattle.wall_ledger.specs.declared.pass.Hand.{Hand}
 use Rattle.wall_ledger.specs.declared.lock.Doing.{Doing}
-use Rattle.wall_ledger.specs.declared.lock.Stage.TheVariants.{Idle, Waiting, Holding, Raised}
-use Rattle.wall_ledger.specs.Tickets.{holding, idle, ticket_of, view_of, IsSameSeat, IsIdle, IsLeaving, IsLeavingLonger, Learns, Turns}
-use Rattle.wall_ledger.specs.Rules.{Face, Kept, IsTold, Told, Event, IsNumbered, Ascend, added}
+use Rattle.wall_ledger.specs.declared.lock.Stage.TheVariants.{Holding}
+use Rattle.wall_ledger.specs.Tickets.{holding, idle, ticket_of, IsLeaving, IsLeavingLonger, Turns}
+use Rattle.wall_ledger.specs.Rules.{Face, Kept, IsTold, Told, IsNumbered, Ascend, added}
 use Rattle.wall_ledger.specs.Hands.{head_or, value_or, face_in, board_in, ticket_in, IsMirror, IsResting, HasTurn, IsEnding}
 use Rattle.wall_ledger.proofs.Events.{event_keeps}
 
@@ -34,6 +32,8 @@ mirror_on s place l f m = record {
   kinds = m.kinds;
   room = m.room;
   within = m.within;
+  few = m.few;
+  sound = m.sound;
 }
 
 module _ (s : Hand) (place : Chair) (r : IsResting s) (t : ℕ) (x : BoardState) (below : s.turns + 1 < 2 ^ 32)

@@ -1,14 +1,14 @@
 -- What a pass keeps in memory, beside what the lock knows of it (scaffolding).
-use Rattle.std.specs.Prelude.{◌≡◌, ℕ, ◌+◌, ◌<◌, ◌≤◌, List, [], ◌∷◌, map, length, vec_capacity, Option, Some, None}
+use Rattle.std.specs.Prelude.{◌≡◌, ℕ, ◌+◌, ◌≤◌, List, [], ◌∷◌, map, length, vec_capacity, Option, Some, None}
 use Rattle.std.specs.Arc.{arc_value}
 use Rattle.atomic_table.specs.Seated.{TableId}
 use Rattle.entry.specs.CheckedEntries.{CheckedEntry}
-use Rattle.wall_store.specs.Boards.{BoardState, IsBoard, properties_of}
+use Rattle.wall_store.specs.Boards.{BoardState, IsSoundList, most_entries, properties_of}
 use Rattle.wall_ledger.specs.declared.pass.Hand.{Hand}
 use Rattle.wall_ledger.specs.declared.lock.Stage.{Stage}
 use Rattle.wall_ledger.specs.declared.lock.Stage.TheVariants.{Idle, Waiting, Holding, Raised}
-use Rattle.wall_ledger.specs.Passes.{Marked, PassState, LedgerState}
-use Rattle.wall_ledger.specs.Rules.{Face, IsTold, Ascend, Event, added}
+use Rattle.wall_ledger.specs.Passes.{PassState, LedgerState}
+use Rattle.wall_ledger.specs.Rules.{Face, IsTold, Ascend, Event}
 use Rattle.wall_ledger.specs.Tickets.{ticket_of}
 use Rattle.wall_ledger.specs.Shows.{mark_shown}
 
@@ -51,6 +51,8 @@ pub record IsMirror (s : Hand) (l : List CheckedEntry) (f : Face) : Type 0 where
   pub kinds : map (λ m. m.property) f.marks ≡ properties_of f.first.served
   pub room : f.first.limit ≤ vec_capacity s.entries
   pub within : length l ≤ f.first.limit
+  pub few : f.first.limit ≤ most_entries
+  pub sound : IsSoundList f.first.circuit l
 
 -- The pass has no turn. Of 4,294,967,295 turns it has those left that it did not take.
 pub record IsResting (s : Hand) : Type 0 where

@@ -35,8 +35,8 @@ pub record Home : Type 0 where
   pub first : BoardState
 
 -- A pass: the ledger that it is of, its number, the list that it has seen, the stamp of that list, how many turns it has
--- taken, and its marks, in the order of the properties. The stamp is 0 for the given list, else one more than the
--- ticket of the turn that the list is from.
+-- taken, and its marks, in the order of the properties. The stamp is 0 at first, then one more than the ticket of the
+-- turn that the list is from.
 pub record PassState : Type 0 where
   pub home : Home
   pub number : ℕ

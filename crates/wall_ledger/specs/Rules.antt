@@ -5,10 +5,9 @@ use mathlib.Core.Option.{some}
 use lib.ListN.{get_elem?}
 use Rattle.entry.specs.CheckedEntries.{CheckedEntry}
 use Rattle.wall_store.specs.declared.outcomes.Outcome.{Outcome}
-use Rattle.wall_store.specs.declared.outcomes.Served.{Served}
-use Rattle.wall_store.specs.Boards.{BoardState, IsBoard, properties_of, outcome_of}
+use Rattle.wall_store.specs.Boards.{BoardState, properties_of, outcome_of}
 use Rattle.wall_store.specs.Events.{seen_by}
-use Rattle.wall_ledger.specs.Passes.{Mark, blank, won, closed, Marked, PassState, StartsWith, found_by, AreMarksOf, turn_of}
+use Rattle.wall_ledger.specs.Passes.{blank, Marked, StartsWith, found_by, AreMarksOf, turn_of}
 use Rattle.wall_ledger.specs.Turns.{HasWon}
 
 -- What the lock knows of a pass, or of a note, which has a list and a stamp and no number.

@@ -1,5 +1,5 @@
 -- Seats that are split and joined (scaffolding).
-use Rattle.std.specs.Prelude.{◌≡◌, ℕ, ◌-◌, List, [], ◌∷◌, ◌++◌, map, length, Option, Some, None, IfSome}
+use Rattle.std.specs.Prelude.{◌≡◌, ℕ, ◌-◌, List, [], ◌∷◌, map, length, Some, None, IfSome}
 use Rattle.std.specs.List.{All}
 use Rattle.entry.specs.declared.origins.Origin.TheVariants.{Given}
 use Rattle.wall_store.specs.Boards.{BoardState, IsBoard, outcome_of}

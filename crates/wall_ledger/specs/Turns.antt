@@ -154,7 +154,7 @@ pub record IsClosed (l : LedgerState) (passes : List PassState) (b : BoardState)
   pub known : All (λ p. GoesOn p b) passes
   pub stamps : (p q : PassState) → Contains passes p → Contains passes q → p.stamp ≤ q.stamp → StartsWith p.list q.list
   pub outcomes : (j : ℕ) (o : Outcome) → outcome_of b.served j ≡ Some o → Any (WonBy j o) passes
-  pub winners : (j m n : ℕ) (o u : Outcome) (p q : PassState) → Contains passes p → Contains passes q
+  pub winners : (j : ℕ) (o u : Outcome) (p q : PassState) → Contains passes p → Contains passes q
       → WonBy j o p → WonBy j u q → p.number ≡ q.number
 
 -- ---- the beginning

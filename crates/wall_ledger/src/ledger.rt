@@ -127,7 +127,7 @@ impl Ledger {
     }
 
     /// Takes a turn, in which the pass gets the whole list. May wait. The error is want of memory for the handles that
-    /// the pass lacks; then the pass keeps what it had.
+    /// the pass lacks; then the pass keeps what it had, but for a turn.
     pub fn look<R: Wait>(&self, rt: &R, pass: &mut Pass) -> Result<(), AllocError>
         requires own { pass.old.home ≡ self.now.home }
         requires turns { pass.old.turns + 1 < 2 ^ 32 }
@@ -137,9 +137,10 @@ impl Ledger {
         look_in(&self.gate, rt, &mut pass.hand)
     }
 
-    /// Takes a turn, in which the entry is posted and the pass gets the whole list as it then is. May wait. The error
-    /// is want of memory for a handle of the entry or those that the pass lacks; then the pass and the board keep what
-    /// they had.
+    /// Takes a turn, in which the entry is posted and the pass gets the whole list as it then is. May wait. The answers
+    /// are those of `Board::post`; at `Closed` the pass is marked closed for each property that it did not win. The
+    /// error is want of memory for a handle of the entry or those that the pass lacks; then pass and board keep what
+    /// they had, but that the pass may have had a turn more.
     pub fn post<R: Wait>(
         &self,
         rt: &R,
@@ -155,7 +156,9 @@ impl Ledger {
         post_in(&self.gate, rt, &mut pass.hand, entry)
     }
 
-    /// Takes a turn, in which the outcome is handed in. May wait. Takes no memory.
+    /// Takes a turn, in which the outcome is handed in. May wait. `Won` comes where it is the first of its property, and
+    /// the pass is marked so; `Closed` where the property has one, and the pass is marked closed, unless it won it.
+    /// Takes no memory.
     pub fn finish<R: Wait>(
         &self,
         rt: &R,
@@ -173,7 +176,8 @@ impl Ledger {
     }
 
     /// Takes a turn, in which a property without an outcome is asked for: the least from `from` on, or the least of all
-    /// where there is none from there on. May wait. Takes no memory.
+    /// where there is none from there on; `None` where each has one. The pass is marked closed for each property that is
+    /// passed over, at `None` for all, but where it won. May wait. Takes no memory.
     pub fn next_open<R: Wait>(&self, rt: &R, pass: &mut Pass, from: u32) -> Option<u32>
         requires own { pass.old.home ≡ self.now.home }
         requires turns { pass.old.turns + 1 < 2 ^ 32 }
@@ -293,12 +297,28 @@ impl Pass {
         shown_in(&self.hand.marks, property)
     }
 
-    /// Nothing: the law that the turns in which the pass found its entries ascend, and are below those it has had.
+    /// Nothing: the law that the list of the pass is sound, and no longer than 65,536.
+    pub fn holds(&self)
+        ensures sound { IsSoundList self.now.home.first.circuit self.now.list }
+        ensures few { length self.now.list ≤ most_entries }
+    {
+        let _ = &self.hand.number;
+    }
+
+    /// Nothing: the law that the turns in which the pass found its entries ascend, and are below the number of turns
+    /// that it has had.
     pub fn own_turns(&self)
         ensures { OwnTurns self.now }
     {
         let _ = &self.hand.number;
     }
+}
+
+fn send<T: Send>() {}
+
+/// Nothing: it has a proof only where a pass may be handed to another thread.
+pub fn threads_hand_on_passes() {
+    send::<Pass>();
 }
 
 fn share<T: Send + Sync>() {}

@@ -11,10 +11,11 @@
 //! | `meet` | two passes share the list of the one that has seen more; takes no turn |
 //! | `close` | takes all passes and gives the board |
 //! | `Pass::view`, `number`, `turns`, `stamp`, `mark` | lend what a pass knows |
-//! | `Pass::own_turns` | nothing: the law of the turns in which a pass found its entries |
+//! | `Pass::holds`, `own_turns` | nothing: the laws of the list of a pass, and of the turns in which it found its entries |
+//! | `threads_share_ledger`, `threads_hand_on_passes` | nothing: what threads may do with ledgers and passes |
 //!
-//! `look`, `post`, `finish` and `next_open` may wait for their turn; no other call does. Passes, properties and entries
-//! are counted from 0.
+//! `look`, `post`, `finish` and `next_open` may wait for their turn; no other call does. A pass takes at most
+//! 4,294,967,295 turns. Passes, properties and entries are counted from 0.
 #![tactic(auto)]
 
 mod faces;
@@ -25,5 +26,5 @@ mod marks;
 mod meeting;
 mod pass;
 
-pub use ledger::{Ledger, Pass, threads_share_ledger};
+pub use ledger::{Ledger, Pass, threads_hand_on_passes, threads_share_ledger};
 pub use marks::Shown;

@@ -1,8 +1,7 @@
-use Rattle.std.proofs.Common.{◌≡◌, ℕ, List, ap, ◌∙◌, sym, arith}
-use Rattle.wall_ledger.specs.Seats.{IsBefore}
+use Rattle.std.proofs.Common.{◌≡◌, ap, ◌∙◌, arith}
 use Rattle.wall_ledger.specs.Hands.{face_in}
 use Rattle.wall_ledger.proofs.Seating.{merges, notes}
-use Rattle.wall_ledger.proofs.MetPasses.{sees_note, joined_view, no_less, room_for, room_copy, copied, note, with_list, meeting_told, taken, taken_rests, noted_rests, noted_state, resting_with}
+use Rattle.wall_ledger.proofs.MetPasses.{sees_note, joined_view, no_less, room_for, sound_for, room_copy, copied, meeting_told, taken, taken_rests, noted_rests, noted_state, resting_with}
 use Rattle.wall_ledger.proofs.meeting.take_list.Goals as goal
 
 pub copy_tail-requires : goal.copy_tail-requires
@@ -49,7 +48,7 @@ returns-clause-resting c =
     (let a = idle.1 in let b = ap (λ z. z.0.budget) c.join.ensures.whole in let d = ap (λ z. z.0.budget) c.split-note.ensures.right.1 in omega arith) in (
       taken_rests s (face_in m) rs c.learn.new.place c.copy_tail.new.entries m.stamp told.0 told.1 idle.0.0 idle.0.1 budget
           (copied s m _ c.copy_tail.new.entries.items rs rm c.deref.ensures.value told.1.front c.in_ok-copy_tail.ensures.ok)
-          c.copy_tail.ensures.room (room_for s m rs rm c.requires.first) rm.mirror.stamp,
+          c.copy_tail.ensures.room (room_for s m rs rm c.requires.first) (sound_for s m rm c.requires.first) rm.mirror.stamp,
       noted_rests m c.split-note.new.place rm c.split-note.ensures.left,
     )
 

@@ -1,4 +1,4 @@
-use Rattle.std.proofs.Common.{◌≡◌, ◌≤◌, ◌+◌, ◌++◌, map, take, length, vec_capacity}
+use Rattle.std.proofs.Common.{◌≡◌, ◌+◌, ◌++◌, map, take, length, vec_capacity}
 use Rattle.std.specs.Arc.{arc_value}
 use Rattle.wall_ledger.proofs.pass.copy_onto.Given as goal
 

@@ -3,7 +3,6 @@ use Rattle.wall_store.specs.Boards.{BoardState}
 use Rattle.wall_store.specs.Events.{shown_to}
 use Rattle.wall_ledger.specs.Rules.{shown_face, added}
 use Rattle.wall_ledger.specs.Hands.{face_in, board_in, ticket_in, noting, IsEnding}
-use Rattle.wall_ledger.specs.Tickets.{most_tickets}
 use Rattle.wall_ledger.proofs.Ending.{looks_end}
 use Rattle.wall_ledger.proofs.pass.end_look.Goals as goal
 

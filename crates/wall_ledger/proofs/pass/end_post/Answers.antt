@@ -3,7 +3,7 @@ use Rattle.std.specs.Arc.{arc_value}
 use Rattle.entry.specs.CheckedEntries.{CheckedEntry}
 use Rattle.wall_store.specs.Events.{entries_after}
 use Rattle.wall_ledger.specs.Turns.{marks_posted}
-use Rattle.wall_ledger.specs.Rules.{shown_face, added}
+use Rattle.wall_ledger.specs.Rules.{shown_face}
 use Rattle.wall_ledger.specs.Hands.{face_in, board_in, ticket_in, IsEnding}
 use Rattle.wall_ledger.proofs.Posting.{posts_end, room_there, longer_after, same_after, few_added}
 use Rattle.wall_ledger.proofs.pass.end_post.Goals as goal

@@ -1,6 +1,5 @@
-use Rattle.std.proofs.Common.{◌≡◌, ◌∙◌, ℕ, sym, ap, subst}
+use Rattle.std.proofs.Common.{◌≡◌, ◌∙◌, sym, ap, subst}
 use Rattle.std.specs.Arc.{arc_value}
-use Rattle.entry.specs.declared.origins.Work.{Work}
 use Rattle.entry.specs.CheckedEntries.{CheckedEntry}
 use Rattle.wall_store.specs.Boards.{BoardState, IsBoard, FromWorker}
 use Rattle.wall_store.specs.Events.{MayPost, Posts}

@@ -1,9 +1,9 @@
-use Rattle.std.proofs.Common.{◌≡◌, ℕ, ◌<◌, ◌≤◌, List, [], ◌∷◌, ◌++◌, length, get_or, sym, ap, ◌∙◌, subst, arith}
+use Rattle.std.proofs.Common.{◌≡◌, ◌<◌, ◌≤◌, List, ◌∷◌, ◌++◌, length, sym, ap, ◌∙◌, subst, arith}
 use Rattle.std.specs.List.{remove}
 use Rattle.atomic_table.specs.Seated.{TableId}
 use Rattle.wall_store.specs.Boards.{BoardState}
 use Rattle.wall_ledger.specs.Passes.{PassState, LedgerState}
-use Rattle.wall_ledger.specs.Turns.{AreAll, AreOf, IsClosed}
+use Rattle.wall_ledger.specs.Turns.{AreAll, IsClosed}
 use Rattle.wall_ledger.specs.Tickets.{IsLast, view_of}
 use Rattle.wall_ledger.specs.Rules.{Face, Kept, HasNumber}
 use Rattle.wall_ledger.specs.Seats.{face_of, faces_of}

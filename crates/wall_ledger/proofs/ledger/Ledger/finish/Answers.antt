@@ -1,6 +1,5 @@
 use Rattle.std.specs.List.{Contains}
 use Rattle.wall_store.specs.Boards.{IsTrueOf}
-use Rattle.wall_ledger.specs.Passes.{PassState, LedgerState}
 use Rattle.wall_ledger.specs.Turns.{HasFinished}
 use Rattle.wall_ledger.specs.Hands.{state_of}
 use Rattle.wall_ledger.proofs.Homes.{gate_in, turns_in, outward, inward}

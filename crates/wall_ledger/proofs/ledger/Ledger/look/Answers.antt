@@ -1,5 +1,4 @@
-use Rattle.std.proofs.lemmas.Result.{on_ok_weaker, on_err_weaker, IfOk-weaker}
-use Rattle.wall_ledger.specs.Passes.{PassState, LedgerState}
+use Rattle.std.proofs.lemmas.Result.{on_ok_weaker, on_err_weaker}
 use Rattle.wall_ledger.specs.Turns.{HasLooked, IsRefused}
 use Rattle.wall_ledger.specs.Hands.{state_of}
 use Rattle.wall_ledger.proofs.Homes.{gate_in, turns_in, outward}

@@ -1,4 +1,3 @@
-use Rattle.wall_ledger.specs.Passes.{PassState, LedgerState}
 use Rattle.wall_ledger.specs.Turns.{HasOpened}
 use Rattle.wall_ledger.specs.Hands.{state_of}
 use Rattle.wall_ledger.proofs.Homes.{gate_in, turns_in, outward}

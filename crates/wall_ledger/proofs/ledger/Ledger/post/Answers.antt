@@ -1,6 +1,6 @@
-use Rattle.std.proofs.lemmas.Result.{on_ok_weaker, on_err_weaker, IfOk-weaker}
+use Rattle.std.proofs.lemmas.Result.{on_err_weaker, IfOk-weaker}
 use Rattle.std.specs.Arc.{arc_value}
-use Rattle.wall_ledger.specs.Passes.{PassState, LedgerState, MayPassPost}
+use Rattle.wall_ledger.specs.Passes.{MayPassPost}
 use Rattle.wall_ledger.specs.Turns.{HasPosted, IsRefused}
 use Rattle.wall_ledger.specs.Hands.{state_of}
 use Rattle.wall_ledger.proofs.Homes.{gate_in, turns_in, outward, inward}

@@ -1,7 +1,7 @@
-use Rattle.std.proofs.Common.{◌≡◌, ◌≤◌, sym, ap, ◌∙◌, subst, arith}
+use Rattle.std.proofs.Common.{◌≡◌, sym, ◌∙◌, subst, arith}
 use Rattle.std.proofs.lemmas.Result.{on_ok_weaker, on_err_weaker}
 use Rattle.wall_ledger.specs.Passes.{PassState}
-use Rattle.wall_ledger.specs.Turns.{HasTaken, HaveMet}
+use Rattle.wall_ledger.specs.Turns.{HasTaken}
 use Rattle.wall_ledger.specs.Hands.{state_of}
 use Rattle.wall_ledger.proofs.Homes.{gate_in, first_in, stamp_in}
 use Rattle.wall_ledger.proofs.MetPasses.{have_met, met_other}

@@ -1,4 +1,4 @@
-use Rattle.std.proofs.Common.{rules, ◌≡◌, Some, sym, subst, refl}
+use Rattle.std.proofs.Common.{rules, ◌≡◌, sym, subst, refl}
 use Rattle.std.specs.Option.{IsSome}
 use Rattle.wall_ledger.specs.Tickets.{IsLast}
 use Rattle.std.specs.Mem.Slots.{slots_items}

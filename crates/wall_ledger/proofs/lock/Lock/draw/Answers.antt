@@ -1,4 +1,4 @@
-use Rattle.std.proofs.Common.{rules, arith, ◌≡◌}
+use Rattle.std.proofs.Common.{arith, ◌≡◌}
 use Rattle.wall_ledger.proofs.Tickets.{draws}
 use Rattle.wall_ledger.proofs.lock.Lock.draw.Goals as goal
 

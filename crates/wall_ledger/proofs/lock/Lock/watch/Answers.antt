@@ -1,4 +1,4 @@
-use Rattle.std.proofs.Common.{rules, arith, ◌≡◌}
+use Rattle.std.proofs.Common.{arith, ◌≡◌}
 use Rattle.wall_ledger.proofs.Tickets.{watches}
 use Rattle.wall_ledger.proofs.lock.Lock.watch.Goals as goal
 
