@@ -5,3 +5,5 @@ pub mod Counting
 pub mod Turned
 pub mod Together
 pub mod Skeletons
+pub mod Pools
+pub mod Kept

@@ -63,8 +63,8 @@ sparing-first limits j b w few seen phase none =
     let ahead : searches_ahead w.phase ≡ 1 = ap searches_ahead phase in
     steps-first w.meter.steps (searches_left b.limit w) limits.skeletons (search_steps b.circuit j) none (omega (arith, few, seen, ahead))
 
-pub worker-first : (j : ℕ) (b : BoardState) (w : Worker) → w.number < b.workers → w.query.circuit ≡ b.circuit → w.query.property ≡ j
-    → w.query.seen ≡ [] → w.phase ≡ phases.Asks → w.seen ≡ seen_by b w.number → IsWorker j b w
+pub worker-first : (j : ℕ) (b : BoardState) (w : Worker) → w.number < b.workers → w.scout.circuit ≡ b.circuit → w.scout.property ≡ j
+    → w.scout.seen ≡ [] → w.phase ≡ phases.Asks → w.seen ≡ seen_by b w.number → IsWorker j b w
 worker-first j b w below circuit property none phase seen = record {
   number = below;
   seen = seen;

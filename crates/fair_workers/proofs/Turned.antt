@@ -244,9 +244,9 @@ shown-turn j searches b w entries more p board is e less fewer here =
     let c : BoardState = shown_to (record b { entries = entries }) n in
     let seen : seen_by c n ≡ length entries = shown-seen n (record b { entries = entries }) (omega (arith, is.number, board.each_seen)) in
     let whole : list_of c n ≡ entries = take_all (seen_by c n) entries (omega (arith, seen)) in
-    let before : GoesOnFrom w.query.seen (plain b.entries) = goes-on-whole (seen_by b n) w.query.seen b.entries is.on in
-    let after : GoesOnFrom w.query.seen (plain entries) =
-    subst (λ (xs : List CheckedEntry). GoesOnFrom w.query.seen (plain xs)) (sym e) (goes-on-more w.query.seen b.entries more before)
+    let before : GoesOnFrom w.scout.seen (plain b.entries) = goes-on-whole (seen_by b n) w.scout.seen b.entries is.on in
+    let after : GoesOnFrom w.scout.seen (plain entries) =
+    subst (λ (xs : List CheckedEntry). GoesOnFrom w.scout.seen (plain xs)) (sym e) (goes-on-more w.scout.seen b.entries more before)
     in
     record {
       worker = record {
@@ -254,7 +254,7 @@ shown-turn j searches b w entries more p board is e less fewer here =
         seen = sym seen;
         circuit = is.circuit;
         property = is.property;
-        on = subst (λ (xs : List CheckedEntry). GoesOnFrom w.query.seen (plain xs)) (sym whole) after;
+        on = subst (λ (xs : List CheckedEntry). GoesOnFrom w.scout.seen (plain xs)) (sym whole) after;
         phase = here;
       };
       board = shown-on n b entries more e;
@@ -336,7 +336,7 @@ finished-turn j b c w is running on entries seen closed =
         seen = is.seen ∙ sym same_seen;
         circuit = is.circuit ∙ sym on.circuit;
         property = is.property;
-        on = subst (λ (xs : List CheckedEntry). GoesOnFrom w.query.seen (plain xs)) (sym same_list) is.on;
+        on = subst (λ (xs : List CheckedEntry). GoesOnFrom w.scout.seen (plain xs)) (sym same_list) is.on;
         phase = closed;
       };
       board = on;
@@ -400,7 +400,7 @@ other-stays j n b c w board after other on is =
       seen = is.seen ∙ sym same_seen;
       circuit = is.circuit ∙ sym on.circuit;
       property = is.property;
-      on = subst (λ (xs : List CheckedEntry). GoesOnFrom w.query.seen (plain xs)) (sym same_list) is.on;
+      on = subst (λ (xs : List CheckedEntry). GoesOnFrom w.scout.seen (plain xs)) (sym same_list) is.on;
       phase = phase-stays j n b c w w.phase after on is.phase;
     }
 
@@ -445,7 +445,7 @@ thinks_worker j searches b w v is t running = record {
   seen = t.seen ∙ is.seen ∙ sym (ap (seen_by b) t.number);
   circuit = t.circuit ∙ is.circuit;
   property = t.property ∙ is.property;
-  on = subst (λ (n : ℕ). GoesOnFrom v.query.seen (plain (list_of b n))) (sym t.number) t.on;
+  on = subst (λ (n : ℕ). GoesOnFrom v.scout.seen (plain (list_of b n))) (sym t.number) t.on;
   phase = subst (IsIn j b v) (sym t.phase) (phase-thinks j b w v w.phase running t.seen is.phase);
 }
 

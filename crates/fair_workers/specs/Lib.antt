@@ -3,3 +3,5 @@ pub mod Walks
 pub mod Deeds
 pub mod Working
 pub mod Laws
+pub mod Pools
+pub mod Scouts

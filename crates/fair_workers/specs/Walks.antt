@@ -101,10 +101,17 @@ pub record AreWalked (c : Circuit) (situations : List Situation) (n : ℕ) (piec
       LeadsTo c (slice_index_or (successors situations) i []) (slice_index_or (states situations) (i + 1) [])
       (slice_index_or pieces i [])
 
+-- An entry that excludes the skeleton, and the pieces up to one of its situations.
+pub record IsBarredBehind (c : Circuit) (view : List Entry) (situations : List Situation) (bar : Bar)
+    (pieces : List (List Position)) : Type 0 where
+  pub excludes : Excludes c view (entry_of_bar bar) (skeleton_of situations)
+  pub some : length pieces < length situations
+  pub walked : AreWalked c situations (length pieces) pieces
+
 -- a way from the first situation to the last, or an entry that excludes the skeleton
 abbrev pub IsWalk : Circuit → List Entry → List Situation → Walked → Type 0
 IsWalk c view situations (walks.Pieces pieces) = AreWalked c situations (length situations - 1) pieces
-IsWalk c view situations (walks.Barred bar) = Excludes c view (entry_of_bar bar) (skeleton_of situations)
+IsWalk c view situations (walks.Barred bar pieces) = IsBarredBehind c view situations bar pieces
 
 -- a fair lasso, or a skeleton that the entries allow, and an entry that excludes it
 abbrev pub IsSought : Circuit → List Entry → ℕ → Sought → Type 0

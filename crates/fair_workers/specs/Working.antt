@@ -116,9 +116,9 @@ IsIn j b w phases.Refused = Unit {0}
 pub record IsWorker (j : ℕ) (b : BoardState) (w : Worker) : Type 0 where
   pub number : w.number < b.workers
   pub seen : w.seen ≡ seen_by b w.number
-  pub circuit : w.query.circuit ≡ b.circuit
-  pub property : w.query.property ≡ j
-  pub on : GoesOnFrom w.query.seen (plain (list_of b w.number))
+  pub circuit : w.scout.circuit ≡ b.circuit
+  pub property : w.scout.property ≡ j
+  pub on : GoesOnFrom w.scout.seen (plain (list_of b w.number))
   pub phase : IsIn j b w w.phase
 
 -- What the events of worker n leave of a board: entries and outcomes stay, and what the other workers have seen.
@@ -148,9 +148,9 @@ pub record Thinks (j searches : ℕ) (b : BoardState) (w v : Worker) : Type 0 wh
   pub number : v.number ≡ w.number
   pub seen : v.seen ≡ w.seen
   pub phase : v.phase ≡ w.phase
-  pub circuit : v.query.circuit ≡ w.query.circuit
-  pub property : v.query.property ≡ w.query.property
-  pub on : GoesOnFrom v.query.seen (plain (list_of b w.number))
+  pub circuit : v.scout.circuit ≡ w.scout.circuit
+  pub property : v.scout.property ≡ w.scout.property
+  pub on : GoesOnFrom v.scout.seen (plain (list_of b w.number))
   pub limits : KeepsLimits w.meter v.meter
   pub steps : v.meter.steps ≤ steps_through w searches (search_steps b.circuit j)
 

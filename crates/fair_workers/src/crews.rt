@@ -8,11 +8,11 @@ ghost use Rattle.wall_store.specs.Events.{seen_by};
 ghost use Rattle.fair_workers.specs.Working.{Follows, AreWorkers, IsOver, any_refused, runs_at, left_of};
 
 use crate::limits::Limits;
+use crate::scouting::Scout;
 use crate::working::{Phase, Worker, turn};
 use circuit::Circuit;
 use edge::{Meter, Spending};
 use items::Items;
-use skeleton::Query;
 use std::alloc::{AllocError, Global};
 use std::sync::Arc;
 use wall_store::Board;
@@ -31,7 +31,7 @@ fn new_worker(
       number = number;
       seen = seen;
       turns = 0;
-      query = record { circuit = arc_value c.now; property = j; seen = [] };
+      scout = record { circuit = arc_value c.now; property = j; seen = [] };
       meter = record {
         conflicts = 0;
         conflict_limit = limit_of limits.conflicts;
@@ -45,7 +45,7 @@ fn new_worker(
         number,
         seen,
         turns: 0,
-        query: Query::new(alloc, c, j, number)?,
+        scout: Scout::new(alloc, c, j, number)?,
         meter: Meter::new(limits.conflicts, limits.steps),
         phase: Phase::Asks,
     })

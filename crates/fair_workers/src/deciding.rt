@@ -5,10 +5,11 @@ ghost use Rattle.std.specs.Arc.{arc_value};
 ghost use Rattle.aig_semantics.specs.Circuits.{fair_literals};
 ghost use Rattle.entry.specs.CheckedEntries.{viewed};
 ghost use Rattle.entry.specs.Laws.{IsGoodList};
-ghost use Rattle.skeleton.specs.Finding.{GoesOnFrom, IsFound, IsAllowed};
+ghost use Rattle.skeleton.specs.Finding.{GoesOnFrom, IsAllowed};
 ghost use Rattle.fair_workers.specs.Walks.{IsStop, KeepsLimits, Asks, Excludes, entry_of_bar};
 ghost use Rattle.fair_workers.specs.Deeds.{IsDeed, IsPosting};
 
+use crate::scouting::Scout;
 use crate::seeking::{Sought, seek};
 use crate::ways::{Bar, Stop};
 use certify::{Claim, certify};
@@ -16,7 +17,7 @@ use circuit::Circuit;
 use edge::{Meter, SolveEnd};
 use entry::Checked;
 use fair_semantics::Skeleton;
-use skeleton::{Found, Query};
+use skeleton::Found;
 use std::alloc::Global;
 use std::sync::Arc;
 use wall_store::Outcome;
@@ -35,31 +36,6 @@ pub(crate) enum Deed {
 pub(crate) struct Author {
     pub(crate) number: u32,
     pub(crate) turn: u32,
-}
-
-// A skeleton that the view allows, or a refutation.
-pub(crate) fn found(
-    alloc: Global,
-    query: &mut Query,
-    view: &[Arc<Checked>],
-    meter: &mut Meter,
-) -> Result<Found, Stop>
-    requires on { GoesOnFrom query.old.seen (viewed view.now) }
-    requires good { IsGoodList query.old.circuit (viewed view.now) }
-    requires few { length view.now < 2 ^ 32 }
-    ensures found { IfOk result (IsFound query.old.circuit query.old.property (viewed view.now)) }
-    ensures stop { IfErr result (IsStop meter.new) }
-    ensures limits { KeepsLimits meter.old meter.new }
-    ensures steps { meter.new.steps ≡ meter.old.steps }
-    ensures circuit { query.new.circuit ≡ query.old.circuit }
-    ensures property { query.new.property ≡ query.old.property }
-    ensures seen { GoesOnFrom query.new.seen (viewed view.now) }
-{
-    match query.next(alloc, view, meter) {
-        Ok(found) => Ok(found),
-        Err(SolveEnd::Spent(_)) => Err(Stop::Spent),
-        Err(SolveEnd::Memory) => Err(Stop::Memory),
-    }
 }
 
 // The entry that excludes the skeleton, with its proofs.
@@ -103,13 +79,13 @@ pub(crate) fn decide(
     c: &Arc<Circuit>,
     j: u32,
     view: &[Arc<Checked>],
-    query: &mut Query,
+    scout: &mut Scout,
     author: Author,
     meter: &mut Meter,
 ) -> Result<Deed, Stop>
-    requires circuit { query.old.circuit ≡ arc_value c.now }
-    requires property { query.old.property ≡ j }
-    requires on { GoesOnFrom query.old.seen (viewed view.now) }
+    requires circuit { scout.old.circuit ≡ arc_value c.now }
+    requires property { scout.old.property ≡ j }
+    requires on { GoesOnFrom scout.old.seen (viewed view.now) }
     requires good { IsGoodList (arc_value c.now) (viewed view.now) }
     requires few { length view.now < 2 ^ 32 }
     ensures deed { IfOk result (IsDeed (arc_value c.now) (viewed view.now) j author.number) }
@@ -117,12 +93,12 @@ pub(crate) fn decide(
     ensures limits { KeepsLimits meter.old meter.new }
     ensures steps { Asks (length (arc_value c.now).latches) (max 1 (length (fair_literals (arc_value c.now) j)) + 1) meter.old
         meter.new }
-    ensures circuit { query.new.circuit ≡ query.old.circuit }
-    ensures property { query.new.property ≡ query.old.property }
-    ensures seen { GoesOnFrom query.new.seen (viewed view.now) }
+    ensures circuit { scout.new.circuit ≡ scout.old.circuit }
+    ensures property { scout.new.property ≡ scout.old.property }
+    ensures seen { GoesOnFrom scout.new.seen (viewed view.now) }
 {
-    match found(alloc, query, view, meter)? {
-        Found::Skeleton(skeleton) => go_on(alloc, c, j, view, skeleton, author, meter),
+    match scout.next(alloc, view, meter)? {
+        Found::Skeleton(skeleton) => go_on(alloc, c, j, view, scout, skeleton, author, meter),
         Found::Refuted(refutation) => Ok(Deed::Finish(Outcome::Holds(refutation))),
     }
 }
@@ -133,19 +109,25 @@ fn go_on(
     c: &Arc<Circuit>,
     j: u32,
     view: &[Arc<Checked>],
+    scout: &mut Scout,
     skeleton: Skeleton,
     author: Author,
     meter: &mut Meter,
 ) -> Result<Deed, Stop>
+    requires circuit { scout.old.circuit ≡ arc_value c.now }
+    requires property { scout.old.property ≡ j }
+    requires seen { scout.old.seen ≡ viewed view.now }
     requires view { IsGoodList (arc_value c.now) (viewed view.now) }
+    requires few { length view.now < 2 ^ 32 }
     requires allowed { IsAllowed (arc_value c.now) j (viewed view.now) skeleton }
     ensures deed { IfOk result (IsDeed (arc_value c.now) (viewed view.now) j author.number) }
     ensures stop { IfErr result (IsStop meter.new) }
     ensures limits { KeepsLimits meter.old meter.new }
     ensures steps { Asks (length (arc_value c.now).latches) (max 1 (length (fair_literals (arc_value c.now) j)) + 1) meter.old
         meter.new }
+    ensures same { scout.new ≡ scout.old }
 {
-    match seek(alloc, c, j, view, skeleton, meter)? {
+    match seek(alloc, c, j, view, scout, skeleton, meter)? {
         Sought::Lasso(lasso) => Ok(Deed::Finish(Outcome::Lasso(lasso))),
         Sought::Barred(bar, skeleton) => {
             let entry = certified(alloc, c, j, view, bar, skeleton, author, meter)?;

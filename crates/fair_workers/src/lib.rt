@@ -13,6 +13,8 @@ mod crews;
 mod deciding;
 mod laws;
 mod limits;
+mod pool;
+mod scouting;
 mod seeking;
 mod turns;
 mod walking;

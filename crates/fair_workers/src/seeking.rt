@@ -1,14 +1,18 @@
 //! The search for a lasso through a skeleton. The main call is `seek`.
 
-ghost use Rattle.std.specs.Prelude.{◌≡◌, ◌+◌, ◌-◌, [], length, slice_index_or, IfOk, IfErr};
+ghost use Rattle.std.specs.Prelude.{◌≡◌, ◌+◌, ◌-◌, ◌<◌, ◌^◌, [], max, length, slice_index_or, All, IfOk, IfErr};
+ghost use Rattle.aig_semantics.specs.Circuits.{fair_literals};
 ghost use Rattle.aig_semantics.specs.Stimuli.{IsFairLassoOf};
 ghost use Rattle.entry.specs.CheckedEntries.{viewed};
 ghost use Rattle.entry.specs.Laws.{IsGoodList};
-ghost use Rattle.fair_semantics.specs.Skeletons.{IsSkeleton};
+ghost use Rattle.fair_semantics.specs.Skeletons.{IsSituation, IsSkeleton};
 ghost use Rattle.lasso_join.specs.Fitting.{IsStemTo, Fit};
 ghost use Rattle.skeleton.specs.Finding.{IsAllowed};
 ghost use Rattle.fair_workers.specs.Walks.{IsStop, KeepsLimits, Asks, AreWalked, IsSought, skeleton_of, states};
+ghost use Rattle.fair_workers.specs.Pools.{IsBegun, IsReachedRun, IsStart};
 
+use crate::pool::{Begun, append, append_one};
+use crate::scouting::Scout;
 use crate::walking::{Walked, walk};
 use crate::ways::{Bar, Stop, Way, closing, stem};
 use circuit::{Circuit, Lasso, Position};
@@ -19,6 +23,13 @@ use items::Items;
 use lasso_join::{join, shortest_prefix};
 use std::alloc::{AllocError, Global};
 use std::sync::Arc;
+
+/// Where a search begins: a skeleton whose first state is reached; or an entry that excludes a skeleton.
+#[derive(Debug, Drop)]
+pub(crate) enum Start {
+    Begun(Begun),
+    Barred(Bar, Skeleton),
+}
 
 /// What the search of a skeleton comes to: a fair lasso, or an entry that excludes a skeleton, and that skeleton.
 #[derive(Debug, Drop)]
@@ -56,32 +67,139 @@ fn barred(bar: Bar, situations: Vec<Situation>) -> Sought
     )
 }
 
-/// A fair lasso through a skeleton that the view allows, or one that begins as it does; or an entry that excludes it,
-/// or the one to which the walk led, which the view allows too.
-pub(crate) fn seek(
+// The run along the pieces: from an initial state to the situation behind the last of them, with its position.
+fn trail_of(
+    alloc: Global,
+    _c: &Circuit,
+    way: Items<Position>,
+    situations: &[Situation],
+    pieces: &[Items<Position>],
+) -> Result<Items<Position>, AllocError>
+    requires way { IsStemTo _c.now (slice_index_or (states situations.now) 0 []) way }
+    requires situations { All (IsSituation _c.now) situations.now }
+    requires some { length pieces.now < length situations.now }
+    requires walked { AreWalked _c.now situations.now (length pieces.now) pieces.now }
+    ensures { IfOk result (IsReachedRun _c.now) }
+{
+    let mut run = way.into_vec();
+    for (k, piece) in pieces.iter().enumerate() {
+        append_one(alloc, &mut run, &situations[k].position)?;
+        append(alloc, &mut run, piece.as_slice())?;
+    }
+    append_one(alloc, &mut run, &situations[pieces.len()].position)?;
+    Ok(Items::from_vec(run))
+}
+
+// A skeleton whose first state is reached, and the way there: where the pool has none, this one; or an entry that
+// excludes this one.
+fn begin(
+    alloc: Global,
+    c: &Circuit,
+    j: u32,
+    view: &[Arc<Checked>],
+    scout: &mut Scout,
+    skeleton: Skeleton,
+    meter: &mut Meter,
+) -> Result<Start, Stop>
+    requires circuit { scout.old.circuit ≡ c.now }
+    requires property { scout.old.property ≡ j }
+    requires seen { scout.old.seen ≡ viewed view.now }
+    requires view { IsGoodList c.now (viewed view.now) }
+    requires few { length view.now < 2 ^ 32 }
+    requires allowed { IsAllowed c.now j (viewed view.now) skeleton }
+    ensures start { IfOk result (IsStart c.now j (viewed view.now)) }
+    ensures stop { IfErr result (IsStop meter.new) }
+    ensures limits { KeepsLimits meter.old meter.new }
+    ensures steps { Asks (length c.now.latches) 1 meter.old meter.new }
+    ensures same { scout.new ≡ scout.old }
+{
+    match scout.pooled(alloc, c, j, view, meter)? {
+        Some(begun) => Ok(Start::Begun(begun)),
+        None => begin_here(alloc, c, j, view, skeleton, meter),
+    }
+}
+
+// The way to the skeleton's first state, or an entry that excludes it.
+fn begin_here(
     alloc: Global,
     c: &Circuit,
     j: u32,
     view: &[Arc<Checked>],
     skeleton: Skeleton,
     meter: &mut Meter,
-) -> Result<Sought, Stop>
+) -> Result<Start, Stop>
     requires view { IsGoodList c.now (viewed view.now) }
+    requires allowed { IsAllowed c.now j (viewed view.now) skeleton }
+    ensures start { IfOk result (IsStart c.now j (viewed view.now)) }
+    ensures stop { IfErr result (IsStop meter.new) }
+    ensures limits { KeepsLimits meter.old meter.new }
+    ensures steps { Asks (length c.now.latches) 1 meter.old meter.new }
+{
+    match stem(alloc, c, j, view, skeleton.situations.as_slice(), meter)? {
+        Way::Open(way) => Ok(Start::Begun(Begun { way, skeleton })),
+        Way::Barred(bar) => Ok(Start::Barred(bar, skeleton)),
+    }
+}
+
+/// A fair lasso through a skeleton that the view allows, or one that begins as it does, or in a state that was reached
+/// before; or an entry that excludes one that the view allows.
+pub(crate) fn seek(
+    alloc: Global,
+    c: &Circuit,
+    j: u32,
+    view: &[Arc<Checked>],
+    scout: &mut Scout,
+    skeleton: Skeleton,
+    meter: &mut Meter,
+) -> Result<Sought, Stop>
+    requires circuit { scout.old.circuit ≡ c.now }
+    requires property { scout.old.property ≡ j }
+    requires seen { scout.old.seen ≡ viewed view.now }
+    requires view { IsGoodList c.now (viewed view.now) }
+    requires few { length view.now < 2 ^ 32 }
     requires allowed { IsAllowed c.now j (viewed view.now) skeleton }
     ensures sought { IfOk result (IsSought c.now (viewed view.now) j) }
     ensures stop { IfErr result (IsStop meter.new) }
     ensures limits { KeepsLimits meter.old meter.new }
-    ensures steps { Asks (length c.now.latches) (length skeleton.situations + 1) meter.old meter.new }
+    ensures steps { Asks (length c.now.latches) (max 1 (length (fair_literals c.now j)) + 1) meter.old meter.new }
+    ensures same { scout.new ≡ scout.old }
 {
-    let Skeleton { situations } = skeleton;
-    let mut situations = situations.into_vec();
-    let begun = match stem(alloc, c, j, view, situations.as_slice(), meter)? {
-        Way::Open(begun) => begun,
-        Way::Barred(bar) => return Ok(barred(bar, situations)),
-    };
+    match begin(alloc, c, j, view, scout, skeleton, meter)? {
+        Start::Begun(begun) => seek_from(alloc, c, j, view, scout, begun, meter),
+        Start::Barred(bar, skeleton) => Ok(Sought::Barred(bar, skeleton)),
+    }
+}
+
+// The same for a skeleton whose first state is reached. The states that are reached go into the pool.
+fn seek_from(
+    alloc: Global,
+    c: &Circuit,
+    j: u32,
+    view: &[Arc<Checked>],
+    scout: &mut Scout,
+    begun: Begun,
+    meter: &mut Meter,
+) -> Result<Sought, Stop>
+    requires circuit { scout.old.circuit ≡ c.now }
+    requires view { IsGoodList c.now (viewed view.now) }
+    requires begun { IsBegun c.now j (viewed view.now) begun }
+    ensures sought { IfOk result (IsSought c.now (viewed view.now) j) }
+    ensures stop { IfErr result (IsStop meter.new) }
+    ensures limits { KeepsLimits meter.old meter.new }
+    ensures steps { Asks (length c.now.latches) (max 1 (length (fair_literals c.now j))) meter.old meter.new }
+    ensures same { scout.new ≡ scout.old }
+{
+    let Begun { way, skeleton } = begun;
+    let mut situations = skeleton.situations.into_vec();
     match walk(alloc, c, j, view, &mut situations, meter)? {
-        Walked::Pieces(pieces) => go_round(alloc, c, j, view, begun, situations, pieces, meter),
-        Walked::Barred(bar) => Ok(barred(bar, situations)),
+        Walked::Pieces(pieces) => go_round(
+            alloc, c, j, view, scout, way, situations, pieces, meter,
+        ),
+        Walked::Barred(bar, pieces) => {
+            let run = trail_of(alloc, c, way, situations.as_slice(), pieces.as_slice())?;
+            scout.keep(c, run)?;
+            Ok(barred(bar, situations))
+        }
     }
 }
 
@@ -91,11 +209,13 @@ fn go_round(
     c: &Circuit,
     j: u32,
     view: &[Arc<Checked>],
+    scout: &mut Scout,
     begun: Items<Position>,
     situations: Vec<Situation>,
     pieces: Items<Items<Position>>,
     meter: &mut Meter,
 ) -> Result<Sought, Stop>
+    requires circuit { scout.old.circuit ≡ c.now }
     requires view { IsGoodList c.now (viewed view.now) }
     requires allowed { IsAllowed c.now j (viewed view.now) (skeleton_of situations.items) }
     requires begun { IsStemTo c.now (slice_index_or (states situations.items) 0 []) begun }
@@ -104,6 +224,7 @@ fn go_round(
     ensures stop { IfErr result (IsStop meter.new) }
     ensures limits { KeepsLimits meter.old meter.new }
     ensures steps { Asks (length c.now.latches) 1 meter.old meter.new }
+    ensures same { scout.new ≡ scout.old }
 {
     let mut pieces = pieces;
     match closing(alloc, c, j, view, situations.as_slice(), meter)? {
@@ -115,6 +236,10 @@ fn go_round(
             let lasso = lasso_of(alloc, c, j, begun.as_slice(), &skeleton, pieces.as_slice())?;
             Ok(Sought::Lasso(lasso))
         }
-        Way::Barred(bar) => Ok(barred(bar, situations)),
+        Way::Barred(bar) => {
+            let run = trail_of(alloc, c, begun, situations.as_slice(), pieces.as_slice())?;
+            scout.keep(c, run)?;
+            Ok(barred(bar, situations))
+        }
     }
 }

@@ -27,11 +27,11 @@ pub(crate) enum Step {
     Barred(Bar),
 }
 
-/// What a walk comes to: a run for each step, or a wall.
+/// What a walk comes to: a run for each step; or a wall, and the runs of the steps before it.
 #[derive(Debug, Drop)]
 pub(crate) enum Walked {
     Pieces(Items<Items<Position>>),
-    Barred(Bar),
+    Barred(Bar, Items<Items<Position>>),
 }
 
 // Literal k of the property and of fairness.
@@ -157,7 +157,7 @@ pub(crate) fn walk(
                 situations[k] = to;
                 pieces.push(before)?;
             }
-            Step::Barred(bar) => return Ok(Walked::Barred(bar)),
+            Step::Barred(bar) => return Ok(Walked::Barred(bar, pieces)),
         }
     }
     Ok(Walked::Pieces(pieces))

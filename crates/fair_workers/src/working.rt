@@ -11,12 +11,13 @@ ghost use Rattle.fair_workers.specs.Walks.{IsStop};
 ghost use Rattle.fair_workers.specs.Deeds.{IsDeed, IsPosting, IsTrueBehind};
 ghost use Rattle.fair_workers.specs.Working.{is_running, is_refused, phase_after, searches_ahead, IsStuck, IsWorker, Turns, Thinks};
 
-use crate::deciding::{Author, Deed, decide, found};
+use crate::deciding::{Author, Deed, decide};
+use crate::scouting::Scout;
 use crate::ways::Stop;
 use circuit::Circuit;
 use edge::Meter;
 use entry::Checked;
-use skeleton::{Found, Query};
+use skeleton::Found;
 use std::alloc::Global;
 use std::sync::Arc;
 use wall_store::{Board, Outcome, Posted, outcomes_stay};
@@ -46,13 +47,13 @@ pub(crate) enum Phase {
     Refused,
 }
 
-/// A worker: its number, how many entries it has seen, how many turns it had, its query and its meter.
+/// A worker: its number, how many entries it has seen, how many turns it had, its scout and its meter.
 #[derive(Debug, Drop)]
 pub(crate) struct Worker {
     pub(crate) number: u32,
     pub(crate) seen: usize,
     pub(crate) turns: u32,
-    pub(crate) query: Query,
+    pub(crate) scout: Scout,
     pub(crate) meter: Meter,
     pub(crate) phase: Phase,
 }
@@ -85,7 +86,7 @@ fn think(
         c,
         j,
         view,
-        &mut worker.query,
+        &mut worker.scout,
         author,
         &mut worker.meter,
     )
@@ -101,7 +102,7 @@ fn think_last(alloc: Global, j: u32, worker: &mut Worker, board: &Board) -> Resu
     board.entries_are_good();
     board.holds();
     let view = &board.entries()[..worker.seen];
-    found(alloc, &mut worker.query, view, &mut worker.meter)
+    worker.scout.next(alloc, view, &mut worker.meter)
 }
 
 // Asks whether the property is open.

@@ -18,8 +18,8 @@ loop-number-preserved c =
     let seen = ap (λ (v : Worker). v.seen) e ∙ sym (length-map c.entries-seen.result.now (λ x. arc_value x)) ∙ ap length c.entries-seen.ensures.checked
     ∙ sym (c.requires.seen w.number below)
     in
-    let is : IsWorker c.args.j b w = worker-first c.args.j b w below (ap (λ (v : Worker). v.query.circuit) e ∙ c.requires.circuit)
-    (ap (λ (v : Worker). v.query.property) e) (ap (λ (v : Worker). v.query.seen) e) (ap (λ (v : Worker). v.phase) e) seen
+    let is : IsWorker c.args.j b w = worker-first c.args.j b w below (ap (λ (v : Worker). v.scout.circuit) e ∙ c.requires.circuit)
+    (ap (λ (v : Worker). v.scout.property) e) (ap (λ (v : Worker). v.scout.seen) e) (ap (λ (v : Worker). v.phase) e) seen
     in
     let within : IsWithLimits c.args.limits w.meter = record {
       conflicts = ap (λ (v : Worker). v.meter.conflict_limit) e;

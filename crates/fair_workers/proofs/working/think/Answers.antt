@@ -9,7 +9,7 @@ use Rattle.fair_workers.proofs.Turned.{seen-view, good-view, thought}
 use Rattle.fair_workers.proofs.working.think.Goals as goal
 
 pub decide-requires-clause-on : goal.decide-requires-clause-on
-decide-requires-clause-on c = subst (GoesOnFrom c.args.worker.now.query.seen) (sym (seen-view c.entries.result.now c.args.board.now c.args.worker.now c.entries.ensures.viewed c.requires.worker.seen)) c.requires.worker.on
+decide-requires-clause-on c = subst (GoesOnFrom c.args.worker.now.scout.seen) (sym (seen-view c.entries.result.now c.args.board.now c.args.worker.now c.entries.ensures.viewed c.requires.worker.seen)) c.requires.worker.on
 
 pub decide-requires-clause-good : goal.decide-requires-clause-good
 decide-requires-clause-good c =
@@ -29,7 +29,7 @@ returns-clause-thinks c = record {
   phase = refl;
   circuit = c.decide.ensures.circuit;
   property = c.decide.ensures.property;
-  on = subst (GoesOnFrom c.decide.new.query.seen) (seen-view c.entries.result.now c.args.board.now c.args.worker.now c.entries.ensures.viewed c.requires.worker.seen) c.decide.ensures.seen;
+  on = subst (GoesOnFrom c.decide.new.scout.seen) (seen-view c.entries.result.now c.args.board.now c.args.worker.now c.entries.ensures.viewed c.requires.worker.seen) c.decide.ensures.seen;
   limits = c.decide.ensures.limits;
   steps =
       thought c.args.worker.now.phase c.args.worker.now.meter.steps c.decide.new.meter.steps c.args.board.now.circuit (arc_value c.args.c.now) c.args.j

@@ -1,0 +1,29 @@
+use Rattle.std.proofs.Common.{◌≡◌, sym, ap, ◌∙◌, subst}
+use Rattle.std.specs.List.{All}
+use Rattle.entry.specs.CheckedEntries.{viewed}
+use Rattle.skeleton.specs.Finding.{Asking, GoesOnFrom}
+use Rattle.fair_workers.specs.Pools.{IsTrail}
+use Rattle.fair_workers.proofs.Kept.{avoid-as}
+use Rattle.fair_workers.proofs.scouting.Scout.pooled.Goals as goal
+
+pub pooled-requires-clause-trails : goal.pooled-requires-clause-trails
+pooled-requires-clause-trails c =
+    let same : c.self.inside.query.circuit ≡ c.args.c.now = ap (λ (a : Asking). a.circuit) c.self.view_is ∙ c.requires.circuit in
+    subst (λ k. All (IsTrail k) c.self.inside.trails.items) same c.self.invariant.trails
+
+pub pooled-requires-clause-avoid : goal.pooled-requires-clause-avoid
+pooled-requires-clause-avoid c =
+    avoid-as c.self.inside.query.circuit c.args.c.now c.self.inside.query.property c.args.j (viewed c.self.inside.seen) (viewed c.args.view.now) c.self.inside.avoid
+    (ap (λ (a : Asking). a.circuit) c.self.view_is ∙ c.requires.circuit) (ap (λ (a : Asking). a.property) c.self.view_is ∙ c.requires.property)
+    (ap (λ (a : Asking). a.seen) c.self.view_is ∙ c.requires.seen) c.self.invariant.avoid
+
+pub invariant_of-self : goal.invariant_of-self
+invariant_of-self c =
+    let same : viewed c.self.inside.seen ≡ viewed c.args.view.now = ap (λ (a : Asking). a.seen) c.self.view_is ∙ c.requires.seen in
+    record {
+      on = subst (λ xs. GoesOnFrom c.pooled.new.query.seen xs) (sym same) c.pooled.ensures.seen;
+      trails = subst (λ k. All (IsTrail k) c.pooled.new.trails.items) (sym c.pooled.ensures.circuit) c.pooled.ensures.trails;
+      avoid =
+          avoid-as c.args.c.now c.pooled.new.query.circuit c.args.j c.pooled.new.query.property (viewed c.args.view.now) (viewed c.self.inside.seen) c.pooled.new.avoid
+          (sym c.pooled.ensures.circuit) (sym c.pooled.ensures.property) (sym same) c.pooled.ensures.avoid;
+    }

@@ -1,0 +1,321 @@
+//! States that were reached, in which a skeleton may begin. The main call is `pooled`.
+
+ghost use Rattle.std.specs.Prelude.{◌≡◌, ◌<◌, ◌≤◌, ◌^◌, ◌∷◌, [], ◌++◌, map, take, length, slice_index_or, All, IfOk, IfErr, IfSome, OnOk};
+ghost use Rattle.entry.specs.CheckedEntries.{viewed};
+ghost use Rattle.entry.specs.Laws.{IsGoodList};
+ghost use Rattle.skeleton.specs.Finding.{GoesOnFrom, BeginsNone, IsFirst};
+ghost use Rattle.fair_workers.specs.Walks.{IsStop, KeepsLimits};
+ghost use Rattle.fair_workers.specs.Pools.{IsTrail, IsHit, IsBegun, IsReachedRun, IsBegunIn};
+
+use crate::ways::Stop;
+use circuit::{Circuit, Position};
+use cnf::{Cube, Lit};
+use edge::{Meter, SolveEnd};
+use entry::Checked;
+use fair_semantics::Skeleton;
+use items::Items;
+use skeleton::{First, Query};
+use std::alloc::{AllocError, Global};
+use std::sync::Arc;
+
+/// How many runs are kept.
+const MOST_TRAILS: usize = 64;
+
+/// An initial run; a skeleton may begin in the states of its first `left` positions.
+#[derive(Debug, Drop)]
+pub(crate) struct Trail {
+    pub(crate) positions: Items<Position>,
+    pub(crate) left: usize,
+}
+
+/// A skeleton that begins in the state of a position of a run.
+#[derive(Debug, Drop)]
+pub(crate) struct Hit {
+    pub(crate) at: usize,
+    pub(crate) skeleton: Skeleton,
+}
+
+/// A skeleton, and an initial run to its first state.
+#[derive(Debug, Drop)]
+pub(crate) struct Begun {
+    pub(crate) way: Items<Position>,
+    pub(crate) skeleton: Skeleton,
+}
+
+fn copy_position(alloc: Global, p: &Position) -> Result<Position, AllocError>
+    ensures { IfOk result (λ copy. copy ≡ p.now) }
+{
+    Ok(Position {
+        latches: p.latches.try_copy(alloc)?,
+        inputs: p.inputs.try_copy(alloc)?,
+    })
+}
+
+/// Puts copies of the positions behind a run. After an error the run is lost.
+pub(crate) fn append(
+    alloc: Global,
+    run: &mut Vec<Position>,
+    positions: &[Position],
+) -> Result<(), AllocError>
+    ensures { OnOk result (run.new.items ≡ run.old.items ++ positions.now) }
+{
+    for position in positions {
+        run.push(copy_position(alloc, position)?)?;
+    }
+    Ok(())
+}
+
+/// Puts a copy of the position behind a run. After an error the run is lost.
+pub(crate) fn append_one(
+    alloc: Global,
+    run: &mut Vec<Position>,
+    position: &Position,
+) -> Result<(), AllocError>
+    ensures { OnOk result (run.new.items ≡ run.old.items ++ position.now ∷ []) }
+{
+    run.push(copy_position(alloc, position)?)?;
+    Ok(())
+}
+
+// The first `n` positions.
+fn front(alloc: Global, positions: &[Position], n: usize) -> Result<Items<Position>, AllocError>
+    requires { n ≤ length positions.now }
+    ensures { IfOk result (λ copy. copy ≡ take n positions.now) }
+{
+    let mut copy = Vec::new(alloc);
+    append(alloc, &mut copy, &positions[..n])?;
+    Ok(Items::from_vec(copy))
+}
+
+// Whether each literal is true in the state.
+fn holds(literals: &[Lit], state: &[bool]) -> bool {
+    literals.iter().all(|literal| state.get(literal.var as usize).copied()
+        == Some(literal.positive))
+}
+
+// Whether the state lies in one of the cubes.
+fn lies_in(cubes: &[Cube], state: &[bool]) -> bool {
+    cubes.iter().any(|cube| holds(cube.as_slice(), state))
+}
+
+// A skeleton that begins in the state, or a cube of states in which none begins.
+fn first_asked(
+    alloc: Global,
+    query: &mut Query,
+    view: &[Arc<Checked>],
+    state: &[bool],
+    meter: &mut Meter,
+) -> Result<First, Stop>
+    requires on { GoesOnFrom query.old.seen (viewed view.now) }
+    requires good { IsGoodList query.old.circuit (viewed view.now) }
+    requires few { length view.now < 2 ^ 32 }
+    requires state { length state.now ≡ length query.old.circuit.latches }
+    ensures first { IfOk result (IsFirst query.old.circuit query.old.property (viewed view.now) state.now) }
+    ensures stop { IfErr result (IsStop meter.new) }
+    ensures limits { KeepsLimits meter.old meter.new }
+    ensures steps { meter.new.steps ≡ meter.old.steps }
+    ensures circuit { query.new.circuit ≡ query.old.circuit }
+    ensures property { query.new.property ≡ query.old.property }
+    ensures seen { GoesOnFrom query.new.seen (viewed view.now) }
+{
+    match query.with_first(alloc, view, state, meter) {
+        Ok(first) => Ok(first),
+        Err(SolveEnd::Spent(_)) => Err(Stop::Spent),
+        Err(SolveEnd::Memory) => Err(Stop::Memory),
+    }
+}
+
+// Adds a cube to those in which no skeleton begins.
+fn add_cube(
+    _c: &Circuit,
+    _j: u32,
+    _view: &[Arc<Checked>],
+    avoid: &mut Items<Cube>,
+    cube: Cube,
+) -> Result<(), AllocError>
+    requires cube { BeginsNone _c.now _j (viewed _view.now) cube }
+    requires avoid { All (BeginsNone _c.now _j (viewed _view.now)) avoid.old }
+    ensures { All (BeginsNone _c.now _j (viewed _view.now)) avoid.new }
+{
+    avoid.push(cube)?;
+    Ok(())
+}
+
+// A skeleton that begins in the state. Where there is none, the state is avoided from now on.
+fn tried(
+    alloc: Global,
+    c: &Circuit,
+    j: u32,
+    query: &mut Query,
+    view: &[Arc<Checked>],
+    state: &[bool],
+    avoid: &mut Items<Cube>,
+    meter: &mut Meter,
+) -> Result<Option<Skeleton>, Stop>
+    requires circuit { query.old.circuit ≡ c.now }
+    requires property { query.old.property ≡ j }
+    requires on { GoesOnFrom query.old.seen (viewed view.now) }
+    requires good { IsGoodList c.now (viewed view.now) }
+    requires few { length view.now < 2 ^ 32 }
+    requires state { length state.now ≡ length c.now.latches }
+    requires avoid { All (BeginsNone c.now j (viewed view.now)) avoid.old }
+    ensures begun { IfOk result (λ found. IfSome found (IsBegunIn c.now j (viewed view.now) state.now)) }
+    ensures avoid { All (BeginsNone c.now j (viewed view.now)) avoid.new }
+    ensures stop { IfErr result (IsStop meter.new) }
+    ensures limits { KeepsLimits meter.old meter.new }
+    ensures steps { meter.new.steps ≡ meter.old.steps }
+    ensures circuit { query.new.circuit ≡ c.now }
+    ensures property { query.new.property ≡ j }
+    ensures seen { GoesOnFrom query.new.seen (viewed view.now) }
+{
+    if lies_in(avoid.as_slice(), state) {
+        return Ok(None);
+    }
+    match first_asked(alloc, query, view, state, meter)? {
+        First::Skeleton(skeleton) => Ok(Some(skeleton)),
+        First::Never(cube) => {
+            add_cube(c, j, view, avoid, cube)?;
+            Ok(None)
+        }
+    }
+}
+
+// The state of a position.
+fn state_of(positions: &[Position], at: usize) -> &[bool]
+    requires { at < length positions.now }
+    ensures { result.now ≡ slice_index_or (map (λ p. p.latches) positions.now) at [] }
+{
+    positions[at].latches.as_slice()
+}
+
+// The last of the first `left` positions in whose state a skeleton begins.
+fn newest(
+    alloc: Global,
+    c: &Circuit,
+    j: u32,
+    query: &mut Query,
+    view: &[Arc<Checked>],
+    positions: &[Position],
+    left: usize,
+    avoid: &mut Items<Cube>,
+    meter: &mut Meter,
+) -> Result<Option<Hit>, Stop>
+    requires circuit { query.old.circuit ≡ c.now }
+    requires property { query.old.property ≡ j }
+    requires on { GoesOnFrom query.old.seen (viewed view.now) }
+    requires good { IsGoodList c.now (viewed view.now) }
+    requires few { length view.now < 2 ^ 32 }
+    requires run { IsReachedRun c.now positions.now }
+    requires left { left ≤ length positions.now }
+    requires avoid { All (BeginsNone c.now j (viewed view.now)) avoid.old }
+    ensures hit { IfOk result (λ found. IfSome found (IsHit c.now j (viewed view.now) positions.now)) }
+    ensures avoid { All (BeginsNone c.now j (viewed view.now)) avoid.new }
+    ensures stop { IfErr result (IsStop meter.new) }
+    ensures limits { KeepsLimits meter.old meter.new }
+    ensures steps { meter.new.steps ≡ meter.old.steps }
+    ensures circuit { query.new.circuit ≡ c.now }
+    ensures property { query.new.property ≡ j }
+    ensures seen { GoesOnFrom query.new.seen (viewed view.now) }
+{
+    let mut at = left;
+    'places: while at > 0 {
+        at -= 1;
+        let state = state_of(positions, at);
+        if let Some(skeleton) = tried(alloc, c, j, query, view, state, avoid, meter)? {
+            return Ok(Some(Hit { at, skeleton }));
+        }
+    }
+    Ok(None)
+}
+
+// Puts a run behind the others.
+fn put(
+    _c: &Circuit,
+    trails: &mut Vec<Trail>,
+    positions: Items<Position>,
+    left: usize,
+) -> Result<(), AllocError>
+    requires trails { All (IsTrail _c.now) trails.old.items }
+    requires run { IsReachedRun _c.now positions }
+    requires left { left ≤ length positions }
+    ensures { All (IsTrail _c.now) trails.new.items }
+{
+    trails.push(Trail { positions, left })?;
+    Ok(())
+}
+
+// Takes the newest run out, where there is one.
+fn take_newest(_c: &Circuit, trails: &mut Vec<Trail>) -> Option<Trail>
+    requires { All (IsTrail _c.now) trails.old.items }
+    ensures trail { IfSome result (IsTrail _c.now) }
+    ensures trails { All (IsTrail _c.now) trails.new.items }
+    ensures fewer { IfSome result (λ trail. length trails.new.items < length trails.old.items) }
+{
+    trails.pop()
+}
+
+/// A skeleton that begins in a state of the runs, the newest first, and the way to it. Runs in which none begins go.
+pub(crate) fn pooled(
+    alloc: Global,
+    c: &Circuit,
+    j: u32,
+    query: &mut Query,
+    view: &[Arc<Checked>],
+    trails: &mut Vec<Trail>,
+    avoid: &mut Items<Cube>,
+    meter: &mut Meter,
+) -> Result<Option<Begun>, Stop>
+    requires circuit { query.old.circuit ≡ c.now }
+    requires property { query.old.property ≡ j }
+    requires on { GoesOnFrom query.old.seen (viewed view.now) }
+    requires good { IsGoodList c.now (viewed view.now) }
+    requires few { length view.now < 2 ^ 32 }
+    requires trails { All (IsTrail c.now) trails.old.items }
+    requires avoid { All (BeginsNone c.now j (viewed view.now)) avoid.old }
+    ensures begun { IfOk result (λ found. IfSome found (IsBegun c.now j (viewed view.now))) }
+    ensures trails { All (IsTrail c.now) trails.new.items }
+    ensures avoid { All (BeginsNone c.now j (viewed view.now)) avoid.new }
+    ensures stop { IfErr result (IsStop meter.new) }
+    ensures limits { KeepsLimits meter.old meter.new }
+    ensures steps { meter.new.steps ≡ meter.old.steps }
+    ensures circuit { query.new.circuit ≡ c.now }
+    ensures property { query.new.property ≡ j }
+    ensures seen { GoesOnFrom query.new.seen (viewed view.now) }
+{
+    'trails: while let Some(trail) = take_newest(c, trails) {
+        let Trail { positions, left } = trail;
+        let run = positions.as_slice();
+        if let Some(hit) = newest(alloc, c, j, query, view, run, left, avoid, meter)? {
+            let way = front(alloc, run, hit.at)?;
+            put(c, trails, positions, hit.at + 1)?;
+            let skeleton = hit.skeleton;
+            return Ok(Some(Begun { way, skeleton }));
+        }
+    }
+    Ok(None)
+}
+
+// Where there is no room for one more, the oldest run goes.
+fn drop_oldest(_c: &Circuit, trails: &mut Vec<Trail>)
+    requires { All (IsTrail _c.now) trails.old.items }
+    ensures { All (IsTrail _c.now) trails.new.items }
+{
+    if trails.len() >= MOST_TRAILS {
+        trails.remove(0);
+    }
+}
+
+/// Keeps a run whose states were reached. Where there is no room, the oldest goes.
+pub(crate) fn keep(
+    c: &Circuit,
+    trails: &mut Vec<Trail>,
+    positions: Items<Position>,
+) -> Result<(), AllocError>
+    requires run { IsReachedRun c.now positions }
+    requires trails { All (IsTrail c.now) trails.old.items }
+    ensures trails { All (IsTrail c.now) trails.new.items }
+{
+    drop_oldest(c, trails);
+    let left = positions.len();
+    put(c, trails, positions, left)
+}
