@@ -1,4 +1,5 @@
 pub mod NameLaws
+pub mod KeptLaws
 pub mod Lines
 pub mod Unrolling
 pub mod Apart

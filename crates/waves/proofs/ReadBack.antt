@@ -1,12 +1,11 @@
 -- The values of a dump, read back.
-use Rattle.std.proofs.Common.{◌≡◌, ◌≢◌, ℕ, zero, suc, ◌+◌, ◌*◌, ◌<◌, ◌≤◌, ◌^◌, Bool, true, false, List, [], ◌∷◌, ◌++◌, length, map, get_or, refl, sym, ap, ◌∙◌, arith, if◌then◌else◌, subst, append_assoc, Some, slice_get}
+use Rattle.std.proofs.Common.{◌≡◌, ◌≢◌, ℕ, zero, suc, ◌+◌, ◌*◌, ◌<◌, ◌^◌, Bool, true, false, List, [], ◌∷◌, ◌++◌, length, map, get_or, refl, sym, ap, ◌∙◌, arith, if◌then◌else◌, append_assoc, Some, slice_get}
 use Rattle.std.specs.Prelude.{nat_le, decimal, codes}
 use Rattle.std.specs.List.{AllPairs}
 use Rattle.std.specs.Str.{bytes_eq}
 use Rattle.std.proofs.lemmas.Bool.{false_from_ne_true}
 use Rattle.std.proofs.lemmas.Fmt.{decimal_injective}
 use Rattle.std.proofs.lemmas.Slice.Eq.{bytes_eq-Decides}
-use Rattle.text_grammar.specs.Lines.{lines_of}
 use Rattle.text_grammar.proofs.LineLaws.{reads_written_lines}
 use Rattle.aig_semantics.specs.Circuits.{Circuit}
 use Rattle.aig_semantics.specs.declared.traces.Position.{Position}
@@ -14,8 +13,8 @@ use Rattle.aig_semantics.specs.Runs.{valuation_at}
 use Rattle.waves.specs.declared.signals.Signal.{Signal}
 use Rattle.waves.specs.Wires.{value_in}
 use Rattle.waves.specs.Names.{signals_of}
-use Rattle.waves.specs.Dumps.{var_line, comment_line, header_lines, time_line, digit_of, value_line, position_lines, run_lines, all_lines, dump_lines, unrolled, waves_text}
-use Rattle.waves.specs.Laws.{lines_behind, is_time, first_change, value_read, ValuesAreRead}
+use Rattle.waves.specs.Dumps.{var_line, header_lines, time_line, digit_of, value_line, run_lines, all_lines, dump_lines, unrolled}
+use Rattle.waves.specs.Laws.{lines_behind, first_change, ValuesAreRead}
 use Rattle.waves.proofs.Apart.{identifiers_are_apart}
 use Rattle.waves.proofs.Spelled.{signals_spelled, dump_are_lines}
 

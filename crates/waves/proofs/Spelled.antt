@@ -1,10 +1,10 @@
 -- Names and identifiers have no space, and lines no line feed.
-use Rattle.std.proofs.Common.{◌≡◌, ◌≢◌, ℕ, zero, suc, ◌+◌, ◌*◌, ◌/◌, ◌%◌, ◌<◌, ◌≤◌, ◌==◌, ◌&&◌, Bool, true, false, not, List, [], ◌∷◌, ◌++◌, length, map, fold, get_or, refl, sym, ap, ◌∙◌, arith, if◌then◌else◌, subst}
-use Rattle.std.specs.Prelude.{nat_lt, codes, decimal, None, Some}
+use Rattle.std.proofs.Common.{◌≡◌, ◌≢◌, ℕ, zero, suc, ◌+◌, ◌*◌, ◌/◌, ◌%◌, ◌<◌, ◌==◌, ◌&&◌, Bool, true, false, not, List, [], ◌∷◌, ◌++◌, length, map, fold, refl, sym, ap, ◌∙◌, arith, if◌then◌else◌}
+use Rattle.std.specs.Prelude.{nat_lt, codes, decimal}
 use Rattle.std.specs.Fmt.{digits, digits_onto, digit_glyph}
-use Rattle.std.specs.List.{All, AllByRecursion, list_all, flat_map}
-use Rattle.std.proofs.lemmas.Bool.{false≢true, lt-ltb, ltb-true, and_from, and_parts, eqb-true, ne_eqb}
-use Rattle.std.proofs.lemmas.List.Elements.{All-from_recursion, All-append, All-cons, All-nil, All-map}
+use Rattle.std.specs.List.{All, AllByRecursion, list_all}
+use Rattle.std.proofs.lemmas.Bool.{false≢true, lt-ltb, ltb-true, and_from, and_parts, ne_eqb}
+use Rattle.std.proofs.lemmas.List.Elements.{All-from_recursion, All-append, All-cons, All-nil}
 use Rattle.std.proofs.lemmas.List.Folds.{list_all-append}
 use Rattle.text_grammar.specs.Pieces.{Lacks}
 use Rattle.aig_semantics.specs.Circuits.{Circuit}
@@ -13,7 +13,7 @@ use Rattle.aig_semantics.specs.declared.traces.Lasso.{Lasso}
 use Rattle.aiger_grammar.specs.declared.names.Symbol.{Symbol}
 use Rattle.aiger_grammar.specs.Models.{Model}
 use Rattle.waves.specs.declared.wires.Wire.{Wire}
-use Rattle.waves.specs.declared.wires.Wire.TheVariants.{Element, PropertyLiteral, Loop}
+use Rattle.waves.specs.declared.wires.Wire.TheVariants.{Loop}
 use Rattle.waves.specs.declared.signals.Signal.{Signal}
 use Rattle.waves.specs.Wires.{elements, property_literals, wires_of, value_in}
 use Rattle.waves.specs.Names.{label, is_symbol_of, is_plain, hex_digit, escaped_byte, escaped, named_by, plain_name, has_name, set_apart, enough, identifier, next_signal, with_signal, signals_of}

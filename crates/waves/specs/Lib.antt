@@ -1,4 +1,5 @@
 pub mod Wires
 pub mod Names
+pub mod Kept
 pub mod Dumps
 pub mod Laws

@@ -10,6 +10,7 @@ mod dumps;
 mod laws;
 mod names;
 mod signals;
+mod symbols;
 mod wires;
 
 pub use dumps::write;

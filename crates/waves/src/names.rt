@@ -1,15 +1,15 @@
-//! The names and the identifiers of wires. The main calls are `plain_name`, `set_apart` and `next_identifier`.
+//! The names and the identifiers of wires. The main calls are `label`, `set_apart` and `next_identifier`.
 
 ghost use Rattle.std.specs.Prelude.{◌≡◌, ◌++◌, ◌<◌, IfOk, OnOk};
-ghost use Rattle.waves.specs.Names.{label, is_symbol_of, is_plain, hex_digit, escaped_byte, escaped, plain_name, has_name, set_apart, enough, next_identifier};
+ghost use Rattle.waves.specs.Names.{label, is_plain, hex_digit, escaped_byte, escaped, set_apart, enough, next_identifier};
 
-use crate::signals::Signal;
+use crate::signals::Signals;
 use crate::wires::Wire;
-use aiger_grammar::{JUSTICE, Symbol};
+use aiger_grammar::JUSTICE;
 use std::alloc::{AllocError, Global};
 use text_grammar::push_number;
 
-// The letter and the index of a wire.
+/// The letter and the index of a wire.
 pub(crate) fn label(alloc: Global, wire: Wire) -> Result<Vec<u8>, AllocError>
     ensures { IfOk result (λ text. text.items ≡ label wire) }
 {
@@ -32,19 +32,6 @@ pub(crate) fn label(alloc: Global, wire: Wire) -> Result<Vec<u8>, AllocError>
         Wire::Loop => text.extend_from_slice(b"loop")?,
     }
     Ok(text)
-}
-
-// Whether the symbol is one of the wire.
-fn is_symbol_of(wire: Wire, symbol: &Symbol) -> bool
-    ensures { result ≡ is_symbol_of wire symbol.now }
-{
-    match wire {
-        Wire::Element { letter, index, .. } => symbol.letter == letter && symbol.index == index,
-        Wire::PropertyLiteral { property, .. } => {
-            symbol.letter == JUSTICE && symbol.index == property
-        }
-        Wire::Loop => false,
-    }
 }
 
 // Whether the byte stands for itself in a name.
@@ -74,8 +61,8 @@ fn push_escaped_byte(out: &mut Vec<u8>, byte: u8) -> Result<(), AllocError>
     Ok(())
 }
 
-// A name in which each byte that is not plain stands in hexadecimal digits.
-fn escaped(alloc: Global, name: &[u8]) -> Result<Vec<u8>, AllocError>
+/// A name in which each byte that is not plain stands in hexadecimal digits.
+pub(crate) fn escaped(alloc: Global, name: &[u8]) -> Result<Vec<u8>, AllocError>
     ensures { IfOk result (λ text. text.items ≡ escaped name.now) }
 {
     let mut text = Vec::new(alloc);
@@ -85,43 +72,19 @@ fn escaped(alloc: Global, name: &[u8]) -> Result<Vec<u8>, AllocError>
     Ok(text)
 }
 
-/// The name of the last symbol of the wire, or its label where it has none.
-pub(crate) fn plain_name(
-    alloc: Global,
-    symbols: &[Symbol],
-    wire: Wire,
-) -> Result<Vec<u8>, AllocError>
-    ensures { IfOk result (λ name. name.items ≡ plain_name symbols.now wire) }
-{
-    let mut name = label(alloc, wire)?;
-    for symbol in symbols {
-        if is_symbol_of(wire, symbol) {
-            name = escaped(alloc, symbol.name.as_slice())?;
-        }
-    }
-    Ok(name)
-}
-
-// Whether one of the signals has the name.
-fn has_name(signals: &[Signal], name: &[u8]) -> bool
-    ensures { result ≡ has_name signals.now name.now }
-{
-    signals.iter().any(|signal| signal.name.as_slice() == name)
-}
-
 /// The name, with a dot and the label behind it as often as it takes until no signal has it.
 pub(crate) fn set_apart(
-    signals: &[Signal],
+    signals: &Signals,
     label: &[u8],
     mut name: Vec<u8>,
 ) -> Result<Vec<u8>, AllocError>
     ensures { IfOk result (λ text. text.items ≡ set_apart (enough signals.now) signals.now label.now name.items) }
 {
-    let mut taken = has_name(signals, &name);
+    let mut taken = signals.has_name(&name);
     while taken {
         name.push(b'.')?;
         name.extend_from_slice(label)?;
-        taken = has_name(signals, &name);
+        taken = signals.has_name(&name);
     }
     Ok(name)
 }

@@ -1,4 +1,4 @@
-use Rattle.std.proofs.Common.{ℕ, List, ◌++◌, ◌∙◌, ap, codes}
+use Rattle.std.proofs.Common.{◌++◌, ◌∙◌, ap, codes}
 use Rattle.std.specs.Prelude.{decimal}
 use Rattle.waves.proofs.Lines.{line_written}
 use Rattle.waves.proofs.dumps.push_comment.Goals as goal

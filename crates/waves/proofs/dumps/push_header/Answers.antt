@@ -1,4 +1,4 @@
-use Rattle.std.proofs.Common.{ℕ, List, [], ◌∷◌, ◌++◌, ◌∙◌, ap, refl, map, codes}
+use Rattle.std.proofs.Common.{[], ◌∷◌, refl, map, codes}
 use Rattle.waves.specs.Dumps.{var_line, comment_line}
 use Rattle.waves.proofs.Lines.{header_written}
 use Rattle.waves.proofs.dumps.push_header.Goals as goal

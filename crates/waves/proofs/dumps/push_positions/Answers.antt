@@ -1,7 +1,7 @@
-use Rattle.std.proofs.Common.{rules, ◌≡◌, ◌∙◌, ◌++◌, ◌+◌, ◌∷◌, [], ap, List, Bool, ℕ, length, arith}
+use Rattle.std.proofs.Common.{rules, ◌∙◌, ◌++◌, ◌+◌, ap, List, Bool, length}
 use Rattle.text_grammar.specs.Lines.{ended_lines}
-use Rattle.aig_semantics.specs.Stimuli.{simulated, state_after}
-use Rattle.waves.specs.Dumps.{run_lines, time_line}
+use Rattle.aig_semantics.specs.Stimuli.{simulated}
+use Rattle.waves.specs.Dumps.{run_lines}
 use Rattle.waves.proofs.Lines.{lasso_written}
 use Rattle.waves.proofs.dumps.push_positions.Goals as goal
 

@@ -1,7 +1,6 @@
-use Rattle.std.proofs.Common.{rules, ◌≡◌, ◌∙◌, ◌++◌, ◌+◌, ◌∷◌, [], ℕ, Bool, List, length, map, sym, ap, refl, drop, get_or, arith, subst}
+use Rattle.std.proofs.Common.{◌≡◌, ◌∙◌, ◌++◌, ◌+◌, ◌∷◌, Bool, List, length, sym, ap, drop, arith}
 use Rattle.text_grammar.specs.Lines.{ended_lines}
 use Rattle.std.proofs.lemmas.List.{drop_more, length-map}
-use Rattle.aig_semantics.specs.Literals.{literal_in}
 use Rattle.aig_semantics.specs.Runs.{position_of, successor, literal_at}
 use Rattle.aig_semantics.specs.Stimuli.{simulated, state_after}
 use Rattle.waves.specs.Dumps.{run_lines, position_lines}

@@ -1,4 +1,4 @@
-use Rattle.std.proofs.Common.{rules, ◌≡◌, ◌++◌, ◌∙◌, ◌∷◌, [], ℕ, List, map, take, ap, get_or}
+use Rattle.std.proofs.Common.{◌++◌, ◌∙◌, ◌∷◌, [], ℕ, List, map, take, ap}
 use Rattle.text_grammar.specs.Lines.{ended_lines}
 use Rattle.waves.specs.Dumps.{var_line}
 use Rattle.waves.proofs.Lines.{ended_more}

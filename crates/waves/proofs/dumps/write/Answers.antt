@@ -1,4 +1,4 @@
-use Rattle.std.proofs.Common.{◌≡◌, ◌∙◌, ◌++◌, ap, List, ℕ}
+use Rattle.std.proofs.Common.{◌∙◌, ◌++◌, ap, List}
 use Rattle.text_grammar.specs.Lines.{ended_lines}
 use Rattle.aig_semantics.specs.Circuits.{Circuit}
 use Rattle.waves.specs.declared.signals.Signal.{Signal}

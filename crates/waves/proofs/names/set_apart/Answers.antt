@@ -1,4 +1,4 @@
-use Rattle.std.proofs.Common.{rules, ◌≡◌, ◌∙◌, ◌++◌, ◌∷◌, [], ℕ, List, sym, ap, true, false, arith, length, append_assoc}
+use Rattle.std.proofs.Common.{rules, ◌≡◌, ◌∙◌, ◌++◌, ◌∷◌, [], ℕ, List, sym, ap, true, arith, length, append_assoc}
 use Rattle.waves.specs.Names.{has_name, set_apart, enough}
 use Rattle.waves.proofs.NameLaws.{no_longer, dotted_longer, apart_on, apart_end}
 use Rattle.waves.proofs.names.set_apart.Goals as goal

@@ -1,4 +1,4 @@
-use Rattle.std.proofs.Common.{rules, ◌≡◌, ◌∙◌, ◌++◌, ◌∷◌, [], ℕ, zero, suc, ◌+◌, ◌<◌, List, length, sym, ap, refl, fold, take, get_or, arith, length-append}
+use Rattle.std.proofs.Common.{rules, ◌≡◌, ◌∙◌, ◌++◌, ◌∷◌, [], ℕ, suc, ◌+◌, ◌<◌, List, length, sym, ap, refl, fold, take, get_or, arith, length-append}
 use Rattle.aiger_grammar.specs.declared.names.Symbol.{Symbol}
 use Rattle.waves.specs.declared.wires.Wire.{Wire}
 use Rattle.waves.specs.declared.wires.Wire.TheVariants.{Element}
@@ -30,18 +30,17 @@ one_signal_more symbols wires i d w old new s inside is e f g =
 pub loop-wire-init : goal.loop-wire-init
 loop-wire-init c = record {
   signals = search rules;
-  code = first_identifier c.new-signals.result.items c.in_ok-code.code.items (search rules) (search rules);
+  code = first_identifier c.new-signals.result c.in_ok-code.code.items (search rules) (search rules);
 }
 
 pub loop-wire-preserved : goal.loop-wire-preserved
 loop-wire-preserved c =
-    let next : c.push.new.self.items ≡ c.loop-wire.signals.items ++ c.in_ok-signal.signal ∷ [] = search rules in
+    let next : c.push.new.self ≡ c.loop-wire.signals ++ c.in_ok-signal.signal ∷ [] = search rules in
     let w = get_or c.args.wires.now c.loop-wire.wire-index (Element 0 0 0) in
-    let same : c.in_ok-signal.signal ≡ next_signal c.args.symbols.now c.loop-wire.signals.items w =
-    c.in_ok-signal.ensures ∙ ap (λ (x : List Signal). next_signal c.args.symbols.now x w) c.deref.ensures.value in
+    let same : c.in_ok-signal.signal ≡ next_signal c.args.symbols.now c.loop-wire.signals w = c.in_ok-signal.ensures c.args.symbols.now c.in_ok-names.ensures in
     record {
       signals = one_signal_more c.args.symbols.now c.args.wires.now c.loop-wire.wire-index (Element 0 0 0) w
-          c.loop-wire.signals.items c.push.new.self.items c.in_ok-signal.signal c.loop-wire-test.true refl c.loop-wire.invariant.signals next same;
-      code = later_identifier c.loop-wire.signals.items c.push.new.self.items c.in_ok-signal.signal c.loop-wire.code.items c.in_ok-code-2.code.items next
+          c.loop-wire.signals c.push.new.self c.in_ok-signal.signal c.loop-wire-test.true refl c.loop-wire.invariant.signals next same;
+      code = later_identifier c.loop-wire.signals c.push.new.self c.in_ok-signal.signal c.loop-wire.code.items c.in_ok-code-2.code.items next
           c.loop-wire.invariant.code (search rules);
     }

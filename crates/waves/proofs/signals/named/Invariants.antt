@@ -4,6 +4,6 @@ use Rattle.waves.proofs.signals.named.Given as goal
 
 abbrev pub invariant-loop-wire : goal.invariant-loop-wire
 invariant-loop-wire l = record {
-  signals : l.signals.items ≡ fold (with_signal l.symbols) [] (take l.wire-index l.wires);
-  code : l.code.items ≡ identifier (length l.signals.items);
+  signals : l.signals ≡ fold (with_signal l.symbols) [] (take l.wire-index l.wires);
+  code : l.code.items ≡ identifier (length l.signals);
 }
