@@ -5,15 +5,14 @@ use Rattle.std.specs.Str.{bytes_eq}
 use Rattle.std.proofs.lemmas.Slice.Eq.{bytes_eq-Decides}
 use Rattle.clap.specs.Walk.{Row}
 use Rattle.edge.specs.Writes.{Writes}
-use Rattle.fair_top.specs.declared.requests.GenRequest.{GenRequest}
-use Rattle.fair_top.specs.declared.requests.DemoRequest.{DemoRequest}
+use Rattle.fair_top.specs.declared.commands.generating.GenRequest.{GenRequest}
+use Rattle.fair_top.specs.declared.commands.demonstrating.DemoRequest.{DemoRequest}
 use Rattle.fair_top.specs.declared.status.Status.{Status}
-use Rattle.fair_top.specs.Asked.{Asked, Solve, Check, Gen, Demo, Wave}
-use Rattle.fair_top.specs.Check.{MeansCheck}
+use Rattle.fair_top.specs.declared.status.Status.TheVariants as statuses
 use Rattle.fair_top.specs.Solve.{MeansSolve}
-use Rattle.fair_top.specs.Gen.{MeansGen}
 use Rattle.fair_top.specs.Demo.{MeansDemo}
-use Rattle.fair_top.specs.Commands.{Means, CommandGives}
+use Rattle.fair_top.specs.Commands.{Asked, Solve, Check, Gen, Demo, Wave, Means, CommandGives}
+use Rattle.fair_top.specs.Solved.{SolvesAsked}
 use Rattle.fair_top.specs.Headline.{HasWritten}
 use Rattle.fair_top.proofs.Values.{SomeOrNone, Asks, solve_or_none, names_or_none, request_or_none, demo_or_none, one_solve, one_pair, one_request, one_demo}
 use Rattle.fair_top.proofs.Sinks.{of_check, of_solve, of_demo}
@@ -107,27 +106,24 @@ unfolding asked_from
 from_none form (inl found) none = absurd (none found.0 found.1)
 from_none form (inr other) none = refl
 
--- ---- where a command's values ask for nothing
+-- ---- where a command's values ask for nothing, of commands that want it said
 
 pub no_solve : (rows : List Row) → ((asks : Asks) → MeansSolve rows asks.0 asks.1 → ⊥) → (asked : Asked) → Means asked (codes "solve") rows → ⊥
 unfolding request_in
 no_solve rows none = none_read (codes "solve") rows (from_none (λ (asks : Asks). Solve asks.0 asks.1) (solve_or_none rows) none)
 
-pub no_check : (rows : List Row) → ((names : List ℕ × List ℕ) → MeansCheck rows names.0 names.1 → ⊥) → (asked : Asked) → Means asked (codes "check") rows → ⊥
-unfolding request_in
-no_check rows none = none_read (codes "check") rows (from_none (λ (names : List ℕ × List ℕ). Check names.0 names.1) (names_or_none rows) none)
-
-pub no_gen : (rows : List Row) → ((request : GenRequest) → MeansGen rows request → ⊥) → (asked : Asked) → Means asked (codes "gen") rows → ⊥
-unfolding request_in
-no_gen rows none = none_read (codes "gen") rows (from_none (λ (request : GenRequest). Gen request) (request_or_none rows) none)
-
 pub no_demo : (rows : List Row) → ((request : DemoRequest) → MeansDemo rows request → ⊥) → (asked : Asked) → Means asked (codes "demo") rows → ⊥
 unfolding request_in
 no_demo rows none = none_read (codes "demo") rows (from_none (λ (request : DemoRequest). Demo request) (demo_or_none rows) none)
 
-pub no_wave : (rows : List Row) → ((names : List ℕ × List ℕ) → MeansCheck rows names.0 names.1 → ⊥) → (asked : Asked) → Means asked (codes "wave") rows → ⊥
-unfolding request_in
-no_wave rows none = none_read (codes "wave") rows (from_none (λ (names : List ℕ × List ℕ). Wave names.0 names.1) (names_or_none rows) none)
+-- ---- where memory is refused
+
+pub memory_solves : (held : List ℕ → Option (List ℕ)) (asked : Asked) (result : Status) → result ≡ statuses.Memory → SolvesAsked held asked result
+memory_solves held (Solve model request) result e = λ given. inr e
+memory_solves held (Check model answer) result e = tt
+memory_solves held (Gen request) result e = tt
+memory_solves held (Demo request) result e = tt
+memory_solves held (Wave model answer) result e = tt
 
 -- ---- what a sink saw
 

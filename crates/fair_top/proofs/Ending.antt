@@ -1,21 +1,21 @@
 -- How a run ends, from what is asked for and from what its command gives.
-use Rattle.std.proofs.Common.{◌≡◌, ◌⊎◌, inl, inr, ℕ, Bool, false, List, [], ◌∷◌, refl, sym, ◌∙◌, ap, subst}
-use Rattle.std.specs.Prelude.{Option}
+use Rattle.std.proofs.Common.{◌≡◌, ◌⊎◌, inl, inr, ℕ, Bool, true, false, List, [], ◌∷◌, refl, sym, ◌∙◌, ap, subst, Ok, Err}
+use Rattle.std.specs.Prelude.{Option, Result, IfOk}
 use Rattle.edge.specs.Writes.{Adds, AddsPart, Writes}
-use Rattle.fair_top.specs.declared.requests.GenRequest.{GenRequest}
+use Rattle.fair_top.specs.declared.commands.generating.GenRequest.{GenRequest}
 use Rattle.fair_top.specs.declared.status.Status.{Status}
 use Rattle.fair_top.specs.declared.status.Status.TheVariants as statuses
 use Rattle.fair_top.specs.declared.status.Done.TheVariants.{Printed}
-use Rattle.fair_top.specs.declared.requests.SolveRequest.{SolveRequest}
-use Rattle.fair_top.specs.declared.requests.DemoRequest.{DemoRequest}
-use Rattle.fair_top.specs.Asked.{Asked, Solve, Check, Gen, Demo, Wave, names_in}
+use Rattle.fair_top.specs.declared.commands.demonstrating.DemoRequest.{DemoRequest}
 use Rattle.fair_top.specs.Demo.{GivesDemo, IsSummedUp, demo_circuit}
 use Rattle.fair_top.specs.Solved.{SolvesAsked}
-use Rattle.fair_top.specs.Commands.{CommandGives, Decides}
+use Rattle.fair_top.specs.Commands.{Asked, Gen, Demo, names_in, CommandGives, Decides}
 use Rattle.fair_top.specs.Headline.{AsksFor, IsUsage, Ends, IsVerdict, IsAnswered, IsTakenOrUsage, IsSilent, HasTaken, HasWritten, FailedOf, ReadFailed, ReadsModelFirst, HasRead}
-use Rattle.fair_top.specs.Statuses.{is_read_fault}
+use Rattle.fair_top.specs.Statuses.{is_read_fault, ends_silently}
+use Rattle.fair_top.specs.Texts.{text_of}
+use Rattle.fair_top.specs.declared.texts.Outcome.{Outcome}
 use Rattle.unless_memory.specs.Answers.{GivesSome}
-use Rattle.fair_top.proofs.EachCommand.{of_command}
+use Rattle.fair_top.proofs.EachCommand.{memory_solves, of_command}
 use Rattle.fair_top.proofs.Summed.{sums_up}
 use Rattle.fair_top.proofs.Taken.{one_asked, not_usage}
 
@@ -54,19 +54,21 @@ is_printed held words before now request status asks exact read = by (exact (sta
     by (inl (inr (inr e))) = inr (inr e)
     by (inr e) = inr (inl e)
 
+-- a run of refused words ends with the usage text, or silently
+pub refused_ends : (held : List ℕ → Option (List ℕ)) (words : List (List ℕ)) (status : Status) (result : Result Outcome Status)
+    → ((status ≡ statuses.Usage) × IsUsage words) ⊎ (status ≡ statuses.Memory)
+    → IfOk result (λ outcome. (outcome.status ≡ status) × (outcome.text.items ≡ text_of status)) → IfOk result (λ outcome. ends_silently status ≡ false)
+    → IfOk result (λ outcome. Ends held words outcome.status outcome.text.items)
+refused_ends held words status (Err other) ended text aloud = tt
+refused_ends held words status (Ok outcome) (inl usage) text aloud = inl (usage.1, text.0 ∙ usage.0, text.1 ∙ ap text_of usage.0)
+refused_ends held words status (Ok outcome) (inr memory) text aloud = let wrong : true ≡ false = sym (ap ends_silently memory) ∙ aloud in absurd (cc)
+
 -- `solve` is answered with a verdict or a report
 
 pub solves_for : (held : List ℕ → Option (List ℕ)) (words : List (List ℕ)) (asked : Asked) (result : Status) → AsksFor words asked → SolvesAsked held asked result
     → (other : Asked) → AsksFor words other → SolvesAsked held other result
 solves_for held words asked result asks solves other others =
     subst (λ (a : Asked). SolvesAsked held a result) (one_asked words asked other asks others) solves
-
-memory_solves : (held : List ℕ → Option (List ℕ)) (asked : Asked) (result : Status) → result ≡ statuses.Memory → SolvesAsked held asked result
-memory_solves held (Solve model request) result e = λ given. inr e
-memory_solves held (Check model answer) result e = tt
-memory_solves held (Gen request) result e = tt
-memory_solves held (Demo request) result e = tt
-memory_solves held (Wave model answer) result e = tt
 
 -- words that ask for something are refused for want of memory alone
 pub unsolved : (held : List ℕ → Option (List ℕ)) (words : List (List ℕ)) (status result : Status)

@@ -9,7 +9,7 @@ use Rattle.certificate.specs.declared.ends.AnswerEnd.TheVariants as ends
 use Rattle.certificate.specs.Answers.{IsGood}
 use Rattle.certificate.specs.Ends.{CheckSays}
 use Rattle.wall_store.specs.Boards.{BoardState}
-use Rattle.fair_top.specs.declared.requests.DemoRequest.{DemoRequest}
+use Rattle.fair_top.specs.declared.commands.demonstrating.DemoRequest.{DemoRequest}
 use Rattle.fair_top.specs.declared.status.Status.{Status}
 use Rattle.fair_top.specs.declared.status.Status.TheVariants as statuses
 use Rattle.fair_top.specs.declared.status.Done.TheVariants as dones

@@ -9,8 +9,7 @@ use Rattle.clap.specs.Walk.{Held, Names, Row, Text, finished, nothing_held, sett
 use Rattle.clap.specs.Simple.{Shape, argument_words, built, entered, names_of, subcommand_of}
 use Rattle.clap.specs.Kinds.{Kinds, or_else, check_kinds}
 use Rattle.clap.specs.Faults.{fault_of, level_fault, entered_fault, check_fault, defaults_fault, settle_fault, walk_fault}
-use Rattle.fair_top.specs.Asked.{Asked}
-use Rattle.fair_top.specs.Commands.{fairlive, Means}
+use Rattle.fair_top.specs.Commands.{Asked, fairlive, Means}
 use Rattle.fair_top.specs.Headline.{IsTaken, AsksFor, IsUsage, IsTakenOrUsage}
 use Rattle.fair_top.specs.Asking.{MetFor}
 use Rattle.fair_top.proofs.Values.{SomeOrNone}

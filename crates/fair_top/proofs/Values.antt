@@ -10,12 +10,12 @@ use Rattle.clap.specs.Values.{IsUnsignedIn}
 use Rattle.clap.specs.ValueTests.{is_unsigned_in}
 use Rattle.clap.specs.declared.builder.value_parser.ValueParser.TheVariants.{Unsigned}
 use Rattle.clap.proofs.ValueTestLemmas.{accepts-Accepts, Accepts-accepts}
-use Rattle.fair_top.specs.declared.requests.GenKind.{GenKind}
-use Rattle.fair_top.specs.declared.requests.GenKind.TheVariants.{Ring, Scramble}
-use Rattle.fair_top.specs.declared.requests.GenRequest.{GenRequest}
-use Rattle.fair_top.specs.declared.requests.SolveRequest.{SolveRequest}
-use Rattle.fair_top.specs.declared.requests.DemoRequest.{DemoRequest}
-use Rattle.fair_top.specs.Asked.{Asked, Solve}
+use Rattle.fair_top.specs.declared.commands.generating.GenKind.{GenKind}
+use Rattle.fair_top.specs.declared.commands.generating.GenKind.TheVariants.{Ring, Scramble}
+use Rattle.fair_top.specs.declared.commands.generating.GenRequest.{GenRequest}
+use Rattle.fair_top.specs.declared.commands.solving.SolveRequest.{SolveRequest}
+use Rattle.fair_top.specs.declared.commands.demonstrating.DemoRequest.{DemoRequest}
+use Rattle.fair_top.specs.Commands.{Asked, Solve}
 use Rattle.fair_top.specs.Words.{IsGiven, IsNumberIn, IsNumberGiven, IsNumberOr, flag_in}
 use Rattle.fair_top.specs.Check.{MeansCheck}
 use Rattle.fair_top.specs.Solve.{MeansSolve}

@@ -1,15 +1,53 @@
--- The commands, each of which has a file of its own: here is one line for each in every definition.
-use Rattle.std.specs.Prelude.{◌≡◌, ℕ, List, Option, codes, true}
+-- The commands, each of which has a file of its own: what the words of the command line may ask for, and what a run that
+-- asks for it gives. Here is a line for each in every definition.
+use Rattle.std.specs.Prelude.{◌≡◌, ℕ, List, [], ◌∷◌, Option, codes, true}
 use Rattle.clap.specs.Walk.{Row}
 use Rattle.clap.specs.Simple.{App, new_app, on_top, with_subcommand}
 use Rattle.certificate.specs.declared.ends.Accepted.{Accepted}
+use Rattle.fair_top.specs.declared.commands.Asked.{Asked as AskedInCode}
+use Rattle.fair_top.specs.declared.commands.Asked.TheVariants as code
+use Rattle.fair_top.specs.declared.commands.solving.SolveRequest.{SolveRequest}
+use Rattle.fair_top.specs.declared.commands.generating.GenRequest.{GenRequest}
+use Rattle.fair_top.specs.declared.commands.demonstrating.DemoRequest.{DemoRequest}
 use Rattle.fair_top.specs.declared.status.Status.{Status}
-use Rattle.fair_top.specs.Asked.{Asked, Solve, Check, Gen, Demo, Wave}
 use Rattle.fair_top.specs.Solve.{solve_command, MeansSolve, GivesSolve, DecidesSolve, ShownBySolve}
 use Rattle.fair_top.specs.Check.{check_command, MeansCheck, GivesCheck, DecidesCheck, ShownByCheck}
 use Rattle.fair_top.specs.Gen.{gen_command, MeansGen, GivesGen, DecidesGen}
 use Rattle.fair_top.specs.Demo.{demo_command, MeansDemo, GivesDemo}
 use Rattle.fair_top.specs.Wave.{wave_command, MeansWave, GivesWave, DecidesWave}
+
+-- what the words may ask for
+pub data Asked : Type 0 where
+  -- decide a property of the model under the name
+  Solve : (model : List ℕ) (request : SolveRequest) → Asked
+  -- check the answer under one name against the model under the other
+  Check : (model : List ℕ) (answer : List ℕ) → Asked
+  -- write a generated model
+  Gen : (request : GenRequest) → Asked
+  -- decide a property of a generated model, and print a summary
+  Demo : (request : DemoRequest) → Asked
+  -- write the waves of the answer's lasso
+  Wave : (model : List ℕ) (answer : List ℕ) → Asked
+
+-- the names whose texts are read for it, in this order: MODEL's is the first
+abbrev pub names_in : Asked → List (List ℕ)
+names_in (Solve model request) = model ∷ []
+names_in (Check model answer) = model ∷ answer ∷ []
+names_in (Gen request) = []
+names_in (Demo request) = []
+names_in (Wave model answer) = model ∷ answer ∷ []
+
+-- what a value in the code asks for
+abbrev pub meant : AskedInCode → Asked
+meant (code.Solve model request) = Solve model.now request
+meant (code.Check model answer) = Check model.now answer.now
+meant (code.Gen request) = Gen request
+meant (code.Demo request) = Demo request
+meant (code.Wave model answer) = Wave model.now answer.now
+
+-- what is written where the words are no command
+abbrev pub usage_text : List ℕ
+usage_text = codes "usage: fairlive solve MODEL [--property N] [--workers W] [--conflicts C] [--steps S] [--skeletons K]\n       fairlive check MODEL ANSWER\n       fairlive gen KIND SEED SIZE [--binary]\n       fairlive demo SEED SIZE\n       fairlive wave MODEL ANSWER\n"
 
 -- the program, which wants a command
 abbrev pub fairlive : App

@@ -12,13 +12,13 @@ use Rattle.wall_store.specs.declared.outcomes.Outcome.TheVariants.{Lasso, Holds}
 use Rattle.wall_store.specs.Boards.{BoardState, outcome_of}
 use Rattle.fair_workers.specs.declared.limits.Report.{Report}
 use Rattle.fair_workers.specs.Runs.{Task, IsAnswered, IsReport}
-use Rattle.fair_top.specs.declared.requests.DemoRequest.{DemoRequest}
-use Rattle.fair_top.specs.declared.requests.SolveRequest.{SolveRequest}
+use Rattle.fair_top.specs.declared.commands.demonstrating.DemoRequest.{DemoRequest}
+use Rattle.fair_top.specs.declared.commands.solving.SolveRequest.{SolveRequest}
 use Rattle.fair_top.specs.declared.status.Status.{Status}
 use Rattle.fair_top.specs.declared.status.Status.TheVariants as statuses
 use Rattle.fair_top.specs.declared.status.Done.TheVariants as done
 use Rattle.fair_top.specs.Words.{wanted_number, IsNumberGiven}
-use Rattle.fair_top.specs.Solve.{task_of, IsTextOfOutcome}
+use Rattle.fair_top.specs.Solve.{default_request, task_of, IsTextOfOutcome}
 
 abbrev pub demo_command : App
 demo_command =
@@ -33,9 +33,9 @@ pub record MeansDemo (rows : List Row) (request : DemoRequest) : Type 0 where
 abbrev pub demo_circuit : DemoRequest → Circuit
 demo_circuit request = scramble_circuit request.seed request.size
 
--- property 0, two workers, and the default budgets of `solve`
+-- what `solve` is asked for where only a model is named, but for two workers
 abbrev pub demo_request : SolveRequest
-demo_request = record { property = 0; workers = 2; conflicts = 1000000; steps = 100000; skeletons = 10000 }
+demo_request = record default_request { workers = 2 }
 
 abbrev pub demo_task : Circuit → Task
 demo_task c = task_of c demo_request

@@ -7,9 +7,9 @@ use Rattle.aiger_grammar.specs.Models.{Model}
 use Rattle.aiger_grammar.specs.Spelling.{ascii_text, HasAsciiForm, binary_text}
 use Rattle.aiger_grammar.specs.BinaryTexts.{HasBinaryForm}
 use Rattle.model_gen.specs.Generated.{ring_model, scramble_model}
-use Rattle.fair_top.specs.declared.requests.GenKind.{GenKind}
-use Rattle.fair_top.specs.declared.requests.GenKind.TheVariants.{Ring, Scramble}
-use Rattle.fair_top.specs.declared.requests.GenRequest.{GenRequest}
+use Rattle.fair_top.specs.declared.commands.generating.GenKind.{GenKind}
+use Rattle.fair_top.specs.declared.commands.generating.GenKind.TheVariants.{Ring, Scramble}
+use Rattle.fair_top.specs.declared.commands.generating.GenRequest.{GenRequest}
 use Rattle.fair_top.specs.declared.status.Status.{Status}
 use Rattle.fair_top.specs.declared.status.Status.TheVariants as statuses
 use Rattle.fair_top.specs.declared.status.Done.TheVariants.{Printed}

@@ -14,8 +14,7 @@ use Rattle.fair_top.specs.declared.status.Status.{Status}
 use Rattle.fair_top.specs.declared.status.Status.TheVariants as statuses
 use Rattle.fair_top.specs.ModelTexts.{OfModel}
 use Rattle.fair_top.specs.Check.{done_of}
-use Rattle.fair_top.specs.Asked.{Asked, names_in, usage_text}
-use Rattle.fair_top.specs.Commands.{fairlive, Means, CommandGives, Decides, ShownBy}
+use Rattle.fair_top.specs.Commands.{Asked, names_in, usage_text, fairlive, Means, CommandGives, Decides, ShownBy}
 use Rattle.fair_top.specs.Statuses.{is_read_fault}
 
 -- What the words ask for.

@@ -1,7 +1,6 @@
 pub mod ModelTexts
 pub mod ModelGiven
 pub mod Words
-pub mod Asked
 pub mod Check
 pub mod Solve
 pub mod Gen

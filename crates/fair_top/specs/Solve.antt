@@ -21,7 +21,7 @@ use Rattle.wall_store.specs.declared.outcomes.Outcome.TheVariants as outcomes
 use Rattle.fair_workers.specs.declared.limits.Limits.{Limits}
 use Rattle.fair_workers.specs.declared.limits.Report.{Report}
 use Rattle.fair_workers.specs.Runs.{Task, IsReport}
-use Rattle.fair_top.specs.declared.requests.SolveRequest.{SolveRequest}
+use Rattle.fair_top.specs.declared.commands.solving.SolveRequest.{SolveRequest}
 use Rattle.fair_top.specs.declared.status.Status.{Status}
 use Rattle.fair_top.specs.declared.status.Status.TheVariants as statuses
 use Rattle.fair_top.specs.Words.{wanted, number_option, IsGiven, IsNumberOr}
@@ -37,14 +37,18 @@ solve_command =
     (number_option (codes "conflicts") 0 4294967295)) (number_option (codes "steps") 0 4294967295))
     (number_option (codes "skeletons") 0 65536)
 
+-- what is asked for where only a model is named
+abbrev pub default_request : SolveRequest
+default_request = record { property = 0; workers = 1; conflicts = 1000000; steps = 100000; skeletons = 10000 }
+
 -- the name and the numbers that are given, with the defaults of those that are not
 pub record MeansSolve (rows : List Row) (model : List ℕ) (request : SolveRequest) : Type 0 where
   pub model_name : IsGiven rows (codes "MODEL") model
-  pub property : IsNumberOr rows (codes "property") 0 4294967295 0 request.property
-  pub workers : IsNumberOr rows (codes "workers") 1 64 1 request.workers
-  pub conflicts : IsNumberOr rows (codes "conflicts") 0 4294967295 1000000 request.conflicts
-  pub steps : IsNumberOr rows (codes "steps") 0 4294967295 100000 request.steps
-  pub skeletons : IsNumberOr rows (codes "skeletons") 0 65536 10000 request.skeletons
+  pub property : IsNumberOr rows (codes "property") 0 4294967295 default_request.property request.property
+  pub workers : IsNumberOr rows (codes "workers") 1 64 default_request.workers request.workers
+  pub conflicts : IsNumberOr rows (codes "conflicts") 0 4294967295 default_request.conflicts request.conflicts
+  pub steps : IsNumberOr rows (codes "steps") 0 4294967295 default_request.steps request.steps
+  pub skeletons : IsNumberOr rows (codes "skeletons") 0 65536 default_request.skeletons request.skeletons
 
 -- what the workers may spend
 abbrev pub limits_of : SolveRequest → Limits

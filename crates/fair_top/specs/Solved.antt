@@ -6,11 +6,11 @@ use Rattle.certificate.specs.declared.ends.Accepted.{Accepted}
 use Rattle.certificate.specs.Answers.{IsGood, Shows}
 use Rattle.fair_workers.specs.declared.limits.Report.{Report}
 use Rattle.fair_workers.specs.Runs.{AreLimits, IsReport}
-use Rattle.fair_top.specs.declared.requests.SolveRequest.{SolveRequest}
+use Rattle.fair_top.specs.declared.commands.solving.SolveRequest.{SolveRequest}
 use Rattle.fair_top.specs.declared.status.Status.{Status}
 use Rattle.fair_top.specs.declared.status.Status.TheVariants as statuses
 use Rattle.fair_top.specs.Check.{done_of}
-use Rattle.fair_top.specs.Asked.{Asked, Solve}
+use Rattle.fair_top.specs.Commands.{Asked, Solve}
 use Rattle.fair_top.specs.Solve.{limits_of, task_of, property_of, IsWrittenAs, HasAsked, IsSolved}
 use Rattle.fair_top.specs.Headline.{IsCut}
 use Rattle.fair_top.specs.Texts.{text_of}

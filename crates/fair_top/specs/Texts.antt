@@ -11,7 +11,7 @@ use Rattle.proof_semantics.specs.declared.faults.LratFault.{LratFault}
 use Rattle.proof_semantics.specs.declared.faults.LratFault.TheVariants as proofs
 use Rattle.entry.specs.declared.faults.EntryFault.{EntryFault}
 use Rattle.entry.specs.declared.faults.EntryFault.TheVariants as entries
-use Rattle.fair_top.specs.Asked.{usage_text}
+use Rattle.fair_top.specs.declared.commands.TheConstants.{USAGE}
 use Rattle.fair_top.specs.declared.status.Status.{Status}
 use Rattle.fair_top.specs.declared.status.Status.TheVariants as statuses
 use Rattle.fair_top.specs.declared.status.Done.{Done}
@@ -123,7 +123,7 @@ unknown_text report =
     ++ codes " of " ++ decimal report.board.limit ++ codes "\n" ++ workers_text 0 report.workers ++ codes ".\n"
 
 -- The text that a status tells, where the command has none of its own: `solve` writes the answer for a verdict, `gen` the
--- model, and `demo` its summary.
+-- model, and `demo` its summary. The usage text is the code's constant here, and `Ends` has it word for word.
 abbrev pub text_of : Status → List ℕ
 text_of (statuses.Done done) = done_text done
 text_of (statuses.Refused fault) = refusal_text fault
@@ -133,4 +133,4 @@ text_of statuses.ReadFault = []
 text_of statuses.WriteFault = []
 text_of statuses.Memory = []
 text_of (statuses.NoProperty n) = line_with (codes "no property ") n
-text_of statuses.Usage = usage_text
+text_of statuses.Usage = USAGE.now

@@ -1,28 +1,75 @@
-//! The commands. The main call is `outcome_of`, which does what the words ask for. Writes nothing.
+//! The commands, each of which has a module of its own: here is one line, or one case, for each in the list of what is
+//! asked for, in the usage text, in `program`, in `asked_as` and in `outcome_for`. The main call is `outcome_of`, which does
+//! what the words ask for. Writes nothing.
+//!
+//! A new command has a file in `specs/`, a module here and a file of lemmas, and else touches `specs/Commands.antt`, this
+//! file, `proofs/EachCommand.antt`, `proofs/commands/outcome_for/Answers.antt`, `specs/Lib.antt` and `proofs/Lib.antt`.
 
-ghost use Rattle.std.specs.Prelude.{◌≡◌, ◌⊎◌, List, ℕ, true, false, IfOk, IfErr};
+ghost use Rattle.std.specs.Prelude.{◌≡◌, ◌⊎◌, List, ℕ, Some, true, false, option_map, IfOk, IfErr, IfSome, IfNone};
+ghost use Rattle.clap.specs.Simple.{app_of, subcommand_rows_of, subcommand_of};
+ghost use Rattle.clap.specs.Walk.{rows_of};
+ghost use Rattle.clap.specs.Matches.{found_of};
+ghost use Rattle.clap.specs.Kinds.{FailsBy};
+ghost use Rattle.clap.specs.Faults.{fault_of};
 ghost use Rattle.edge.specs.Faults.{NoneFell};
 ghost use Rattle.edge.specs.Reads.{KeepsTexts};
 ghost use Rattle.certificate.specs.declared.ends.Accepted.{Accepted as AcceptedOf};
 ghost use Rattle.fair_top.specs.Words.{bytes_of};
-ghost use Rattle.fair_top.specs.Asked.{Asked as AskedFor, names_in, meant};
 ghost use Rattle.fair_top.specs.Check.{done_of};
-ghost use Rattle.fair_top.specs.Commands.{CommandGives, Decides, ShownBy};
-ghost use Rattle.fair_top.specs.Headline.{AsksFor, IsTakenOrUsage, ReadsNothing, Ends, IsSilent, IsVerdict, IsAnswered, IsShown, FailedOf, ReadFailed, ReadsModelFirst, HasRead};
+ghost use Rattle.fair_top.specs.Commands.{Asked as AskedFor, names_in, meant, fairlive, Means, CommandGives, Decides, ShownBy};
+ghost use Rattle.fair_top.specs.Headline.{AsksFor, IsUsage, IsTakenOrUsage, ReadsNothing, Ends, IsSilent, IsVerdict, IsAnswered, IsShown, FailedOf, ReadFailed, ReadsModelFirst, HasRead};
+ghost use Rattle.fair_top.specs.Asking.{MetFor};
 ghost use Rattle.fair_top.specs.Solved.{SolvesAsked};
 ghost use Rattle.fair_top.specs.Statuses.{status_in, is_read_fault};
 
-use crate::checking::check;
-use crate::demonstrating::demonstrate;
-use crate::generating::generate;
-use crate::requests::Asked;
-use crate::solving::solve;
+mod checking;
+mod demonstrating;
+mod generating;
+mod solving;
+mod waving;
+
 use crate::status::Status;
 use crate::texts::{Outcome, with_text};
-use crate::waving::wave;
-use crate::words::asked_of;
+use checking::{check, check_of, with_check};
+use clap::error::ErrorKind;
+use clap::{ArgMatches, Command, Error};
+pub use demonstrating::DemoRequest;
+use demonstrating::{demo_of, demonstrate, with_demo};
 use edge::Shelf;
-use std::alloc::Global;
+pub use generating::{GenKind, GenRequest};
+use generating::{gen_of, generate, with_gen};
+pub use solving::SolveRequest;
+use solving::{solve, solve_of, with_solve};
+use std::alloc::{AllocError, Global};
+use waving::{wave, wave_of, with_wave};
+
+/// A command with its values.
+#[derive(Clone, Copy)]
+pub(crate) enum Asked<'a> {
+    /// Decide a property of the model under the name.
+    Solve {
+        model: &'a str,
+        request: SolveRequest,
+    },
+    /// Check the answer under one name against the model under the other.
+    Check {
+        model: &'a str,
+        answer: &'a str,
+    },
+    /// Write a generated model.
+    Gen(GenRequest),
+    /// Decide a property of a generated model, and print a summary.
+    Demo(DemoRequest),
+    /// Write the waves of the answer's lasso.
+    Wave {
+        model: &'a str,
+        answer: &'a str,
+    },
+}
+
+/// What is written where the words are no command: a line for each command.
+pub(crate) const USAGE: &str =
+    "usage: fairlive solve MODEL [--property N] [--workers W] [--conflicts C] [--steps S] [--skeletons K]\n       fairlive check MODEL ANSWER\n       fairlive gen KIND SEED SIZE [--binary]\n       fairlive demo SEED SIZE\n       fairlive wave MODEL ANSWER\n";
 
 /// The status with which a run ends and the text that it writes, but for its writing; or the status of a run that
 /// writes nothing, `ReadFault` or `Memory`.
@@ -50,7 +97,82 @@ pub(crate) fn outcome_of<H: Shelf>(
     }
 }
 
-/// The same for what is asked for: a case for each command.
+/// What the words ask for, where `clap` takes them and their values are such as the command takes. The status is `Usage`
+/// where they are not, or `Memory`.
+fn asked_of<'a>(alloc: Global, words: &'a [String]) -> Result<Asked<'a>, Status>
+    ensures found { IfOk result (λ asked. AsksFor (bytes_of words.now) (meant asked)) }
+    ensures either { IsTakenOrUsage (bytes_of words.now) }
+    ensures ended { IfErr result (λ status. ((status ≡ Status.Usage) × IsUsage (bytes_of words.now)) ⊎ (status ≡ Status.Memory)) }
+{
+    match matches_of(alloc, words) {
+        Ok(matches) => match asked_by(&matches) {
+            Some(asked) => Ok(asked),
+            None => Err(Status::Usage),
+        },
+        Err(error) => match error.kind() {
+            ErrorKind::OutOfMemory => Err(Status::Memory),
+            _ => Err(Status::Usage),
+        },
+    }
+}
+
+/// What `clap` makes of the words.
+fn matches_of<'a>(alloc: Global, words: &'a [String]) -> Result<ArgMatches<'a>, Error>
+    ensures found { IfOk result (λ matches. subcommand_rows_of matches ≡ subcommand_of fairlive (bytes_of words.now)) }
+    ensures kinds { FailsBy (fault_of fairlive (bytes_of words.now)) result }
+{
+    let command = program(alloc)?;
+    command.try_get_matches_from(words)
+}
+
+/// The program and its commands: a line for each.
+fn program<'a>(alloc: Global) -> Result<Command<'a>, AllocError>
+    ensures { IfOk result (λ command. app_of command ≡ fairlive) }
+{
+    let program = Command::new(alloc, "fairlive")
+        .subcommand_required(true)
+        .disable_help_subcommand(true);
+    let program = with_solve(alloc, program)?;
+    let program = with_check(alloc, program)?;
+    let program = with_gen(alloc, program)?;
+    let program = with_demo(alloc, program)?;
+    with_wave(alloc, program)
+}
+
+/// What the command that was met asks for, if it is one of the program's and its values are a request.
+fn asked_by<'a>(matches: &ArgMatches<'a>) -> Option<Asked<'a>>
+    ensures found { IfSome result (λ asked. MetFor (subcommand_rows_of matches.now) (meant asked)) }
+    ensures none { IfNone result ((asked : AskedFor) → MetFor (subcommand_rows_of matches.now) asked → ⊥) }
+{
+    match met(matches) {
+        Some((name, given)) => asked_as(name, given),
+        None => None,
+    }
+}
+
+/// The name of the command that was met, and its values.
+fn met<'a, 'm>(matches: &'m ArgMatches<'a>) -> Option<(&'a str, &'m ArgMatches<'a>)>
+    ensures { option_map (λ p. (p.0.now, rows_of (found_of p.1.now))) result ≡ subcommand_rows_of matches.now }
+{
+    matches.subcommand()
+}
+
+/// What the command of this name asks for: a case for each.
+fn asked_as<'a>(name: &str, given: &ArgMatches<'a>) -> Option<Asked<'a>>
+    ensures found { IfSome result (λ asked. Means (meant asked) name.now (rows_of (found_of given.now))) }
+    ensures none { IfNone result ((asked : AskedFor) → Means asked name.now (rows_of (found_of given.now)) → ⊥) }
+{
+    match name {
+        "solve" => solve_of(given),
+        "check" => check_of(given),
+        "gen" => gen_of(given),
+        "demo" => demo_of(given),
+        "wave" => wave_of(given),
+        _ => None,
+    }
+}
+
+/// The outcome of what is asked for: a case for each command.
 fn outcome_for<H: Shelf>(alloc: Global, asked: Asked, shelf: &mut H) -> Result<Outcome, Status>
     requires { (words : List (List ℕ)) × AsksFor words (meant asked) }
     ensures found { IfOk result (λ outcome. CommandGives (H.held shelf.old) (meant asked.entry) outcome.status outcome.text.items) }

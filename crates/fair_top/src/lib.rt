@@ -7,26 +7,21 @@
 //! | `Status::number` | the number with which the program ends |
 //! | `runs_agree` | nothing: the law that two runs of `solve` on one property agree |
 //!
-//! A command is a line in `specs/Asked.antt`, `specs/Commands.antt`, `src/requests.rt`, `src/words.rt` and
-//! `src/commands.rt`, and files of its own, as `specs/Check.antt` and `src/checking.rt` are.
+//! A command has files of its own, as `specs/Check.antt` and `src/commands/checking.rt` are, and a line, or a case, in
+//! each list of `specs/Commands.antt`, `src/commands.rt` and `proofs/EachCommand.antt`, and in three more files, which
+//! `src/commands.rt` names.
 #![tactic(auto)]
 
-mod checking;
 mod commands;
-mod demonstrating;
-mod generating;
 mod laws;
 mod models;
 mod reports;
-mod requests;
 mod running;
-mod solving;
 mod status;
 mod texts;
-mod waving;
 mod words;
 
+pub use commands::{DemoRequest, GenKind, GenRequest, SolveRequest};
 pub use laws::runs_agree;
-pub use requests::{DemoRequest, GenKind, GenRequest, SolveRequest};
 pub use running::{run, run_alone};
 pub use status::{Done, Status};

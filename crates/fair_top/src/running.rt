@@ -4,13 +4,13 @@ ghost use Rattle.std.specs.Prelude.{◌≡◌, ◌≤◌, ◌⊎◌, ℕ, List};
 ghost use Rattle.edge.specs.Faults.{Rose, NoneFell};
 ghost use Rattle.edge.specs.Reads.{KeepsTexts};
 ghost use Rattle.fair_top.specs.Words.{bytes_of};
-ghost use Rattle.fair_top.specs.Asked.Asked.{Solve, Gen, Demo};
+ghost use Rattle.fair_top.specs.Commands.Asked.{Solve, Gen, Demo};
 ghost use Rattle.fair_top.specs.Solve.{HasAsked, IsSolved};
 ghost use Rattle.fair_top.specs.Demo.{IsSummedUp};
 ghost use Rattle.fair_top.specs.Headline.{AsksFor, IsTakenOrUsage, ReadsNothing, IsFound, IsVerdict, IsAnswered, IsCut, IsShown, IsSilent, HasTaken, ReadFailed, HasRead, HasWritten};
-ghost use Rattle.fair_top.specs.declared.requests.DemoRequest.{DemoRequest};
-ghost use Rattle.fair_top.specs.declared.requests.GenRequest.{GenRequest};
-ghost use Rattle.fair_top.specs.declared.requests.SolveRequest.{SolveRequest};
+ghost use Rattle.fair_top.specs.declared.commands.demonstrating.DemoRequest.{DemoRequest};
+ghost use Rattle.fair_top.specs.declared.commands.generating.GenRequest.{GenRequest};
+ghost use Rattle.fair_top.specs.declared.commands.solving.SolveRequest.{SolveRequest};
 ghost use Rattle.unless_memory.specs.Answers.{GivesSome};
 ghost use Rattle.fair_top.specs.declared.status.Done.TheVariants.{Printed};
 

@@ -1,8 +1,7 @@
 use Rattle.std.proofs.Common.{subst, sym, refl}
 use Rattle.std.specs.Prelude.{IfOk}
-use Rattle.fair_top.specs.declared.requests.Asked.{Asked as AskedInCode}
-use Rattle.fair_top.specs.Asked.{meant, names_in}
-use Rattle.fair_top.specs.Commands.{CommandGives, Decides, ShownBy}
+use Rattle.fair_top.specs.declared.commands.Asked.{Asked as AskedInCode}
+use Rattle.fair_top.specs.Commands.{meant, names_in, CommandGives, Decides, ShownBy}
 use Rattle.fair_top.specs.Headline.{ReadsModelFirst}
 use Rattle.fair_top.specs.Solved.{SolvesAsked}
 use Rattle.fair_top.specs.Statuses.{status_in, is_read_fault}

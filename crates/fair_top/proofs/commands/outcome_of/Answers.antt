@@ -1,8 +1,8 @@
 use Rattle.std.proofs.Common.{◌∙◌}
 use Rattle.fair_top.specs.Words.{bytes_of}
-use Rattle.fair_top.specs.Asked.{meant}
+use Rattle.fair_top.specs.Commands.{meant}
 use Rattle.fair_top.specs.Statuses.{status_in}
-use Rattle.fair_top.proofs.Ending.{exact_for, solves_for, unsolved, nothing_read, not_a_read}
+use Rattle.fair_top.proofs.Ending.{refused_ends, exact_for, solves_for, unsolved, nothing_read, not_a_read}
 use Rattle.fair_top.proofs.commands.outcome_of.Goals as goal
 
 pub returns-in-Ok-clause-exactly : goal.returns-in-Ok-clause-exactly
@@ -24,3 +24,8 @@ pub returns-in-Err-clause-solved : goal.returns-in-Err-clause-solved
 returns-in-Err-clause-solved g c =
     unsolved (g.H.Shelf.held c.args.shelf.now) (bytes_of c.args.words.now) c.in-Err.status (status_in c.with_text.result)
     c.in-Err.ensures.ended c.with_text.ensures.status
+
+pub returns-in-Err-clause-found : goal.returns-in-Err-clause-found
+returns-in-Err-clause-found g c =
+    refused_ends (g.H.Shelf.held c.args.shelf.now) (bytes_of c.args.words.now) c.in-Err.status c.with_text.result
+    c.in-Err.ensures.ended c.with_text.ensures.text c.with_text.ensures.aloud

@@ -1,6 +1,6 @@
 use Rattle.std.proofs.Common.{refl, inl, inr}
 use Rattle.fair_top.specs.Words.{bytes_of}
-use Rattle.fair_top.specs.Asked.Asked.{Solve}
+use Rattle.fair_top.specs.Commands.Asked.{Solve}
 use Rattle.fair_top.proofs.Ending.{is_printed, demo_sums_up, demo_is_silent, read_before, written, part_written, good_writes}
 use Rattle.fair_top.proofs.running.run_alone.Goals as goal
 

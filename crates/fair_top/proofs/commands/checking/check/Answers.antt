@@ -1,0 +1,45 @@
+use Rattle.std.proofs.Common.{◌⊎◌, ◌∷◌, [], subst, sym, ◌∙◌, inl, inr}
+use Rattle.fair_top.specs.declared.status.Status.{Status}
+use Rattle.fair_top.specs.ModelGiven.{OfSomeText}
+use Rattle.fair_top.specs.Check.{JudgesAs}
+use Rattle.fair_top.specs.Statuses.{is_read_fault}
+use Rattle.fair_top.specs.Headline.{IsSilent, IsAnswered, ReadsModelFirst}
+use Rattle.fair_top.proofs.Judging.{told_form, judged, judged_exact, without_model, without_model_exact, read_failed, both_read, rose_since}
+use Rattle.fair_top.proofs.commands.checking.check.Goals as goal
+
+pub returns-in-Ok-clause-found : goal.returns-in-Ok-clause-found
+returns-in-Ok-clause-found g c =
+    let held = g.H.Shelf.held in
+    subst (λ (s : Status). JudgesAs OfSomeText (held c.args.shelf.now c.args.model.now) (held c.args.shelf.now c.args.answer.now) s ⊎ IsSilent s) (sym c.checked.ensures)
+    (judged c.circuit.result.now c.in-Ok.model (held c.args.shelf.now c.args.model.now) (held c.model_of.new.shelf c.args.answer.now) (held c.args.shelf.now c.args.answer.now)
+    c.check_answer.result c.circuit.ensures.circuit (c.in-Ok.ensures.kept c.args.answer.now) c.in-Ok.ensures.found c.check_answer.ensures.found)
+
+pub returns-in-Ok-clause-exactly : goal.returns-in-Ok-clause-exactly
+returns-in-Ok-clause-exactly g c = λ verdict d.
+    let held = g.H.Shelf.held in
+    subst (λ (s : Status). IsAnswered verdict s) (sym c.checked.ensures)
+    (judged_exact c.circuit.result.now c.in-Ok.model (held c.args.shelf.now c.args.model.now) (held c.model_of.new.shelf c.args.answer.now) (held c.args.shelf.now c.args.answer.now)
+    c.check_answer.result c.circuit.ensures.circuit (c.in-Ok.ensures.kept c.args.answer.now) c.in-Ok.ensures.found c.check_answer.ensures.exactly verdict d)
+
+pub returns-in-Ok-clause-read : goal.returns-in-Ok-clause-read
+returns-in-Ok-clause-read g c = λ e. inr (
+  λ text told. (c.in-Ok.model, told_form _ c.in-Ok.model c.in-Ok.ensures.found text told, tt),
+  inl (rose_since _ _ _ (c.in-Ok.ensures.counts c.args.answer.now) (c.check_answer.ensures.read (read_failed c.check_answer.result (sym c.checked.ensures ∙ e)))),
+)
+
+pub returns-in-Ok-clause-reads : goal.returns-in-Ok-clause-reads
+returns-in-Ok-clause-reads g c =
+    let held = g.H.Shelf.held c.args.shelf.now in
+    subst (λ (s : Status). ReadsModelFirst g.H.Shelf.reads held (c.args.model.now ∷ c.args.answer.now ∷ []) (is_read_fault s) c.args.shelf.now c.check_answer.new.shelf) (sym c.checked.ensures)
+    (both_read g.H.Shelf.reads held c.args.model.now c.args.answer.now c.check_answer.result c.args.shelf.now c.model_of.new.shelf c.check_answer.new.shelf
+    c.in-Ok.ensures.reads (λ text told. (c.in-Ok.model, told_form _ c.in-Ok.model c.in-Ok.ensures.found text told, tt)) c.check_answer.ensures.reads)
+
+pub returns-in-Err-clause-found : goal.returns-in-Err-clause-found
+returns-in-Err-clause-found g c =
+    let held = g.H.Shelf.held in
+    without_model (held c.args.shelf.now c.args.model.now) (held c.args.shelf.now c.args.answer.now) c.in-Err.status c.in-Err.ensures.ended
+
+pub returns-in-Err-clause-exactly : goal.returns-in-Err-clause-exactly
+returns-in-Err-clause-exactly g c =
+    let held = g.H.Shelf.held in
+    without_model_exact (held c.args.shelf.now c.args.model.now) (held c.args.shelf.now c.args.answer.now) c.in-Err.status c.in-Err.ensures.ended

@@ -1,0 +1,227 @@
+//! The command `demo`: two workers decide property 0 of a generated model, and the answer is checked. The main call is
+//! `demonstrate`. Writes nothing.
+
+ghost use Rattle.std.specs.Prelude.{◌≡◌, ◌≤◌, List, Some, length, codes, false, IfOk, IfErr, OnOk, IfSome, IfNone};
+ghost use Rattle.clap.specs.Simple.{app_of, with_subcommand};
+ghost use Rattle.clap.specs.Walk.{rows_of};
+ghost use Rattle.clap.specs.Matches.{found_of};
+ghost use Rattle.clap.specs.declared.builder.command.Command.TheViews.{out-Command as fields_of};
+ghost use Rattle.certificate.specs.declared.ends.Accepted.{Accepted as AcceptedOf};
+ghost use Rattle.certificate.specs.Answers.{IsGood};
+ghost use Rattle.wall_store.specs.Boards.{outcome_of};
+ghost use Rattle.fair_workers.specs.Runs.{IsAnswered as IsAnsweredBy, IsReport};
+ghost use Rattle.fair_top.specs.Check.{done_of};
+ghost use Rattle.fair_top.specs.Commands.{Asked as AskedFor, meant, Means};
+ghost use Rattle.fair_top.specs.Demo.{demo_command, demo_task, verdict_text, summary_text, SumsUpAnswer, SumsUpReport, SumsUp, GivesDemo};
+ghost use Rattle.fair_top.specs.Statuses.{status_in, is_read_fault};
+
+use crate::commands::Asked;
+use crate::commands::solving::{DEFAULTS, SolveRequest, entry_count, limits_of, printed};
+use crate::status::{Done, Status};
+use crate::texts::Outcome;
+use crate::words::number_of;
+use certificate::check_answer;
+use circuit::Circuit;
+use clap::builder::ValueParser;
+use clap::{Arg, ArgMatches, Command};
+use edge::{MemShelf, Shelf};
+use fair_workers::{Board, Ended, Report, run_turns};
+use model_gen::scramble;
+use std::alloc::{AllocError, Global};
+use std::sync::Arc;
+use text_grammar::push_number;
+use wall_store::Outcome as Found;
+
+/// The model of `scramble` that `demo` decides.
+#[derive(Clone, Copy, Debug, PartialEq, Eq)]
+pub struct DemoRequest {
+    /// 0 to 4,294,967,295.
+    pub seed: u64,
+    /// The number of latches, 1 to 256.
+    pub size: u64,
+}
+
+// Property 0, two workers, and the default budgets of `solve`.
+const REQUEST: SolveRequest = SolveRequest {
+    workers: 2,
+    ..DEFAULTS
+};
+
+fn demo_command<'a>(alloc: Global) -> Result<Command<'a>, AllocError>
+    ensures shape { IfOk result (λ command. app_of command ≡ demo_command) }
+    ensures local { IfOk result (λ command. (fields_of command).has_globals ≡ false) }
+{
+    let seed = Arg::new(alloc, "SEED")
+        .required(true)
+        .value_parser(ValueParser::unsigned(0, 4_294_967_295));
+    let size = Arg::new(alloc, "SIZE")
+        .required(true)
+        .value_parser(ValueParser::unsigned(1, 256));
+    Command::new(alloc, "demo").arg(seed)?.arg(size)
+}
+
+/// The program with this command.
+pub(crate) fn with_demo<'a>(alloc: Global, program: Command<'a>) -> Result<Command<'a>, AllocError>
+    ensures { IfOk result (λ more. app_of more ≡ with_subcommand (app_of program.entry) demo_command.top) }
+{
+    program.subcommand(demo_command(alloc)?)
+}
+
+/// The request that the values of `demo` are.
+pub(crate) fn demo_of<'a>(given: &ArgMatches<'a>) -> Option<Asked<'a>>
+    ensures found { IfSome result (λ asked. Means (meant asked) (codes "demo") (rows_of (found_of given.now))) }
+    ensures none { IfNone result ((asked : AskedFor) → Means asked (codes "demo") (rows_of (found_of given.now)) → ⊥) }
+{
+    let seed = number_of(given, "SEED", 0, 4_294_967_295)?;
+    let size = number_of(given, "SIZE", 1, 256)?;
+    Some(Asked::Demo(DemoRequest { seed, size }))
+}
+
+/// Lets two workers decide the property of the generated model: the status with which the command ends, and the summary.
+/// The error is `Memory`.
+pub(crate) fn demonstrate(alloc: Global, request: &DemoRequest) -> Result<Outcome, Status>
+    requires some { 1 ≤ request.now.size }
+    requires few { request.now.size ≤ 256 }
+    ensures found { IfOk result (λ outcome. GivesDemo request.now outcome.status outcome.text.items) }
+    ensures ended { IfErr result (λ status. status ≡ Status.Memory) }
+    ensures aloud { IfOk result (λ outcome. is_read_fault outcome.status ≡ false) }
+    ensures unread { is_read_fault (status_in result) ≡ false }
+    ensures hidden { (accepted : AcceptedOf) → status_in result ≡ Status.Done (done_of accepted) → ⊥ }
+{
+    match scramble(alloc, request.seed, request.size) {
+        Ok(model) => summed_up(alloc, request, model.into_circuit()),
+        Err(_) => Err(Status::Memory),
+    }
+}
+
+// The same for a circuit with one property.
+fn summed_up(alloc: Global, request: &DemoRequest, circuit: Circuit) -> Result<Outcome, Status>
+    requires { length circuit.justice ≡ 1 }
+    ensures found { IfOk result (λ outcome. SumsUp circuit request.now outcome.status outcome.text.items) }
+    ensures ended { IfErr result (λ status. status ≡ Status.Memory) }
+{
+    let circuit = match Arc::new(alloc, circuit) {
+        Ok(circuit) => circuit,
+        Err(_) => return Err(Status::Memory),
+    };
+    let limits = limits_of(&REQUEST);
+    match run_turns(alloc, &circuit, REQUEST.property, limits, &[], &[]) {
+        Ok(board) => answered(alloc, request, &circuit, board),
+        Err(Ended::Spent(report)) => reported(alloc, request, &circuit, report),
+        Err(Ended::Memory) => Err(Status::Memory),
+    }
+}
+
+// The summary of a board with an outcome, of which the answer is checked.
+fn answered(
+    alloc: Global,
+    request: &DemoRequest,
+    circuit: &Circuit,
+    board: Board,
+) -> Result<Outcome, Status>
+    requires one { length circuit.now.justice ≡ 1 }
+    requires answered { IsAnsweredBy (demo_task circuit.now) board }
+    ensures found { IfOk result (λ outcome. SumsUpAnswer circuit.now request.now outcome.status outcome.text.items) }
+    ensures ended { IfErr result (λ status. status ≡ Status.Memory) }
+{
+    let answer = match printed(alloc, circuit, &REQUEST, &board) {
+        Ok(answer) => answer,
+        Err(status) => return Err(status),
+    };
+    if let Err(status) = checked(alloc, circuit, answer.text) {
+        return Err(status);
+    }
+    match summary(
+        alloc,
+        request,
+        verdict(&board),
+        entry_count(&board),
+        "accepted",
+    ) {
+        Ok(text) => Ok(Outcome {
+            status: Status::Done(Done::Demo(board)),
+            text,
+        }),
+        Err(_) => Err(Status::Memory),
+    }
+}
+
+// The summary of a report, with which there is nothing to check.
+fn reported(
+    alloc: Global,
+    request: &DemoRequest,
+    _circuit: &Circuit,
+    report: Report,
+) -> Result<Outcome, Status>
+    requires { IsReport (demo_task _circuit.now) report }
+    ensures found { IfOk result (λ outcome. SumsUpReport _circuit.now request.now outcome.status outcome.text.items) }
+    ensures ended { IfErr result (λ status. status ≡ Status.Memory) }
+{
+    let entries = entry_count(&report.board);
+    match summary(alloc, request, "2", entries, "none") {
+        Ok(text) => Ok(Outcome {
+            status: Status::Unknown(report),
+            text,
+        }),
+        Err(_) => Err(Status::Memory),
+    }
+}
+
+// Checks the text of an answer as `check` does. What is printed is a good answer, and the shelf tells it whole: nothing but
+// memory can be wanting.
+fn checked(alloc: Global, circuit: &Circuit, text: Vec<u8>) -> Result<(), Status>
+    ensures good { OnOk result ((found : AcceptedOf) × IsGood circuit.now text.items found) }
+    ensures ended { IfErr result (λ status. status ≡ Status.Memory) }
+{
+    let mut shelf = match shelf_with(alloc, text) {
+        Ok(shelf) => shelf,
+        Err(_) => return Err(Status::Memory),
+    };
+    match check_answer(alloc, circuit, &mut shelf, "answer") {
+        Ok(_) => Ok(()),
+        Err(_) => Err(Status::Memory),
+    }
+}
+
+// A shelf that holds the text as `answer`.
+fn shelf_with(alloc: Global, text: Vec<u8>) -> Result<MemShelf, AllocError>
+    ensures { IfOk result (λ shelf. ⟦<MemShelf as Shelf>⟧.held shelf (codes "answer") ≡ Some text.items) }
+{
+    let mut texts = Vec::new(alloc);
+    texts.push((String::from_str(alloc, "answer")?, text))?;
+    Ok(MemShelf::new(texts, u64::MAX, Vec::new(alloc)))
+}
+
+// The verdict, by the outcome of the property.
+fn verdict(board: &Board) -> &'static str
+    ensures { result.now ≡ verdict_text (outcome_of board.now.served 0) }
+{
+    match board.outcome(0) {
+        Some(Found::Lasso(_)) => "1",
+        Some(Found::Holds(_)) => "0",
+        None => "2",
+    }
+}
+
+fn summary(
+    alloc: Global,
+    request: &DemoRequest,
+    verdict: &str,
+    entries: u32,
+    checked: &str,
+) -> Result<Vec<u8>, AllocError>
+    ensures { IfOk result (λ text. text.items ≡ summary_text request.now verdict.now entries checked.now) }
+{
+    let mut text = Vec::from_slice(alloc, b"demo scramble ")?;
+    push_number(&mut text, request.seed)?;
+    text.extend_from_slice(b" ")?;
+    push_number(&mut text, request.size)?;
+    text.extend_from_slice(b"\nverdict ")?;
+    text.extend_from_slice(verdict.as_bytes())?;
+    text.extend_from_slice(b"\nentries ")?;
+    push_number(&mut text, u64::from(entries))?;
+    text.extend_from_slice(b"\ncheck ")?;
+    text.extend_from_slice(checked.as_bytes())?;
+    text.extend_from_slice(b"\n")?;
+    Ok(text)
+}

@@ -1,0 +1,293 @@
+//! The command `solve`: reads MODEL, lets workers search, and makes the text of what they found. The main call is `solve`.
+//! Writes nothing.
+
+ghost use Rattle.std.specs.Prelude.{◌≡◌, ◌<◌, ◌∷◌, [], length, codes, false, Contains, IfOk, IfErr, IfSome, IfNone};
+ghost use Rattle.clap.specs.Simple.{app_of, with_subcommand};
+ghost use Rattle.clap.specs.Walk.{rows_of};
+ghost use Rattle.clap.specs.Matches.{found_of};
+ghost use Rattle.clap.specs.declared.builder.command.Command.TheViews.{out-Command as fields_of};
+ghost use Rattle.std.specs.Arc.{arc_value};
+ghost use Rattle.aig_semantics.specs.Stimuli.{StandsFor, IsFairLassoOf};
+ghost use Rattle.edge.specs.Faults.{NoneFell};
+ghost use Rattle.edge.specs.Reads.{KeepsTexts};
+ghost use Rattle.certificate.specs.declared.ends.Accepted.{Accepted as AcceptedOf};
+ghost use Rattle.certificate.specs.Writing.{certificate_of, certificate_text};
+ghost use Rattle.entry.specs.Proved.{IsGoodRefutation};
+ghost use Rattle.fair_workers.specs.Runs.{IsBoardOf, IsAnswered as IsAnsweredBy};
+ghost use Rattle.wall_store.specs.Boards.{outcome_of, plain};
+ghost use Rattle.fair_top.specs.Check.{done_of};
+ghost use Rattle.fair_top.specs.Commands.{Asked as AskedFor, meant, Means};
+ghost use Rattle.fair_top.specs.Solve.{solve_command, limits_of, task_of, HasAsked, GivesSolve, DecidesSolve, ShownBySolve, IsStimulusOf, IsTextOfOutcome};
+ghost use Rattle.fair_top.specs.Solved.{AreWithin, EndsFor, IsPrinted, SolvesUnlessCut};
+ghost use Rattle.fair_top.specs.Headline.{IsSilent, IsAnswered, FailedOf, ReadsModelFirst};
+ghost use Rattle.fair_top.specs.Statuses.{status_in, is_read_fault};
+
+use crate::commands::Asked;
+use crate::models::model_of;
+use crate::status::{Done, Status};
+use crate::texts::{Outcome, with_text};
+use crate::words::{number_option, number_or, value_of};
+use aig_semantics::Lasso;
+use certificate::{good_answers_are_true, written_certificates_are_good, written_stimuli_are_good};
+use circuit::Circuit;
+use clap::{Arg, ArgMatches, Command};
+use edge::Shelf;
+use entry::Refutation;
+use fair_workers::{Board, Ended, Limits, run_turns};
+use items::Items;
+use lasso_join::shortest_prefix;
+use std::alloc::{AllocError, Global};
+use std::sync::Arc;
+use stimulus::Stimulus;
+use wall_store::Outcome as Found;
+
+/// Which property is to be decided, and by what means.
+#[derive(Clone, Copy, Debug, PartialEq, Eq)]
+pub struct SolveRequest {
+    /// The number of the property, counted from 0.
+    pub property: u32,
+    /// How many workers search, 1 to 64.
+    pub workers: u32,
+    /// How many conflicts a worker may count, 0 to 4,294,967,295; the last value means no limit.
+    pub conflicts: u64,
+    /// How many steps a worker may count, 0 to 4,294,967,295; the last value means no limit.
+    pub steps: u64,
+    /// By how many entries the shared list may grow, 0 to 65,536.
+    pub skeletons: u32,
+}
+
+/// What is asked for where only a model is named.
+pub(crate) const DEFAULTS: SolveRequest = SolveRequest {
+    property: 0,
+    workers: 1,
+    conflicts: 1_000_000,
+    steps: 100_000,
+    skeletons: 10_000,
+};
+
+fn solve_command<'a>(alloc: Global) -> Result<Command<'a>, AllocError>
+    ensures shape { IfOk result (λ command. app_of command ≡ solve_command) }
+    ensures local { IfOk result (λ command. (fields_of command).has_globals ≡ false) }
+{
+    let model = Arg::new(alloc, "MODEL").required(true);
+    Command::new(alloc, "solve")
+        .arg(model)?
+        .arg(number_option(alloc, "property", 0, 4_294_967_295))?
+        .arg(number_option(alloc, "workers", 1, 64))?
+        .arg(number_option(alloc, "conflicts", 0, 4_294_967_295))?
+        .arg(number_option(alloc, "steps", 0, 4_294_967_295))?
+        .arg(number_option(alloc, "skeletons", 0, 65_536))
+}
+
+/// The program with this command.
+pub(crate) fn with_solve<'a>(alloc: Global, program: Command<'a>) -> Result<Command<'a>, AllocError>
+    ensures { IfOk result (λ more. app_of more ≡ with_subcommand (app_of program.entry) solve_command.top) }
+{
+    program.subcommand(solve_command(alloc)?)
+}
+
+/// The name and the numbers that `solve` is given, with their defaults.
+pub(crate) fn solve_of<'a>(given: &ArgMatches<'a>) -> Option<Asked<'a>>
+    ensures found { IfSome result (λ asked. Means (meant asked) (codes "solve") (rows_of (found_of given.now))) }
+    ensures none { IfNone result ((asked : AskedFor) → Means asked (codes "solve") (rows_of (found_of given.now)) → ⊥) }
+{
+    let model = value_of(given, "MODEL")?;
+    let property = number_or(
+        given,
+        "property",
+        0,
+        4_294_967_295,
+        u64::from(DEFAULTS.property),
+    )?;
+    let workers = number_or(given, "workers", 1, 64, u64::from(DEFAULTS.workers))?;
+    let conflicts = number_or(given, "conflicts", 0, 4_294_967_295, DEFAULTS.conflicts)?;
+    let steps = number_or(given, "steps", 0, 4_294_967_295, DEFAULTS.steps)?;
+    let skeletons = number_or(given, "skeletons", 0, 65_536, u64::from(DEFAULTS.skeletons))?;
+    let request = SolveRequest {
+        property: property as u32,
+        workers: workers as u32,
+        conflicts,
+        steps,
+        skeletons: skeletons as u32,
+    };
+    Some(Asked::Solve { model, request })
+}
+
+/// Reads the model and decides its property: the status with which the command ends and the text that it writes, but for
+/// its writing; or the status of a run that writes nothing, `ReadFault` or `Memory`.
+pub(crate) fn solve<H: Shelf>(
+    alloc: Global,
+    shelf: &mut H,
+    model: &str,
+    request: &SolveRequest,
+) -> Result<Outcome, Status>
+    requires { AreWithin request.now }
+    ensures found { IfOk result (λ outcome. GivesSolve (H.held shelf.old model.now) request.now outcome.status outcome.text.items) }
+    ensures silent { IfErr result IsSilent }
+    ensures aloud { IfOk result (λ outcome. is_read_fault outcome.status ≡ false) }
+    ensures exactly { (verdict : Status) → DecidesSolve (H.held shelf.old model.now) request.now verdict → IsAnswered verdict (status_in result) }
+    ensures shown { (accepted : AcceptedOf) → status_in result ≡ Status.Done (done_of accepted) → ShownBySolve (H.held shelf.old model.now) accepted }
+    ensures solved { HasAsked (H.held shelf.old model.now) request.now → SolvesUnlessCut (status_in result) }
+    ensures read { status_in result ≡ Status.ReadFault → FailedOf (H.held shelf.old) (model.now ∷ []) (H.faults shelf.old) (H.faults shelf.new) }
+    ensures reads { ReadsModelFirst H.reads (H.held shelf.old) (model.now ∷ []) (is_read_fault (status_in result)) shelf.old shelf.new }
+    ensures counts { NoneFell (H.faults shelf.old) (H.faults shelf.new) }
+    ensures kept { KeepsTexts (H.held shelf.old) (H.held shelf.new) }
+{
+    match model_of(alloc, shelf, model) {
+        Ok(found) => solved(alloc, found.into_circuit(), request),
+        Err(status) => with_text(alloc, status),
+    }
+}
+
+// The same for a circuit.
+fn solved(alloc: Global, circuit: Circuit, request: &SolveRequest) -> Result<Outcome, Status>
+    requires { AreWithin request.now }
+    ensures found { IfOk result (λ outcome. EndsFor circuit request.now outcome.status outcome.text.items) }
+    ensures ended { IfErr result (λ status. status ≡ Status.Memory) }
+{
+    if request.property as usize >= circuit.property_count() {
+        return with_text(alloc, Status::NoProperty(request.property));
+    }
+    searched(alloc, circuit, request)
+}
+
+// The same for a property that is there.
+fn searched(alloc: Global, circuit: Circuit, request: &SolveRequest) -> Result<Outcome, Status>
+    requires within { AreWithin request.now }
+    requires property { request.now.property < length circuit.justice }
+    ensures found { IfOk result (λ outcome. EndsFor circuit request.now outcome.status outcome.text.items) }
+    ensures ended { IfErr result (λ status. status ≡ Status.Memory) }
+{
+    let circuit = match Arc::new(alloc, circuit) {
+        Ok(circuit) => circuit,
+        Err(_) => return Err(Status::Memory),
+    };
+    let limits = limits_of(request);
+    match run_turns(alloc, &circuit, request.property, limits, &[], &[]) {
+        Ok(board) => printed(alloc, &circuit, request, &board),
+        Err(Ended::Spent(report)) => with_text(alloc, Status::Unknown(report)),
+        Err(Ended::Memory) => Err(Status::Memory),
+    }
+}
+
+pub(crate) fn limits_of(request: &SolveRequest) -> Limits
+    ensures { result ≡ limits_of request.now }
+{
+    Limits {
+        workers: request.workers,
+        conflicts: request.conflicts,
+        steps: request.steps,
+        skeletons: request.skeletons,
+    }
+}
+
+// The text of the outcome of the property, which the board has.
+pub(crate) fn printed(
+    alloc: Global,
+    circuit: &Circuit,
+    request: &SolveRequest,
+    board: &Board,
+) -> Result<Outcome, Status>
+    requires answered { IsAnsweredBy (task_of circuit.now request.now) board.now }
+    requires property { request.now.property < length circuit.now.justice }
+    ensures found { IfOk result (λ outcome. IsPrinted circuit.now request.now.property outcome.status outcome.text.items) }
+    ensures text { IfOk result (λ outcome. IsTextOfOutcome circuit.now request.now.property board.now.entries
+        (outcome_of board.now.served request.now.property) outcome.text.items) }
+    ensures ended { IfErr result (λ status. status ≡ Status.Memory) }
+{
+    let written = match board.outcome(request.property) {
+        Some(Found::Lasso(lasso)) => stimulus_text(alloc, circuit, request.property, lasso),
+        Some(Found::Holds(refutation)) => {
+            certificate_text(alloc, circuit, request.property, board, refutation)
+        }
+        None => unreachable!(),
+    };
+    match written {
+        Ok(outcome) => Ok(outcome),
+        Err(_) => Err(Status::Memory),
+    }
+}
+
+fn copied(alloc: Global, lasso: &Lasso) -> Result<Lasso, AllocError>
+    ensures { IfOk result (λ copy. copy ≡ lasso.now) }
+{
+    let mut inputs = Items::new(alloc);
+    for values in lasso.inputs.as_slice() {
+        inputs.push(values.try_copy(alloc)?)?;
+    }
+    Ok(Lasso {
+        start: lasso.start.try_copy(alloc)?,
+        inputs,
+        from: lasso.from,
+    })
+}
+
+// The answer with the stimulus of the lasso, cut where it first stands for one.
+fn stimulus_text(
+    alloc: Global,
+    circuit: &Circuit,
+    j: u32,
+    lasso: &Lasso,
+) -> Result<Outcome, AllocError>
+    requires fair { IsFairLassoOf circuit.now j lasso.now }
+    requires property { j < length circuit.now.justice }
+    ensures printed { IfOk result (λ outcome. IsPrinted circuit.now j outcome.status outcome.text.items) }
+    ensures text { IfOk result (λ outcome. IsStimulusOf circuit.now j lasso.now outcome.text.items) }
+{
+    written_stimuli_are_good(circuit);
+    good_answers_are_true(circuit);
+    let short = shortest_prefix(alloc, circuit, j, copied(alloc, lasso)?)?;
+    let Lasso {
+        start,
+        inputs,
+        from,
+    } = short;
+    let positions = inputs.len() as u64;
+    let stimulus = Stimulus {
+        latches: start,
+        inputs,
+    };
+    let text = stimulus::write(alloc, j, &stimulus)?;
+    Ok(Outcome {
+        status: Status::Done(Done::Lasso {
+            property: j,
+            positions,
+            from,
+        }),
+        text,
+    })
+}
+
+// The answer with the certificate of the board's list.
+fn certificate_text(
+    alloc: Global,
+    circuit: &Circuit,
+    j: u32,
+    board: &Board,
+    refutation: &Refutation,
+) -> Result<Outcome, AllocError>
+    requires good { IsGoodRefutation circuit.now (plain board.now.entries) j refutation.now.uses refutation.now.proof }
+    requires circuit { board.now.circuit ≡ circuit.now }
+    requires property { j < length circuit.now.justice }
+    ensures printed { IfOk result (λ outcome. IsPrinted circuit.now j outcome.status outcome.text.items) }
+    ensures text { IfOk result (λ outcome. outcome.text.items ≡ certificate_text j (certificate_of board.now.entries refutation.now)) }
+{
+    written_certificates_are_good(circuit);
+    good_answers_are_true(circuit);
+    board.holds();
+    let text = certificate::write(alloc, j, board.entries(), refutation)?;
+    Ok(Outcome {
+        status: Status::Done(Done::Holds {
+            property: j,
+            entries: entry_count(board),
+        }),
+        text,
+    })
+}
+
+pub(crate) fn entry_count(board: &Board) -> u32
+    ensures { result ≡ length board.now.entries }
+{
+    board.holds();
+    board.entries().len() as u32
+}

@@ -1,0 +1,130 @@
+//! The command `wave`: reads MODEL and ANSWER, judges the answer, and makes the waves of its lasso. The main call is
+//! `wave`. Writes nothing.
+
+ghost use Rattle.std.specs.Prelude.{◌≡◌, ◌∷◌, [], codes, false, IfOk, IfErr, IfSome, IfNone};
+ghost use Rattle.clap.specs.Simple.{app_of, with_subcommand};
+ghost use Rattle.clap.specs.Walk.{rows_of};
+ghost use Rattle.clap.specs.Matches.{found_of};
+ghost use Rattle.clap.specs.declared.builder.command.Command.TheViews.{out-Command as fields_of};
+ghost use Rattle.edge.specs.Faults.{NoneFell};
+ghost use Rattle.edge.specs.Reads.{KeepsTexts};
+ghost use Rattle.certificate.specs.declared.ends.Accepted.{Accepted as AcceptedOf};
+ghost use Rattle.fair_top.specs.Check.{done_of};
+ghost use Rattle.fair_top.specs.Commands.{Asked as AskedFor, meant, Means};
+ghost use Rattle.fair_top.specs.Wave.{wave_command, GivesWave, DecidesWave};
+ghost use Rattle.fair_top.specs.Waved.{CarriesLasso, IsGoodLasso, IsWritten, IsWaved};
+ghost use Rattle.fair_top.specs.Texts.{text_of};
+ghost use Rattle.fair_top.specs.declared.status.Done.TheVariants.{Printed};
+ghost use Rattle.waves.specs.Dumps.{waves_text};
+ghost use Rattle.fair_top.specs.Headline.{IsSilent, IsAnswered, FailedOf, ReadsModelFirst};
+ghost use Rattle.fair_top.specs.Statuses.{status_in, is_read_fault};
+
+use crate::commands::Asked;
+use crate::models::model_of;
+use crate::status::{Done, Status};
+use crate::texts::{Outcome, with_text};
+use crate::words::value_of;
+use aig_semantics::Lasso;
+use aiger_names::Model;
+use certificate::{Accepted, AnswerEnd, AnswerFault, check_with_lasso};
+use clap::{Arg, ArgMatches, Command};
+use edge::Shelf;
+use std::alloc::{AllocError, Global};
+
+fn wave_command<'a>(alloc: Global) -> Result<Command<'a>, AllocError>
+    ensures shape { IfOk result (λ command. app_of command ≡ wave_command) }
+    ensures local { IfOk result (λ command. (fields_of command).has_globals ≡ false) }
+{
+    let model = Arg::new(alloc, "MODEL").required(true);
+    let answer = Arg::new(alloc, "ANSWER").required(true);
+    Command::new(alloc, "wave").arg(model)?.arg(answer)
+}
+
+/// The program with this command.
+pub(crate) fn with_wave<'a>(alloc: Global, program: Command<'a>) -> Result<Command<'a>, AllocError>
+    ensures { IfOk result (λ more. app_of more ≡ with_subcommand (app_of program.entry) wave_command.top) }
+{
+    program.subcommand(wave_command(alloc)?)
+}
+
+/// The names that `wave` is given.
+pub(crate) fn wave_of<'a>(given: &ArgMatches<'a>) -> Option<Asked<'a>>
+    ensures found { IfSome result (λ asked. Means (meant asked) (codes "wave") (rows_of (found_of given.now))) }
+    ensures none { IfNone result ((asked : AskedFor) → Means asked (codes "wave") (rows_of (found_of given.now)) → ⊥) }
+{
+    let model = value_of(given, "MODEL")?;
+    let answer = value_of(given, "ANSWER")?;
+    Some(Asked::Wave { model, answer })
+}
+
+/// Reads the texts under both names, judges the answer, and makes the waves of its lasso: the status with which the command
+/// ends and the text that it writes, but for its writing; or the status of a run that writes nothing, `ReadFault` or
+/// `Memory`.
+pub(crate) fn wave<H: Shelf>(
+    alloc: Global,
+    shelf: &mut H,
+    model: &str,
+    answer: &str,
+) -> Result<Outcome, Status>
+    ensures found { IfOk result (λ outcome. GivesWave (H.held shelf.old model.now) (H.held shelf.old answer.now) outcome.status outcome.text.items) }
+    ensures silent { IfErr result IsSilent }
+    ensures aloud { IfOk result (λ outcome. is_read_fault outcome.status ≡ false) }
+    ensures exactly { (verdict : Status) → DecidesWave (H.held shelf.old model.now) (H.held shelf.old answer.now) verdict → IsAnswered verdict (status_in result) }
+    ensures shown { (accepted : AcceptedOf) → status_in result ≡ Status.Done (done_of accepted) → ⊥ }
+    ensures read { status_in result ≡ Status.ReadFault → FailedOf (H.held shelf.old) (model.now ∷ answer.now ∷ []) (H.faults shelf.old) (H.faults shelf.new) }
+    ensures reads { ReadsModelFirst H.reads (H.held shelf.old) (model.now ∷ answer.now ∷ []) (is_read_fault (status_in result)) shelf.old shelf.new }
+    ensures counts { NoneFell (H.faults shelf.old) (H.faults shelf.new) }
+    ensures kept { KeepsTexts (H.held shelf.old) (H.held shelf.new) }
+{
+    match model_of(alloc, shelf, model) {
+        Ok(found) => {
+            let mut kept = None;
+            let end = check_with_lasso(alloc, found.circuit(), shelf, answer, &mut kept);
+            waved(alloc, &found, end, kept)
+        }
+        Err(status) => with_text(alloc, status),
+    }
+}
+
+// The same for the end of the check of the answer, of which the lasso was kept.
+fn waved(
+    alloc: Global,
+    model: &Model,
+    end: Result<Accepted, AnswerEnd>,
+    kept: Option<Lasso>,
+) -> Result<Outcome, Status>
+    requires { CarriesLasso model.now end kept }
+    ensures { IsWaved model.now end kept result }
+{
+    match end {
+        Ok(Accepted::Lasso { property, .. }) => match kept {
+            Some(lasso) => printed(alloc, model, property, &lasso),
+            None => Err(Status::Memory),
+        },
+        Ok(Accepted::Holds { .. }) => { refused(alloc, AnswerFault::UnknownStatus) }
+        Err(AnswerEnd::Refused(fault)) => refused(alloc, fault),
+        Err(AnswerEnd::ReadFault) => Err(Status::ReadFault),
+        Err(AnswerEnd::Memory) => Err(Status::Memory),
+    }
+}
+
+// The waves of the lasso of a good answer.
+fn printed(alloc: Global, model: &Model, property: u32, lasso: &Lasso) -> Result<Outcome, Status>
+    requires { IsGoodLasso model.now property lasso.now }
+    ensures { IsWritten result (Status.Done Printed) (waves_text model.now property lasso.now) }
+{
+    match waves::write(alloc, model, property, lasso) {
+        Ok(text) => Ok(Outcome {
+            status: Status::Done(Done::Printed),
+            text,
+        }),
+        Err(_) => Err(Status::Memory),
+    }
+}
+
+// The answer is refused for this fault.
+fn refused(alloc: Global, fault: AnswerFault) -> Result<Outcome, Status>
+    ensures { IsWritten result (Status.Refused fault) (text_of (Status.Refused fault)) }
+{
+    with_text(alloc, Status::Refused(fault))
+}
