@@ -1,18 +1,16 @@
 -- What `wave` gives, from the model, the end of the check of the answer and the lasso that was kept.
-use Rattle.std.proofs.Common.{◌≡◌, ◌⊎◌, ℕ, ◌<◌, ◌≤◌, Bool, true, false, List, [], ◌∷◌, length, take, Some, refl, sym, ◌∙◌, ap, subst, inl, inr, arith, Ok, Err}
+use Rattle.std.proofs.Common.{◌≡◌, ◌⊎◌, ℕ, ◌<◌, Bool, true, false, List, [], ◌∷◌, length, take, Some, refl, sym, ◌∙◌, ap, subst, inl, inr, arith, Ok, Err}
 use Rattle.std.specs.Prelude.{Option, Result, IfOk, IfErr}
 use Rattle.std.specs.List.{All}
 use Rattle.std.proofs.lemmas.List.Elements.{All-take}
 use Rattle.aig_semantics.specs.declared.traces.Lasso.{Lasso as LassoOf}
 use Rattle.aig_semantics.specs.Circuits.{Circuit}
 use Rattle.aiger_grammar.specs.Models.{Model}
-use Rattle.aiger_grammar.specs.BothForms.{SameFault}
 use Rattle.circuit.specs.declared.faults.ModelFault.{ModelFault}
 use Rattle.edge.specs.Reads.{Reads}
 use Rattle.edge.specs.Writes.{Writes}
 use Rattle.certificate.specs.declared.ends.Accepted.{Accepted}
 use Rattle.certificate.specs.declared.ends.Accepted.TheVariants.{Lasso, Holds}
-use Rattle.certificate.specs.declared.ends.AnswerEnd.{AnswerEnd}
 use Rattle.certificate.specs.declared.ends.AnswerEnd.TheVariants as ends
 use Rattle.certificate.specs.declared.ends.AnswerFault.{AnswerFault}
 use Rattle.certificate.specs.declared.ends.AnswerFault.TheVariants.{UnknownStatus}
@@ -26,8 +24,8 @@ use Rattle.fair_top.specs.declared.status.Done.TheVariants.{Printed}
 use Rattle.fair_top.specs.declared.texts.Outcome.{Outcome}
 use Rattle.fair_top.specs.ModelGiven.{OfSomeText}
 use Rattle.fair_top.specs.Check.{done_of}
-use Rattle.fair_top.specs.Wave.{HasNoWaves, EndsWave, GivesWave, wave_status, DecidesWave}
-use Rattle.fair_top.specs.Waved.{IsGoodLasso, CarriesLasso, IsWritten, IsWaved}
+use Rattle.fair_top.specs.Wave.{EndsWave, GivesWave, wave_status, DecidesWave}
+use Rattle.fair_top.specs.Waved.{CarriesLasso, IsWritten, IsWaved}
 use Rattle.fair_top.specs.Statuses.{is_read_fault, ends_silently, status_in}
 use Rattle.fair_top.specs.Texts.{text_of}
 use Rattle.fair_top.specs.Headline.{IsSilent, IsAnswered, HoldsModel, ReadsModelFirst, HasWritten}

@@ -1,5 +1,5 @@
 -- The writes that a sink saw, of `check`, of `solve` and of `demo`.
-use Rattle.std.proofs.Common.{◌≡◌, inl, inr, Bool, false, List, ℕ, sym, subst, Ok, Err}
+use Rattle.std.proofs.Common.{inl, inr, Bool, false, List, ℕ, sym, subst, Ok, Err}
 use Rattle.std.specs.Prelude.{Option, Result}
 use Rattle.aig_semantics.specs.Circuits.{Circuit}
 use Rattle.edge.specs.Writes.{Writes}

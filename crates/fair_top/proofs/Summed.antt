@@ -1,11 +1,9 @@
 -- What `demo` sums up.
-use Rattle.std.proofs.Common.{◌≡◌, ◌⊎◌, inl, inr, ℕ, false, List, refl, sym, ◌∙◌, ap, subst, Ok, Err, Some, take}
+use Rattle.std.proofs.Common.{◌≡◌, inl, inr, ℕ, false, List, sym, ◌∙◌, ap, subst, Ok, Err, Some}
 use Rattle.std.specs.Prelude.{Option, Result, IfOk, IfErr}
 use Rattle.aig_semantics.specs.Circuits.{Circuit}
 use Rattle.certificate.specs.declared.ends.Accepted.{Accepted}
 use Rattle.certificate.specs.declared.ends.Accepted.TheVariants as accepted
-use Rattle.certificate.specs.declared.ends.AnswerEnd.{AnswerEnd}
-use Rattle.certificate.specs.declared.ends.AnswerEnd.TheVariants as ends
 use Rattle.certificate.specs.Answers.{IsGood}
 use Rattle.certificate.specs.Ends.{CheckSays}
 use Rattle.wall_store.specs.Boards.{BoardState}

@@ -20,7 +20,7 @@ use Rattle.fair_top.specs.declared.status.Done.TheVariants.{Printed}
 use Rattle.fair_top.specs.Words.{wanted}
 use Rattle.fair_top.specs.Check.{MeansCheck}
 use Rattle.fair_top.specs.ModelTexts.{IsModelText, OfModel}
-use Rattle.fair_top.specs.ModelGiven.{Taking, OfText, OfSomeText, SaysBadModel}
+use Rattle.fair_top.specs.ModelGiven.{OfText, OfSomeText, SaysBadModel}
 use Rattle.fair_top.specs.Texts.{text_of}
 
 abbrev pub wave_command : App

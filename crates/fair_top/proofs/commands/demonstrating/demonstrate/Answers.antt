@@ -1,4 +1,4 @@
-use Rattle.std.proofs.Common.{subst, sym, ◌∙◌, ap, ◌≡◌}
+use Rattle.std.proofs.Common.{subst, ◌∙◌, ap, ◌≡◌}
 use Rattle.std.specs.Prelude.{IfOk}
 use Rattle.aig_semantics.specs.Circuits.{Circuit}
 use Rattle.aiger_grammar.specs.Models.{Model}

@@ -1,5 +1,4 @@
-use Rattle.std.proofs.Common.{inl, inr, sym, ap, ◌∙◌, ◌∷◌, []}
-use Rattle.fair_top.specs.Waved.{CarriesLasso}
+use Rattle.std.proofs.Common.{inl, inr}
 use Rattle.fair_top.specs.Statuses.{status_in}
 use Rattle.fair_top.proofs.Judging.{told_form, rose_since}
 use Rattle.fair_top.proofs.Dumped.{carries, waves_given, waves_exact, waves_shown, waved_silent, waved_aloud, waved_unread, read_failed, both_read, without_gives, without_exact, without_shown}
