@@ -22,11 +22,13 @@ class Refused(Exception):
 
 class Circuit:
     """A circuit: inputs by their variables; latches as (variable, next literal, reset: 0, 1 or None); gates as
-    (variable, right side, right side) in the order of the file; constraints, properties and fairness by literals."""
+    (variable, right side, right side) in the order of the file; constraints, properties and fairness by literals; and
+    what the verdict does not ask for: outputs and bad states by literals, and the text behind the gates."""
 
-    def __init__(self, most, inputs, latches, gates, constraints, justice, fairness):
+    def __init__(self, most, inputs, latches, gates, constraints, justice, fairness, outputs, bad, names):
         self.most, self.inputs, self.latches, self.gates = most, inputs, latches, gates
         self.constraints, self.justice, self.fairness = constraints, justice, fairness
+        self.outputs, self.bad, self.names = outputs, bad, names
         self.latch_of = {variable: k for k, (variable, _, _) in enumerate(latches)}
 
     def values(self, state, inputs):
@@ -69,13 +71,13 @@ def read_circuit(text):
     m, i, l, o, a, b, c, j, f = (list(map(int, numbers)) + [0] * 4)[:9]
     inputs = list(range(1, i + 1)) if is_binary else [reader.number() // 2 for _ in range(i)]
     latches = [reader.latch(i + 1 + k if is_binary else None) for k in range(l)]
-    reader.numbers(o + b)
+    outputs, bad = reader.numbers(o), reader.numbers(b)
     constraints = reader.numbers(c)
     sizes = reader.numbers(j)
     justice = [reader.numbers(size) for size in sizes]
     fairness = reader.numbers(f)
     gates = [reader.gate(i + l + 1 + k if is_binary else None) for k in range(a)]
-    return Circuit(m, inputs, latches, gates, constraints, justice, fairness)
+    return Circuit(m, inputs, latches, gates, constraints, justice, fairness, outputs, bad, text[reader.at :])
 
 
 class ModelText:

@@ -1,10 +1,13 @@
 #!/usr/bin/env python3
-"""What `wave` prints, read by another reader: of drawn models with the stimuli that `solve` prints, each value at each time
-must be the one that the simulation of the judge beside this file gives, and so of the examples with a stimulus, whose
-symbols are names. Where `vcd2fst`, of the package gtkwave, is there, it must take each dump.
+"""What `wave` prints, read by another reader: each name, and each value at each time, must be the one that the model's text
+and the simulation of the judge beside this file give. So of generated models with the stimuli that `solve` prints; of each
+of these once more with outputs, bad states, constraints, properties, fairness and symbols that are drawn, for each of its
+properties; and of the examples with a stimulus. Where `vcd2fst`, of the package gtkwave, is there, it must take each dump.
 
-    waves.py [MODELS]     so many models that have a lasso, 50 if not told"""
+    waves.py [MODELS]     so many generated models that have a lasso, 50 if not told"""
+import itertools
 import os
+import random
 import re
 import shutil
 import subprocess
@@ -13,12 +16,13 @@ import tempfile
 
 sys.dont_write_bytecode = True
 import judge  # noqa: E402
+from maker import below, pick, shuffled  # noqa: E402
 
 TOP = os.path.dirname(os.path.dirname(os.path.abspath(__file__)))
 FAIRLIVE = os.path.join(TOP, "fairlive")
 # the program itself, without the script before it that looks for sources that are newer
 PROGRAM = os.path.join(TOP, "crates", "fair_main", "out", "fair_main")
-EXAMPLES = ("toggle", "counter", "arbiter")
+EXAMPLES = ("toggle", "counter", "arbiter", "bus_priority")
 
 TOGGLE = b"aag 1 0 1 0 0 0 0 1\n2 3\n1\n2\n"
 TOGGLE_ANSWER = b"1\nj0\n0\n\n\n.\n"
@@ -27,51 +31,54 @@ TOGGLE_DUMP = (
     b'$var wire 1 " j0.0 $end\n$var wire 1 # loop $end\n$upscope $end\n$enddefinitions $end\n'
     b'#0\n0!\n0"\n1#\n#10\n1!\n1"\n1#\n#20\n0!\n0"\n1#\n#30\n1!\n1"\n1#\n#40\n'
 )
+# names by hand: what stands behind the gates of a model, labels, and the names that their wires have
+NAMED = (
+    b"l0 earlier\nl0 a b%\nl1 i0\ni1 loop\nj2 i0.l1\nf0 \xff\ncx\ni0 not a symbol\n",
+    ["i0", "i1", "l0", "l1", "j2.0", "j2.1", "f0", "loop"],
+    ["i0", "loop", "a%20b%25", "i0.l1", "i0.l1.j2.0", "i0.l1.j2.1", "%FF", "loop.loop"],
+)
+
+
+# ---- a dump, read word by word
 
 
 def read_dump(text):
-    """The names of the wires in their order, and for each time the values of all wires then."""
-    head, body = text.split(b"$enddefinitions $end\n")
+    """The property of a dump, the names of its wires in their order, and for each time the values that stand there."""
+    words = iter(text.split())
+    heads = []
+    while not heads or heads[-1] != [b"$enddefinitions"]:
+        heads.append(list(itertools.takewhile(lambda word: word != b"$end", words)))
+    unit, comment, scope, *wires, upscope, _ = heads
+    assert unit == [b"$timescale", b"1ns"] and scope == [b"$scope", b"module", b"fairlive"] and upscope == [b"$upscope"]
+    assert comment[:2] == [b"$comment", b"fairlive"] and len(comment) == 3, comment
     names = {}
-    for declaration in head.split(b"$end"):
-        words = declaration.split()
-        if words and words[0] == b"$var":
-            assert words[1:3] == [b"wire", b"1"] and len(words) == 5 and words[3] not in names, words
-            names[words[3]] = words[4].decode()
+    for kind, wire, width, code, name in wires:
+        assert (kind, wire, width) == (b"$var", b"wire", b"1") and code not in names, code
+        names[code] = name.decode()
     assert len(set(names.values())) == len(names), "a name stands twice"
-    times, now = [], {}
-    for line in body.splitlines():
-        if line[:1] == b"#":
-            times.append((int(line[1:]), now := dict(now)))
-        else:
-            assert line[:1] in (b"0", b"1") and line[1:] in names, line
-            now[names[line[1:]]] = line[:1] == b"1"
-    return list(names.values()), times
+    times = []
+    for word in words:
+        if word[:1] == b"#":
+            times.append((int(word[1:]), {}))
+            continue
+        now, name = times[-1][1], names[word[1:]]
+        assert word[:1] in (b"0", b"1") and name not in now, word
+        now[name] = word[:1] == b"1"
+    return comment[2].decode(), list(names.values()), times
 
 
-def rows(answer):
-    """The latches and the inputs of an answer's stimulus."""
-    lines = [line for line in answer.decode().split("\n") if line[:1] not in ("c", "u")]
-    return [[character == "1" for character in line] for line in lines[2 : lines.index(".")]]
+# ---- what a dump must say
 
 
-def shortest(circuit, j, state, inputs):
-    """The values at each position of the lasso that is meant, and the place of its loop."""
-    states, values = [], []
-    for now in inputs:
-        states.append(state)
-        values.append(circuit.values(state, now))
-        state = circuit.successor(values[-1])
-        for place, earlier in enumerate(states):
-            if earlier == state and all(any(judge.is_true(v, literal) for v in values[place:]) for literal in circuit.literals(j)):
-                return values, place
-    raise AssertionError("no lasso")
-
-
-def symbols(model):
-    """The last symbol of each element that has one, of an ASCII model."""
-    lines = re.split(rb"\nc(?:\n|$)", model)[0].split(b"\n")
-    return {found[1].decode(): found[2] for found in map(re.compile(rb"([ilobcjf][0-9]+) (.+)").fullmatch, lines) if found}
+def symbols(text):
+    """The last symbol of each element that has one, in what stands behind the gates of a model."""
+    found = {}
+    for line in text.split(b"\n"):
+        if re.match(rb"c(?![0-9])", line):
+            break
+        element, _, name = line.partition(b" ")
+        found[element.decode()] = name
+    return found
 
 
 def named(labels, symbol_of):
@@ -86,22 +93,106 @@ def named(labels, symbol_of):
     return names
 
 
-def wanted(model, j, answer):
-    """The names of the wires of a model without outputs and bad states, and for each time the values."""
+def rows(answer):
+    """The latches and the inputs of an answer's stimulus."""
+    lines = [line for line in answer.decode().split("\n") if line[:1] not in ("c", "u")]
+    return [[character == "1" for character in line] for line in lines[2 : lines.index(".")]]
+
+
+def run_of(circuit, answer, count):
+    """The values at so many first positions of a stimulus."""
+    state, *inputs = rows(answer)
+    values = []
+    for now in inputs[:count]:
+        values.append(circuit.values(state, now))
+        state = circuit.successor(values[-1])
+    return values
+
+
+def lasso_of(circuit, answer):
+    """The property of an answer's lasso, how many positions it has, and the place of its loop; None where it is refused."""
+    said, _ = judge.judge(circuit, answer)
+    found = re.fullmatch(r"accepted lasso j(\d+) positions (\d+) loop (\d+)\n", said)
+    return found and tuple(map(int, found.groups()))
+
+
+def wanted(model, answer):
+    """What `read_dump` must find in the waves of an answer that is good."""
     circuit = judge.read_circuit(model)
-    wires = [(f"i{k}", 2 * v) for k, v in enumerate(circuit.inputs)]
-    wires += [(f"l{k}", 2 * latch[0]) for k, latch in enumerate(circuit.latches)]
-    wires += [(f"c{k}", literal) for k, literal in enumerate(circuit.constraints)]
-    wires += [(f"j{j}.{k}", literal) for k, literal in enumerate(circuit.justice[j])]
-    wires += [(f"f{k}", literal) for k, literal in enumerate(circuit.fairness)]
-    *names, loop = named([label for label, _ in wires] + ["loop"], symbols(model))
-    latches, *inputs = rows(answer)
-    values, place = shortest(circuit, j, latches, inputs)
+    j, count, place = lasso_of(circuit, answer)
+    sections = [("i", [2 * v for v in circuit.inputs]), ("l", [2 * v for v, _, _ in circuit.latches]), ("o", circuit.outputs)]
+    sections += [("b", circuit.bad), ("c", circuit.constraints), (f"j{j}.", circuit.justice[j]), ("f", circuit.fairness)]
+    wires = [(f"{label}{k}", literal) for label, literals in sections for k, literal in enumerate(literals)]
+    *names, loop = named([label for label, _ in wires] + ["loop"], symbols(circuit.names))
+    values = run_of(circuit, answer, count)
     times = []
     for t, value in enumerate(values + values[place:]):
         times.append((10 * t, {**{name: judge.is_true(value, literal) for name, (_, literal) in zip(names, wires)}, loop: t >= place}))
-    times.append((10 * len(times), times[-1][1]))
-    return names + [loop], times
+    times.append((10 * len(times), {}))
+    return f"j{j}", names + [loop], times
+
+
+# ---- models with all sections, drawn around a generated one and its lasso
+
+
+def few(chance, values, most):
+    return [pick(chance, values) for _ in range(below(chance, most + 1))]
+
+
+def dressed(chance, model, answer):
+    """The model with drawn sections and symbols. The lasso of the answer keeps its constraints, and makes the fairness
+    literals and the literals of property 1 true."""
+    circuit = judge.read_circuit(model)
+    _, count, place = lasso_of(circuit, answer)
+    values = run_of(circuit, answer, count)
+    literals = range(2 * circuit.most + 2)
+    held = [literal for literal in literals if all(judge.is_true(value, literal) for value in values)]
+    recurring = [literal for literal in literals if any(judge.is_true(value, literal) for value in values[place:])]
+    justice = [few(chance, pick(chance, [literals, recurring]), 3), few(chance, recurring, 3)]
+    justice += [few(chance, recurring, 2) for _ in range(below(chance, 3))]
+    sections = {"o": few(chance, literals, 4), "b": few(chance, literals, 3), "c": few(chance, held, 4), "j": justice}
+    sections["f"] = shuffled(chance, circuit.fairness + few(chance, recurring, 2))
+    numbers = [*sections["o"], *sections["b"], *sections["c"], *map(len, justice), *itertools.chain(*justice), *sections["f"]]
+
+    # the generated model's lines in front of its sections, and all behind these
+    word = model[:3].decode()
+    kept = len(circuit.latches) + (0 if word == "aig" else len(circuit.inputs))
+    cut = len(circuit.justice) + sum(map(len, circuit.justice)) + len(circuit.fairness)
+    _, *lines = model.split(b"\n", 1 + kept + cut)
+    counts = [circuit.most, len(circuit.inputs), len(circuit.latches), len(sections["o"]), len(circuit.gates)]
+    header = [word, *counts, *(len(sections[letter]) for letter in "bcjf")]
+    front = [" ".join(map(str, header)).encode(), *lines[:kept], *(str(number).encode() for number in numbers)]
+    sections = {"i": circuit.inputs, "l": circuit.latches, **sections}
+    elements = [f"{letter}{k}" for letter, section in sections.items() for k in range(len(section))]
+    return b"\n".join(front) + b"\n" + lines[-1] + symbol_lines(chance, elements)
+
+
+def symbol_lines(chance, elements):
+    """Symbols of these elements, some of them with several and some with none, and in half of the models a comment."""
+    text = b""
+    for _ in range(below(chance, 2 * len(elements) + 1)):
+        text += pick(chance, elements).encode() + b" " + draw_name(chance, elements) + b"\n"
+    return text + pick(chance, [b"", b"c\ni0 not a symbol\n"])
+
+
+def draw_name(chance, elements):
+    """A name that others may have too, or that is like the label of a wire or a name that was set apart, or any bytes."""
+    label = pick(chance, elements).encode()
+    known = [b"x", b"x.", b"loop", b"loop.loop", b"request high", b" ", b"100%", b"%25", b"\xc3\xa4", b"$var", b"#10", b"c"]
+    names = [pick(chance, known), pick(chance, known), label, b"x." + label, label + b".0", b"loop." + label]
+    names.append(bytes(pick(chance, [*range(10), *range(11, 256)]) for _ in range(1 + below(chance, 5))))
+    return pick(chance, names)
+
+
+def asked(chance, answer, j):
+    """The stimulus of an answer for property j, with up to three more rows."""
+    lines = [line for line in answer.decode().split("\n") if line[:1] not in ("c", "u")]
+    end = lines.index(".")
+    more = ["".join(pick(chance, "01x") for _ in lines[end - 1]) for _ in range(below(chance, 4))]
+    return "\n".join(["1", f"j{j}", *lines[2:end], *more, ".", ""]).encode()
+
+
+# ---- the program
 
 
 def run(words):
@@ -109,56 +200,76 @@ def run(words):
     return ran.returncode, ran.stdout
 
 
-def taken(folder, dump):
-    """Whether the tool of a viewer takes the dump, or is not there."""
-    if not shutil.which("vcd2fst"):
-        return True
-    path = os.path.join(folder, "waves.vcd")
-    with open(path, "wb") as file:
-        file.write(dump)
-    return subprocess.run(["vcd2fst", path, path + ".fst"], stdout=subprocess.DEVNULL, stderr=subprocess.DEVNULL).returncode == 0
+class Waves:
+    """A folder for texts, how many dumps were as they must be, and whether all were."""
 
+    def __init__(self, folder):
+        self.folder, self.count, self.good = folder, 0, True
 
-def check(folder, model, answer, what):
-    paths = [os.path.join(folder, name) for name in ("model", "answer")]
-    for path, text in zip(paths, (model, answer)):
+    def path(self, name, text):
+        path = os.path.join(self.folder, name)
         with open(path, "wb") as file:
             file.write(text)
-    status, dump = run(["wave", *paths])
-    if status != 0 or read_dump(dump) != wanted(model, 0, answer) or not taken(folder, dump):
-        print(f"wave of {what}: status {status}, and other values than those of the stimulus")
-        return False
-    return True
+        return path
+
+    def is_taken(self, dump):
+        """Whether the tool of a viewer takes the dump, or is not there."""
+        if not shutil.which("vcd2fst"):
+            return True
+        path = self.path("waves.vcd", dump)
+        return subprocess.run(["vcd2fst", path, path + ".fst"], stdout=subprocess.DEVNULL, stderr=subprocess.DEVNULL).returncode == 0
+
+    def check(self, model, answer, what):
+        """Looks whether the waves are those of the answer, or are refused as the judge refuses it."""
+        status, dump = run(["wave", self.path("model", model), self.path("answer", answer)])
+        circuit = judge.read_circuit(model)
+        if lasso_of(circuit, answer) is None:
+            is_right = (dump.decode(), status) == judge.judge(circuit, answer)
+        else:
+            is_right = status == 0 and read_dump(dump) == wanted(model, answer) and self.is_taken(dump)
+            self.count += is_right
+        if not is_right:
+            print(f"wave of {what}: status {status}, and other names or values than those of model and stimulus")
+            self.good = False
+
+    def check_generated(self, seed):
+        """Whether the model of this seed has a lasso; its waves are looked at, plain and with drawn sections."""
+        chance = random.Random(seed)
+        words = ["scramble", str(seed), str(2 + seed % 40)]
+        model = run(["gen", *words, *pick(chance, [[], ["--binary"]])])[1]
+        status, answer = run(["solve", self.path("drawn", model), "--steps", "1000"])
+        if status != 0 or answer[:1] != b"1":
+            return False
+        self.check(model, answer, " ".join(words))
+        model = dressed(chance, model, answer)
+        for j in range(len(judge.read_circuit(model).justice)):
+            self.check(model, asked(chance, answer, j), " ".join([*words, "with drawn sections, property", str(j)]))
+        return True
 
 
 def main():
-    assert read_dump(TOGGLE_DUMP) == wanted(TOGGLE, 0, TOGGLE_ANSWER)
+    assert read_dump(TOGGLE_DUMP) == wanted(TOGGLE, TOGGLE_ANSWER)
+    behind_gates, labels, names = NAMED
+    assert named(labels, symbols(behind_gates)) == names
     most = int(sys.argv[1]) if len(sys.argv) > 1 else 50
     subprocess.run([FAIRLIVE], stdout=subprocess.DEVNULL)  # builds the program, where it is not
     if not shutil.which("vcd2fst"):
         print("waves: vcd2fst is not there, and is skipped")
-    good, found, seed = True, 0, 0
+    found, seed = 0, 0
     with tempfile.TemporaryDirectory() as folder:
+        waves = Waves(folder)
         for name in EXAMPLES:
             texts = [open(os.path.join(TOP, "examples", name + end), "rb").read() for end in (".aag", ".stim")]
-            good = check(folder, *texts, name) and good
+            waves.check(*texts, name)
         while found < most and seed < 40 * most:
-            size = 2 + seed % 40
-            model = run(["gen", "scramble", str(seed), str(size)])[1]
-            path = os.path.join(folder, "drawn")
-            with open(path, "wb") as file:
-                file.write(model)
-            status, answer = run(["solve", path, "--steps", "1000"])
-            if status == 0 and answer[:1] == b"1":
-                good = check(folder, model, answer, f"scramble {seed} {size}") and good
-                found += 1
+            found += waves.check_generated(seed)
             seed += 1
     if found < most:
         print(f"waves: only {found} models with a lasso")
-        good = False
-    if good:
-        print(f"waves: {found} dumps as the simulation says")
-    return 0 if good else 1
+        waves.good = False
+    if waves.good:
+        print(f"waves: {waves.count} dumps as the simulation says, of {found} generated models with and without drawn sections")
+    return 0 if waves.good else 1
 
 
 if __name__ == "__main__":
