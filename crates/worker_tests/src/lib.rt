@@ -1,9 +1,14 @@
-//! Tests of workers that take turns, on small models.
+//! Tests of workers that take turns, on small models and on drawn ones.
 #![tactic(auto)]
 
+#[cfg(test)]
+mod drawing;
+#[cfg(test)]
+mod judging;
 mod running;
-
-pub use running::{limits, run, with_property};
-
+#[cfg(test)]
+mod searching;
 #[cfg(test)]
 mod tests;
+
+pub use running::{Numbers, limits, run, with_property};

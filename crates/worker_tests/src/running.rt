@@ -20,15 +20,25 @@ pub fn with_property(c: Arc<Circuit>) -> Option<Arc<Circuit>>
     Some(c)
 }
 
-/// Limits of so many workers, at least one and at most 64, with no limit on conflicts.
-pub fn limits(workers: u32, steps: u64, skeletons: u32) -> Limits
+/// How many workers there are, how many conflicts and steps each of them may count, and by how many entries their list
+/// may grow.
+#[derive(Debug, Clone, Copy)]
+pub struct Numbers {
+    pub workers: u32,
+    pub conflicts: u64,
+    pub steps: u64,
+    pub skeletons: u32,
+}
+
+/// Limits of these numbers, or of the nearest that may be: 1 to 64 workers, and up to 65,536 entries.
+pub fn limits(n: &Numbers) -> Limits
     ensures { AreLimits result }
 {
     Limits {
-        workers: within(workers, 1, 64),
-        conflicts: 4_294_967_295,
-        steps,
-        skeletons: within(skeletons, 0, 65_536),
+        workers: within(n.workers, 1, 64),
+        conflicts: n.conflicts,
+        steps: n.steps,
+        skeletons: within(n.skeletons, 0, 65_536),
     }
 }
 

@@ -1,6 +1,7 @@
 //! What workers come to on small models, for several schedules and limits.
 
-use crate::running::{limits, run, with_property};
+use crate::judging::{ends_within, is_decided};
+use crate::running::{Numbers, limits, run, with_property};
 use entry::{Checked, Origin};
 use fair_workers::{Board, Ended};
 use std::alloc::Global;
@@ -75,8 +76,14 @@ fn answer(
     let model = aiger_ascii::read(alloc, text.as_bytes())?;
     let c = Arc::new(alloc, model.into_circuit())?;
     let (workers, steps, skeletons) = numbers;
+    let n = Numbers {
+        workers,
+        conflicts: ENOUGH,
+        steps,
+        skeletons,
+    };
     Ok(match with_property(c) {
-        Some(c) => answer_of(run(alloc, &c, limits(workers, steps, skeletons), schedule)),
+        Some(c) => answer_of(run(alloc, &c, limits(&n), schedule)),
         None => (End::Memory, 0, None),
     })
 }
@@ -108,6 +115,23 @@ fn row_is(alloc: Global, row: &(&str, u32, u64, u32, &[u32], Answer)) -> Result<
 fn rows(rt: HostRuntime) -> Result<(), Fail> {
     for row in &ROWS {
         assert!(rt; row_is(rt.alloc(), row)?, "{}", row.0);
+    }
+    Ok(())
+}
+
+#[test]
+fn drawn_models_are_decided(rt: HostRuntime) -> Result<(), Fail> {
+    for number in 0..40 {
+        assert!(rt; is_decided(rt.alloc(), number)?, "{number}");
+    }
+    Ok(())
+}
+
+/// Limits of 0, 1, 2, .., until none is spent.
+#[test]
+fn drawn_models_under_limits(rt: HostRuntime) -> Result<(), Fail> {
+    for number in 0..40 {
+        assert!(rt; ends_within(rt.alloc(), number)?, "{number}");
     }
     Ok(())
 }

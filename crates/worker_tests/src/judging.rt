@@ -1,0 +1,382 @@
+//! Runs of workers on drawn models, judged by a search of all states. The main calls are `is_decided` and
+//! `ends_within`.
+
+use crate::drawing::{model_text, schedule};
+use crate::running::{Numbers, limits, run, with_property};
+use crate::searching::{Step, has_fair_lasso, leaves_a_skeleton, literal_count, steps_of};
+use certificate::{Accepted, check_answer};
+use circuit::{Circuit, Lasso, Stimulus};
+use edge::{MemShelf, Spending};
+use entry::Origin;
+use fair_workers::{Board, Ended, Report};
+use items::Items;
+use std::alloc::{AllocError, Global};
+use std::sync::Arc;
+use wall_store::Outcome;
+
+const NO_LIMIT: u64 = 4_294_967_295;
+
+/// How a run ended, all of which was seen to be right; or that something was not.
+#[derive(Debug, Clone, Copy, PartialEq, Eq)]
+enum End {
+    Verdict,
+    Report,
+    Wrong,
+}
+
+// A drawn circuit with its steps, and whether it has a fair lasso.
+#[derive(Drop)]
+struct SearchedCircuit {
+    circuit: Arc<Circuit>,
+    steps: Vec<Step>,
+    has_lasso: bool,
+}
+
+// ---- the text of an outcome
+
+fn stimulus_of(alloc: Global, lasso: &Lasso) -> Result<Stimulus, AllocError> {
+    let mut inputs = Items::new(alloc);
+    for values in lasso.inputs.as_slice() {
+        inputs.push(values.try_copy(alloc)?)?;
+    }
+    Ok(Stimulus {
+        latches: lasso.start.try_copy(alloc)?,
+        inputs,
+    })
+}
+
+fn answer_text(alloc: Global, board: &Board, outcome: &Outcome) -> Result<Vec<u8>, AllocError> {
+    match outcome {
+        Outcome::Lasso(lasso) => stimulus::write(alloc, 0, &stimulus_of(alloc, lasso)?),
+        Outcome::Holds(refutation) => certificate::write(alloc, 0, board.entries(), refutation),
+    }
+}
+
+// What `check_answer` answers on a text, if it accepts it.
+fn accepted(alloc: Global, c: &Circuit, text: Vec<u8>) -> Result<Option<Accepted>, AllocError> {
+    let mut texts = Vec::new(alloc);
+    texts.push((String::from_str(alloc, "a")?, text))?;
+    let mut shelf = MemShelf::new(texts, 100, Vec::new(alloc));
+    Ok(check_answer(alloc, c, &mut shelf, "a").ok())
+}
+
+// Whether an answer of property 0 that was accepted says what the search of all states says.
+fn says(answer: Option<Accepted>, has_lasso: bool) -> bool {
+    match answer {
+        Some(Accepted::Lasso { property, .. }) => property == 0 && has_lasso,
+        Some(Accepted::Holds { property, .. }) => property == 0 && !has_lasso,
+        None => false,
+    }
+}
+
+fn is_right_outcome(
+    alloc: Global,
+    searched: &SearchedCircuit,
+    board: &Board,
+    outcome: &Outcome,
+) -> Result<bool, AllocError> {
+    let text = answer_text(alloc, board, outcome)?;
+    let answer = accepted(alloc, &*searched.circuit, text)?;
+    Ok(says(answer, searched.has_lasso))
+}
+
+// ---- boards and reports
+
+fn is_by_workers(board: &Board, workers: u32) -> bool {
+    for entry in board.entries() {
+        match entry.origin() {
+            Origin::Worker(work) => {
+                if work.author >= workers {
+                    return false;
+                }
+            }
+            Origin::Given => return false,
+        }
+    }
+    true
+}
+
+fn serves_property_0(board: &Board) -> bool {
+    let served = board.served();
+    served.len() == 1 && served[0].property == 0
+}
+
+// Whether a board is one of these workers, whose list is within its limit.
+fn is_board(board: &Board, n: &Numbers) -> bool {
+    board.workers() == n.workers
+        && board.limit() == n.skeletons
+        && board.given() == 0
+        && serves_property_0(board)
+        && board.entries().len() <= n.skeletons as usize
+        && is_by_workers(board, n.workers)
+}
+
+fn limit_of(number: u64) -> Option<u64> {
+    if number < NO_LIMIT {
+        Some(number)
+    } else {
+        None
+    }
+}
+
+fn has_limits(spent: &Spending, n: &Numbers) -> bool {
+    spent.conflict_limit() == limit_of(n.conflicts) && spent.step_limit() == limit_of(n.steps)
+}
+
+fn is_spent(spent: &Spending) -> bool {
+    spent.conflict_limit() == Some(spent.conflicts()) || spent.step_limit() == Some(spent.steps())
+}
+
+fn path_steps(latches: usize) -> u64 {
+    let mut states: u64 = 1;
+    for _latch in 0..latches {
+        states = states.saturating_mul(2);
+    }
+    states
+        .saturating_add(2)
+        .saturating_mul(states.saturating_add(2))
+}
+
+// How many steps a worker takes at most.
+fn most_steps(c: &Circuit, skeletons: u32) -> u64 {
+    let situations = (literal_count(c) as u64).max(1);
+    u64::from(skeletons)
+        .saturating_add(1)
+        .saturating_mul(situations.saturating_add(1))
+        .saturating_mul(path_steps(c.latches().len()))
+}
+
+fn all_within(spendings: &[Spending], n: &Numbers, most: u64) -> bool {
+    for spent in spendings {
+        if !has_limits(spent, n) || spent.steps() > most {
+            return false;
+        }
+    }
+    true
+}
+
+fn all_spent(spendings: &[Spending]) -> bool {
+    for spent in spendings {
+        if !is_spent(spent) {
+            return false;
+        }
+    }
+    true
+}
+
+// Whether the counts of a report are right.
+fn has_right_counts(c: &Circuit, n: &Numbers, report: &Report) -> bool {
+    is_board(&report.board, n)
+        && report.board.outcome(0).is_none()
+        && report.workers.len() == n.workers as usize
+        && all_within(report.workers.as_slice(), n, most_steps(c, n.skeletons))
+}
+
+// Whether the list is full, and a skeleton is left.
+fn is_stuck(
+    alloc: Global,
+    searched: &SearchedCircuit,
+    n: &Numbers,
+    board: &Board,
+) -> Result<bool, AllocError> {
+    if board.entries().len() != n.skeletons as usize {
+        return Ok(false);
+    }
+    leaves_a_skeleton(
+        alloc,
+        &*searched.circuit,
+        board.entries(),
+        searched.steps.as_slice(),
+    )
+}
+
+// Whether a report is right: its counts, and what it says was spent.
+fn is_right_report(
+    alloc: Global,
+    searched: &SearchedCircuit,
+    n: &Numbers,
+    report: &Report,
+) -> Result<bool, AllocError> {
+    if !has_right_counts(&*searched.circuit, n, report) {
+        return Ok(false);
+    }
+    if all_spent(report.workers.as_slice()) {
+        return Ok(true);
+    }
+    is_stuck(alloc, searched, n, &report.board)
+}
+
+// ---- runs
+
+fn end_of_board(
+    alloc: Global,
+    searched: &SearchedCircuit,
+    n: &Numbers,
+    board: &Board,
+) -> Result<End, AllocError> {
+    let is_right = match board.outcome(0) {
+        Some(outcome) => is_board(board, n) && is_right_outcome(alloc, searched, board, outcome)?,
+        None => false,
+    };
+    Ok(if is_right { End::Verdict } else { End::Wrong })
+}
+
+fn end_of_report(
+    alloc: Global,
+    searched: &SearchedCircuit,
+    n: &Numbers,
+    report: &Report,
+) -> Result<End, AllocError> {
+    let is_right = is_right_report(alloc, searched, n, report)?;
+    Ok(if is_right { End::Report } else { End::Wrong })
+}
+
+fn run_by(alloc: Global, c: &Arc<Circuit>, n: &Numbers, turns: &[u32]) -> Result<Board, Ended> {
+    match with_property(Arc::try_clone(c)?) {
+        Some(c) => run(alloc, &c, limits(n), turns),
+        None => Err(Ended::Memory),
+    }
+}
+
+fn judged(
+    alloc: Global,
+    searched: &SearchedCircuit,
+    n: &Numbers,
+    ended: Result<Board, Ended>,
+) -> Result<End, AllocError> {
+    match ended {
+        Ok(board) => end_of_board(alloc, searched, n, &board),
+        Err(Ended::Spent(report)) => end_of_report(alloc, searched, n, &report),
+        Err(Ended::Memory) => Ok(End::Wrong),
+    }
+}
+
+// How workers end with these limits and the schedule with a number.
+fn end_of(
+    alloc: Global,
+    searched: &SearchedCircuit,
+    n: &Numbers,
+    number: u64,
+) -> Result<End, AllocError> {
+    let turns = schedule(alloc, number, n.workers)?;
+    let ended = run_by(alloc, &searched.circuit, n, &turns);
+    judged(alloc, searched, n, ended)
+}
+
+// The circuit of the drawn model with a number, which is always read.
+fn circuit_drawn(alloc: Global, number: u64) -> Result<Option<Arc<Circuit>>, AllocError> {
+    let text = model_text(alloc, number)?;
+    match aiger_ascii::read(alloc, &text) {
+        Ok(model) => Ok(Some(Arc::new(alloc, model.into_circuit())?)),
+        Err(_) => Ok(None),
+    }
+}
+
+fn searched(alloc: Global, circuit: Arc<Circuit>) -> Result<SearchedCircuit, AllocError> {
+    let steps = steps_of(alloc, &*circuit)?;
+    Ok(SearchedCircuit {
+        has_lasso: has_fair_lasso(alloc, &*circuit, &steps)?,
+        circuit,
+        steps,
+    })
+}
+
+// Whether 1 to 4 workers without limits decide the circuit, each number of them by two schedules.
+fn is_decided_by_all(
+    alloc: Global,
+    searched: &SearchedCircuit,
+    number: u64,
+) -> Result<bool, AllocError> {
+    for k in 0..8 {
+        let n = Numbers {
+            workers: k / 2 + 1,
+            conflicts: NO_LIMIT,
+            steps: NO_LIMIT,
+            skeletons: 65_536,
+        };
+        let drawn = number.saturating_mul(8).saturating_add(u64::from(k));
+        if end_of(alloc, searched, &n, drawn)? != End::Verdict {
+            return Ok(false);
+        }
+    }
+    Ok(true)
+}
+
+/// Whether the drawn model with a number is decided rightly by 1 to 4 workers, by drawn schedules.
+pub(crate) fn is_decided(alloc: Global, number: u64) -> Result<bool, AllocError> {
+    match circuit_drawn(alloc, number)? {
+        Some(circuit) => is_decided_by_all(alloc, &searched(alloc, circuit)?, number),
+        None => Ok(false),
+    }
+}
+
+// So many of one kind: of entries, conflicts, steps, or of all three.
+fn numbers_of(kind: u32, workers: u32, limit: u32) -> Numbers {
+    let units = u64::from(limit);
+    Numbers {
+        workers,
+        conflicts: if kind == 1 || kind == 3 {
+            units
+        } else {
+            NO_LIMIT
+        },
+        steps: if kind == 2 || kind == 3 {
+            units
+        } else {
+            NO_LIMIT
+        },
+        skeletons: if kind == 0 || kind == 3 {
+            limit
+        } else {
+            65_536
+        },
+    }
+}
+
+// 0, 1, 2, .. up to 16, and then twice as many each time.
+fn next_limit(limit: u32) -> u32 {
+    if limit < 16 {
+        limit + 1
+    } else {
+        limit.saturating_mul(2)
+    }
+}
+
+// Whether runs end rightly with each limit of a kind in turn, up to one that is not spent.
+fn ends_by_kind(
+    alloc: Global,
+    searched: &SearchedCircuit,
+    number: u64,
+    kind: u32,
+) -> Result<bool, AllocError> {
+    let workers = (number % 4) as u32 + 1;
+    let mut limit = 0;
+    for turn in 0..28 {
+        let n = numbers_of(kind, workers, limit);
+        let drawn = number.saturating_mul(28).saturating_add(turn);
+        match end_of(alloc, searched, &n, drawn)? {
+            End::Verdict => return Ok(true),
+            End::Report => limit = next_limit(limit),
+            End::Wrong => return Ok(false),
+        }
+    }
+    Ok(false)
+}
+
+fn ends_by_all(alloc: Global, searched: &SearchedCircuit, number: u64) -> Result<bool, AllocError> {
+    for kind in 0..4 {
+        if !ends_by_kind(alloc, searched, number, kind)? {
+            return Ok(false);
+        }
+    }
+    Ok(true)
+}
+
+/// Whether 1 to 4 workers end rightly on the drawn model with a number, by drawn schedules, with limits of entries, of
+/// conflicts and of steps, and of all three: 0, 1, 2, .. until none is spent.
+pub(crate) fn ends_within(alloc: Global, number: u64) -> Result<bool, AllocError> {
+    match circuit_drawn(alloc, number)? {
+        Some(circuit) => ends_by_all(alloc, &searched(alloc, circuit)?, number),
+        None => Ok(false),
+    }
+}
