@@ -8,7 +8,6 @@ use Rattle.std.proofs.lemmas.List.Elements.{All-nil, All-cons, All-set}
 use Rattle.aig_semantics.specs.Circuits.{Circuit}
 use Rattle.fair_semantics.specs.Entries.{Numbered}
 use Rattle.fair_semantics.specs.Skeletons.{IsSkeleton}
-use Rattle.fair_semantics.specs.Examples.{one_situation}
 use Rattle.entry.specs.declared.origins.Origin.{Origin}
 use Rattle.entry.specs.CheckedEntries.{CheckedEntry, StandIn}
 use Rattle.fair_semantics.specs.declared.skeletons.Skeleton.{Skeleton}
@@ -19,26 +18,26 @@ use Rattle.wall_store.specs.declared.outcomes.Outcome.TheVariants.{Holds}
 use Rattle.wall_store.specs.Boards.{FromWorker, Allow, plain, IsTrueOf}
 use Rattle.wall_ledger.specs.Passes.{PassState, LedgerState, MayPassPost, IsPassPost, new_pass, new_passes}
 use Rattle.wall_ledger.specs.Turns.{AreAll, AreOf, IsBegun}
-use Rattle.ledger_tests.specs.Crews.{model, properties, IsFindOf, IsOf, numbers, count_up}
+use Rattle.ledger_tests.specs.Crews.{model, properties, target, IsFindOf, IsOf, numbers, count_up}
 use Rattle.ledger_tests.proofs.Modelling.{is_skeleton}
 
-of_served : (two : Bool) → Any (λ (j : ℕ). IsSkeleton (model two) j (one_situation true true)) (properties two)
-of_served false = (0, 0, (omega arith), refl, is_skeleton false)
-of_served true = (0, 0, (omega arith), refl, is_skeleton true)
+pub of_served : (two : Bool) (k : ℕ) → Any (λ (j : ℕ). IsSkeleton (model two) j (target k)) (properties two)
+of_served false k = (0, 0, (omega arith), refl, is_skeleton false k)
+of_served true k = (0, 0, (omega arith), refl, is_skeleton true k)
 
-pub may_post : (two : Bool) (l : LedgerState) (p : PassState) (e : CheckedEntry) → IsOf two l
-    → IsFindOf (model two) p.number p.turns e → Allow p.list (one_situation true true) → MayPassPost l p e
-may_post two l p e of found allowed =
-    let here : Any (λ (j : ℕ). IsSkeleton l.circuit j (one_situation true true)) l.properties =
-    subst (λ (js : List ℕ). Any (λ (j : ℕ). IsSkeleton l.circuit j (one_situation true true)) js) (sym of.properties)
-    (subst (λ (c : Circuit). Any (λ (j : ℕ). IsSkeleton c j (one_situation true true)) (properties two)) (sym of.circuit) (of_served two))
+pub may_post : (two : Bool) (k : ℕ) (l : LedgerState) (p : PassState) (e : CheckedEntry) → IsOf two l
+    → IsFindOf (model two) p.number p.turns k e → Allow p.list (target k) → MayPassPost l p e
+may_post two k l p e of found allowed =
+    let here : Any (λ (j : ℕ). IsSkeleton l.circuit j (target k)) l.properties =
+    subst (λ (js : List ℕ). Any (λ (j : ℕ). IsSkeleton l.circuit j (target k)) js) (sym of.properties)
+    (subst (λ (c : Circuit). Any (λ (j : ℕ). IsSkeleton c j (target k)) (properties two)) (sym of.circuit) (of_served two k))
     in
     subst (λ (o : Origin). FromWorker o (IsPassPost l p e)) (sym found.origin)
     (record {
       circuit = found.circuit ∙ sym of.circuit;
       author = refl;
       turn = refl;
-      uses = subst (λ (used : List Numbered). StandIn (plain p.list) used) (sym found.used) (λ k d inside. absurd (omega (arith, inside)));
+      uses = subst (λ (used : List Numbered). StandIn (plain p.list) used) (sym found.used) (λ i d inside. absurd (omega (arith, inside)));
       skeleton = here;
       allowed = allowed;
     })
@@ -103,14 +102,14 @@ begun_numbers {w = w} {l = l} b =
 
 -- ---- posts, from what calls tell
 
-pub may_post_found : (two : Bool) (l : LedgerState) (p : PassState) (e : CheckedEntry) (d : Circuit) (n t : ℕ) (list : List CheckedEntry)
-    (skeleton : Skeleton) → IsOf two l → d ≡ model two → n ≡ p.number → t ≡ p.turns → IsFindOf d n t e → list ≡ p.list
-    → skeleton ≡ one_situation true true → Allow list skeleton → MayPassPost l p e
-may_post_found two l p e d n t list skeleton of same number turn found seen target allowed =
-    may_post two l p e of
-    (subst (λ (c : Circuit). IsFindOf c p.number p.turns e) same
-    (subst (λ (m : ℕ). IsFindOf d m p.turns e) number (subst (λ (m : ℕ). IsFindOf d n m e) turn found)))
-    (subst (λ (s : Skeleton). Allow p.list s) target (subst (λ (es : List CheckedEntry). Allow es skeleton) seen allowed))
+pub may_post_found : (two : Bool) (k : ℕ) (l : LedgerState) (p : PassState) (e : CheckedEntry) (d : Circuit) (n t : ℕ) (list : List CheckedEntry)
+    (skeleton : Skeleton) → IsOf two l → d ≡ model two → n ≡ p.number → t ≡ p.turns → IsFindOf d n t k e → list ≡ p.list
+    → skeleton ≡ target k → Allow list skeleton → MayPassPost l p e
+may_post_found two k l p e d n t list skeleton of same number turn found seen aimed allowed =
+    may_post two k l p e of
+    (subst (λ (c : Circuit). IsFindOf c p.number p.turns k e) same
+    (subst (λ (m : ℕ). IsFindOf d m p.turns k e) number (subst (λ (m : ℕ). IsFindOf d n m k e) turn found)))
+    (subst (λ (s : Skeleton). Allow p.list s) aimed (subst (λ (es : List CheckedEntry). Allow es skeleton) seen allowed))
 
 pub true_of : (two : Bool) (l : LedgerState) (p : PassState) (j : ℕ) (d : Circuit) (entries : List Entry) (r : Refutation) → IsOf two l
     → d ≡ model two → entries ≡ plain p.list → IsGoodRefutation d entries j r.uses r.proof → IsTrueOf l.circuit p.list j (Holds r)
@@ -118,7 +117,7 @@ true_of two l p j d entries r of same seen good =
     subst (λ (es : List Entry). IsGoodRefutation l.circuit es j r.uses r.proof) seen
     (subst (λ (c : Circuit). IsGoodRefutation c entries j r.uses r.proof) (same ∙ sym of.circuit) good)
 
-among : (two : Bool) (j : ℕ) → j < length (properties two) → Contains (properties two) j
+pub among : (two : Bool) (j : ℕ) → j < length (properties two) → Contains (properties two) j
 among false zero below = (0, (omega arith), refl)
 among false (suc j) below = absurd (omega (arith, below))
 among true zero below = (0, (omega arith), refl)

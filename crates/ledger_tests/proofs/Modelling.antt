@@ -1,17 +1,21 @@
 -- The circuits whose latch stays at 0: a skeleton, and what may be posted.
-use Rattle.std.proofs.Common.{◌≡◌, ℕ, ◌<◌, ◌≤◌, Bool, true, false, List, [], ◌∷◌, map, length, refl, sym, ap, ◌∙◌, subst, arith}
+use Rattle.std.proofs.Common.{◌≡◌, ℕ, zero, suc, ◌<◌, ◌≤◌, ◌==◌, Bool, true, false, List, [], ◌∷◌, map, length, refl, sym, ap, ◌∙◌, subst, arith}
 use Rattle.std.proofs.lemmas.List.{length-map}
 use Rattle.entry.specs.CheckedEntries.{entry_in}
+use Rattle.entry.specs.Entries.{said}
+use Rattle.entry.specs.declared.entries.Entry.{Entry as WithProofs}
 use Rattle.fair_semantics.specs.Entries.{numbered}
-use Rattle.fair_semantics.specs.Skeletons.{places}
+use Rattle.fair_semantics.specs.Skeletons.{places, excludes}
 use Rattle.std.proofs.lemmas.List.Elements.{All-nil, All-cons}
 use Rattle.aig_semantics.specs.Circuits.{Circuit}
 use Rattle.aig_semantics.specs.Valuations.{value_beside, given_value, value_through, values_below, valuation}
 use Rattle.aig_semantics.specs.Runs.{MeetsConstraints, literal_at, successor}
 use Rattle.aig_semantics.proofs.Lassos.{constraints-met}
-use Rattle.fair_semantics.specs.declared.skeletons.Situation.{Situation}
+use Rattle.aig_semantics.specs.declared.traces.Position.{Position}
+use Rattle.proof_semantics.specs.declared.literals.Lit.{Lit}
+use Rattle.cnf_unroll.specs.Laws.{AreOver}
+use Rattle.std.specs.List.{All}
 use Rattle.fair_semantics.specs.Skeletons.{IsSkeleton, IsSituation}
-use Rattle.fair_semantics.specs.Examples.{one_situation}
 use Rattle.fair_semantics.specs.Entries.{Entry}
 use Rattle.fair_semantics.specs.declared.skeletons.Skeleton.{Skeleton}
 use Rattle.fair_semantics.specs.Allowing.{allow}
@@ -21,45 +25,74 @@ use Rattle.entry.specs.CheckedEntries.{CheckedEntry, viewed}
 use Rattle.wall_store.specs.Boards.{Allow}
 use Rattle.wall_store.specs.Scanning.{NoneWithin}
 use Rattle.wall_store.proofs.Excluding.{none_excludes, viewed-plain}
-use Rattle.ledger_tests.specs.Crews.{model, with_justice}
+use Rattle.ledger_tests.specs.Crews.{model, with_justice, at_0, target}
 
-possible : (two b : Bool) → MeetsConstraints (model two) (record { latches = b ∷ []; inputs = [] })
-unfolding value_beside given_value value_through values_below valuation
-possible false b = constraints-met (model false) (record { latches = b ∷ []; inputs = [] }) refl refl refl
-possible true b = constraints-met (model true) (record { latches = b ∷ []; inputs = [] }) refl refl refl
+-- the values of the latches behind the first do not matter
+module _ (a b c d e : Bool) where
+  abbrev here : Position
+  here = record { latches = true ∷ a ∷ b ∷ c ∷ d ∷ e ∷ []; inputs = [] }
 
-is_one : (two : Bool) → literal_at (model two) (record { latches = true ∷ []; inputs = [] }) 2 ≡ true
-unfolding value_beside given_value value_through values_below valuation
-is_one false = refl
-is_one true = refl
+  possible : (two : Bool) → MeetsConstraints (model two) here
+  unfolding value_beside given_value value_through values_below valuation
+  possible false = constraints-met (model false) here refl refl refl
+  possible true = constraints-met (model true) here refl refl refl
 
-stays : (two : Bool) → successor (model two) (record { latches = true ∷ []; inputs = [] }) ≡ true ∷ []
-unfolding value_beside given_value value_through values_below valuation
-stays false = refl
-stays true = refl
+  is_one : (two : Bool) → literal_at (model two) here 2 ≡ true
+  unfolding value_beside given_value value_through values_below valuation
+  is_one false = refl
+  is_one true = refl
 
-abbrev here : Situation
-here = record { position = record { latches = true ∷ []; inputs = [] }; successor = true ∷ [] }
+  stays : (two : Bool) → successor (model two) here ≡ true ∷ a ∷ b ∷ c ∷ d ∷ e ∷ []
+  unfolding value_beside given_value value_through values_below valuation
+  stays false = refl
+  stays true = refl
 
-pub is_skeleton : (two : Bool) → IsSkeleton (model two) 0 (one_situation true true)
-is_skeleton false = record {
-  property = omega arith;
-  size = refl;
-  situations =
-      All-cons (IsSituation (model false)) here []
-      (record { possible = possible false true; next = sym (stays false) }) (All-nil (IsSituation (model false)));
-  fair = (is_one false, tt);
-}
-is_skeleton true = record {
-  property = omega arith;
-  size = refl;
-  situations =
-      All-cons (IsSituation (model true)) here []
-      (record { possible = possible true true; next = sym (stays true) }) (All-nil (IsSituation (model true)));
-  fair = (is_one true, tt);
-}
+  abbrev whole : Skeleton
+  whole = record { situations = record { position = here; successor = true ∷ a ∷ b ∷ c ∷ d ∷ e ∷ [] } ∷ [] }
 
-pub latches_of : (d : Circuit) → (two : Bool) × (d ≡ model two) → length d.latches ≡ 1
+  is_whole : (two : Bool) → IsSkeleton (model two) 0 whole
+  is_whole false = record {
+    property = omega arith;
+    size = refl;
+    situations =
+        All-cons (IsSituation (model false)) (record { position = here; successor = true ∷ a ∷ b ∷ c ∷ d ∷ e ∷ [] }) []
+        (record { possible = possible false; next = sym (stays false) }) (All-nil (IsSituation (model false)));
+    fair = (is_one false, tt);
+  }
+  is_whole true = record {
+    property = omega arith;
+    size = refl;
+    situations =
+        All-cons (IsSituation (model true)) (record { position = here; successor = true ∷ a ∷ b ∷ c ∷ d ∷ e ∷ [] }) []
+        (record { possible = possible true; next = sym (stays true) }) (All-nil (IsSituation (model true)));
+    fair = (is_one true, tt);
+  }
+
+pub is_skeleton : (two : Bool) (k : ℕ) → IsSkeleton (model two) 0 (target k)
+is_skeleton two k = is_whole (k == 1) (k == 2) (k == 3) (k == 4) (k == 5) two
+
+-- the find excludes what it was made for
+pub apart : (k : ℕ) → k < 6 → excludes (at_0 k ∷ []) 0 (target k) ≡ true
+apart zero below = refl
+apart (suc zero) below = refl
+apart (suc (suc zero)) below = refl
+apart (suc (suc (suc zero))) below = refl
+apart (suc (suc (suc (suc zero)))) below = refl
+apart (suc (suc (suc (suc (suc zero))))) below = refl
+apart (suc (suc (suc (suc (suc (suc k)))))) below = absurd (omega (arith, below))
+
+pub over_latches : (k n : ℕ) (set : List (List Lit)) → set ≡ (record { var = k; positive = false } ∷ []) ∷ [] → k < n → AreOver n set
+over_latches k n set is below =
+    let one : All (λ (l : Lit). l.var < n) (record { var = k; positive = false } ∷ []) =
+    All-cons (λ (l : Lit). l.var < n) (record { var = k; positive = false }) [] below (All-nil (λ (l : Lit). l.var < n)) in
+    subst (AreOver n) (sym is)
+    (All-cons (λ (clause : List Lit). All (λ (l : Lit). l.var < n) clause) (record { var = k; positive = false } ∷ []) [] one
+    (All-nil (λ (clause : List Lit). All (λ (l : Lit). l.var < n) clause)))
+
+pub over_said : (k n : ℕ) (e : WithProofs) → said e ≡ at_0 k → k < 6 → n ≡ 6 → AreOver n e.set
+over_said k n e is below six = over_latches k n e.set (ap (λ (z : Entry). z.clauses) is) (omega (arith, below, six))
+
+pub latches_of : (d : Circuit) → (two : Bool) × (d ≡ model two) → length d.latches ≡ 6
 latches_of d (false, same) = ap (λ (c : Circuit). length c.latches) same
 latches_of d (true, same) = ap (λ (c : Circuit). length c.latches) same
 

@@ -1,9 +1,8 @@
-//! A circuit whose latch stays at 0, and what is found of it.
+//! A circuit whose latches stay at 0, and what is found of it.
 
 ghost use Rattle.std.specs.Prelude.{◌≡◌, ◌≤◌, ◌<◌, [], ◌∷◌, true, false, Bool, map, length, All, IfOk, IfSome, OnOk};
 ghost use Rattle.std.specs.Arc.{arc_value};
 ghost use Rattle.aig_semantics.specs.Circuits.{Circuit};
-ghost use Rattle.fair_semantics.specs.Examples.{latch_entry, one_situation};
 ghost use Rattle.entry.specs.declared.origins.Origin.TheVariants.{Given};
 ghost use Rattle.entry.specs.Entries.{said};
 ghost use Rattle.entry.specs.Proved.{IsProved, IsGoodRefutation};
@@ -11,7 +10,7 @@ ghost use Rattle.entry.specs.Listing.{entry_of, entries_of};
 ghost use Rattle.entry.specs.CheckedEntries.{viewed};
 ghost use Rattle.wall_store.specs.Boards.{IsSound, IsSoundList, Allow, most_entries};
 ghost use Rattle.wall_store.specs.Scanning.{NoneWithin};
-ghost use Rattle.ledger_tests.specs.Crews.{model, with_justice, IsFindOf};
+ghost use Rattle.ledger_tests.specs.Crews.{model, with_justice, keeps_0, at_0, raised, target, IsFindOf};
 
 use aig_semantics::{Latch, Position, Reset};
 use circuit::{Circuit, ModelEnd, Parts, check_circuit};
@@ -27,7 +26,7 @@ use std::alloc::{AllocError, Global};
 use std::sync::Arc;
 use wall_store::sound_lists_grow;
 
-// The properties: one or two, each that the latch is 1.
+// The properties: one or two, each that the first latch is 1.
 fn justice(alloc: Global, two: bool) -> Result<Items<Items<u64>>, AllocError>
     ensures { IfOk result (λ js. js ≡ (model two).justice) }
 {
@@ -39,18 +38,31 @@ fn justice(alloc: Global, two: bool) -> Result<Items<Items<u64>>, AllocError>
     Ok(justice)
 }
 
+fn latch(var: u64, next: u64) -> Latch
+    ensures { result ≡ keeps_0 var next }
+{
+    Latch {
+        var,
+        next,
+        reset: Reset::Zero,
+    }
+}
+
 fn circuit_with(alloc: Global, justice: Items<Items<u64>>) -> Result<Circuit, ModelEnd>
     ensures { IfOk result (λ c. c ≡ with_justice justice) }
 {
-    let latch = Latch {
-        var: 1,
-        next: 2,
-        reset: Reset::Zero,
-    };
+    let latches = [
+        latch(1, 2),
+        latch(2, 4),
+        latch(3, 6),
+        latch(4, 8),
+        latch(5, 10),
+        latch(6, 12),
+    ];
     let parts = Parts {
-        max: 1,
+        max: 6,
         inputs: Items::new(alloc),
-        latches: Items::from_slice(alloc, &[latch])?,
+        latches: Items::from_slice(alloc, &latches)?,
         gates: Items::new(alloc),
         outputs: Items::new(alloc),
         bad: Items::new(alloc),
@@ -64,7 +76,7 @@ fn circuit_with(alloc: Global, justice: Items<Items<u64>>) -> Result<Circuit, Mo
     check_circuit(alloc, &parts)
 }
 
-/// The circuit whose latch stays at 0, with one property or two, each that the latch is 1.
+/// The circuit of six latches that stay at 0, with one property or two, each that the first latch is 1.
 #[tactic(auto, using(crate::proofs::Modelling::model_with))]
 pub fn circuit(alloc: Global, two: bool) -> Result<Circuit, ModelEnd>
     ensures { IfOk result (λ c. c ≡ model two) }
@@ -73,35 +85,53 @@ pub fn circuit(alloc: Global, two: bool) -> Result<Circuit, ModelEnd>
     Ok(circuit_with(alloc, justice)?)
 }
 
-/// The skeleton in which the latch is 1.
-pub fn skeleton(alloc: Global) -> Result<Skeleton, AllocError>
-    ensures { IfOk result (λ s. s ≡ one_situation true true) }
+fn state(alloc: Global, k: u32) -> Result<Items<bool>, AllocError>
+    ensures { IfOk result (λ s. s ≡ raised k) }
+{
+    Items::from_slice(alloc, &[true, k == 1, k == 2, k == 3, k == 4, k == 5])
+}
+
+/// The skeleton in which the first latch is 1, and latch k, counted from 0.
+pub fn skeleton(alloc: Global, k: u32) -> Result<Skeleton, AllocError>
+    ensures { IfOk result (λ s. s ≡ target k) }
 {
     let position = Position {
-        latches: Items::from_slice(alloc, &[true])?,
+        latches: state(alloc, k)?,
         inputs: Items::new(alloc),
     };
     let mut situations = Items::new(alloc);
     situations.push(Situation {
         position,
-        successor: Items::from_slice(alloc, &[true])?,
+        successor: state(alloc, k)?,
     })?;
     Ok(Skeleton { situations })
 }
 
-// The entry that the latch is 0 in each state that is reached, with its proof.
-fn at_0(alloc: Global) -> Result<Entry, AllocError>
-    ensures said { IfOk result (λ e. said e ≡ latch_entry Kind.Reach false []) }
+// Behind the clauses of a block, two for each latch, stand that of the entry, with the number 14, and the broken one.
+fn proof_line(k: u32) -> &'static str {
+    match k {
+        0 => "16 0 14 2 15 0",
+        1 => "16 0 14 4 15 0",
+        2 => "16 0 14 6 15 0",
+        3 => "16 0 14 8 15 0",
+        4 => "16 0 14 10 15 0",
+        _ => "16 0 14 12 15 0",
+    }
+}
+
+// The entry that latch k is 0 in each state that is reached, with its proof.
+fn at_0(alloc: Global, k: u32) -> Result<Entry, AllocError>
+    ensures said { IfOk result (λ e. said e ≡ at_0 k) }
     ensures count { IfOk result (λ e. length e.proofs ≡ 1) }
 {
     let literal = Lit {
-        var: 0,
+        var: k as u64,
         positive: false,
     };
     let mut set = Items::new(alloc);
     set.push(Clause::from_slice(alloc, &[literal])?)?;
     let mut proof = Items::new(alloc);
-    proof.push(Items::from_slice(alloc, "6 0 4 2 5 0".as_bytes())?)?;
+    proof.push(Items::from_slice(alloc, proof_line(k).as_bytes())?)?;
     let mut proofs = Items::new(alloc);
     proofs.push(proof)?;
     Ok(Entry {
@@ -125,9 +155,11 @@ fn nothing(alloc: Global) -> Entry
     }
 }
 
-fn judge(alloc: Global, c: &Circuit, e: &Entry) -> Result<(), EntryEnd>
-    requires latches { length c.now.latches ≡ 1 }
-    requires said { said e.now ≡ latch_entry Kind.Reach false [] }
+#[tactic(auto, using(crate::proofs::Modelling::over_said))]
+fn judge(alloc: Global, c: &Circuit, k: u32, e: &Entry) -> Result<(), EntryEnd>
+    requires latches { length c.now.latches ≡ 6 }
+    requires latch { k < 6 }
+    requires said { said e.now ≡ at_0 k }
     requires count { length e.now.proofs ≡ 1 }
     ensures { OnOk result (IsProved c.now [] (said e.now) e.now.proofs) }
 {
@@ -149,33 +181,37 @@ fn checked(
     shared: &Arc<Circuit>,
     author: u32,
     turn: u32,
+    k: u32,
     e: Entry,
 ) -> Result<Checked, EntryEnd>
     requires circuit { (two : Bool) × (arc_value shared.now ≡ model two) }
-    requires said { said e ≡ latch_entry Kind.Reach false [] }
+    requires latch { k < 6 }
+    requires said { said e ≡ at_0 k }
     requires count { length e.proofs ≡ 1 }
-    ensures { IfOk result (λ found. IsFindOf (arc_value shared.now) author turn found) }
+    ensures { IfOk result (λ found. IsFindOf (arc_value shared.now) author turn k found) }
 {
     let c: &Circuit = &**shared;
-    judge(alloc, c, &e)?;
+    judge(alloc, c, k, &e)?;
     proved_entries_are_valid(c);
     good_lists_grow(c);
-    let skeleton = skeleton(alloc)?;
+    let skeleton = skeleton(alloc, k)?;
     Ok(Checked::new(alloc, shared, &[], e, author, turn, skeleton)?)
 }
 
-/// What this worker finds in that turn, behind no entry: the latch is 0 in each state that is reached.
+/// What this worker finds in that turn, behind no entry: latch k is 0 in each state that is reached.
 pub fn find(
     alloc: Global,
     shared: &Arc<Circuit>,
     author: u32,
     turn: u32,
+    k: u32,
 ) -> Result<Arc<Checked>, EntryEnd>
-    requires { (two : Bool) × (arc_value shared.now ≡ model two) }
-    ensures { IfOk result (λ found. IsFindOf (arc_value shared.now) author turn (arc_value found)) }
+    requires circuit { (two : Bool) × (arc_value shared.now ≡ model two) }
+    requires latch { k < 6 }
+    ensures { IfOk result (λ found. IsFindOf (arc_value shared.now) author turn k (arc_value found)) }
 {
-    let e = at_0(alloc)?;
-    Ok(Arc::new(alloc, checked(alloc, shared, author, turn, e)?)?)
+    let e = at_0(alloc, k)?;
+    Ok(Arc::new(alloc, checked(alloc, shared, author, turn, k, e)?)?)
 }
 
 fn given(alloc: Global, shared: &Arc<Circuit>) -> Result<Checked, EntryEnd>
@@ -280,7 +316,11 @@ fn refutation(alloc: Global, entry: u32, other: bool) -> Result<Refutation, Allo
         side: Side::Any,
     };
     let mut proof = Items::new(alloc);
-    let line = if other { "8 0 4 5 0" } else { "7 0 4 5 0" };
+    let line = if other {
+        "20 0 14 15 0"
+    } else {
+        "17 0 14 15 0"
+    };
     proof.push(Items::from_slice(alloc, line.as_bytes())?)?;
     Ok(Refutation {
         uses: Items::from_slice(alloc, &[used])?,

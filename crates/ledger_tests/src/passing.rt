@@ -13,12 +13,12 @@ use std::sync::{Arc, Wait};
 use wall_ledger::{Ledger, Pass};
 use wall_store::{Finished, Outcome, Posted};
 
-/// What a pass does: it looks; it posts what it finds where it has seen nothing; it finishes a property by a refutation
-/// that uses an entry, with the one proof or the other; it asks for an open property from a number on; it meets a pass.
+/// What a pass does: it looks; it posts that a latch stays at 0; it finishes a property by a refutation that uses an
+/// entry, with the one proof or the other; it asks for an open property from a number on; it meets a pass.
 #[derive(Debug, Clone, Copy, PartialEq, Eq)]
 pub enum Event {
     Look,
-    Post,
+    Post(u32),
     Finish(u32, u32, bool),
     Open(u32),
     Meet(usize),
@@ -66,21 +66,23 @@ fn post<R: Wait>(
     rt: &R,
     pass: &mut Pass,
     shared: &Arc<Circuit>,
+    k: u32,
 ) -> Result<Told, EntryEnd>
     requires of { (two : Bool) × IsOf two ledger.now × (arc_value shared.now ≡ model two) }
+    requires latch { k < 6 }
     requires own { pass.old.home ≡ ledger.now.home }
     requires turns { pass.old.turns < 9999 }
     ensures home { pass.new.home ≡ pass.old.home }
     ensures number { pass.new.number ≡ pass.old.number }
 {
-    let target = skeleton(alloc)?;
+    let target = skeleton(alloc, k)?;
     let number = pass.number();
     let turn = pass.turns();
     let free = allows(alloc, pass.view(), &target)?;
     if !free {
         return Ok(Told::Nothing);
     }
-    let found = find(alloc, shared, number, turn)?;
+    let found = find(alloc, shared, number, turn, k)?;
     Ok(hand_in(ledger, rt, pass, &found)?)
 }
 
@@ -136,7 +138,12 @@ pub fn turn<R: Wait>(
     }
     match event {
         Event::Look => Ok(look(ledger, rt, pass)?),
-        Event::Post => post(alloc, ledger, rt, pass, shared),
+        Event::Post(k) => {
+            if k >= 6 {
+                return Ok(Told::Nothing);
+            }
+            post(alloc, ledger, rt, pass, shared, k)
+        }
         Event::Finish(property, entry, other) => {
             if property > u32::from(two) {
                 return Ok(Told::Nothing);

@@ -1,6 +1,6 @@
 //! What passes are told and know, event by event, and the board at the end.
 
-use crate::{Crew, Event, Told, circuit, closed, crew_of};
+use crate::{Crew, Event, Tally, Told, circuit, closed, crew_of, drive};
 use entry::{Checked, Origin};
 use std::alloc::Global;
 use std::sync::{Arc, Wait};
@@ -36,8 +36,8 @@ const LATE: Told = Told::Finished(Finished::Closed);
 const BOTH_POST: [Row; 6] = [
     (0, Event::Look, Told::Seen(0), (0, 1, 1, NONE)),
     (1, Event::Look, Told::Seen(0), (0, 2, 1, NONE)),
-    (0, Event::Post, APPENDED, (1, 3, 2, NONE)),
-    (1, Event::Post, STALE, (1, 4, 2, NONE)),
+    (0, Event::Post(0), APPENDED, (1, 3, 2, NONE)),
+    (1, Event::Post(0), STALE, (1, 4, 2, NONE)),
     (0, Event::Look, Told::Seen(1), (1, 5, 3, NONE)),
     (1, Event::Look, Told::Seen(1), (1, 6, 3, NONE)),
 ];
@@ -46,7 +46,7 @@ const BOTH_POST: [Row; 6] = [
 const MEET: [Row; 6] = [
     (0, Event::Look, Told::Seen(0), (0, 1, 1, NONE)),
     (1, Event::Look, Told::Seen(0), (0, 2, 1, NONE)),
-    (0, Event::Post, APPENDED, (1, 3, 2, NONE)),
+    (0, Event::Post(0), APPENDED, (1, 3, 2, NONE)),
     (1, Event::Meet(0), Told::Met, (1, 3, 1, NONE)),
     (
         1,
@@ -64,21 +64,21 @@ const MEET: [Row; 6] = [
 
 const NO_ROOM: [Row; 2] = [
     (0, Event::Look, Told::Seen(0), (0, 1, 1, NONE)),
-    (0, Event::Post, FULL, (0, 2, 2, NONE)),
+    (0, Event::Post(0), FULL, (0, 2, 2, NONE)),
 ];
 
 // Own entries and those of others are read back by a look.
 const READ_BACK: [Row; 5] = [
-    (0, Event::Post, APPENDED, (1, 1, 1, NONE)),
+    (0, Event::Post(0), APPENDED, (1, 1, 1, NONE)),
     (0, Event::Look, Told::Seen(1), (1, 2, 2, NONE)),
     (2, Event::Look, Told::Seen(1), (1, 3, 1, NONE)),
-    (1, Event::Post, STALE, (1, 4, 1, NONE)),
-    (1, Event::Post, Told::Nothing, (1, 4, 1, NONE)),
+    (1, Event::Post(0), STALE, (1, 4, 1, NONE)),
+    (1, Event::Post(0), Told::Nothing, (1, 4, 1, NONE)),
 ];
 
 // A search passes over settled properties and marks them; where all are settled a post is closed.
 const MARKS: [Row; 11] = [
-    (0, Event::Post, APPENDED, (1, 1, 1, NONE)),
+    (0, Event::Post(0), APPENDED, (1, 1, 1, NONE)),
     (
         0,
         Event::Finish(0, 0, false),
@@ -129,7 +129,7 @@ const MARKS: [Row; 11] = [
     ),
     (
         2,
-        Event::Post,
+        Event::Post(0),
         Told::Posted(Posted::Closed),
         (1, 9, 1, [Shown::Closed, Shown::Closed]),
     ),
@@ -146,11 +146,11 @@ const GIVEN: [Row; 5] = [
     (0, Event::Open(7), Told::Opened(Some(0)), (1, 0, 1, NONE)),
     (
         0,
-        Event::Post,
+        Event::Post(0),
         Told::Posted(Posted::Appended(1)),
         (2, 2, 2, NONE),
     ),
-    (1, Event::Post, FULL, (2, 3, 1, NONE)),
+    (1, Event::Post(0), FULL, (2, 3, 1, NONE)),
     (
         1,
         Event::Finish(0, 0, false),
@@ -165,18 +165,18 @@ const GIVEN: [Row; 5] = [
     ),
 ];
 
-const GIVEN_NO_ROOM: [Row; 1] = [(1, Event::Post, FULL, (1, 1, 1, NONE))];
+const GIVEN_NO_ROOM: [Row; 1] = [(1, Event::Post(0), FULL, (1, 1, 1, NONE))];
 
 const GIVEN_STALE: [Row; 3] = [
     (
         1,
-        Event::Post,
+        Event::Post(0),
         Told::Posted(Posted::Appended(1)),
         (2, 1, 1, NONE),
     ),
     (
         0,
-        Event::Post,
+        Event::Post(0),
         Told::Posted(Posted::Stale(1)),
         (2, 2, 1, NONE),
     ),
@@ -256,9 +256,9 @@ fn script_is<R: Wait>(
 // The scripts of an empty list.
 fn begun_empty<R: Wait>(alloc: Global, rt: &R) -> Result<[(usize, bool); 5], Fail> {
     let one = (1, Some(0), [None, None]);
-    let met = (1, Some(0), [Some(b'8'), None]);
+    let met = (1, Some(0), [Some(b'2'), None]);
     let none = (0, None, [None, None]);
-    let marked = (1, Some(0), [Some(b'7'), Some(b'8')]);
+    let marked = (1, Some(0), [Some(b'1'), Some(b'2')]);
     let (both, meet, full, read, marks) = (BOTH_POST, MEET, NO_ROOM, READ_BACK, MARKS);
     Ok([
         script_is(alloc, rt, (false, (2, 2), false), &both, one)?,
@@ -271,7 +271,7 @@ fn begun_empty<R: Wait>(alloc: Global, rt: &R) -> Result<[(usize, bool); 5], Fai
 
 // The scripts of a list with an entry that is given.
 fn begun_given<R: Wait>(alloc: Global, rt: &R) -> Result<[(usize, bool); 3], Fail> {
-    let held = (2, Some(0), [Some(b'7'), None]);
+    let held = (2, Some(0), [Some(b'1'), None]);
     let none = (1, None, [None, None]);
     let other = (2, Some(1), [None, None]);
     let (given, full, stale) = (GIVEN, GIVEN_NO_ROOM, GIVEN_STALE);
@@ -291,5 +291,68 @@ fn scripts(rt: HostRuntime) -> Result<(), Fail> {
     );
     let given = begun_given(rt.alloc(), &rt)?;
     assert_eq!(rt; given, [(5, true), (1, true), (3, true)]);
+    Ok(())
+}
+
+// The first of these seeds whose events did not all go right, or whose boards differ at the end, and how many went right;
+// and how often each answer came.
+fn drive_all<R: Wait>(
+    alloc: Global,
+    rt: &R,
+    seeds: u64,
+    events: u32,
+) -> (Option<(u64, u32)>, Tally) {
+    let mut tally: Tally = [0; 11];
+    for seed in 0..seeds {
+        let Some(driven) = drive(alloc, rt, seed, events) else {
+            return (Some((seed, 0)), tally);
+        };
+        if driven.right != events || !driven.ends {
+            return (Some((seed, driven.right)), tally);
+        }
+        for k in 0..11 {
+            tally[k] = tally[k].saturating_add(driven.tally[k]);
+        }
+    }
+    (None, tally)
+}
+
+// Each answer came.
+fn all_came(tally: Tally) -> bool {
+    for k in 0..11 {
+        if tally[k] == 0 {
+            return false;
+        }
+    }
+    true
+}
+
+#[test]
+fn drawn(rt: HostRuntime) -> Result<(), Fail> {
+    let (wrong, tally) = drive_all(rt.alloc(), &rt, 24, 200);
+    assert_eq!(rt; wrong, None);
+    assert!(rt; all_came(tally));
+    Ok(())
+}
+
+// The first number of events after which something is not right, or the board differs, where that many are drawn by the
+// seed and then the passes are closed.
+fn first_wrong<R: Wait>(alloc: Global, rt: &R, seed: u64, events: u32) -> Option<u32> {
+    for count in 0..events {
+        match drive(alloc, rt, seed, count) {
+            Some(driven) if driven.right == count && driven.ends => {}
+            _ => return Some(count),
+        }
+    }
+    None
+}
+
+// After each event the closed board is the plain one.
+#[test]
+fn closed_after_each(rt: HostRuntime) -> Result<(), Fail> {
+    for seed in 0..6u64 {
+        let wrong = first_wrong(rt.alloc(), &rt, seed, 60);
+        assert_eq!(rt; wrong, None);
+    }
     Ok(())
 }
