@@ -21,6 +21,7 @@ TOP = os.path.dirname(os.path.dirname(os.path.abspath(__file__)))
 # the program itself, without the script before it that looks for sources that are newer
 PROGRAM = [os.path.join(TOP, "crates", "fair_main", "out", "fair_main")]
 CIRCUITS, SECONDS, WORKERS, FEWEST = 300, 240, 4, 60
+KINDS, MOST = ["conflicts", "steps", "skeletons"], 4096
 
 # ---- what was worked out by hand: a model, options, the status, and the text or how it begins
 
@@ -120,30 +121,47 @@ def is_report(text, workers, conflicts, steps, entries):
         if not said or int(said[1]) > conflicts or int(said[2]) > steps:
             return False
         spent.append(int(said[1]) == conflicts or int(said[2]) == steps)
-    return all(spent) or head[1] == head[2]
+    return int(head[1]) <= entries and (all(spent) or int(head[1]) == entries)
+
+
+def budgets():
+    """0, 1, 2, .., and from 16 on each the double of the one before."""
+    budget = 0
+    while budget <= MOST:
+        yield budget
+        budget += 1 if budget < 16 else budget
+
+
+def is_spent(cases, name, model, workers, limits, is_broken):
+    """Whether a run under these limits ends with a report; what it prints must be right."""
+    options = f"--workers {workers} " + " ".join(f"--{kind} {limit}" for kind, limit in limits.items())
+    said, code = cases.solve(name, model, options)
+    if code == 2:
+        cases.reports += 1
+        if not is_report(said, workers, limits["conflicts"], limits["steps"], limits["skeletons"]):
+            cases.complain(f"the report {said!r}", model, options)
+        return True
+    verdict = cases.verdict(name, model, said) if code == 0 else None
+    if verdict is None or verdict.startswith("accepted lasso j0 ") != is_broken:
+        cases.complain(f"status {code}, printed {said[:300]!r}, and a fair lasso is there: {is_broken}", model, options)
+    return False
 
 
 def compare_drawn(cases, seed, number, deadline):
-    """Each answer and report of a drawn circuit, with budgets from none up until none is spent."""
+    """Each answer and report of a drawn circuit, with each kind of budget, and with all of them, from none up until none
+    is spent."""
     if time.monotonic() > deadline:
         return 0
     chance = random.Random(f"{seed} {number}")
     model = maker.draw_model(chance)
     is_broken = maker.States(judge.read_circuit(model.encode("latin1"))).has_fair_lasso(0)
-    workers = 1 + number % 4
-    for budget in [0, 1, 2, 3, 5, 8, 13, 1000]:
-        kind = ["conflicts", "steps", "skeletons"][(number + budget) % 3]
-        limits = {"conflicts": 1000, "steps": 1000, "skeletons": 1000, kind: budget}
-        options = f"--workers {workers} " + " ".join(f"--{name} {limit}" for name, limit in limits.items())
-        said, code = cases.solve(f"drawn{number}", model, options)
-        if code == 2:
-            if not is_report(said, workers, limits["conflicts"], limits["steps"], limits["skeletons"]) or budget == 1000:
-                cases.complain(f"the report {said!r}", model, options)
-            cases.reports += 1
-            continue
-        verdict = cases.verdict(f"drawn{number}", model, said) if code == 0 else None
-        if verdict is None or verdict.startswith("accepted lasso j0 ") != is_broken:
-            cases.complain(f"status {code}, printed {said[:300]!r}, and a fair lasso is there: {is_broken}", model, options)
+    for small in [[kind] for kind in KINDS] + [KINDS]:
+        for budget in budgets():
+            limits = {kind: budget if kind in small else MOST for kind in KINDS}
+            if not is_spent(cases, f"drawn{number}", model, 1 + number % 4, limits, is_broken):
+                break
+        else:
+            cases.complain(f"a report with {MOST} of each", model, f"--workers {1 + number % 4}")
     return 1
 
 
