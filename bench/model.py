@@ -1,13 +1,13 @@
 #!/usr/bin/env python3
 """Writes an AIGER model of so many gates, the same from the same seed.
 
-    model.py SEED INPUTS LATCHES GATES MODEL [--binary] [--bare]
+    model.py SEED INPUTS LATCHES GATES MODEL [--binary] [--bare] [--bit K]
 
 Each gate reads two literals of variables that come before it in an order of the generator's own. In ASCII the variables
 are numbered at random and the lines of the gates stand in a random order, so a reader has to find an order in which
 they can be evaluated. In binary they stand in the generator's order, as that form wants. The first latches, at most 20,
 count the positions in binary where there are gates enough; the other latches step to literals at random. There is one
-property and one fairness literal, and with --bare neither.
+property and one fairness literal, and with --bare neither; with --bit K a property alone, that bit K of the count is 1.
 """
 import random
 import sys
@@ -63,7 +63,7 @@ def counter(maker, bits):
 class Made:
     """A model: its inputs and latches, the latches' next literals, the fairness literals and the gates."""
 
-    def __init__(self, seed, inputs, latches, gates, is_shuffled, is_bare):
+    def __init__(self, seed, inputs, latches, gates, is_shuffled, is_bare, bit=None):
         chance = random.Random(seed)
         maker = Maker(chance, inputs, latches, gates, is_shuffled)
         bits = min(COUNTED, latches, gates // 3)
@@ -72,14 +72,17 @@ class Made:
             maker.gate(maker.literal(), maker.literal())
         self.steps = steps + [maker.literal() for _ in range(latches - bits)]
         self.fair = [maker.literal(), maker.literal()]
+        if bit is not None:
+            self.fair[0] = 2 * maker.latches[bit]
         if is_shuffled:
             shuffle(chance, maker.gates)
         self.inputs, self.latches, self.gates = maker.inputs, maker.latches, maker.gates
-        self.is_bare = is_bare
-        self.counts = f"{inputs + latches + gates} {inputs} {latches} 0 {gates}" + ("" if is_bare else " 0 0 1 1")
+        self.is_bare, self.is_fair = is_bare, bit is None
+        self.counts = f"{inputs + latches + gates} {inputs} {latches} 0 {gates}" + ("" if is_bare else f" 0 0 1 {int(self.is_fair)}")
 
     def properties(self):
-        return [] if self.is_bare else ["1", f"{self.fair[0]}", f"{self.fair[1]}"]
+        literals = self.fair if self.is_fair else self.fair[:1]
+        return [] if self.is_bare else ["1", *map(str, literals)]
 
 
 def ascii_text(made):
@@ -109,12 +112,17 @@ def push_delta(text, delta):
 
 
 def main(words):
-    options = words[5:]
-    is_binary = "--binary" in options
+    usage = "usage: model.py SEED INPUTS LATCHES GATES MODEL [--binary] [--bare] [--bit K]"
+    options, bit = words[5:], None
+    if "--bit" in options[:-1]:
+        place = options.index("--bit")
+        bit = int(options[place + 1])
+        del options[place : place + 2]
     if len(words) < 5 or not set(options) <= {"--binary", "--bare"}:
-        sys.exit("usage: model.py SEED INPUTS LATCHES GATES MODEL [--binary] [--bare]")
+        sys.exit(usage)
     seed, inputs, latches, gates = map(int, words[:4])
-    made = Made(seed, inputs, latches, gates, not is_binary, "--bare" in options)
+    is_binary = "--binary" in options
+    made = Made(seed, inputs, latches, gates, not is_binary, "--bare" in options, bit)
     with open(words[4], "wb") as file:
         file.write(binary_text(made) if is_binary else ascii_text(made))
 
