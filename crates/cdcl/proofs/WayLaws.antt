@@ -17,7 +17,7 @@ use Rattle.cdcl_trail.proofs.PassLaws.{step_comes, no_step, unit_unvalued, propa
 use Rattle.cdcl_trail.proofs.PrefixLaws.{all_from, true_more, none_before, reasoned_assumed, reasoned_propagated, lower_assumed}
 use Rattle.cdcl_learn.specs.declared.learning.Learned.{Learned}
 use Rattle.cdcl_learn.specs.Learning.{is_assumed}
-use Rattle.cdcl.specs.Searching.{IsOpen, open_by, count_open, is_over, are_over, AssumesSome, AssumesAll, IsHeld, IsOnWay, IsBackLevel, IsHinted, IsNewClause, NegatesOnly}
+use Rattle.cdcl.specs.Searching.{IsOpen, open_by, count_open, is_over, are_over, AssumesSome, AssumesAll, IsHeld, IsDeciding, IsBackLevel, IsHinted, IsNewClause, NegatesOnly}
 use Rattle.cdcl.proofs.SearchLaws.{count_open_more, count_open_falls, over_append, over_at, over_variable, over_propagated, falsified_no_tautology, falsified_over, over_reasoned}
 use Rattle.cdcl_learn.proofs.LiteralTraceLaws.{valued_step}
 use Rattle.cdcl_trail.specs.Watched.{Extends, TrailState}
@@ -28,7 +28,7 @@ Has lits a = has_literal lits a ≡ true
 
 -- right after the assumptions
 pub way_starts : (clauses : List (List Lit)) (assumptions : List Lit) (start opened : List Step) → IsReasonedTrail clauses start → level start ≡ 0
-    → AssumesAll assumptions start opened → IsOnWay clauses assumptions (level opened) opened
+    → AssumesAll assumptions start opened → IsDeciding clauses assumptions (level opened) opened
 way_starts clauses assumptions start opened reasoned flat all = record {
   opened = opened;
   assumes = record {
@@ -47,8 +47,8 @@ way_starts clauses assumptions start opened reasoned flat all = record {
 }
 
 -- behind propagation
-pub way_propagates : (clauses : List (List Lit)) (assumptions : List Lit) (base : ℕ) (now later : List Step) → IsOnWay clauses assumptions base now → Propagates clauses now later
-    → IsOnWay clauses assumptions base later
+pub way_propagates : (clauses : List (List Lit)) (assumptions : List Lit) (base : ℕ) (now later : List Step) → IsDeciding clauses assumptions base now → Propagates clauses now later
+    → IsDeciding clauses assumptions base later
 way_propagates clauses assumptions base now later w p = record {
   opened = w.opened;
   assumes = w.assumes;
@@ -66,8 +66,8 @@ last_or_below : (k n : ℕ) → k < n + 1 → (k < n) ⊎ (k ≡ n)
 last_or_below k n e = elim (either (leb n k)) [ inl same ↦ inr (omega (arith, e, leb-true n k same)) | inr less ↦ inl (omega (arith, leb-false n k less)) ]
 
 -- behind a decision
-pub way_decides : (clauses : List (List Lit)) (assumptions : List Lit) (base : ℕ) (now later : List Step) (a : Lit) → IsOnWay clauses assumptions base now
-    → is_complete clauses now ≡ true → IsOpen clauses now a → later ≡ now ++ assumed a ∷ [] → IsOnWay clauses assumptions base later
+pub way_decides : (clauses : List (List Lit)) (assumptions : List Lit) (base : ℕ) (now later : List Step) (a : Lit) → IsDeciding clauses assumptions base now
+    → is_complete clauses now ≡ true → IsOpen clauses now a → later ≡ now ++ assumed a ∷ [] → IsDeciding clauses assumptions base later
 way_decides clauses assumptions base now later a w complete o is = record {
   opened = w.opened;
   assumes = w.assumes;
@@ -90,12 +90,12 @@ way_decides clauses assumptions base now later a w complete o is = record {
 }
 
 -- The levels below the last are complete where one is to be learned from.
-pub way_lower : (clauses : List (List Lit)) (assumptions : List Lit) (base : ℕ) (now : List Step) → IsOnWay clauses assumptions base now → base < level now
+pub way_lower : (clauses : List (List Lit)) (assumptions : List Lit) (base : ℕ) (now : List Step) → IsDeciding clauses assumptions base now → base < level now
     → is_complete clauses (lower_steps now) ≡ true
 way_lower clauses assumptions base now w above = w.below (level now - 1) (omega (arith, above)) (omega (arith, above))
 
 -- a learned clause is new, and over variables that are there
-pub way_learns : (clauses : List (List Lit)) (assumptions : List Lit) (base : ℕ) (now : List Step) (learned : Learned) → IsOnWay clauses assumptions base now
+pub way_learns : (clauses : List (List Lit)) (assumptions : List Lit) (base : ℕ) (now : List Step) (learned : Learned) → IsDeciding clauses assumptions base now
     → is_falsified now learned.clause ≡ true → IsHinted clauses learned → is_subsumed clauses learned.clause ≡ false → is_unit (lower_steps now) learned.clause ≡ true
     → IsNewClause clauses assumptions learned
 way_learns clauses assumptions base now learned w falsified hinted new unit = record {
@@ -133,7 +133,7 @@ are_over_first : (vars : List ℕ) (xs ys : List (List Lit)) → are_over vars (
 are_over_first vars [] ys all = refl
 are_over_first vars (x ∷ xs) ys all = let parts = and_parts _ _ all in and_from _ _ parts.0 (are_over_first vars xs ys parts.1)
 
-back_complete : (clauses : List (List Lit)) (assumptions clause : List Lit) (base target k : ℕ) (now : List Step) → IsOnWay clauses assumptions base now
+back_complete : (clauses : List (List Lit)) (assumptions clause : List Lit) (base target k : ℕ) (now : List Step) → IsDeciding clauses assumptions base now
     → IsBackLevel now clause base target → is_falsified now clause ≡ true → is_unit (lower_steps now) clause ≡ true → base ≤ k → k < target
     → is_complete (clauses ++ clause ∷ []) (up_to_level k now) ≡ true
 back_complete clauses assumptions clause base target k now w back falsified unit from below =
@@ -145,9 +145,9 @@ back_complete clauses assumptions clause base target k now w back falsified unit
     ]
 
 -- behind a learned clause and the way back
-pub way_back : (clauses more : List (List Lit)) (assumptions clause : List Lit) (base target : ℕ) (now next : List Step) → IsOnWay clauses assumptions base now
+pub way_back : (clauses more : List (List Lit)) (assumptions clause : List Lit) (base target : ℕ) (now next : List Step) → IsDeciding clauses assumptions base now
     → IsBackLevel now clause base target → is_falsified now clause ≡ true → is_unit (lower_steps now) clause ≡ true → more ≡ clauses ++ clause ∷ []
-    → next ≡ up_to_level target now → level next ≡ target → IsOnWay more assumptions base next
+    → next ≡ up_to_level target now → level next ≡ target → IsDeciding more assumptions base next
 way_back clauses more assumptions clause base target now next w back falsified unit comes is deep = record {
   opened = w.opened;
   assumes = w.assumes;
@@ -170,14 +170,14 @@ way_back clauses more assumptions clause base target now next w back falsified u
 }
 
 -- What is traced from a conflict on the base is a core.
-pub way_core : (clauses : List (List Lit)) (assumptions clause : List Lit) (base : ℕ) (now : List Step) → IsOnWay clauses assumptions base now → level now ≤ base
+pub way_core : (clauses : List (List Lit)) (assumptions clause : List Lit) (base : ℕ) (now : List Step) → IsDeciding clauses assumptions base now → level now ≤ base
     → ((a : Lit) → Has clause a → is_assumed now (negation a) ≡ true) → NegatesOnly assumptions clause
 way_core clauses assumptions clause base now w within traced a has =
     let flat : level w.rest ≡ 0 = omega (arith, within, w.deep, ap level w.begun, level-append w.opened w.rest) in
     w.assumes.only (negation a) (assumed_first w.opened w.rest (negation a) flat (ap (λ xs. is_assumed xs (negation a)) (sym w.begun) ∙ traced a has))
 
 -- what is held of the trail, right behind propagation
-pub held_propagated : (clauses same : List (List Lit)) (assumptions : List Lit) (base : ℕ) (now : List Step) (t : TrailState) → IsOnWay clauses assumptions base now → same ≡ clauses
+pub held_propagated : (clauses same : List (List Lit)) (assumptions : List Lit) (base : ℕ) (now : List Step) (t : TrailState) → IsDeciding clauses assumptions base now → same ≡ clauses
     → Propagates same now t.steps → Extends t.taken same → IsHeld clauses t
 held_propagated clauses same assumptions base now t w is p e = record {
   extends = subst (λ cs. Extends t.taken cs) is e;
@@ -185,7 +185,7 @@ held_propagated clauses same assumptions base now t w is p e = record {
 }
 
 -- the assumptions are true on the way
-pub way_assumed : (clauses : List (List Lit)) (assumptions : List Lit) (base : ℕ) (now : List Step) → IsOnWay clauses assumptions base now
+pub way_assumed : (clauses : List (List Lit)) (assumptions : List Lit) (base : ℕ) (now : List Step) → IsDeciding clauses assumptions base now
     → (a : Lit) → Has assumptions a → is_true now a ≡ true
 way_assumed clauses assumptions base now w a has = ap (λ xs. is_true xs a) w.begun ∙ true_more w.opened w.rest a (w.assumes.true_all a has)
 

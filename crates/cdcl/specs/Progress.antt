@@ -15,7 +15,7 @@ growth start now = length (learned_of now) - length (learned_of start)
 
 -- The clauses are over these variables, and those that were learned and those that can still be learned over them are no
 -- more than at first.
-pub record HasRoom (vars : List ℕ) (start now : Entries) : Type 0 where
+pub record LearnsFewer (vars : List ℕ) (start now : Entries) : Type 0 where
   pub over : are_over vars now.clauses ≡ true
   pub less : growth start now + room vars now.clauses ≤ room vars start.clauses
 
@@ -23,7 +23,7 @@ pub record IsSearched (assumptions : List Lit) (start now : Entries) (earlier la
   pub added : added_of now ≡ added_of start
   pub learned : Learns (added_of start) (learned_of start) (learned_of now)
   pub counted : later ≡ with_conflicts earlier (growth start now)
-  pub less : (vars : List ℕ) → are_over vars start.clauses ≡ true → is_over vars assumptions ≡ true → HasRoom vars start now
+  pub less : (vars : List ℕ) → are_over vars start.clauses ≡ true → is_over vars assumptions ≡ true → LearnsFewer vars start now
 
 -- None of the clauses has opposite literals, and none contains one that was before it.
 abbrev pub AreApart : List (List Lit) → List (List Lit) → Type 0

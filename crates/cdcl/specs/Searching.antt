@@ -95,7 +95,7 @@ pub record IsOpened (assumptions : List Lit) (steps : List Step) : Type 0 where
 
 -- What stands on the trail while a search decides, learns and goes back: what the assumptions opened and more, each
 -- literal with its reason, and from the base on no clause is unit or false on a level below the last.
-pub record IsOnWay (clauses : List (List Lit)) (assumptions : List Lit) (base : ℕ) (steps : List Step) : Type 0 where
+pub record IsDeciding (clauses : List (List Lit)) (assumptions : List Lit) (base : ℕ) (steps : List Step) : Type 0 where
   pub opened : List Step
   pub assumes : IsOpened assumptions opened
   pub deep : level opened ≡ base

@@ -3,12 +3,13 @@
 //!
 //! | Call | What it does |
 //! |---|---|
-//! | `Solver::new`, `Solver::add` | a solver without clauses; one clause more |
+//! | `Solver::new`, `Solver::deciding`, `Solver::add` | a solver without clauses; with the value that is decided first; one clause more |
 //! | `Solver::solve` | a model, or a core of the assumptions with a proof |
 //! | `Solver::ask` | the same question without a proof; `Assignment::value` reads a model |
 //! | `Solver::refute` | the same of literals that are clauses of the list which a proof refutes |
 //! | `are_sized`, `has_opposites` | the tests of what these calls ask for |
 //! | `retired_clauses_change_nothing` | does nothing: the law of clauses that a question brings and retires |
+//! | `threads_hand_on_solvers` | does nothing: it has a proof only where a solver may be handed to another thread |
 #![tactic(auto)]
 
 mod answering;
@@ -35,5 +36,5 @@ mod writing;
 pub use asking::{Asked, Assignment, Refuted};
 pub use conditions::{are_sized, has_opposites};
 pub use retiring::retired_clauses_change_nothing;
-pub use solver::Solver;
+pub use solver::{Solver, threads_hand_on_solvers};
 pub use solving::Answer;

@@ -27,7 +27,7 @@ const DEEP: u32 = 64;
 /// A variable that may be decided.
 #[derive(Clone, Copy, Debug)]
 pub(crate) struct Candidate {
-    /// Its literal that was true last; the negative one where none was.
+    /// Its literal that was true last, or the one to begin with where none was.
     pub(crate) literal: Lit,
     /// The place of a clause that has the variable.
     pub(crate) clause: usize,
@@ -42,6 +42,14 @@ struct Rank {
     place: usize,
 }
 
+// A variable in the heap, with what it is compared by.
+#[derive(Clone, Copy, Debug)]
+struct Entry {
+    activity: u64,
+    var: Var,
+    number: usize,
+}
+
 /// The activities of variables, and the values that they had last. Each conflict adds its weight to
 /// the activities of the variables that it comes from, and weighs a twentieth more than the one
 /// before it. The variables are numbered as they come, and those that may be decided stand in a
@@ -51,21 +59,23 @@ struct Rank {
 pub(crate) struct Order {
     numbers: Table<usize>,
     ranks: Vec<Rank>,
-    heap: Vec<usize>,
+    heap: Vec<Entry>,
+    first_value: bool,
     met: usize,
     weight: u64,
     conflict: u64,
 }
 
 impl Order {
-    /// No variable. Takes no memory.
-    pub(crate) fn new(alloc: Global) -> Order
+    /// No variable; each one that comes is decided with this value at first. Takes no memory.
+    pub(crate) fn new(alloc: Global, first_value: bool) -> Order
         ensures { result.heap.items ≡ [] }
     {
         Order {
             numbers: Table::new(alloc),
             ranks: Vec::new(alloc),
             heap: Vec::new(alloc),
+            first_value,
             met: 0,
             weight: FIRST_WEIGHT,
             conflict: 1,
@@ -95,7 +105,7 @@ impl Order {
                 candidate: Candidate {
                     literal: Lit {
                         var: literal.var,
-                        positive: false,
+                        positive: self.first_value,
                     },
                     clause: place,
                 },
@@ -118,12 +128,11 @@ impl Order {
 
     /// Takes the most active variable that may be decided. Takes no memory.
     pub(crate) fn take(&mut self) -> Option<Candidate> {
-        let first = self.heap.as_slice().first().copied()?;
+        let first = self.at(0)?.number;
         let last = self.heap.pop()?;
         self.set_place(first, NOWHERE);
         if !self.heap.is_empty() {
-            self.put(0, last);
-            self.sink(0);
+            self.sink(last);
         }
         Some(self.rank(first)?.candidate)
     }
@@ -157,6 +166,9 @@ impl Order {
             for rank in self.ranks.iter_mut() {
                 rank.activity >>= SHIFT;
             }
+            for entry in self.heap.iter_mut() {
+                entry.activity >>= SHIFT;
+            }
         }
     }
 
@@ -179,9 +191,10 @@ impl Order {
         }
         rank.conflict = self.conflict;
         rank.activity = rank.activity.saturating_add(self.weight);
+        let entry = entry_of(rank, number);
         let place = rank.place;
         if place < self.heap.len() {
-            self.rise(place);
+            self.rise(place, entry);
         }
     }
 
@@ -204,83 +217,70 @@ impl Order {
             return Ok(());
         }
         let place = self.heap.len();
-        self.heap.push(number)?;
-        self.set_place(number, place);
-        self.rise(place);
+        let entry = entry_of(&rank, number);
+        self.heap.push(entry)?;
+        self.rise(place, entry);
         Ok(())
     }
 
-    // Brings the variable at a place of the heap up to where it belongs.
-    fn rise(&mut self, start: usize) {
+    // Puts a variable at a place of the heap, or above it where it belongs.
+    fn rise(&mut self, start: usize, entry: Entry) {
         let mut place = start;
         for _step in 0..DEEP {
             if place == 0 {
-                return;
+                break;
             }
             let above = (place - 1) / 2;
-            if !self.precedes(place, above) {
-                return;
+            let Some(upper) = self.at(above) else {
+                break;
+            };
+            if !precedes(&entry, &upper) {
+                break;
             }
-            self.exchange(above, place);
+            self.put(place, upper);
             place = above;
         }
+        self.put(place, entry);
     }
 
-    // Brings the variable at a place of the heap down to where it belongs.
-    fn sink(&mut self, start: usize) {
-        let mut place = start;
+    // Puts a variable at the top of the heap, or below it where it belongs.
+    fn sink(&mut self, entry: Entry) {
+        let mut place = 0;
         for _step in 0..DEEP {
-            let left = place.saturating_mul(2).saturating_add(1);
-            let right = left.saturating_add(1);
-            let mut below = left;
-            if self.precedes(right, left) {
-                below = right;
+            let Some((below, lower)) = self.first_below(place) else {
+                break;
+            };
+            if !precedes(&lower, &entry) {
+                break;
             }
-            if !self.precedes(below, place) {
-                return;
-            }
-            self.exchange(place, below);
+            self.put(place, lower);
             place = below;
+        }
+        self.put(place, entry);
+    }
+
+    // The one of the two variables below a place of the heap that is decided first, with its place.
+    fn first_below(&self, place: usize) -> Option<(usize, Entry)> {
+        let left = place.saturating_mul(2).saturating_add(1);
+        let right = left.saturating_add(1);
+        let one = self.at(left)?;
+        match self.at(right) {
+            Some(other) if precedes(&other, &one) => Some((right, other)),
+            _ => Some((left, one)),
         }
     }
 
-    // The variables at two places of the heap, each at the other's place.
-    fn exchange(&mut self, first: usize, second: usize) {
-        let (Some(upper), Some(lower)) = (self.at(first), self.at(second)) else {
-            return;
-        };
-        self.put(first, lower);
-        self.put(second, upper);
-    }
-
-    // The number of the variable at a place of the heap.
-    fn at(&self, place: usize) -> Option<usize> {
+    // The variable at a place of the heap.
+    fn at(&self, place: usize) -> Option<Entry> {
         self.heap.as_slice().get(place).copied()
     }
 
-    // Whether the variable at one place of the heap is decided before that at another.
-    fn precedes(&self, first: usize, second: usize) -> bool {
-        let (Some(one), Some(other)) = (self.ranked(first), self.ranked(second)) else {
-            return false;
-        };
-        if one.activity == other.activity {
-            return one.candidate.literal.var < other.candidate.literal.var;
-        }
-        one.activity > other.activity
-    }
-
-    // What is kept of the variable at a place of the heap.
-    fn ranked(&self, place: usize) -> Option<&Rank> {
-        let number = self.heap.as_slice().get(place)?;
-        self.ranks.as_slice().get(*number)
-    }
-
     // Writes the variable at a place of the heap.
-    fn put(&mut self, place: usize, number: usize) {
-        if let Some(entry) = self.heap.get_mut(place) {
-            *entry = number;
+    fn put(&mut self, place: usize, entry: Entry) {
+        if let Some(kept) = self.heap.get_mut(place) {
+            *kept = entry;
         }
-        self.set_place(number, place);
+        self.set_place(entry.number, place);
     }
 
     // Writes the place of a variable.
@@ -289,4 +289,21 @@ impl Order {
             rank.place = place;
         }
     }
+}
+
+// What stands in the heap for a variable.
+fn entry_of(rank: &Rank, number: usize) -> Entry {
+    Entry {
+        activity: rank.activity,
+        var: rank.candidate.literal.var,
+        number,
+    }
+}
+
+// Whether one variable is decided before another.
+fn precedes(one: &Entry, other: &Entry) -> bool {
+    if one.activity == other.activity {
+        return one.var < other.var;
+    }
+    one.activity > other.activity
 }

@@ -7,7 +7,7 @@ ghost use Rattle.cdcl.specs.Entries.{IsLog};
 ghost use Rattle.cdcl.specs.Finding.{IsFound};
 ghost use Rattle.proof_semantics.specs.Lines.{AreSized};
 ghost use Rattle.cdcl.specs.Progress.{IsSearched};
-ghost use Rattle.cdcl.specs.Searching.{AssumesAll, AssumesSome, IsHeld, IsOnWay, IsRefusedAt, IsSettledBase};
+ghost use Rattle.cdcl.specs.Searching.{AssumesAll, AssumesSome, IsHeld, IsDeciding, IsRefusedAt, IsSettledBase};
 ghost use Rattle.cdcl.specs.Solving.{IsEnd};
 
 use crate::choosing::choose;
@@ -98,7 +98,7 @@ fn decide(
 ) -> Result<Found, SolveEnd>
     requires log { IsLog log.old }
     requires extends { Extends trail.old.taken log.old.clauses }
-    requires way { IsOnWay log.old.clauses assumptions.now (level trail.old.steps) trail.old.steps }
+    requires way { IsDeciding log.old.clauses assumptions.now (level trail.old.steps) trail.old.steps }
     requires sizes { AreSized assumptions.now }
     ensures log { IsLog log.new }
     ensures trail { IsHeld log.new.clauses trail.new }

@@ -42,14 +42,23 @@ impl Model for Solver {
 }
 
 impl Solver {
-    /// A solver without clauses. The error is want of memory.
+    /// A solver without clauses, which decides a variable with the value that it had last, and with
+    /// false where it had none. The error is want of memory.
     pub fn new(alloc: Global) -> Result<Solver, AllocError>
+        ensures added { IfOk result (λ solver. solver.added ≡ []) }
+        ensures learned { IfOk result (λ solver. solver.learned ≡ []) }
+    {
+        Solver::deciding(alloc, false)
+    }
+
+    /// The same, with this value where it had none.
+    pub fn deciding(alloc: Global, value: bool) -> Result<Solver, AllocError>
         ensures added { IfOk result (λ solver. solver.added ≡ []) }
         ensures learned { IfOk result (λ solver. solver.learned ≡ []) }
     {
         Ok(Solver {
             log: Log::new(alloc),
-            order: Order::new(alloc),
+            order: Order::new(alloc, value),
             trail: Trail::new(alloc),
             alloc,
         })
@@ -142,4 +151,11 @@ impl Solver {
             meter,
         )
     }
+}
+
+fn send<T: Send>() {}
+
+/// Nothing: it has a proof only where a solver may be handed to another thread.
+pub fn threads_hand_on_solvers() {
+    send::<Solver>();
 }

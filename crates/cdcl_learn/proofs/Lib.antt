@@ -1,6 +1,5 @@
 pub mod FreshLaws
 pub mod ExplainLaws
-pub mod AddingLaws
 pub mod WalkLaws
 pub mod TraceLaws
 pub mod LiteralTraceLaws

@@ -1,25 +1,25 @@
 -- Laws of the walk back from a false literal: the trail before its negation came, and the literal assumed behind.
-use Rattle.std.proofs.Common.{◌≡◌, ℕ, zero, suc, ◌+◌, ◌<◌, ◌≤◌, Bool, true, false, ◌&&◌, ◌||◌, List, [], ◌∷◌, ◌++◌, length, get_or, take, drop, map, Option, Some, None, refl, ap, sym, subst, ◌∙◌, ◌⊎◌, inl, inr, arith, append_assoc, eqb, eqb-true, eq-eqb, cond}
+use Rattle.std.proofs.Common.{◌≡◌, ℕ, zero, suc, ◌+◌, ◌<◌, ◌≤◌, Bool, true, false, ◌&&◌, List, [], ◌∷◌, ◌++◌, length, get_or, take, drop, Option, Some, None, refl, ap, sym, subst, ◌∙◌, ◌⊎◌, inl, inr, arith, append_assoc, eqb, eqb-true}
 use Rattle.std.specs.Prelude.{is_none, slice_get, Result, Ok, Err, IfOk}
 use Rattle.std.specs.List.{list_any}
 use Rattle.std.specs.Option.{option_map, option_flatten, unwrap_or}
 use Rattle.std.proofs.lemmas.List.{append-nil}
 use Rattle.std.proofs.lemmas.Bool.{false≢true, and_parts, and_from, or_cases, or_left, or_right, cond-true, cond-false}
 use Rattle.std.proofs.lemmas.Option.{none-some, same_Some, slice_get_within}
-use Rattle.proof_semantics.specs.Clauses.{bool_eq, lit_eq, negation, has_literal}
+use Rattle.proof_semantics.specs.Clauses.{lit_eq, negation, has_literal}
 use Rattle.cnf.specs.Clauses.{clause_numbered}
 use Rattle.proof_semantics.specs.declared.literals.Lit.{Lit}
 use Rattle.proof_semantics.proofs.LiteralLaws.{lit_eq-true, lit_eq-same, negation_twice, bool_eq-same, bool_eq-true, same_lit}
 use Rattle.cdcl_trail.specs.AssignmentOf.{steps_from, place_in}
-use Rattle.cdcl_trail.specs.Trails.{Step, step, assumed, literals_of, reasons_in, step_of, value_of, once}
-use Rattle.cdcl_trail.specs.Propagation.{is_value, is_true, is_false, is_falsified, is_unit_for, IsForced, IsReasoned, HaveReasons, IsConflict, IsReasonedTrail}
+use Rattle.cdcl_trail.specs.Trails.{Step, assumed, literals_of, reasons_in, step_of, value_of, once}
+use Rattle.cdcl_trail.specs.Propagation.{is_value, is_true, is_false, is_falsified, is_unit_for, IsForced, HaveReasons, IsConflict, IsReasonedTrail}
 use Rattle.cdcl_trail.proofs.TrailLaws.{either, once_push, not-true, not-false, or_neither, or_both}
-use Rattle.cdcl_trail.proofs.ScanLaws.{untrue, unit_others}
+use Rattle.cdcl_trail.proofs.ScanLaws.{unit_others}
 use Rattle.cdcl_trail.proofs.PassLaws.{step_comes, no_step}
 use Rattle.cdcl_trail.proofs.PrefixLaws.{all_from, false_more, reasons_append}
 use Rattle.cdcl_learn.specs.Learning.{is_assumed}
 use Rattle.cdcl_learn.specs.declared.learning.Learned.{Learned}
-use Rattle.cdcl_learn.proofs.FreshLaws.{IsFreshTrail, IsFresh, AreFresh, fresh_trail}
+use Rattle.cdcl_learn.proofs.FreshLaws.{IsFresh, AreFresh, fresh_trail}
 
 abbrev Has : List Lit → Lit → Type 0
 Has lits a = has_literal lits a ≡ true

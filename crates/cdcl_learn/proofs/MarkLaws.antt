@@ -17,7 +17,7 @@ use Rattle.cdcl_trail.proofs.TrailLaws.{either, or_both, or_neither, not-true, n
 use Rattle.cdcl_trail.proofs.ScanLaws.{all_has, any_has, any_gives, untrue, no_value, unit_others}
 use Rattle.cdcl_trail.proofs.PassLaws.{unit_unvalued}
 use Rattle.cdcl_trail.proofs.PrefixLaws.{false_more}
-use Rattle.cdcl_learn.specs.Walking.{is_at, is_marked, marked, IsResolvent}
+use Rattle.cdcl_learn.specs.Walking.{is_at, is_marked, marked, count_from, counts_at, IsResolvent}
 use Rattle.cdcl_learn.proofs.LiteralTraceLaws.{false_stands}
 use Rattle.cdcl_learn.proofs.WalkLaws.{no_literal, no_step_there, reads, reads_reason}
 use Rattle.cdcl_learn.proofs.FreshLaws.{IsFreshTrail}
@@ -128,7 +128,7 @@ within (a ∷ lits) (suc q) x e = omega (arith, within lits q x e)
 
 -- The marks of a false clause.
 pub marked_start : (steps : List Step) (lits held : List Lit) (marks : List Bool) (places : ℕ → Option ℕ) → lits ≡ literals_of steps → once lits ≡ true → is_falsified steps held ≡ true
-    → ((v : ℕ) → places v ≡ place_in lits v) → ((q : ℕ) → q < length lits → is_marked marks q ≡ list_any (λ (b : Lit). is_at (places b.var) q) held)
+    → ((v q : ℕ) → q < length lits → is_at (places v) q ≡ is_at (place_in lits v) q) → ((q : ℕ) → q < length lits → is_marked marks q ≡ list_any (λ (b : Lit). is_at (places b.var) q) held)
     → (a : Lit) → has_literal (marked marks lits) a ≡ has_literal held a
 marked_start steps lits held marks places same apart falsified told marking a =
     both_ways (has_literal (marked marks lits) a) (has_literal held a)
@@ -137,17 +137,20 @@ marked_start steps lits held marks places same apart falsified told marking a =
     let q = found.0 in
     let from = any_gives (λ b. is_at (places b.var) q) held (sym (marking q (within lits q (negation a) found.2)) ∙ found.1) in
     let b = from.0 in
-    let is : a ≡ b = one_of steps lits a b q same apart (all_has (is_false steps) held b falsified from.1) (sym (told b.var) ∙ at_is (places b.var) q from.2) found.2 in
+    let below = within lits q (negation a) found.2 in
+    let there : place_in lits b.var ≡ Some q = at_is (place_in lits b.var) q (sym (told b.var q below) ∙ from.2) in
+    let is : a ≡ b = one_of steps lits a b q same apart (all_has (is_false steps) held b falsified from.1) there found.2 in
     ap (has_literal held) is ∙ from.1)
     (λ has.
     let found = false_place steps lits a same apart (all_has (is_false steps) held a falsified has) in
     let q = found.0 in
+    let below = within lits q (negation a) found.2 in
     marked_has marks lits q a
-    (marking q (within lits q (negation a) found.2) ∙ any_has (λ b. is_at (places b.var) q) held a has (is_at-own (places a.var) q (told a.var ∙ found.1))) found.2)
+    (marking q below ∙ any_has (λ b. is_at (places b.var) q) held a has (told a.var q below ∙ is_at-own (place_in lits a.var) q found.1)) found.2)
 
 -- Resolution by marks: the reason's literals are marked, and the mark of the place is taken away.
 pub marked_resolvent : (steps : List Step) (lits reason : List Lit) (old new : List Bool) (places : ℕ → Option ℕ) (p : ℕ) (u : Lit) → lits ≡ literals_of steps → once lits ≡ true
-    → slice_get lits p ≡ Some u → ((v : ℕ) → places v ≡ place_in lits v)
+    → slice_get lits p ≡ Some u → ((v q : ℕ) → q < length lits → is_at (places v) q ≡ is_at (place_in lits v) q)
     → ((b : Lit) → Has reason b → (lit_eq u b ≡ true) ⊎ ((is_false steps b ≡ true) × (b.var ≡ u.var → ⊥)))
     → ((q : ℕ) → q < length lits → (q ≡ p → ⊥) → is_marked new q ≡ (is_marked old q || list_any (λ (b : Lit). is_at (places b.var) q) reason))
     → is_marked new p ≡ false
@@ -164,7 +167,8 @@ marked_resolvent steps lits reason old new places p u same apart at told others 
       | inr came ↦
           let from = any_gives (λ b. is_at (places b.var) q) reason came in
           let b = from.0 in
-          let there : place_in lits b.var ≡ Some q = sym (told b.var) ∙ at_is (places b.var) q from.2 in
+          let there : place_in lits b.var ≡ Some q =
+          at_is (place_in lits b.var) q (sym (told b.var q (within lits q (negation a) found.2)) ∙ from.2) in
           elim (others b from.1) [
             | inl here ↦ absurd (other (same_Some q p (sym there ∙ ap (λ (c : Lit). place_in lits c.var) (sym (lit_eq-true u b here)) ∙ place_own lits p u apart at)))
             | inr falsified ↦
@@ -189,8 +193,10 @@ marked_resolvent steps lits reason old new places p u same apart at told others 
                 let found = false_place steps lits a same apart falsified.0 in
                 let q = found.0 in
                 let other : q ≡ p → ⊥ = λ is. falsified.1 (ap (λ (c : Lit). c.var) (same_Some (negation a) u (sym found.2 ∙ ap (slice_get lits) is ∙ at))) in
+                let below = within lits q (negation a) found.2 in
                 marked_has new lits q a
-                (marking q (within lits q (negation a) found.2) other ∙ or_right _ _ (any_has (λ b. is_at (places b.var) q) reason a parts.0 (is_at-own (places a.var) q (told a.var ∙ found.1))))
+                (marking q below other
+                ∙ or_right _ _ (any_has (λ b. is_at (places b.var) q) reason a parts.0 (told a.var q below ∙ is_at-own (place_in lits a.var) q found.1)))
                 found.2
           ]
     ])
@@ -282,7 +288,7 @@ marks_more f clause i d old mid new below before now =
     now ∙ ap (λ b. b || f (get_or clause i d)) before ∙ sym (or_assoc old (list_any f (take i clause)) (f (get_or clause i d)))
     ∙ ap (λ b. old || b) (sym (any_push f (take i clause) (get_or clause i d)) ∙ ap (list_any f) (sym (take_more clause i d below)))
 
-set_length : (marks : List Bool) (p : ℕ) (b : Bool) → length (slice_set marks p b) ≡ length marks
+pub set_length : (marks : List Bool) (p : ℕ) (b : Bool) → length (slice_set marks p b) ≡ length marks
 set_length [] p b = refl
 set_length (m ∷ marks) zero b = refl
 set_length (m ∷ marks) (suc p) b = ap suc (set_length marks p b)
@@ -323,6 +329,16 @@ pub mark_past : (marks : List Bool) (p q : ℕ) → length marks ≤ p → q < l
 mark_past marks p q past below =
     or_same (is_marked marks q) ∙ ap (λ b. is_marked marks q || b) (sym (untrue _ (λ e. omega (arith, past, below, eqb-true p q e))))
 
+-- a place that is marked already
+pub mark_again : (marks : List Bool) (p q : ℕ) → is_marked marks p ≡ true → is_marked marks q ≡ (is_marked marks q || is_at (Some p) q)
+mark_again marks p q here =
+    elim (either (eqb p q)) [
+      | inl same ↦
+          let marked_there : is_marked marks q ≡ true = ap (is_marked marks) (sym (eqb-true p q same)) ∙ here in
+          marked_there ∙ sym (or_left (is_marked marks q) (eqb p q) marked_there)
+      | inr differs ↦ or_same (is_marked marks q) ∙ ap (λ b. is_marked marks q || b) (sym differs)
+    ]
+
 pub mark_none : (marks : List Bool) (q : ℕ) → is_marked marks q ≡ (is_marked marks q || is_at None q)
 mark_none marks q = or_same (is_marked marks q)
 
@@ -352,7 +368,7 @@ mark_read marks lits p apart below = mark_tells marks lits p (get_or lits p no_l
 pub code_resolvent : (clauses : List (List Lit)) (steps : List Step) (lits reason : List Lit) (reasons : List (Option ℕ)) (old mid new : List Bool) (places : ℕ → Option ℕ) (p number : ℕ)
     → lits ≡ literals_of steps → reasons ≡ reasons_in steps → once lits ≡ true → 0 < p → p ≤ length lits → length old ≡ length lits → length mid ≡ length old
     → get_or reasons (p - 1) None ≡ Some number → clause_numbered clauses number ≡ Some reason → IsFreshTrail clauses steps
-    → ((v : ℕ) → places v ≡ place_in lits v)
+    → ((v q : ℕ) → q < length lits → is_at (places v) q ≡ is_at (place_in lits v) q)
     → ((q : ℕ) → q < length old → is_marked mid q ≡ (is_marked old q || list_any (λ (b : Lit). is_at (places b.var) q) reason))
     → new ≡ slice_set mid (p - 1) false
     → IsResolvent (marked old lits) (get_or lits (p - 1) no_literal) reason (marked new lits)
@@ -368,6 +384,20 @@ code_resolvent clauses steps lits reason reasons old mid new places p number sam
     (λ n under other. ap (λ ms. is_marked ms n) set_is ∙ set_elsewhere mid (p - 1) n false other ∙ marking n (omega (arith, under, long)))
     (ap (λ ms. is_marked ms (p - 1)) set_is ∙ set_there mid (p - 1) false (omega (arith, below, long, longer)))
 
+-- the same, by the place itself
+pub resolvent_at : (clauses : List (List Lit)) (steps : List Step) (lits reason : List Lit) (reasons : List (Option ℕ)) (old mid new : List Bool) (places : ℕ → Option ℕ) (place number : ℕ)
+    → lits ≡ literals_of steps → reasons ≡ reasons_in steps → once lits ≡ true → place < length lits → length old ≡ length lits → length mid ≡ length old
+    → get_or reasons place None ≡ Some number → clause_numbered clauses number ≡ Some reason → IsFreshTrail clauses steps
+    → ((v q : ℕ) → q < length lits → is_at (places v) q ≡ is_at (place_in lits v) q)
+    → ((q : ℕ) → q < length old → is_marked mid q ≡ (is_marked old q || list_any (λ (b : Lit). is_at (places b.var) q) reason))
+    → new ≡ slice_set mid place false
+    → IsResolvent (marked old lits) (get_or lits place no_literal) reason (marked new lits)
+resolvent_at clauses steps lits reason reasons old mid new places place number same same_reasons apart within_all long longer read held fresh told marking set_is =
+    let here : place + 1 - 1 ≡ place = omega arith in
+    subst (λ n. IsResolvent (marked old lits) (get_or lits n no_literal) reason (marked new lits)) here
+    (code_resolvent clauses steps lits reason reasons old mid new places (place + 1) number same same_reasons apart (omega arith) (omega (arith, within_all)) long longer
+    (ap (λ n. get_or reasons n None) here ∙ read) held fresh told marking (set_is ∙ ap (λ n. slice_set mid n false) (sym here)))
+
 none_marked : (n q : ℕ) → is_marked (replicate n false) q ≡ false
 none_marked n q = elim (either (leb (suc q) n)) [
   | inl under ↦ get_or-replicate n q false false (leb-true (suc q) n under)
@@ -376,7 +406,7 @@ none_marked n q = elim (either (leb (suc q) n)) [
 
 -- the marks that the walk begins with
 pub code_start : (clauses : List (List Lit)) (steps : List Step) (lits held : List Lit) (n : ℕ) (first marks : List Bool) (places : ℕ → Option ℕ) → lits ≡ literals_of steps → once lits ≡ true
-    → is_falsified steps held ≡ true → ((v : ℕ) → places v ≡ place_in lits v) → first ≡ replicate n false → n ≡ length lits
+    → is_falsified steps held ≡ true → ((v q : ℕ) → q < length lits → is_at (places v) q ≡ is_at (place_in lits v) q) → first ≡ replicate n false → n ≡ length lits
     → ((q : ℕ) → q < length first → is_marked marks q ≡ (is_marked first q || list_any (λ (b : Lit). is_at (places b.var) q) held))
     → (a : Lit) → has_literal (marked marks lits) a ≡ has_literal held a
 code_start clauses steps lits held n first marks places same apart falsified told is many marking =
@@ -386,3 +416,221 @@ code_start clauses steps lits held n first marks places same apart falsified tol
 
 pub long_after : (old mid new : List Bool) (p : ℕ) → length mid ≡ length old → new ≡ slice_set mid p false → length new ≡ length old
 long_after old mid new p same is = ap length is ∙ set_length mid p false ∙ same
+
+-- The places that are told where the trail is cut behind a place, and another literal of its variable stands there.
+
+at_next : (o : Option ℕ) (q : ℕ) → is_at (option_map (λ place. place + 1) o) (suc q) ≡ is_at o q
+at_next None q = refl
+at_next (Some p) q =
+    both_ways (eqb (p + 1) (suc q)) (eqb p q)
+    (λ e. eq-eqb p q (omega (arith, eqb-true (p + 1) (suc q) e)))
+    (λ e. eq-eqb (p + 1) (suc q) (omega (arith, eqb-true p q e)))
+
+not_first : (o : Option ℕ) → is_at (option_map (λ place. place + 1) o) 0 ≡ false
+not_first None = refl
+not_first (Some p) = untrue (eqb (p + 1) 0) (λ e. omega (arith, eqb-true (p + 1) 0 e))
+
+at_cond : (b : Bool) (o : Option ℕ) (q : ℕ) → is_at (cond b (Some 0) (option_map (λ place. place + 1) o)) (suc q) ≡ cond b false (is_at o q)
+at_cond true o q = untrue (eqb 0 (suc q)) (λ e. omega (arith, eqb-true 0 (suc q) e))
+at_cond false o q = at_next o q
+
+first_cond : (b : Bool) (o : Option ℕ) → is_at (cond b (Some 0) (option_map (λ place. place + 1) o)) 0 ≡ b
+first_cond true o = eq-eqb 0 0 refl
+first_cond false o = not_first o
+
+pub place_cut : (lits front : List Lit) (p : ℕ) (u : Lit) → slice_get lits p ≡ Some (negation u) → front ≡ take p lits ++ u ∷ []
+    → (v q : ℕ) → q < length front → is_at (place_in lits v) q ≡ is_at (place_in front v) q
+place_cut lits front p u at is v q below =
+    cut_here lits p u at v q (omega (arith, below, ap length is)) ∙ ap (λ ls. is_at (place_in ls v) q) (sym is)
+  where
+    cut_here : (lits : List Lit) (p : ℕ) (u : Lit) → slice_get lits p ≡ Some (negation u) → (v q : ℕ) → q < length (take p lits ++ u ∷ [])
+        → is_at (place_in lits v) q ≡ is_at (place_in (take p lits ++ u ∷ []) v) q
+    cut_here [] p u at v q below = absurd (none-some (negation u) at)
+    cut_here (a ∷ lits) zero u at v zero below =
+        first_cond (eqb a.var v) (place_in lits v)
+        ∙ ap (λ (b : Lit). eqb b.var v) (same_Some a (negation u) at)
+        ∙ sym (first_cond (eqb u.var v) None)
+    cut_here (a ∷ lits) zero u at v (suc q) below = absurd (omega (arith, below))
+    cut_here (a ∷ lits) (suc p) u at v zero below =
+        first_cond (eqb a.var v) (place_in lits v) ∙ sym (first_cond (eqb a.var v) (place_in (take p lits ++ u ∷ []) v))
+    cut_here (a ∷ lits) (suc p) u at v (suc q) below =
+        at_cond (eqb a.var v) (place_in lits v) q
+        ∙ ap (cond (eqb a.var v) false) (cut_here lits p u at v q (omega (arith, below)))
+        ∙ sym (at_cond (eqb a.var v) (place_in (take p lits ++ u ∷ []) v) q)
+
+-- How many places are marked.
+
+pub count_set : (s p : ℕ) (marks : List Bool) → p < length marks → is_marked marks p ≡ false → count_from s (slice_set marks p true) ≡ count_from s marks + counts_at s p
+count_set s p [] below e = absurd (omega (arith, below))
+count_set zero zero (true ∷ marks) below e = absurd (false≢true (sym e))
+count_set zero zero (false ∷ marks) below e = omega arith
+count_set zero (suc p) (m ∷ marks) below e = omega (arith, count_set zero p marks (omega (arith, below)) e)
+count_set (suc s) zero (m ∷ marks) below e = omega arith
+count_set (suc s) (suc p) (m ∷ marks) below e = count_set s p marks (omega (arith, below)) e
+
+pub count_unset : (s p : ℕ) (marks : List Bool) → p < length marks → is_marked marks p ≡ true → count_from s (slice_set marks p false) + counts_at s p ≡ count_from s marks
+count_unset s p [] below e = absurd (omega (arith, below))
+count_unset zero zero (true ∷ marks) below e = omega arith
+count_unset zero zero (false ∷ marks) below e = absurd (false≢true e)
+count_unset zero (suc p) (m ∷ marks) below e = omega (arith, count_unset zero p marks (omega (arith, below)) e)
+count_unset (suc s) zero (m ∷ marks) below e = omega arith
+count_unset (suc s) (suc p) (m ∷ marks) below e = count_unset s p marks (omega (arith, below)) e
+
+pub count_small : (s : ℕ) (marks : List Bool) → count_from s marks ≤ length marks
+count_small s [] = omega arith
+count_small zero (true ∷ marks) = omega (arith, count_small zero marks)
+count_small zero (false ∷ marks) = omega (arith, count_small zero marks)
+count_small (suc s) (m ∷ marks) = omega (arith, count_small s marks)
+
+pub count_none : (s n : ℕ) → count_from s (replicate n false) ≡ 0
+count_none s zero = refl
+count_none zero (suc n) = omega (arith, count_none zero n)
+count_none (suc s) (suc n) = count_none s n
+
+pub counts_in : (s p : ℕ) → s ≤ p → counts_at s p ≡ 1
+counts_in zero p e = refl
+counts_in (suc s) zero e = absurd (omega (arith, e))
+counts_in (suc s) (suc p) e = counts_in s p (omega (arith, e))
+
+pub counts_out : (s p : ℕ) → p < s → counts_at s p ≡ 0
+counts_out zero p e = absurd (omega (arith, e))
+counts_out (suc s) zero e = refl
+counts_out (suc s) (suc p) e = counts_out s p (omega (arith, e))
+
+pub marked_within : (marks : List Bool) (q : ℕ) → is_marked marks q ≡ true → q < length marks
+marked_within [] q e = absurd (false≢true e)
+marked_within (m ∷ marks) zero e = omega arith
+marked_within (m ∷ marks) (suc q) e = omega (arith, marked_within marks q e)
+
+count_some : (s q : ℕ) (marks : List Bool) → is_marked marks q ≡ true → s ≤ q → 0 < count_from s marks
+count_some s q marks e from = omega (arith, count_unset s q marks (marked_within marks q e) e, counts_in s q from)
+
+-- two marked places are counted as two
+count_two : (s p q : ℕ) (marks : List Bool) → is_marked marks p ≡ true → is_marked marks q ≡ true → (q ≡ p → ⊥) → s ≤ p → s ≤ q → 1 < count_from s marks
+count_two s p q marks here there apart from_p from_q =
+    omega (
+      arith,
+      count_unset s p marks (marked_within marks p here) here,
+      counts_in s p from_p,
+      count_some s q (slice_set marks p false) (set_elsewhere marks p q false apart ∙ there) from_q,
+    )
+
+count_finds : (s : ℕ) (marks : List Bool) → 0 < count_from s marks → (q : ℕ) × (is_marked marks q ≡ true) × (s ≤ q)
+count_finds s [] some = absurd (omega (arith, some))
+count_finds zero (true ∷ marks) some = (0, refl, omega arith)
+count_finds zero (false ∷ marks) some =
+    let found = count_finds zero marks (omega (arith, some)) in (suc found.0, found.1, omega arith)
+count_finds (suc s) (m ∷ marks) some =
+    let found = count_finds s marks some in (suc found.0, found.1, omega (arith, found.2))
+
+-- beside a marked place another one is counted
+count_other : (s p : ℕ) (marks : List Bool) → is_marked marks p ≡ true → s ≤ p → (count_from s marks ≡ 1 → ⊥) → (q : ℕ) × (is_marked marks q ≡ true) × (s ≤ q) × (q ≡ p → ⊥)
+count_other s p marks here from more =
+    let less = count_unset s p marks (marked_within marks p here) here in
+    let left = slice_set marks p false in
+    let found = count_finds s left (some_left (count_from s left) (count_from s marks) less (counts_in s p from) more) in
+    let apart : found.0 ≡ p → ⊥ = λ e. false≢true (sym (set_there marks p false (marked_within marks p here)) ∙ ap (is_marked left) (sym e) ∙ found.1) in
+    (found.0, sym (set_elsewhere marks p found.0 false apart) ∙ found.1, found.2, apart)
+  where
+    some_left : (m n : ℕ) → m + counts_at s p ≡ n → counts_at s p ≡ 1 → (n ≡ 1 → ⊥) → 0 < m
+    some_left zero n e one differs = absurd (differs (omega (arith, e, one)))
+    some_left (suc m) n e one differs = omega arith
+
+-- The literals between two places.
+
+get_front : (lits : List Lit) (k m : ℕ) (x : Lit) → slice_get lits m ≡ Some x → m < k → slice_get (take k lits) m ≡ Some x
+get_front [] k m x e below = absurd (none-some x e)
+get_front (a ∷ lits) zero m x e below = absurd (omega (arith, below))
+get_front (a ∷ lits) (suc k) zero x e below = e
+get_front (a ∷ lits) (suc k) (suc m) x e below = get_front lits k m x e (omega (arith, below))
+
+get_behind : (lits : List Lit) (s m q : ℕ) (x : Lit) → slice_get lits q ≡ Some x → q ≡ s + m → slice_get (drop s lits) m ≡ Some x
+get_behind [] s m q x e is = absurd (none-some x e)
+get_behind (a ∷ lits) zero m q x e is = ap (slice_get (a ∷ lits)) (omega (arith, is)) ∙ e
+get_behind (a ∷ lits) (suc s) m zero x e is = absurd (omega (arith, is))
+get_behind (a ∷ lits) (suc s) m (suc q) x e is = get_behind lits s m q x e (omega (arith, is))
+
+get_between : (lits : List Lit) (s p q : ℕ) (x : Lit) → slice_get lits q ≡ Some x → s ≤ q → q < p → slice_get (take (p - s) (drop s lits)) (q - s) ≡ Some x
+get_between lits s p q x e from below =
+    get_front (drop s lits) (p - s) (q - s) x (get_behind lits s (q - s) q x e (omega (arith, from))) (omega (arith, from, below))
+
+any_front : (f : Lit → Bool) (lits : List Lit) (k : ℕ) → list_any f (take k lits) ≡ true → (m : ℕ) × (x : Lit) × (slice_get lits m ≡ Some x) × (m < k) × (f x ≡ true)
+any_front f [] zero any = absurd (false≢true any)
+any_front f [] (suc k) any = absurd (false≢true any)
+any_front f (a ∷ lits) zero any = absurd (false≢true any)
+any_front f (a ∷ lits) (suc k) any =
+    elim (or_cases (f a) (list_any f (take k lits)) any) [
+      | inl here ↦ (0, a, refl, omega arith, here)
+      | inr later ↦ let found = any_front f lits k later in (suc found.0, found.1, found.2, omega (arith, found.3), found.4)
+    ]
+
+at_behind : (lits : List Lit) (s m : ℕ) (x : Lit) → slice_get (drop s lits) m ≡ Some x → (q : ℕ) × (q ≡ s + m) × (slice_get lits q ≡ Some x)
+at_behind [] zero m x e = absurd (none-some x e)
+at_behind [] (suc s) m x e = absurd (none-some x e)
+at_behind (a ∷ lits) zero m x e = (m, omega arith, e)
+at_behind (a ∷ lits) (suc s) m x e = let found = at_behind lits s m x e in (suc found.0, omega (arith, found.1), found.2)
+
+from_between : (f : Lit → Bool) (lits : List Lit) (s p : ℕ) → list_any f (take (p - s) (drop s lits)) ≡ true
+    → (q : ℕ) × (x : Lit) × (slice_get lits q ≡ Some x) × (s ≤ q) × (q < p) × (f x ≡ true)
+from_between f lits s p any =
+    let found = any_front f (drop s lits) (p - s) any in
+    let there = at_behind lits s found.0 found.1 found.2 in
+    (there.0, found.1, there.2, omega (arith, there.1), omega (arith, there.1, found.3), found.4)
+
+any_slice : (f : Lit → Bool) (lits : List Lit) (q : ℕ) (x : Lit) → slice_get lits q ≡ Some x → f x ≡ true → list_any f lits ≡ true
+any_slice f [] q x e holds = absurd (none-some x e)
+any_slice f (a ∷ lits) zero x e holds = or_left _ _ (ap f (same_Some a x e) ∙ holds)
+any_slice f (a ∷ lits) (suc q) x e holds = or_right _ _ (any_slice f lits q x e holds)
+
+-- where one place is counted, the clause has no other literal of the level
+pub alone : (marks : List Bool) (lits : List Lit) (s p : ℕ) → once lits ≡ true → is_marked marks p ≡ true → s ≤ p → count_from s marks ≡ 1
+    → list_any (λ l. has_literal (marked marks lits) (negation l)) (take (p - s) (drop s lits)) ≡ false
+alone marks lits s p apart here from one = untrue _ (λ any.
+    let found = from_between (λ l. has_literal (marked marks lits) (negation l)) lits s p any in
+    let there : is_marked marks found.0 ≡ true = mark_tells marks lits found.0 found.1 apart found.2 ∙ found.5 in
+    omega (arith, one, count_two s p found.0 marks here there (λ e. omega (arith, e, found.4)) from found.3))
+
+take_literals : (n : ℕ) (steps : List Step) → literals_of (take n steps) ≡ take n (literals_of steps)
+take_literals zero [] = refl
+take_literals zero (x ∷ steps) = refl
+take_literals (suc n) [] = refl
+take_literals (suc n) (x ∷ steps) = ap (λ ls. x.literal ∷ ls) (take_literals n steps)
+
+get_take : (n i : ℕ) (lits : List Lit) (x : Lit) → slice_get (take n lits) i ≡ Some x → (i < n) × (slice_get lits i ≡ Some x)
+get_take zero i [] x e = absurd (none-some x e)
+get_take zero i (a ∷ lits) x e = absurd (none-some x e)
+get_take (suc n) i [] x e = absurd (none-some x e)
+get_take (suc n) zero (a ∷ lits) x e = (omega arith, e)
+get_take (suc n) (suc i) (a ∷ lits) x e = let rest = get_take n i lits x e in (omega (arith, rest.0), rest.1)
+
+-- a literal that the first steps make true stands among them
+stands_early : (steps : List Step) (lits : List Lit) (q : ℕ) (l : Lit) (n : ℕ) → lits ≡ literals_of steps → once lits ≡ true → slice_get lits q ≡ Some l
+    → is_false (take n steps) (negation l) ≡ true → q < n
+stands_early steps lits q l n same apart at e =
+    let stands : Has (take n lits) l =
+    ap (λ ls. has_literal (take n ls) l) same ∙ ap (λ ls. has_literal ls l) (sym (take_literals n steps))
+    ∙ ap (has_literal (literals_of (take n steps))) (sym (negation_twice l)) ∙ false_stands (take n steps) (negation l) e in
+    let found = has_place (take n lits) l stands in
+    let there = get_take n found.0 lits l found.1 in
+    omega (arith, there.0, one_place lits found.0 q l apart there.1 at)
+
+below_other : (p q : ℕ) → q < p + 1 → (q ≡ p → ⊥) → q < p
+below_other p q e differs = elim (either (leb (suc q) p)) [
+  | inl under ↦ omega (arith, leb-true (suc q) p under)
+  | inr past ↦ absurd (differs (omega (arith, e, leb-false (suc q) p past)))
+]
+
+-- and where it is not, it has
+pub not_alone : (steps : List Step) (marks : List Bool) (lits : List Lit) (s p : ℕ) → lits ≡ literals_of steps → once lits ≡ true → length marks ≡ length lits
+    → is_marked marks p ≡ true → s ≤ p → (count_from s marks ≡ 1 → ⊥)
+    → ((a : Lit) → Has (marked marks lits) a → is_false (take (p + 1) steps) a ≡ true)
+    → list_any (λ l. has_literal (marked marks lits) (negation l)) (take (p - s) (drop s lits)) ≡ true
+not_alone steps marks lits s p same apart long here from more within_front =
+    let other = count_other s p marks here from more in
+    let q = other.0 in
+    let l = get_or lits q no_literal in
+    let at : slice_get lits q ≡ Some l = slice_get-get_or lits q no_literal (omega (arith, marked_within marks q other.1, long)) in
+    let has : Has (marked marks lits) (negation l) = sym (mark_tells marks lits q l apart at) ∙ other.1 in
+    let early : q < p + 1 = stands_early steps lits q l (p + 1) same apart at (within_front (negation l) has) in
+    any_slice (λ b. has_literal (marked marks lits) (negation b)) (take (p - s) (drop s lits)) (q - s) l
+    (get_between lits s p q l at other.2 (below_other p q early other.3)) has

@@ -16,10 +16,10 @@ use Rattle.cdcl_trail.specs.Propagation.{is_value, is_true, is_false, is_falsifi
 use Rattle.cnf.specs.Clauses.{clause_numbered}
 use Rattle.cdcl_learn.proofs.FreshLaws.{IsFresh, AreFresh, IsFreshTrail, fresh_at}
 use Rattle.cdcl_trail.proofs.TrailLaws.{either, not-true, or_neither, or_both}
-use Rattle.cdcl_trail.proofs.ScanLaws.{all_has, any_gives, any_has, untrue, unvalued_test}
+use Rattle.cdcl_trail.proofs.ScanLaws.{all_has, any_gives, any_has, no_value, untrue, unvalued_test}
 use Rattle.cdcl_trail.proofs.PassLaws.{step_comes, no_step, complete_at, held_at}
 use Rattle.cdcl_trail.proofs.PrefixLaws.{all_from, not_all_gives, step_more, false_more, true_more, none_before, false_before}
-use Rattle.cdcl_learn.specs.Walking.{IsLastAssumed, IsResolvent, Explains, IsOnTheWay, IsLearned}
+use Rattle.cdcl_learn.specs.Walking.{IsLastAssumed, IsResolvent, Explains, IsOnTheWay, IsAtPoint, IsLearned}
 use Rattle.cdcl_learn.proofs.ExplainLaws.{explains_conflict, explains_resolvent, explained_ends}
 
 abbrev Has : List Lit → Lit → Type 0
@@ -198,30 +198,46 @@ found_between clauses steps start i f reasoned below any =
 -- The end: one literal of the last level is left.
 
 pub way_ends : (clauses : List (List Lit)) (steps : List Step) (start i : ℕ) (d : Step) (clause : List Lit) (hints : List ℕ) → IsFreshTrail clauses steps
-    → start ≤ i → i < length steps → lower_steps steps ≡ take start steps → Has clause (negation (get_or steps i d).literal)
+    → start ≤ i → i < length steps → Has clause (negation (get_or steps i d).literal)
     → list_any (λ l. has_literal clause (negation l)) (take (i - start) (drop start (literals_of steps))) ≡ false
-    → IsOnTheWay clauses steps start (i + 1) clause hints → IsLearned clauses steps clause hints
-way_ends clauses steps start i d clause hints reasoned above below lower has none way =
+    → IsOnTheWay clauses steps start (i + 1) clause hints → IsAtPoint clauses steps start clause hints
+way_ends clauses steps start i d clause hints reasoned above below has none way =
     let u = (get_or steps i d).literal in
-    let falsified : (a : Lit) → Has clause a → is_false steps a ≡ true = λ a has_a.
-    ap (λ xs. is_false xs a) (sym (take-append-drop (i + 1) steps)) ∙ false_more (take (i + 1) steps) (drop (i + 1) steps) a (way.within a has_a) in
-    let fresh : value_of (take start steps) u.var ≡ None =
-    none_before (take start steps) (take (i - start) (drop start steps)) u.var
-    (ap (λ xs. value_of xs u.var) (sym (between steps start i above)) ∙ (fresh_at clauses [] steps i d below reasoned).fresh) in
-    let others : (a : Lit) → Has clause a → (lit_eq (negation u) a || is_false (take start steps) a) ≡ true = λ a has_a.
-    elim (either (lit_eq a (negation u))) [
-      | inl same ↦ or_left _ _ (ap (lit_eq (negation u)) (lit_eq-true a (negation u) same) ∙ lit_eq-same (negation u))
-      | inr differs ↦ or_right _ _ (false_below (take start steps) (take (i - start) (drop start steps)) clause a has_a
-          (ap (list_any (λ l. has_literal clause (negation l))) (sym (between_literals steps start i)) ∙ none)
-          (ap (λ xs. is_false xs a) (sym (between steps start i above))
-          ∙ false_before (take i steps) (get_or steps i d) a (ap (λ xs. is_false xs a) (sym (step_in steps i d below)) ∙ way.within a has_a) differs))
+    record {
+      point = negation u;
+      has = has;
+      falsified = ap (λ xs. is_false xs (negation u)) (sym (take-append-drop (i + 1) steps))
+          ∙ false_more (take (i + 1) steps) (drop (i + 1) steps) (negation u) (way.within (negation u) has);
+      fresh = none_before (take start steps) (take (i - start) (drop start steps)) u.var
+          (ap (λ xs. value_of xs u.var) (sym (between steps start i above)) ∙ (fresh_at clauses [] steps i d below reasoned).fresh);
+      others = λ a has_a. elim (either (lit_eq a (negation u))) [
+        | inl same ↦ inl (ap (lit_eq (negation u)) (lit_eq-true a (negation u) same) ∙ lit_eq-same (negation u))
+        | inr differs ↦ inr (false_below (take start steps) (take (i - start) (drop start steps)) clause a has_a
+            (ap (list_any (λ l. has_literal clause (negation l))) (sym (between_literals steps start i)) ∙ none)
+            (ap (λ xs. is_false xs a) (sym (between steps start i above))
+            ∙ false_before (take i steps) (get_or steps i d) a (ap (λ xs. is_false xs a) (sym (step_in steps i d below)) ∙ way.within a has_a) differs))
+      ];
+      explained = way.explained;
+    }
+
+-- What is left then is learned.
+pub point_learned : (clauses : List (List Lit)) (steps : List Step) (start : ℕ) (clause : List Lit) (hints : List ℕ) → lower_steps steps ≡ take start steps
+    → IsAtPoint clauses steps start clause hints → IsLearned clauses steps clause hints
+point_learned clauses steps start clause hints lower at =
+    let falsified : (a : Lit) → Has clause a → is_false steps a ≡ true = λ a has. elim (at.others a has) [
+      | inl same ↦ ap (is_false steps) (sym (lit_eq-true at.point a same)) ∙ at.falsified
+      | inr early ↦ ap (λ xs. is_false xs a) (sym (take-append-drop start steps)) ∙ false_more (take start steps) (drop start steps) a early
     ] in
-    let unit : is_unit_for (take start steps) clause (negation u) ≡ true =
-    and_from _ _ has (and_from _ _ (unvalued_test _ fresh) (all_from (λ a. lit_eq (negation u) a || is_false (take start steps) a) clause others)) in
+    let each : (a : Lit) → Has clause a → (lit_eq at.point a || is_false (take start steps) a) ≡ true = λ a has. elim (at.others a has) [
+      | inl same ↦ or_left _ _ same
+      | inr early ↦ or_right _ _ early
+    ] in
+    let unit : is_unit_for (take start steps) clause at.point ≡ true =
+    and_from _ _ at.has (and_from _ _ (unvalued_test _ at.fresh) (all_from (λ a. lit_eq at.point a || is_false (take start steps) a) clause each)) in
     record {
       falsified = all_from (is_false steps) clause falsified;
-      last_level = ap (λ xs. is_unit xs clause) lower ∙ any_has (is_unit_for (take start steps) clause) clause (negation u) has unit;
-      hints_end = explained_ends clauses steps clause hints way.explained falsified;
+      last_level = ap (λ xs. is_unit xs clause) lower ∙ any_has (is_unit_for (take start steps) clause) clause at.point at.has unit;
+      hints_end = explained_ends clauses steps clause hints at.explained falsified;
     }
 
 -- A step that is resolved.
@@ -292,6 +308,53 @@ way_resolves clauses steps start i d clause more reason hints number reasoned ab
           (λ a has. elim (either (lit_eq u a)) [ inl same ↦ inl same | inr differs ↦ inr (kept_second _ _ _ _ _ (resolvent a) has (flip u a differs)) ])
           (λ a has. elim (either (lit_eq a (negation u))) [ inl same ↦ inl same | inr differs ↦ inr (kept_first _ _ _ _ _ (resolvent a) has differs) ])
           way.explained;
+    }
+
+-- The literal of a step is true with it.
+true_here : (clauses : List (List Lit)) (steps : List Step) (i : ℕ) (d : Step) → IsFreshTrail clauses steps → i < length steps
+    → is_true (take (i + 1) steps) (get_or steps i d).literal ≡ true
+true_here clauses steps i d reasoned below =
+    let s = get_or steps i d in
+    ap (λ xs. is_true xs s.literal) (step_in steps i d below)
+    ∙ ap (λ o. is_value (option_map (λ (x : Step). x.literal.positive) o) s.literal.positive)
+    (step_comes (take i steps) s (no_step _ (fresh_at clauses [] steps i d below reasoned).fresh))
+    ∙ bool_eq-same s.literal.positive
+
+-- A literal of a lower level that is resolved leaves the point.
+pub point_resolves : (clauses : List (List Lit)) (steps : List Step) (start i : ℕ) (d : Step) (clause more reason : List Lit) (hints : List ℕ) (number : ℕ)
+    → IsFreshTrail clauses steps → i < start → i < length steps
+    → clause_numbered clauses number ≡ Some reason → is_unit_for (take i steps) reason (get_or steps i d).literal ≡ true
+    → IsResolvent clause (get_or steps i d).literal reason more
+    → IsAtPoint clauses steps start clause hints → IsAtPoint clauses steps start more (number ∷ hints)
+point_resolves clauses steps start i d clause more reason hints number reasoned early below held unit resolvent at =
+    let before : i ≤ start = omega (arith, early) in
+    let behind : i + 1 ≤ start = omega (arith, early) in
+    let u = (get_or steps i d).literal in
+    let parts = and_parts _ _ unit in
+    let rest = and_parts _ _ parts.1 in
+    let here = true_here clauses steps i d reasoned below in
+    let soon : is_true (take start steps) u ≡ true =
+    ap (λ xs. is_true xs u) (between steps (i + 1) start behind) ∙ true_more (take (i + 1) steps) (take (start - (i + 1)) (drop (i + 1) steps)) u here in
+    let holds : is_true steps u ≡ true = ap (λ xs. is_true xs u) (sym (take-append-drop (i + 1) steps)) ∙ true_more (take (i + 1) steps) (drop (i + 1) steps) u here in
+    let kept : lit_eq at.point (negation u) ≡ false = apart_lits at.point (negation u) (λ same.
+    no_value (value_of (take start steps) u.var) u.positive (ap (λ (b : Lit). value_of (take start steps) b.var) (sym same) ∙ at.fresh) soon) in
+    record {
+      point = at.point;
+      has = kept_first _ _ _ _ _ (resolvent at.point) at.has kept;
+      falsified = at.falsified;
+      fresh = at.fresh;
+      others = λ a has. elim (came_from _ _ _ _ _ (resolvent a) has) [
+        | inl first ↦ at.others a first.0
+        | inr second ↦ elim (or_cases _ _ (all_has (λ b. lit_eq u b || is_false (take i steps) b) reason a rest.1 second.0)) [
+          | inl same ↦ absurd (false≢true (sym (flip a u second.1) ∙ same))
+          | inr falsified ↦ inr (ap (λ xs. is_false xs a) (between steps i start before)
+              ∙ false_more (take i steps) (take (start - i) (drop i steps)) a falsified)
+        ]
+      ];
+      explained = explains_resolvent clauses steps number reason clause more u hints held holds parts.0
+          (λ a has. elim (either (lit_eq u a)) [ inl same ↦ inl same | inr differs ↦ inr (kept_second _ _ _ _ _ (resolvent a) has (flip u a differs)) ])
+          (λ a has. elim (either (lit_eq a (negation u))) [ inl same ↦ inl same | inr differs ↦ inr (kept_first _ _ _ _ _ (resolvent a) has differs) ])
+          at.explained;
     }
 
 -- The walk can't go past the start of the level.
@@ -398,11 +461,11 @@ pub code_ends : (clauses : List (List Lit)) (steps : List Step) (start p : ℕ) 
     → literals ≡ literals_of steps → start < p → p ≤ length literals → negated ≡ negation (get_or literals (p - 1) no_literal)
     → contained ≡ has_literal clause negated → contained ≡ true
     → others ≡ list_any (λ l. has_literal clause (negation l)) (take (p - 1 - start) (drop start literals)) → others ≡ false
-    → IsFreshTrail clauses steps → lower_steps steps ≡ take start steps
-    → IsOnTheWay clauses steps start p clause hints → IsLearned clauses steps clause hints
-code_ends clauses steps start p clause hints literals negated contained others same after within negates told has told_others none reasoned lower way =
+    → IsFreshTrail clauses steps
+    → IsOnTheWay clauses steps start p clause hints → IsAtPoint clauses steps start clause hints
+code_ends clauses steps start p clause hints literals negated contained others same after within negates told has told_others none reasoned way =
     let r = reads steps literals start p same after within in
-    way_ends clauses steps start (p - 1) no_step_there clause hints reasoned (omega (arith, after)) r.below lower
+    way_ends clauses steps start (p - 1) no_step_there clause hints reasoned (omega (arith, after)) r.below
     (ap (has_literal clause) (sym (negates ∙ ap negation r.literal)) ∙ sym told ∙ has)
     (ap (λ ls. list_any (λ l. has_literal clause (negation l)) (take (p - 1 - start) (drop start ls))) (sym same) ∙ sym told_others ∙ none)
     (subst (λ n. IsOnTheWay clauses steps start n clause hints) (sym r.next) way)
@@ -453,6 +516,25 @@ code_resolves clauses steps start p clause seen more reason hints longer literal
     (ap (λ ls. list_any (λ l. has_literal clause (negation l)) (take (p - 1 - start) (drop start ls))) (sym same) ∙ sym told_others ∙ any)
     (subst (λ u. IsResolvent clause u reason more) r.literal (subst (λ c. IsResolvent c (get_or literals (p - 1) no_literal) reason more) sees resolvent))
     (subst (λ n. IsOnTheWay clauses steps start n clause (reverse hints)) (sym r.next) way))
+
+-- a literal of a lower level is resolved, as the code does it
+pub code_minimises : (clauses : List (List Lit)) (steps : List Step) (start place : ℕ) (clause more reason : List Lit) (hints longer : List ℕ) (literals : List Lit)
+    (reasons : List (Option ℕ)) (number : ℕ)
+    → literals ≡ literals_of steps → reasons ≡ reasons_in steps → place < start → place < length literals
+    → get_or reasons place None ≡ Some number → clause_numbered clauses number ≡ Some reason
+    → IsFreshTrail clauses steps → IsResolvent clause (get_or literals place no_literal) reason more
+    → longer ≡ hints ++ number ∷ []
+    → IsAtPoint clauses steps start clause (reverse hints) → IsAtPoint clauses steps start more (reverse longer)
+code_minimises clauses steps start place clause more reason hints longer literals reasons number same same_reasons early within read held reasoned resolvent pushed at =
+    let here : place + 1 - 1 ≡ place = omega arith in
+    let r = reads steps literals 0 (place + 1) same (omega arith) (omega (arith, within)) in
+    let q = reads_reason clauses steps literals reasons 0 (place + 1) number same same_reasons (omega arith) (omega (arith, within))
+    (ap (λ n. get_or reasons n None) here ∙ read) reasoned in
+    let one : q.clause ≡ reason = same_Some q.clause reason (sym q.held ∙ held) in
+    subst (λ h. IsAtPoint clauses steps start more h) (sym (ap reverse pushed ∙ reverse-append hints (number ∷ [])))
+    (point_resolves clauses steps start (place + 1 - 1) no_step_there clause more reason (reverse hints) number reasoned (omega (arith, early)) r.below held
+    (ap (λ c. is_unit_for (take (place + 1 - 1) steps) c (get_or steps (place + 1 - 1) no_step_there).literal) (sym one) ∙ q.left)
+    (subst (λ u. IsResolvent clause u reason more) (ap (λ n. get_or literals n no_literal) (sym here) ∙ r.literal) resolvent) at)
 
 none_some_false : (o : Option ℕ) → o ≡ None → is_some o ≡ true → ⊥
 none_some_false None e some = false≢true some

@@ -1,10 +1,10 @@
 -- Scaffolding of inner functions. The way back over a trail, from its last literal to the one that opened the last level.
-use Rattle.std.specs.Prelude.{◌≡◌, ℕ, suc, ◌<◌, Bool, true, false, not, ◌&&◌, ◌||◌, ◌==◌, if◌then◌else◌, slice_index_or, List, [], ◌∷◌, length, take, drop, Option, Some, None, is_some, slice_get, map, ◌⊎◌}
+use Rattle.std.specs.Prelude.{◌≡◌, ℕ, zero, suc, ◌+◌, ◌<◌, Bool, true, false, not, ◌&&◌, ◌||◌, ◌==◌, if◌then◌else◌, slice_index_or, List, [], ◌∷◌, length, take, drop, Option, Some, None, is_some, slice_get, map, ◌⊎◌}
 use Rattle.std.specs.List.{list_all}
 use Rattle.proof_semantics.specs.Clauses.{lit_eq, negation, has_literal}
 use Rattle.proof_semantics.specs.Propagation.{hints_fault}
 use Rattle.proof_semantics.specs.declared.literals.Lit.{Lit}
-use Rattle.cdcl_trail.specs.Trails.{Step, lower_steps}
+use Rattle.cdcl_trail.specs.Trails.{Step, value_of, lower_steps}
 use Rattle.cdcl_learn.specs.Learning.{is_assumed}
 use Rattle.cdcl_trail.specs.Propagation.{is_true, is_false, is_falsified, is_unit}
 use Rattle.cnf.specs.Clauses.{clause_numbered}
@@ -13,11 +13,6 @@ use Rattle.cnf.specs.Clauses.{clause_numbered}
 pub record IsLastAssumed (reasons : List (Option ℕ)) (place : ℕ) : Type 0 where
   pub at : slice_get reasons place ≡ Some None
   pub behind : list_all (λ reason. is_some reason) (drop (suc place) reasons) ≡ true
-
--- What the literals of `added` but one bring to those of `clause`.
-abbrev pub HasAlso : List Lit → List Lit → Lit → List Lit → Type 0
-HasAlso clause added except more =
-    (a : Lit) → has_literal more a ≡ (has_literal clause a || (has_literal added a && not (lit_eq a except)))
 
 -- The resolvent of two clauses on a literal, whose negation the first one has.
 abbrev pub IsResolvent : List Lit → Lit → List Lit → List Lit → Type 0
@@ -37,6 +32,16 @@ pub record Explains (clauses : List (List Lit)) (steps : List Step) (clause : Li
 pub record IsOnTheWay (clauses : List (List Lit)) (steps : List Step) (start place : ℕ) (clause : List Lit) (hints : List ℕ) : Type 0 where
   pub within : (a : Lit) → has_literal clause a ≡ true → is_false (take place steps) a ≡ true
   pub above : (a : Lit) × (has_literal clause a ≡ true) × (is_false (take start steps) a ≡ false)
+  pub explained : Explains clauses steps clause hints
+
+-- What holds once one literal of the last level is left, the unique implication point: it is false and has no value on
+-- the lower levels, the clause's other literals are false there, and the hints explain the clause.
+pub record IsAtPoint (clauses : List (List Lit)) (steps : List Step) (start : ℕ) (clause : List Lit) (hints : List ℕ) : Type 0 where
+  pub point : Lit
+  pub has : has_literal clause point ≡ true
+  pub falsified : is_false steps point ≡ true
+  pub fresh : value_of (take start steps) point.var ≡ None
+  pub others : (a : Lit) → has_literal clause a ≡ true → (lit_eq point a ≡ true) ⊎ (is_false (take start steps) a ≡ true)
   pub explained : Explains clauses steps clause hints
 
 -- what is learned
@@ -65,3 +70,20 @@ abbrev pub marked : List Bool → List Lit → List Lit
 marked [] lits = []
 marked (m ∷ marks) [] = []
 marked (m ∷ marks) (a ∷ lits) = if m then negation a ∷ marked marks lits else marked marks lits
+
+-- What contracts see of marks: which places are marked, and from which place on they are counted.
+pub record Marked : Type 0 where
+  pub marks : List Bool
+  pub start : ℕ
+
+-- how many places from one on are marked
+abbrev pub count_from : ℕ → List Bool → ℕ
+count_from start [] = 0
+count_from zero (m ∷ marks) = (if m then 1 else 0) + count_from zero marks
+count_from (suc start) (m ∷ marks) = count_from start marks
+
+-- 1 where the place is counted, and 0 where it stands before those that are
+abbrev pub counts_at : ℕ → ℕ → ℕ
+counts_at zero place = 1
+counts_at (suc start) zero = 0
+counts_at (suc start) (suc place) = counts_at start place

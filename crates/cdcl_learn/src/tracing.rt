@@ -1,20 +1,22 @@
 //! The walk back from a conflict, or from a false literal, to the assumed literals that it follows
 //! from. The main calls are `trace` and `trace_literal`.
-ghost use Rattle.std.specs.Prelude.{◌≡◌, ◌≤◌, ◌⊎◌, [], ◌∷◌, ◌++◌, IfOk, None, Some, true, false, length, map, slice_get, take};
+ghost use Rattle.std.specs.Prelude.{◌≡◌, ◌≤◌, ◌<◌, ◌⊎◌, ℕ, [], ◌∷◌, ◌++◌, IfOk, None, Some, true, false, length, map, slice_get, take};
 ghost use Rattle.proof_semantics.specs.Clauses.{negation, has_literal};
 ghost use Rattle.proof_semantics.specs.Propagation.{hints_fault};
 ghost use Rattle.proof_semantics.specs.declared.literals.Lit.{Lit};
-ghost use Rattle.cdcl_trail.specs.AssignmentOf.{steps_from};
+ghost use Rattle.cdcl_trail.specs.AssignmentOf.{place_in, steps_from};
+ghost use Rattle.cdcl_trail.specs.Tables.{told};
 ghost use Rattle.cdcl_trail.specs.Propagation.{is_false, is_falsified, IsConflict, IsReasonedTrail};
 ghost use Rattle.cdcl_trail.specs.Trails.{once};
 ghost use Rattle.std.specs.Option.{unwrap_or, option_flatten};
 ghost use Rattle.cnf.specs.Clauses.{clause_numbered};
 ghost use Rattle.cdcl_learn.specs.Learning.{is_assumed};
+ghost use Rattle.cdcl_learn.specs.Walking.{is_at};
 
 use crate::learning::{Learned, in_order};
-use crate::marking::{is_marked, mark_all, marked_clause, no_marks, places_of, unmark};
-use crate::resolution::clause_at;
-use cdcl_trail::Trail;
+use crate::marking::Marks;
+use crate::numbered::clause_at;
+use cdcl_trail::{Table, Trail};
 use cnf::{Clause, Db, Lit};
 use std::alloc::{AllocError, Global};
 
@@ -31,6 +33,7 @@ pub fn trace(alloc: Global, db: &Db, trail: &Trail, conflict: u64) -> Result<Lea
     trace_back(
         alloc,
         db.as_slice(),
+        trail.places(),
         trail.literals(),
         trail.reasons(),
         conflict,
@@ -59,6 +62,7 @@ pub fn trace_literal(
     trace_back(
         alloc,
         db.as_slice(),
+        trail.places(),
         literals.as_slice(),
         reasons.as_slice(),
         number,
@@ -120,39 +124,41 @@ fn reason_at(reasons: &[Option<u64>], place: usize) -> u64
 }
 
 // The walk over literals and their reasons: resolves the conflict with each reason, from the last
-// literal back to the first. Of each literal that is false, the negation is marked.
+// literal back to the first. Of each literal that is false, the negation is marked. The table tells
+// where variables stand among the literals, and maybe of others, which stand behind them.
 fn trace_back(
     alloc: Global,
     clauses: &[Clause],
+    table: &Table<usize>,
     literals: &[Lit],
     reasons: &[Option<u64>],
     conflict: u64,
 ) -> Result<Learned, AllocError>
     requires beside { length reasons.now ≡ length literals.now }
+    requires table { (v q : ℕ) → q < length literals.now → is_at (told table.now v) q ≡ is_at (place_in literals.now v) q }
     requires once { once literals.now ≡ true }
     requires conflict { IsConflict clauses.now (steps_from literals.now reasons.now) conflict }
     requires reasons { IsReasonedTrail clauses.now (steps_from literals.now reasons.now) }
     ensures assumed { IfOk result (λ traced. (a : Lit) → has_literal traced.clause a ≡ true → is_assumed (steps_from literals.now reasons.now) (negation a) ≡ true) }
     ensures hints { IfOk result (λ traced. hints_fault (clause_numbered clauses.now) (map negation traced.clause) traced.hints ≡ None) }
 {
-    let table = places_of(alloc, literals)?;
-    let mut marks = no_marks(alloc, literals.len())?;
-    mark_all(&mut marks, &table, clause_at(clauses, conflict));
+    let mut marks = Marks::new(alloc, literals.len(), literals.len())?;
+    marks.mark_all(table, clause_at(clauses, conflict));
     let mut hints: Vec<u64> = Vec::new(alloc);
     hints.push(conflict)?;
     let mut place = literals.len();
     'places: while place > 0 {
         place -= 1;
-        if !is_marked(marks.as_slice(), place) {
+        if !marks.has(place) {
             continue;
         }
         let Some(number) = reasons[place] else {
             continue;
         };
-        mark_all(&mut marks, &table, clause_at(clauses, number));
-        unmark(&mut marks, place);
+        marks.mark_all(table, clause_at(clauses, number));
+        marks.unmark(place);
         hints.push(number)?;
     }
-    let clause = marked_clause(alloc, marks.as_slice(), literals)?;
+    let clause = marks.clause_of(alloc, literals)?;
     Ok(in_order(clause, hints))
 }

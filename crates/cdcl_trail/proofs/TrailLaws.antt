@@ -1,8 +1,8 @@
 -- Laws of literals, reasons and places beside each other.
 use Rattle.std.proofs.Common.{◌≡◌, ℕ, zero, suc, ◌+◌, ◌-◌, ◌<◌, ◌≤◌, Bool, true, false, not, ◌||◌, cond, eqb, List, [], ◌∷◌, ◌++◌, length, get_or, take, Option, Some, None, refl, ap, sym, subst, ◌∙◌, ◌⊎◌, inl, inr, arith, eqb-true, eq-eqb}
-use Rattle.std.specs.Prelude.{Result, Ok, Err}
+use Rattle.std.specs.Prelude.{Result, Ok, Err, slice_get}
 use Rattle.std.specs.List.{list_any}
-use Rattle.std.specs.Option.{option_map, option_flatten, IsSome}
+use Rattle.std.specs.Option.{option_map, option_flatten, unwrap_or, IsSome}
 use Rattle.std.specs.Result.{OnOk}
 use Rattle.std.proofs.lemmas.Bool.{false≢true, and_parts, and_from, cond-true, cond-false, ne_eqb, leb-true, le-leb}
 use Rattle.std.proofs.lemmas.List.{length_push}
@@ -12,7 +12,7 @@ use Rattle.std.proofs.Math.Dec.{leb}
 use Rattle.proof_semantics.specs.declared.literals.Lit.{Lit}
 use Rattle.cdcl_trail.specs.Trails.{Step, step, assumed, opened_by, literals_of, reasons_in, step_of, value_of, reason_in, reason_of, level, up_to_variable, level_of, up_to_level, once}
 use Rattle.cdcl_trail.specs.Tables.{told}
-use Rattle.cdcl_trail.specs.AssignmentOf.{steps_from, place_in, reason_at, count_assumed, state_of, IsOrderly}
+use Rattle.cdcl_trail.specs.AssignmentOf.{steps_from, place_in, reason_at, count_assumed, levels_from, state_of, IsOrderly}
 use Rattle.cdcl_trail.specs.declared.assignment.Assignment.TheInside.{Inside}
 
 pub either : (b : Bool) → (b ≡ true) ⊎ (b ≡ false)
@@ -302,6 +302,55 @@ pub no_level : {P : Type 0} (lits : List Lit) (reasons : List (Option ℕ)) (v :
 no_level lits reasons v found some =
     absurd (nothing_some (ap (option_map (λ (s : Step). s.literal.positive)) (no_place lits reasons v found)) some)
 
+-- The levels of literals.
+
+level_counts : (lits : List Lit) (reasons : List (Option ℕ)) → length reasons ≡ length lits → level (steps_from lits reasons) ≡ count_assumed reasons
+level_counts [] [] e = refl
+level_counts [] (r ∷ reasons) e = absurd (omega arith)
+level_counts (a ∷ lits) [] e = absurd (omega arith)
+level_counts (a ∷ lits) (r ∷ reasons) e = ap (λ n. opened_by r + n) (level_counts lits reasons (omega arith))
+
+levels_push : (n : ℕ) (reasons : List (Option ℕ)) (r : Option ℕ)
+    → levels_from n (reasons ++ r ∷ []) ≡ levels_from n reasons ++ (n + count_assumed reasons + opened_by r) ∷ []
+levels_push n [] r = ap (λ m. m ∷ []) (none_more n (opened_by r))
+  where
+    none_more : (n m : ℕ) → n + m ≡ n + 0 + m
+    none_more n m = omega arith
+levels_push n (x ∷ reasons) r =
+    ap (λ ms. (n + opened_by x) ∷ ms)
+    (levels_push (n + opened_by x) reasons r
+    ∙ ap (λ m. levels_from (n + opened_by x) reasons ++ m ∷ []) (regroup n (opened_by x) (count_assumed reasons) (opened_by r)))
+  where
+    regroup : (n m k l : ℕ) → n + m + k + l ≡ n + (m + k) + l
+    regroup n m k l = omega arith
+
+levels_pop : (n : ℕ) (reasons : List (Option ℕ)) (r : Option ℕ) → take (length reasons) (levels_from n (reasons ++ r ∷ [])) ≡ levels_from n reasons
+levels_pop n [] r = refl
+levels_pop n (x ∷ reasons) r = ap (λ ms. (n + opened_by x) ∷ ms) (levels_pop (n + opened_by x) reasons r)
+
+levels_read : (n : ℕ) (reasons : List (Option ℕ)) (p : ℕ) → p < length reasons
+    → unwrap_or (slice_get (levels_from n reasons) p) 0 ≡ n + count_assumed (take (p + 1) reasons)
+levels_read n [] p below = absurd (omega (arith, below))
+levels_read n (x ∷ reasons) zero below = one_more n (opened_by x)
+  where
+    one_more : (n m : ℕ) → n + m ≡ n + (m + 0)
+    one_more n m = omega arith
+levels_read n (x ∷ reasons) (suc p) below =
+    levels_read (n + opened_by x) reasons p (omega (arith, below))
+    ∙ regroup n (opened_by x) (count_assumed (take (p + 1) reasons))
+    ∙ ap (λ m. n + count_assumed (take m (x ∷ reasons))) (next_up p)
+  where
+    regroup : (n m k : ℕ) → n + m + k ≡ n + (m + k)
+    regroup n m k = omega arith
+
+-- the level that is read at a place
+pub level_read : (levels : List ℕ) (reasons : List (Option ℕ)) (p : ℕ) → levels ≡ levels_from 0 reasons → p < length reasons
+    → unwrap_or (slice_get levels p) 0 ≡ count_assumed (take (p + 1) reasons)
+level_read levels reasons p is below = ap (λ ms. unwrap_or (slice_get ms p) 0) is ∙ levels_read 0 reasons p below ∙ from_none (count_assumed (take (p + 1) reasons))
+  where
+    from_none : (n : ℕ) → 0 + n ≡ n
+    from_none n = omega arith
+
 -- One more literal, and one less.
 
 pub pushed_steps : (t u : Inside) (a : Lit) (r : Option ℕ) → IsOrderly t
@@ -357,13 +406,19 @@ pub pushed : (t u : Inside) (a : Lit) (r : Option ℕ) → IsOrderly t → value
     → u.literals.items ≡ t.literals.items ++ a ∷ [] → u.reasons.items ≡ t.reasons.items ++ r ∷ []
     → ((v : ℕ) → told u.places v ≡ cond (eqb a.var v) (Some (length t.literals.items)) (told t.places v))
     → ((v : ℕ) → told u.values v ≡ cond (eqb a.var v) (Some a.positive) (told t.values v))
-    → u.level ≡ t.level + opened_by r → IsOrderly u
-pushed t u a r orderly fresh literals reasons places values deep =
+    → u.level ≡ t.level + opened_by r → u.levels.items ≡ t.levels.items ++ u.level ∷ [] → IsOrderly u
+pushed t u a r orderly fresh literals reasons places values deep levels =
     let none_there = without_value t.literals.items t.reasons.items a.var (place_in t.literals.items a.var) orderly.beside refl fresh in
     let steps : (state_of u).steps ≡ (state_of t).steps ++ step a r ∷ [] = pushed_steps t u a r orderly literals reasons in
     record {
       beside = omega (arith, ap length literals, ap length reasons, length_push t.literals.items a, length_push t.reasons.items r, orderly.beside);
       apart = ap once literals ∙ once_push t.literals.items a orderly.apart none_there;
+      levels = levels
+          ∙ ap (λ ms. ms ++ u.level ∷ []) orderly.levels
+          ∙ ap (λ n. levels_from 0 t.reasons.items ++ n ∷ [])
+          (omega (arith, deep, orderly.depth, level_counts t.literals.items t.reasons.items orderly.beside))
+          ∙ sym (levels_push 0 t.reasons.items r)
+          ∙ ap (levels_from 0) (sym reasons);
       places = λ v.
           places v
           ∙ ap (cond (eqb a.var v) (Some (length t.literals.items))) (orderly.places v)
@@ -381,14 +436,18 @@ pub popped : (t u : Inside) (a : Lit) (r : Option ℕ) → IsOrderly t
     → t.literals.items ≡ u.literals.items ++ a ∷ [] → t.reasons.items ≡ u.reasons.items ++ r ∷ []
     → ((v : ℕ) → told u.places v ≡ cond (eqb a.var v) None (told t.places v))
     → ((v : ℕ) → told u.values v ≡ cond (eqb a.var v) None (told t.values v))
-    → u.level ≡ t.level - opened_by r → IsOrderly u
-popped t u a r orderly literals reasons places values deep =
+    → u.level ≡ t.level - opened_by r → u.levels.items ≡ take (length u.literals.items) t.levels.items → IsOrderly u
+popped t u a r orderly literals reasons places values deep levels =
     let beside : length u.reasons.items ≡ length u.literals.items = popped_beside t u a r orderly literals reasons in
     let parts = once_pop u.literals.items a (ap once (sym literals) ∙ orderly.apart) in
     let steps : (state_of t).steps ≡ (state_of u).steps ++ step a r ∷ [] = popped_steps t u a r orderly literals reasons in
     record {
       beside = beside;
       apart = parts.0;
+      levels = levels
+          ∙ ap (λ n. take n t.levels.items) (sym beside)
+          ∙ ap (take (length u.reasons.items)) (orderly.levels ∙ ap (levels_from 0) reasons)
+          ∙ levels_pop 0 u.reasons.items r;
       places = λ v.
           places v
           ∙ ap (cond (eqb a.var v) None) (orderly.places v ∙ ap (λ lits. place_in lits v) literals)

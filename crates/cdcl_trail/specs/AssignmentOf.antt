@@ -35,10 +35,17 @@ abbrev pub count_assumed : List (Option ℕ) → ℕ
 count_assumed [] = 0
 count_assumed (reason ∷ reasons) = opened_by reason + count_assumed reasons
 
--- Each literal has a reason or none beside it, no variable comes twice, and places, values and level are told right.
+-- the level of each literal, where those before it are on level n
+abbrev pub levels_from : ℕ → List (Option ℕ) → List ℕ
+levels_from n [] = []
+levels_from n (reason ∷ reasons) = (n + opened_by reason) ∷ levels_from (n + opened_by reason) reasons
+
+-- Each literal has a reason or none beside it, no variable comes twice, and levels, places, values and the level are told
+-- right.
 pub record IsOrderly (t : Inside) : Type 0 where
   pub beside : length t.reasons.items ≡ length t.literals.items
   pub apart : once t.literals.items ≡ true
+  pub levels : t.levels.items ≡ levels_from 0 t.reasons.items
   pub places : (var : ℕ) → told t.places var ≡ place_in t.literals.items var
   pub values : (var : ℕ) → told t.values var ≡ value_of (steps_from t.literals.items t.reasons.items) var
   pub depth : t.level ≡ level (steps_from t.literals.items t.reasons.items)

@@ -1,7 +1,8 @@
 //! The literals that are true, in the order in which they came. The main type is `Assignment`.
-ghost use Rattle.std.specs.Prelude.{◌≡◌, ◌≤◌, ◌<◌, ◌+◌, ℕ, [], ◌∷◌, ◌++◌, IsTrue, IsSome, OnOk, OnErr, Option, Some, None, length, take, if◌then◌else◌, ◌==◌};
+ghost use Rattle.std.specs.Prelude.{◌≡◌, ◌≤◌, ◌<◌, ℕ, [], ◌∷◌, ◌++◌, IsTrue, IsSome, OnOk, OnErr, Option, Some, None, length, take, if◌then◌else◌, ◌==◌, slice_get};
+ghost use Rattle.std.specs.Option.{unwrap_or};
 ghost use Rattle.cdcl_trail.specs.Trails.{Step, step, opened_by, assumed, literals_of, reasons_in, step_of, value_of, reason_of, level, level_of, up_to_level, once};
-ghost use Rattle.cdcl_trail.specs.AssignmentOf.{reason_at, count_assumed};
+ghost use Rattle.cdcl_trail.specs.AssignmentOf.{reason_at, place_in};
 ghost use Rattle.cdcl_trail.specs.Tables.{told};
 
 use crate::table::Table;
@@ -9,11 +10,12 @@ use cnf::{Lit, Var};
 use std::alloc::{AllocError, Global};
 use std::marker::Model;
 
-/// The literals that are true, with their reasons. Contracts see the steps.
+/// The literals that are true, with their reasons and levels. Contracts see the steps.
 #[derive(Debug, Drop)]
 pub struct Assignment {
     literals: Vec<Lit>,
     reasons: Vec<Option<u64>>,
+    levels: Vec<usize>,
     places: Table<usize>,
     values: Table<bool>,
     level: usize,
@@ -39,6 +41,7 @@ impl Assignment {
         Assignment {
             literals: Vec::new(alloc),
             reasons: Vec::new(alloc),
+            levels: Vec::new(alloc),
             places: Table::new(alloc),
             values: Table::new(alloc),
             level: 0,
@@ -94,7 +97,7 @@ impl Assignment {
         ensures { result ≡ level_of self.now.steps var }
     {
         match self.places.get(var) {
-            Some(place) => assumed_to(self.reasons.as_slice(), place) as u64,
+            Some(place) => level_at(self.levels.as_slice(), place),
             None => 0,
         }
     }
@@ -105,6 +108,13 @@ impl Assignment {
         ensures { result ≡ reason_of self.now.steps var }
     {
         reason_at(self.reasons.as_slice(), self.places.get(var))
+    }
+
+    /// The place of each variable among the literals. Takes no memory.
+    pub fn places(&self) -> &Table<usize>
+        ensures { (var : ℕ) → told result.now var ≡ place_in (literals_of self.now.steps) var }
+    {
+        &self.places
     }
 
     /// The place of a variable among the literals, and the end where it has no value. Takes no
@@ -126,11 +136,13 @@ impl Assignment {
     {
         self.literals.reserve(1)?;
         self.reasons.reserve(1)?;
+        self.levels.reserve(1)?;
         let place = self.literals.as_slice().len();
         tell(&mut self.places, &mut self.values, literal, place)?;
         self.level += opened_by(reason);
         self.literals.push_reserved(literal);
         self.reasons.push_reserved(reason);
+        self.levels.push_reserved(self.level);
         Ok(())
     }
 
@@ -142,6 +154,7 @@ impl Assignment {
         if let (Some(literal), Some(reason)) = (self.literals.pop(), self.reasons.pop()) {
             self.places.remove(literal.var);
             self.values.remove(literal.var);
+            self.levels.truncate(self.literals.as_slice().len());
             self.level -= opened_by(reason);
         }
     }
@@ -176,12 +189,11 @@ fn reason_at(reasons: &[Option<u64>], place: Option<usize>) -> Option<u64>
     *reasons.get(place?)?
 }
 
-// How many of the reasons up to a place are none.
-fn assumed_to(reasons: &[Option<u64>], place: usize) -> usize
-    requires { place < length reasons.now }
-    ensures { result ≡ count_assumed (take (place + 1) reasons.now) }
+// The level at a place.
+fn level_at(levels: &[usize], place: usize) -> u64
+    ensures { result ≡ unwrap_or (slice_get levels.now place) 0 }
 {
-    count_assumed(&reasons[..place + 1])
+    levels.get(place).copied().unwrap_or(0) as u64
 }
 
 // How many levels a literal opens: one where it has no reason.
@@ -192,15 +204,4 @@ fn opened_by(reason: Option<u64>) -> usize
         None => 1,
         Some(_) => 0,
     }
-}
-
-// How many of the reasons are none.
-fn count_assumed(reasons: &[Option<u64>]) -> usize
-    ensures { result ≡ count_assumed reasons.now }
-{
-    let mut count = 0;
-    for reason in reasons {
-        count += opened_by(*reason);
-    }
-    count
 }

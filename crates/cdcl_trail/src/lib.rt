@@ -11,6 +11,7 @@
 //! | `Table::new`, `insert`, `remove`, `get` | what is told of variables, as numbers or values |
 //! | `Trail::value`, `level`, `level_of`, `reason` | the value of a variable; the level; the level and the reason of a variable |
 //! | `Trail::literals`, `Trail::reasons` | the literals in the order in which they came; beside each the clause that forced it |
+//! | `Trail::places` | where the literal of each variable stands among them |
 #![tactic(auto)]
 
 mod assignment;
@@ -20,8 +21,6 @@ mod looking;
 mod pairs;
 mod propagation;
 mod table;
-#[cfg(test)]
-mod tests;
 mod trail;
 mod watching;
 

@@ -1,6 +1,8 @@
 //! The trail of a solver. The main type is `Trail`.
 ghost use Rattle.std.specs.Prelude.{◌≡◌, ◌≤◌, ◌<◌, ◌+◌, ◌-◌, ◌↔◌, ℕ, [], ◌∷◌, ◌++◌, IsTrue, IsSome, IfOk, IfSome, OnOk, OnErr, Option, Some, None, length, map, take, slice_get, option_copied};
 ghost use Rattle.cdcl_trail.specs.Trails.{assumed, literals_of, reasons_in, value_of, reason_of, level, level_of, up_to_level, once};
+ghost use Rattle.cdcl_trail.specs.AssignmentOf.{place_in};
+ghost use Rattle.cdcl_trail.specs.Tables.{told};
 ghost use Rattle.cdcl_trail.specs.Propagation.{is_complete, IsConflict, Propagates};
 ghost use Rattle.cdcl_trail.specs.Watched.{Extends, AreWatchedWell, KeepWatch, IsWatchable, IsWatchedAt};
 ghost use Rattle.cdcl_trail.specs.TrailOf.{AreLowered};
@@ -9,6 +11,7 @@ ghost use Rattle.std.specs.Option.{unwrap_or};
 use crate::assignment::Assignment;
 use crate::choosing::{latest_pair, lesser, pair_false_from};
 use crate::propagation::{settle_singles, settle_steps};
+use crate::table::Table;
 use crate::watching::Watching;
 use cnf::{Clause, Db, Lit, Var};
 use std::alloc::{AllocError, Global};
@@ -214,6 +217,13 @@ impl Trail {
         ensures { result.now ≡ reasons_in self.now.steps }
     {
         self.assignment.reasons()
+    }
+
+    /// The place of each variable among the literals. Takes no memory.
+    pub fn places(&self) -> &Table<usize>
+        ensures { (var : ℕ) → told result.now var ≡ place_in (literals_of self.now.steps) var }
+    {
+        self.assignment.places()
     }
 
     /// The level on which a variable got its value. The condition is that it has one. Takes no

@@ -5,7 +5,7 @@ use Rattle.cdcl_trail.specs.Propagation.{is_complete, Propagates, IsReasonedTrai
 use Rattle.cdcl_trail.specs.Watched.{Extends, TrailState}
 use Rattle.cdcl.specs.Entries.{Entries}
 use Rattle.cdcl.specs.Room.{room, variables_of, variables_in}
-use Rattle.cdcl.specs.Searching.{IsOnWay, IsHeld, IsOpen, is_satisfied, IsHinted, IsBackLevel, count_open}
+use Rattle.cdcl.specs.Searching.{IsDeciding, IsHeld, IsOpen, is_satisfied, IsHinted, IsBackLevel, count_open}
 use Rattle.cdcl.proofs.RoomLaws.{all_over, own_over}
 use Rattle.cdcl.proofs.WayLaws.{way_propagates, way_decides, way_lower, way_learns, way_back, way_core, way_assumed, held_propagated, work_learned, work_decided, count_open_small, decision_counts}
 use Rattle.cdcl.proofs.ProgressLaws.{first_variables, searched_none, searched_more, first_room_falls, new_spent}
@@ -16,7 +16,7 @@ pub decisions-init : goal.decisions-init
 decisions-init c = record {
   log = c.requires.log;
   searched = searched_none c.args.assumptions.now c.args.log.now c.args.meter.now;
-  on_way = subst (λ b. IsOnWay c.args.log.now.clauses c.args.assumptions.now b c.args.trail.now.steps) (sym c.level-base.ensures) c.requires.way;
+  on_way = subst (λ b. IsDeciding c.args.log.now.clauses c.args.assumptions.now b c.args.trail.now.steps) (sym c.level-base.ensures) c.requires.way;
   extends = c.requires.extends;
 }
 

@@ -3,7 +3,7 @@ use Rattle.cdcl_trail.specs.Watched.{Extends}
 use Rattle.cdcl.specs.Entries.{IsLog}
 use Rattle.cdcl.specs.Progress.{IsSearched}
 use Rattle.cdcl.specs.Room.{room}
-use Rattle.cdcl.specs.Searching.{IsOnWay, count_open}
+use Rattle.cdcl.specs.Searching.{IsDeciding, count_open}
 use Rattle.cdcl.proofs.ProgressLaws.{first_variables}
 use Rattle.cdcl.proofs.WayLaws.{work}
 use Rattle.cdcl.proofs.searching.decide.Given as goal
@@ -12,7 +12,7 @@ abbrev pub invariant-decisions : goal.invariant-decisions
 invariant-decisions l = record {
   log : IsLog l.log;
   searched : IsSearched l.assumptions l.initial.log l.log l.initial.meter l.meter;
-  on_way : IsOnWay l.log.clauses l.assumptions l.base l.trail.steps;
+  on_way : IsDeciding l.log.clauses l.assumptions l.base l.trail.steps;
   extends : Extends l.trail.taken l.log.clauses;
 }
 

@@ -1,4 +1,5 @@
 use Rattle.std.proofs.Common.{◌≡◌, ◌++◌, ◌∷◌, [], false, length, get_or, reverse, ap, sym, refl, ◌∙◌, ◌-◌, arith}
+use Rattle.std.proofs.lemmas.Bool.{or_left}
 use Rattle.std.proofs.lemmas.List.{length-replicate}
 use Rattle.proof_semantics.specs.Clauses.{negation}
 use Rattle.cdcl_trail.specs.AssignmentOf.{steps_from}
@@ -18,26 +19,26 @@ places-init c =
     let same : lits ≡ _ = sym (literals_beside lits c.args.reasons.now c.requires.beside) in
     let long : length lits ≡ length steps = ap length same ∙ length_literals steps in
     record {
-      traced = trace_starts c.args.clauses.now steps (length lits) c.args.conflict c.clause_at.result.now (marked c.mark_all.new.marks.items lits) c.push.new.self.items
+      traced = trace_starts c.args.clauses.now steps (length lits) c.args.conflict c.clause_at.result.now (marked c.mark_all.new.self.marks lits) c.push.new.self.items
           c.clause_at.ensures c.requires.conflict (omega (arith, long))
-          (code_start c.args.clauses.now steps lits c.clause_at.result.now (length lits) c.in_ok-marks.marks.items c.mark_all.new.marks.items (told c.in_ok-table.table) same c.requires.once
-          (conflict_at c.args.clauses.now steps c.args.conflict c.clause_at.result.now c.requires.conflict c.clause_at.ensures) c.in_ok-table.ensures c.in_ok-marks.ensures refl
+          (code_start c.args.clauses.now steps lits c.clause_at.result.now (length lits) c.in_ok-marks.marks.marks c.mark_all.new.self.marks (told c.args.table.now) same c.requires.once
+          (conflict_at c.args.clauses.now steps c.args.conflict c.clause_at.result.now c.requires.conflict c.clause_at.ensures) c.requires.table c.in_ok-marks.ensures.marks refl
           c.mark_all.ensures.marks)
           (c.in_ok-push.ensures.items ∙ ap (λ xs. xs ++ c.args.conflict ∷ []) c.new-hints.ensures.items);
-      long = c.mark_all.ensures.long ∙ ap length c.in_ok-marks.ensures ∙ length-replicate (length lits) false;
+      long = c.mark_all.ensures.long ∙ ap length c.in_ok-marks.ensures.marks ∙ length-replicate (length lits) false;
       below = omega arith;
     }
 
-pub places-preserved-then-not-is_marked : goal.places-preserved-then-not-is_marked
-places-preserved-then-not-is_marked c =
+pub places-preserved-then-not-has : goal.places-preserved-then-not-has
+places-preserved-then-not-has c =
     let lits = c.args.literals.now in
-    let marks = c.places.marks.items in
+    let marks = c.places.marks.marks in
     let p = c.places.place in
     record {
       traced = trace_on c.args.clauses.now (steps_from lits c.args.reasons.now) p (marked marks lits) (reverse c.places.hints.items)
           lits (negation (get_or lits (p - 1) no_literal)) (is_marked marks (p - 1)) (sym (literals_beside lits c.args.reasons.now c.requires.beside)) c.places-test.true
           c.places.invariant.below refl (mark_read marks lits (p - 1) c.requires.once (omega (arith, c.places-test.true, c.places.invariant.below)))
-          (ap (λ ms. is_marked ms (p - 1)) (sym c.as_slice.ensures.value) ∙ sym c.is_marked.ensures ∙ c.if-not-is_marked.true) c.places.invariant.traced;
+          (sym c.has.ensures ∙ c.if-not-has.true) c.places.invariant.traced;
       long = c.places.invariant.long;
       below = omega (arith, c.places.invariant.below);
     }
@@ -46,7 +47,7 @@ pub places-preserved-in_default : goal.places-preserved-in_default
 places-preserved-in_default c =
     let lits = c.args.literals.now in
     record {
-      traced = trace_keeps c.args.clauses.now (steps_from lits c.args.reasons.now) c.places.place (marked c.places.marks.items lits) (reverse c.places.hints.items)
+      traced = trace_keeps c.args.clauses.now (steps_from lits c.args.reasons.now) c.places.place (marked c.places.marks.marks lits) (reverse c.places.hints.items)
           lits c.args.reasons.now (sym (literals_beside lits c.args.reasons.now c.requires.beside)) (sym (reasons_beside lits c.args.reasons.now c.requires.beside))
           c.places-test.true c.places.invariant.below c.in_default.is c.places.invariant.traced;
       long = c.places.invariant.long;
@@ -69,14 +70,14 @@ places-preserved c =
     let same_reasons : c.args.reasons.now ≡ _ = sym (reasons_beside lits c.args.reasons.now c.requires.beside) in
     let fresh = fresh_trail c.args.clauses.now steps lits same c.requires.once c.requires.reasons in
     record {
-      traced = trace_resolves c.args.clauses.now steps c.places.place (marked c.places.marks.items lits) (marked c.places.marks.items lits) (marked c.unmark.new.marks.items lits)
+      traced = trace_resolves c.args.clauses.now steps c.places.place (marked c.places.marks.marks lits) (marked c.places.marks.marks lits) (marked c.unmark.new.self.marks lits)
           c.clause_at-in-places.result.now c.places.hints.items c.push-in-places.new.self.items lits c.args.reasons.now c.in-Some.number
           same same_reasons c.places-test.true c.places.invariant.below c.in-Some.is c.clause_at-in-places.ensures fresh refl
-          (code_resolvent c.args.clauses.now steps lits c.clause_at-in-places.result.now c.args.reasons.now c.places.marks.items c.mark_all-in-places.new.marks.items c.unmark.new.marks.items
-          (told c.in_ok-table.table) c.places.place c.in-Some.number same same_reasons c.requires.once c.places-test.true c.places.invariant.below c.places.invariant.long
-          c.mark_all-in-places.ensures.long c.in-Some.is c.clause_at-in-places.ensures fresh c.in_ok-table.ensures c.mark_all-in-places.ensures.marks c.unmark.ensures)
+          (code_resolvent c.args.clauses.now steps lits c.clause_at-in-places.result.now c.args.reasons.now c.places.marks.marks c.mark_all-in-places.new.self.marks c.unmark.new.self.marks
+          (told c.args.table.now) c.places.place c.in-Some.number same same_reasons c.requires.once c.places-test.true c.places.invariant.below c.places.invariant.long
+          c.mark_all-in-places.ensures.long c.in-Some.is c.clause_at-in-places.ensures fresh c.requires.table c.mark_all-in-places.ensures.marks c.unmark.ensures.marks)
           c.in_ok-push-2.ensures.items c.places.invariant.traced;
-      long = long_after c.places.marks.items c.mark_all-in-places.new.marks.items c.unmark.new.marks.items (c.places.place - 1) c.mark_all-in-places.ensures.long c.unmark.ensures
+      long = long_after c.places.marks.marks c.mark_all-in-places.new.self.marks c.unmark.new.self.marks (c.places.place - 1) c.mark_all-in-places.ensures.long c.unmark.ensures.marks
           ∙ c.places.invariant.long;
       below = omega (arith, c.places.invariant.below);
     }
@@ -84,8 +85,13 @@ places-preserved c =
 pub returns-clause-hints : goal.returns-clause-hints
 returns-clause-hints c =
     let lits = c.args.literals.now in
-    traced_ends c.args.clauses.now (steps_from lits c.args.reasons.now) c.places.place (marked c.places.marks.items lits) c.in_order.result.clause
+    traced_ends c.args.clauses.now (steps_from lits c.args.reasons.now) c.places.place (marked c.places.marks.marks lits) c.in_order.result.clause
     (reverse c.places.hints.items) c.in_order.result.hints c.places-test.false
-    (c.in_order.ensures.clause ∙ c.in_ok-clause.ensures ∙ ap (λ ms. marked ms lits) c.as_slice-2.ensures.value) c.in_order.ensures.hints
+    (c.in_order.ensures.clause ∙ c.in_ok-clause.ensures) c.in_order.ensures.hints
     (fresh_trail c.args.clauses.now (steps_from lits c.args.reasons.now) lits (sym (literals_beside lits c.args.reasons.now c.requires.beside)) c.requires.once c.requires.reasons)
     c.places.invariant.traced
+
+pub unmark-requires : goal.unmark-requires
+unmark-requires c =
+    c.mark_all-in-places.ensures.marks (c.places.place - 1) (omega (arith, c.places-test.true, c.places.invariant.below, c.places.invariant.long))
+    ∙ or_left _ _ (sym c.has.ensures ∙ c.if-not-has.false)

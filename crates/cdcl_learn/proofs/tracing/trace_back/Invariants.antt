@@ -5,8 +5,8 @@ use Rattle.cdcl_learn.proofs.tracing.trace_back.Given as goal
 
 abbrev pub invariant-places : goal.invariant-places
 invariant-places l = record {
-  traced : IsTraced l.clauses (steps_from l.literals l.reasons) l.place (marked l.marks.items l.literals) (reverse l.hints.items);
-  long : length l.marks.items ≡ length l.literals;
+  traced : IsTraced l.clauses (steps_from l.literals l.reasons) l.place (marked l.marks.marks l.literals) (reverse l.hints.items);
+  long : length l.marks.marks ≡ length l.literals;
   below : l.place ≤ length l.literals;
 }
 

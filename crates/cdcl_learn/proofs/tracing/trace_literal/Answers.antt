@@ -1,10 +1,12 @@
-use Rattle.std.proofs.Common.{◌≡◌, ◌≤◌, ◌++◌, ◌∷◌, [], true, None, Some, List, length, take, ap, sym, subst, ◌∙◌}
-use Rattle.std.specs.Prelude.{IfOk, slice_get}
+use Rattle.std.proofs.Common.{◌≤◌, ◌++◌, ◌∷◌, [], None, Some, length, take, ap, sym, subst, ◌∙◌}
+use Rattle.std.specs.Prelude.{slice_get}
 use Rattle.std.specs.Option.{unwrap_or, option_flatten}
 use Rattle.proof_semantics.specs.Clauses.{negation, has_literal}
-use Rattle.cdcl_trail.specs.Trails.{Step, literals_of, reasons_in, once}
+use Rattle.cdcl_trail.specs.Trails.{literals_of, once}
 use Rattle.cdcl_trail.specs.Propagation.{IsReasonedTrail}
-use Rattle.cdcl_learn.proofs.LiteralTraceLaws.{Stands, stands_at, IsCut, cut_at, cut_assumed, false_stands, place_within, on_traced}
+use Rattle.cdcl_learn.specs.Walking.{is_at}
+use Rattle.cdcl_learn.proofs.MarkLaws.{place_cut}
+use Rattle.cdcl_learn.proofs.LiteralTraceLaws.{stands_at, cut_at, false_stands, place_within, on_traced}
 use Rattle.cdcl_learn.proofs.tracing.trace_literal.Goals as goal
 
 pub place_of-place-requires : goal.place_of-place-requires
@@ -74,3 +76,12 @@ returns-clause-assumed c =
     (c.as_slice-2.ensures.value ∙ c.in_ok-literals.ensures ∙ ap (λ ls. take c.place_of-place.result ls ++ c.args.literal ∷ []) c.literals-2.ensures.value)
     (c.as_slice-3.ensures.value ∙ c.in_ok-reasons.ensures ∙ ap (λ rs. take c.place_of-place.result rs ++ None ∷ []) c.reasons-2.ensures)
     c.trace_back.ensures.assumed
+
+pub trace_back-requires-clause-table : goal.trace_back-requires-clause-table
+trace_back-requires-clause-table c =
+    λ v q below.
+    ap (λ o. is_at o q) (c.places.ensures v)
+    ∙ place_cut (literals_of c.args.trail.now.steps) c.as_slice-2.result.now c.place_of-place.result c.args.literal
+    (ap (λ ls. slice_get ls c.place_of-place.result) (sym c.literals.ensures.value) ∙ c.place_of-place.ensures ∙ ap Some c.negation.ensures)
+    (c.as_slice-2.ensures.value ∙ c.in_ok-literals.ensures ∙ ap (λ ls. take c.place_of-place.result ls ++ c.args.literal ∷ []) c.literals-2.ensures.value)
+    v q below

@@ -16,7 +16,7 @@ pub invariant_of-self-2 : goal.invariant_of-self-2
 invariant_of-self-2 c =
     let t = c.self.inside in
     let same : length c.as_slice-place.result.now ≡ length t.literals.items = ap length (c.as_slice-place.ensures.value ∙ c.in_ok-reserve.ensures.items) in
-    pushed t (record { literals = c.push_reserved.new.self; reasons = c.push_reserved-2.new.self; places = c.tell.new.places; values = c.tell.new.values; level = t.level + c.opened_by.result })
+    pushed t (record { literals = c.push_reserved.new.self; reasons = c.push_reserved-2.new.self; levels = c.push_reserved-3.new.self; places = c.tell.new.places; values = c.tell.new.values; level = t.level + c.opened_by.result })
     c.args.literal c.args.reason c.self.invariant
     (subst (λ (s : Steps). value_of s.steps c.args.literal.var ≡ None) (sym c.self.view_is) c.requires)
     (c.push_reserved.ensures.items ∙ ap (λ xs. xs ++ c.args.literal ∷ []) c.in_ok-reserve.ensures.items)
@@ -24,11 +24,12 @@ invariant_of-self-2 c =
     (λ v. c.in_ok-tell.ensures.places v ∙ ap (λ n. cond (eqb c.args.literal.var v) (Some n) (told t.places v)) same)
     c.in_ok-tell.ensures.values
     (ap (λ n. t.level + n) c.opened_by.ensures)
+    (c.push_reserved-3.ensures.items ∙ ap (λ xs. xs ++ (t.level + c.opened_by.result) ∷ []) c.in_ok-reserve-3.ensures.items)
 
 pub returns-clause-ok : goal.returns-clause-ok
 returns-clause-ok c =
     let t = c.self.inside in
-    pushed_steps t (record { literals = c.push_reserved.new.self; reasons = c.push_reserved-2.new.self; places = c.tell.new.places; values = c.tell.new.values; level = t.level + c.opened_by.result })
+    pushed_steps t (record { literals = c.push_reserved.new.self; reasons = c.push_reserved-2.new.self; levels = c.push_reserved-3.new.self; places = c.tell.new.places; values = c.tell.new.values; level = t.level + c.opened_by.result })
     c.args.literal c.args.reason c.self.invariant
     (c.push_reserved.ensures.items ∙ ap (λ xs. xs ++ c.args.literal ∷ []) c.in_ok-reserve.ensures.items)
     (c.push_reserved-2.ensures.items ∙ ap (λ xs. xs ++ c.args.reason ∷ []) c.in_ok-reserve-2.ensures.items)
