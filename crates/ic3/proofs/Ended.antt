@@ -16,7 +16,8 @@ use Rattle.ic3_frames.proofs.Rooms.{first-room}
 use Rattle.ic3_questions.specs.Searching.{IsReachEnd, CountsSearch}
 use Rattle.ic3_questions.specs.Ends.{end_of_kind, reach_end}
 use Rattle.ic3_questions.specs.Stepping.{Stepping}
-use Rattle.ic3.specs.Sound.{KeepsQuestion, CountsUpTo}
+use Rattle.ic3.specs.Sound.{KeepsQuestion}
+use Rattle.ic3.specs.Searches.{CountsUpTo}
 
 -- The end of a solver, and that of a count of steps, as ends of a search.
 pub solver_end : (meter : Spendings) (end : SolveEnd) (r : ReachEnd) → IsEnd meter end → r ≡ reach_end end → IsReachEnd meter r

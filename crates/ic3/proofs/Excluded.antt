@@ -16,7 +16,7 @@ use Rattle.ic3_frames.proofs.Meaning.{with-within}
 use Rattle.ic3_generalise.proofs.Parts.{part_has, part_from, part_same}
 use Rattle.ic3_questions.specs.Stepping.{Stepping, IsMissing, IsOver}
 use Rattle.ic3.specs.Starting.{value_literals}
-use Rattle.ic3.specs.Sound.{CountsUpTo}
+use Rattle.ic3.specs.Searches.{CountsUpTo}
 use Rattle.ic3.specs.Pushing.{Narrows}
 use Rattle.ic3.specs.Blocking.{misses_starts}
 use Rattle.ic3.specs.Strengthening.{IsExcluded, IsOpposed, IsBased, IsAsked}

@@ -17,7 +17,8 @@ use Rattle.ic3.specs.Starting.{value_literals}
 use Rattle.ic3_questions.specs.Stepping.{Stepping, IsPredecessor, IsOver}
 use Rattle.edge.specs.Units.{Spendings}
 use Rattle.edge.specs.Ends.{CountsConflicts}
-use Rattle.ic3.specs.Sound.{IsRelative, Agree, CountsUpTo, has_one_of}
+use Rattle.ic3.specs.Sound.{IsRelative, Agree, has_one_of}
+use Rattle.ic3.specs.Searches.{CountsUpTo}
 use Rattle.ic3.specs.Blocking.{NoneEnters, IsStronger, IsBefore, misses_starts}
 use Rattle.ic3.proofs.Ended.{up_to_on, up_to_conflicts, one_step_of}
 use Rattle.ic3.proofs.Starts.{Has, Has-first, Has-later, state_has, own_true, same_values}

@@ -14,3 +14,4 @@ pub mod Separating
 pub mod Excluding
 pub mod Excluded
 pub mod Obliging
+pub mod GoingOn

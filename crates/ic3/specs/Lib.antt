@@ -5,4 +5,5 @@ pub mod Strengthening
 pub mod Starting
 pub mod Pushing
 pub mod Turning
-pub mod Closing
+pub mod Searches
+pub mod SearchesInside

@@ -1,12 +1,11 @@
 -- What a search keeps (scaffolding): frames of IC3 (Bradley, 2011), and a solver of one step that has their lemmas.
-use Rattle.std.specs.Prelude.{◌≡◌, ◌↔◌, ℕ, ◌+◌, ◌-◌, ◌<◌, ◌≤◌, Bool, true, false, List, [], length, Option, Some, None}
+use Rattle.std.specs.Prelude.{◌≡◌, ◌↔◌, ℕ, ◌+◌, ◌-◌, ◌<◌, Bool, true, false, List, [], length, Option, Some, None}
 use Rattle.std.specs.List.{All, list_any}
 use Rattle.aig_semantics.specs.declared.traces.Position.{Position}
 use Rattle.aig_semantics.specs.Runs.{successor}
 use Rattle.proof_semantics.specs.declared.literals.Lit.{Lit}
 use Rattle.proof_semantics.specs.Clauses.{clause_value, cube_value, values_of, has_literal}
 use Rattle.cnf_unroll.specs.Laws.{AreOver}
-use Rattle.edge.specs.Units.{Spendings}
 use Rattle.ic3_frames.specs.Frames.{frame_at, own_lemmas}
 use Rattle.ic3_frames.specs.Room.{allowed_by}
 use Rattle.ic3_questions.specs.declared.questions.Goal.{Goal}
@@ -87,11 +86,3 @@ MissesLast q goal levels = Misses q goal (allowed_by (frame_at levels (length le
 abbrev pub IsBlocked : Question → Goal → List (List (List Lit)) → Option (List Position) → Type 0
 IsBlocked q goal levels (Some positions) = IsPath q goal positions
 IsBlocked q goal levels None = MissesLast q goal levels
-
--- The limits are as before, no count fell, and at most so many steps were counted.
-pub record CountsUpTo (most : ℕ) (old new : Spendings) : Type 0 where
-  pub conflict_limit : new.conflict_limit ≡ old.conflict_limit
-  pub step_limit : new.step_limit ≡ old.step_limit
-  pub conflicts : old.conflicts ≤ new.conflicts
-  pub steps : old.steps ≤ new.steps
-  pub bound : new.steps ≤ old.steps + most

@@ -7,7 +7,8 @@ ghost use Rattle.proof_semantics.specs.Clauses.{cube_value, values_of};
 ghost use Rattle.ic3_frames.specs.Frames.{frame_at};
 ghost use Rattle.ic3_frames.specs.Room.{room, allowed_by};
 ghost use Rattle.ic3_questions.specs.Searching.{IsReachEnd};
-ghost use Rattle.ic3.specs.Sound.{IsSearch, IsGoalOf, IsBlocked, KeepsQuestion, CountsUpTo};
+ghost use Rattle.ic3.specs.Sound.{IsSearch, IsGoalOf, IsBlocked, KeepsQuestion};
+ghost use Rattle.ic3.specs.Searches.{CountsUpTo};
 ghost use Rattle.ic3.specs.Blocking.{AreNodes, AreObligations, IsOpen, IsHandled, IsPutIn, IsKeptWith, IsGoneOn, IsDescended, IsTurnedTo, LeadsOn, state_at, next_node, own_way};
 
 use crate::obligations::{Node, Obligation, Obligations, put_due, put_node, state_at, take_next};

@@ -4,14 +4,20 @@
 //! | Call | Gives |
 //! |---|---|
 //! | `reach` | a path from a start to a goal, or a set that holds the start, misses the goal and is left by no step |
+//! | `Search::new` | a search from a start, which was asked nothing yet |
+//! | `Search::reach` | what `reach` gives; goal after goal, while the view grows, over frames that are kept |
+//! | `Steps` | the solver that a search asks: steps into cubes, goals that are met; public for its tests |
 //!
-//! What is asked and answered is defined in `ic3_questions`. The loops: `turning` (block, push, open a frame), `blocking`
-//! (with `obligations`, `strengthening`, `shortening` and `ordering`), `pushing`, `closing`, `starting`, over `steps` (the
-//! solver of one step) and `putting` (a lemma for solver and frames). `specs/` is scaffolding.
+//! What is asked and answered is defined in `ic3_questions`, and in `Searches` of `specs/`; the rest of `specs/` is
+//! scaffolding. The loops: `turning` (block, push, open a frame), `blocking` (with `obligations`, `strengthening`,
+//! `shortening` and `ordering`), `pushing`, `closing`, `starting`, over `steps` (the solver of one step) and `putting` (a
+//! lemma for solver and frames). `asking_again` keeps frames, and `going_on` puts their lemmas into a new solver.
 #![tactic(auto)]
 
+mod asking_again;
 mod blocking;
 mod closing;
+mod going_on;
 mod obligations;
 mod ordering;
 mod pushing;
@@ -27,8 +33,7 @@ mod steps;
 mod strengthening;
 mod turning;
 
+pub use asking_again::Search;
 pub use ic3_questions::{Goal, ReachEnd, Reached, Start};
 pub use searching::reach;
-
-#[cfg(test)]
-mod stepping_tests;
+pub use steps::Steps;

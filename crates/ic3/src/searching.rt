@@ -1,14 +1,19 @@
 //! The search. The main call is `reach`.
-ghost use Rattle.std.specs.Prelude.{◌≡◌, length, IfOk, IfErr};
+ghost use Rattle.std.specs.Prelude.{◌≡◌, ◌+◌, ◌≤◌, length, IfOk, IfErr, OnOk};
 ghost use Rattle.entry.specs.CheckedEntries.{viewed};
 ghost use Rattle.entry.specs.Laws.{IsGoodList};
 ghost use Rattle.ic3_frames.specs.Frames.{frame_at};
+ghost use Rattle.ic3_frames.specs.Room.{room};
 ghost use Rattle.ic3.specs.Sound.{AvoidsAsked};
-ghost use Rattle.ic3.specs.Closing.{start_uses};
+ghost use Rattle.ic3.specs.Searches.{CountsUpTo};
+ghost use Rattle.ic3.specs.SearchesInside.{MayGoOn};
+ghost use Rattle.ic3.specs.Starting.{start_cube};
+ghost use Rattle.ic3_questions.specs.SteppingClauses.{own_uses};
 ghost use Rattle.ic3_questions.specs.Searching.{IsStart, IsGoal, IsReached, IsReachEnd, CountsSearch};
 
-use crate::closing::{lemmas_from, start_uses};
-use crate::starting::{open_frames, start_cube};
+use crate::closing::lemmas_from;
+use crate::going_on::make_ready;
+use crate::starting::start_cube;
 use crate::steps::Steps;
 use crate::turning::{Turned, turn_on};
 use circuit::Circuit;
@@ -16,7 +21,7 @@ use cnf::Cube;
 use edge::Meter;
 use entry::Checked;
 use ic3_frames::Frames;
-use ic3_questions::{Goal, ReachEnd, Reached, Start};
+use ic3_questions::{Goal, ReachEnd, Reached, Start, own_uses};
 use std::alloc::{AllocError, Global};
 use std::sync::Arc;
 
@@ -43,11 +48,51 @@ pub fn reach(
     ensures counted { CountsSearch (length c.now.latches) meter.old meter.new }
 {
     let starts = start_cube(alloc, c, start)?;
+    let mut frames = Frames::new(alloc);
+    reach_on(alloc, c, view, start, &starts, goal, &mut frames, meter)
+}
+
+/// The same with frames that are kept from an earlier question with this start, or none: they go on. `starts` is the cube
+/// of the starts. After an error nothing is known of the frames.
+pub(crate) fn reach_on(
+    alloc: Global,
+    c: &Circuit,
+    view: &[Arc<Checked>],
+    start: &Start,
+    starts: &Cube,
+    goal: &Goal<'_>,
+    frames: &mut Frames,
+    meter: &mut Meter,
+) -> Result<Reached, ReachEnd>
+    requires view { IsGoodList c.now (viewed view.now) }
+    requires start { IsStart c.now start.now }
+    requires starts { starts.now ≡ start_cube c.now start.now }
+    requires goal { IsGoal c.now goal.now }
+    requires open { MayGoOn (record {
+      circuit = c.now;
+      view = viewed view.now;
+      start = start.now;
+    }) starts.now frames.old }
+    ensures reached { IfOk result (IsReached (record {
+      circuit = c.now;
+      view = viewed view.now;
+      start = start.now;
+    }) goal.now) }
+    ensures open { OnOk result (MayGoOn (record {
+      circuit = c.now;
+      view = viewed view.now;
+      start = start.now;
+    }) starts.now frames.new) }
+    ensures end { IfErr result (IsReachEnd meter.new) }
+    ensures counted { CountsUpTo (room (length c.now.latches) frames.old) meter.old meter.new }
+    ensures paid { let n = length c.now.latches in
+        OnOk result (meter.new.steps + room n frames.new ≤ meter.old.steps + room n frames.old) }
+{
     let mut steps = Steps::new(alloc, c, view, start, avoided(goal))?;
-    let mut frames = open_frames(alloc, &starts, &mut steps)?;
-    match turn_on(alloc, &starts, goal, &mut steps, &mut frames, meter)? {
+    make_ready(alloc, starts, &mut steps, frames)?;
+    match turn_on(alloc, starts, goal, &mut steps, frames, meter)? {
         Turned::Path(positions) => Ok(Reached::Path(positions)),
-        Turned::Closed(level) => Ok(close(alloc, view, start, &frames, level)?),
+        Turned::Closed(level) => Ok(close(alloc, view, start, frames, level)?),
         Turned::More => Err(ReachEnd::Memory),
     }
 }
@@ -62,7 +107,7 @@ fn avoided<'a>(goal: &Goal<'a>) -> &'a [Cube]
     }
 }
 
-// The closed set of a frame that has the lemmas of the next one.
+// The closed set of a frame that has the lemmas of the next one, with the uses of all entries that restrict the steps.
 fn close(
     alloc: Global,
     view: &[Arc<Checked>],
@@ -71,9 +116,9 @@ fn close(
     level: u64,
 ) -> Result<Reached, AllocError>
     ensures { IfOk result (λ reached.
-        reached ≡ Reached.Closed (frame_at frames.now level) (start_uses (viewed view.now) start.now)) }
+        reached ≡ Reached.Closed (frame_at frames.now level) (own_uses (viewed view.now) start.now)) }
 {
     let clauses = lemmas_from(alloc, frames, level)?;
-    let uses = start_uses(alloc, view, start)?;
+    let uses = own_uses(alloc, view, start)?;
     Ok(Reached::Closed { clauses, uses })
 }

@@ -22,7 +22,7 @@ use std::sync::Arc;
 /// The solver of the search from one start. Contracts see its question, the cubes that a goal avoids, and its lemmas in
 /// the order in which they came.
 #[derive(Debug, Drop)]
-pub(crate) struct Steps<'a> {
+pub struct Steps<'a> {
     c: &'a Circuit,
     view: &'a [Arc<Checked>],
     start: &'a Start,
@@ -55,7 +55,7 @@ impl<'a> Model for Steps<'a> {
 
 impl<'a> Steps<'a> {
     /// A solver without lemmas. The error is want of memory.
-    pub(crate) fn new(
+    pub fn new(
         alloc: Global,
         c: &'a Circuit,
         view: &'a [Arc<Checked>],
@@ -84,14 +84,14 @@ impl<'a> Steps<'a> {
     }
 
     /// How many latches the circuit has. Takes no memory.
-    pub(crate) fn latches(&self) -> usize
+    pub fn latches(&self) -> usize
         ensures { result ≡ length self.now.question.circuit.latches }
     {
         self.c.latches().len()
     }
 
     /// Puts a lemma over the latches behind the others. The error is want of memory, and changes nothing.
-    pub(crate) fn hold(&mut self, level: u64, clause: &Clause) -> Result<(), AllocError>
+    pub fn hold(&mut self, level: u64, clause: &Clause) -> Result<(), AllocError>
         requires { IsOver (length self.old.question.circuit.latches) clause.now }
         ensures ok { OnOk result (self.new ≡ with_lemma self.old level clause.now) }
         ensures err { OnErr result (self.new ≡ self.old) }
@@ -108,7 +108,7 @@ impl<'a> Steps<'a> {
     /// A step of the arena into the cube, from a state outside it that meets the lemmas of this level and of those
     /// above it; or, exactly where there is none, a part of the cube that no such step leads into. `Spent` comes where
     /// the meter's count of conflicts is at its limit.
-    pub(crate) fn predecessor(
+    pub fn predecessor(
         &mut self,
         alloc: Global,
         level: u64,
@@ -127,7 +127,7 @@ impl<'a> Steps<'a> {
     /// A position at which the AIGER literal is met as goal, from a state that meets the lemmas of this level and of
     /// those above it; `None` exactly where there is none. `Spent` comes where the meter's count of conflicts is at its
     /// limit.
-    pub(crate) fn meets_goal(
+    pub fn meets_goal(
         &mut self,
         alloc: Global,
         level: u64,

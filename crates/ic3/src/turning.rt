@@ -3,7 +3,8 @@ ghost use Rattle.std.specs.Prelude.{◌≡◌, ◌+◌, ◌^◌, ◌<◌, ◌≤
 ghost use Rattle.ic3_frames.specs.Frames.{AllDiffer};
 ghost use Rattle.ic3_frames.specs.Room.{room};
 ghost use Rattle.ic3_questions.specs.Searching.{IsReachEnd};
-ghost use Rattle.ic3.specs.Sound.{IsSearch, IsGoalOf, KeepsQuestion, CountsUpTo, MissesLast};
+ghost use Rattle.ic3.specs.Sound.{IsSearch, IsGoalOf, KeepsQuestion, MissesLast};
+ghost use Rattle.ic3.specs.Searches.{CountsUpTo};
 ghost use Rattle.ic3.specs.Pushing.{AllStuck};
 ghost use Rattle.ic3.specs.Turning.{IsTurned, TakesRoom, HasEnded};
 
@@ -44,6 +45,9 @@ pub(crate) fn turn_on(
     ensures search { OnOk result (IsSearch starts.now steps.new frames.new) }
     ensures turned { IfOk result (IsTurned steps.old.question goal.now frames.new) }
     ensures ended { IfOk result HasEnded }
+    ensures two { OnOk result (2 ≤ length frames.new) }
+    ensures room { let n = length steps.old.question.circuit.latches in
+        OnOk result (meter.new.steps + room n frames.new ≤ meter.old.steps + room n frames.old) }
     ensures question { KeepsQuestion steps.old steps.new }
     ensures counted { CountsUpTo (room (length steps.old.question.circuit.latches) frames.old) meter.old meter.new }
     ensures end { IfErr result (IsReachEnd meter.new) }

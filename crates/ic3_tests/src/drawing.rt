@@ -1,215 +1,15 @@
-//! Drawn circuits, and searches of all their states. The main calls are `agrees` and `ends_within`.
+//! Searches of drawn circuits, against a search of all their states. The main calls are `agrees` and `ends_within`.
 
 use crate::asking::{To, answer, from_state};
 use circuit::Circuit;
+use drawn_circuits::{
+    Drawn, circuit_drawn, may_begin, next_of, power, rest, state_of, text_of, value, values_of,
+};
 use edge::Meter;
 use ic3::{ReachEnd, Reached};
-use items::Items;
 use std::alloc::{AllocError, Global};
 
-// A circuit with up to two inputs, up to six latches, and gates, each over literals below its own. Variables are
-// numbered in this order.
-#[derive(Drop)]
-struct Drawn {
-    inputs: u64,
-    latches: u64,
-    nexts: Vec<u64>,
-    resets: Vec<u64>,
-    gates: Vec<(u64, u64)>,
-    constraint: u64,
-}
-
-// The next number of a sequence (xorshift), below an end.
-fn draw(seed: &mut u64, end: u64) -> u64 {
-    let mut x = *seed;
-    x ^= x << 13_u32;
-    x ^= x >> 7_u32;
-    x ^= x << 17_u32;
-    *seed = x;
-    rest(x >> 11_u32, end)
-}
-
-// The rest of a division, or 0.
-fn rest(number: u64, by: u64) -> u64 {
-    number.checked_rem(by).unwrap_or(0)
-}
-
-// A power of two, of an exponent up to six.
-fn power(exponent: u64) -> u64 {
-    match exponent {
-        0 => 1,
-        1 => 2,
-        2 => 4,
-        3 => 8,
-        4 => 16,
-        5 => 32,
-        _ => 64,
-    }
-}
-
-fn literals(alloc: Global, seed: &mut u64, count: u64, end: u64) -> Result<Vec<u64>, AllocError> {
-    let mut drawn = Vec::new(alloc);
-    for _turn in 0..count {
-        drawn.push(draw(seed, end))?;
-    }
-    Ok(drawn)
-}
-
-fn gates(
-    alloc: Global,
-    seed: &mut u64,
-    count: u64,
-    below: u64,
-) -> Result<Vec<(u64, u64)>, AllocError> {
-    let mut drawn = Vec::new(alloc);
-    for gate in 0..count {
-        let end = below.saturating_add(gate).saturating_mul(2);
-        drawn.push((draw(seed, end), draw(seed, end)))?;
-    }
-    Ok(drawn)
-}
-
-fn circuit_drawn(alloc: Global, number: u64) -> Result<Drawn, AllocError> {
-    let mut seed = number.saturating_add(1).wrapping_mul(0x9e37_79b9_7f4a_7c15);
-    let inputs = draw(&mut seed, 3);
-    let latches = draw(&mut seed, 6).saturating_add(1);
-    let count = draw(&mut seed, 12).saturating_add(2);
-    let below = inputs.saturating_add(latches).saturating_add(1);
-    let all = below.saturating_add(count).saturating_mul(2);
-    let gates = gates(alloc, &mut seed, count, below)?;
-    let nexts = literals(alloc, &mut seed, latches, all)?;
-    let resets = literals(alloc, &mut seed, latches, 4)?;
-    let constraint = if draw(&mut seed, 3) == 0 {
-        draw(&mut seed, all)
-    } else {
-        1
-    };
-    Ok(Drawn {
-        inputs,
-        latches,
-        nexts,
-        resets,
-        gates,
-        constraint,
-    })
-}
-
-// ---- its text
-
-fn push_number(text: &mut Vec<u8>, number: u64) -> Result<(), AllocError> {
-    if number >= 10 {
-        push_digit(text, number / 10 % 10)?;
-    }
-    push_digit(text, number % 10)
-}
-
-fn push_digit(text: &mut Vec<u8>, digit: u64) -> Result<(), AllocError> {
-    text.push(b'0' + (digit % 10) as u8)?;
-    Ok(())
-}
-
-fn push_line(text: &mut Vec<u8>, numbers: &[u64]) -> Result<(), AllocError> {
-    for (i, number) in numbers.iter().enumerate() {
-        if i > 0 {
-            text.push(b' ')?;
-        }
-        push_number(text, *number)?;
-    }
-    text.push(b'\n')?;
-    Ok(())
-}
-
-fn push_latches(text: &mut Vec<u8>, d: &Drawn) -> Result<(), AllocError> {
-    for (i, next) in d.nexts.iter().enumerate() {
-        let own = d
-            .inputs
-            .saturating_add(1)
-            .saturating_add(i as u64)
-            .saturating_mul(2);
-        match d.resets.get(i).copied().unwrap_or(0) {
-            1 => push_line(text, &[own, *next, 1])?,
-            2 => push_line(text, &[own, *next, own])?,
-            _ => push_line(text, &[own, *next])?,
-        }
-    }
-    Ok(())
-}
-
-fn push_gates(text: &mut Vec<u8>, d: &Drawn) -> Result<(), AllocError> {
-    let first = d.inputs.saturating_add(d.latches).saturating_add(1);
-    for (i, (left, right)) in d.gates.iter().enumerate() {
-        let own = first.saturating_add(i as u64).saturating_mul(2);
-        push_line(text, &[own, *left, *right])?;
-    }
-    Ok(())
-}
-
-fn text_of(alloc: Global, d: &Drawn) -> Result<Vec<u8>, AllocError> {
-    let count = d.gates.len() as u64;
-    let max = d.inputs.saturating_add(d.latches).saturating_add(count);
-    let mut text = Vec::new(alloc);
-    text.extend_from_slice(b"aag ")?;
-    push_line(&mut text, &[max, d.inputs, d.latches, 0, count, 0, 1, 1, 0])?;
-    for i in 0..d.inputs {
-        push_line(&mut text, &[i.saturating_add(1).saturating_mul(2)])?;
-    }
-    push_latches(&mut text, d)?;
-    push_line(&mut text, &[d.constraint])?;
-    push_line(&mut text, &[1])?;
-    push_line(&mut text, &[0])?;
-    push_gates(&mut text, d)?;
-    Ok(text)
-}
-
-// ---- its states: latch i has the value of bit i
-
-fn bit(number: u64, i: u64) -> bool {
-    number.checked_div(power(i)).unwrap_or(0) % 2 == 1
-}
-
-fn value(values: &[bool], literal: u64) -> bool {
-    let plain = values.get((literal / 2) as usize).copied().unwrap_or(false);
-    plain != (literal % 2 == 1)
-}
-
-// The values of all variables.
-fn values_of(alloc: Global, d: &Drawn, state: u64, inputs: u64) -> Result<Vec<bool>, AllocError> {
-    let mut values = Vec::new(alloc);
-    values.push(false)?;
-    for i in 0..d.inputs {
-        values.push(bit(inputs, i))?;
-    }
-    for i in 0..d.latches {
-        values.push(bit(state, i))?;
-    }
-    for (left, right) in &d.gates {
-        let gate = value(values.as_slice(), *left) && value(values.as_slice(), *right);
-        values.push(gate)?;
-    }
-    Ok(values)
-}
-
-fn next_of(d: &Drawn, values: &[bool]) -> u64 {
-    let mut next: u64 = 0;
-    for (i, literal) in d.nexts.iter().enumerate() {
-        if value(values, *literal) {
-            next = power(i as u64).saturating_add(next);
-        }
-    }
-    next
-}
-
-fn may_begin(d: &Drawn, state: u64) -> bool {
-    for (i, reset) in d.resets.iter().enumerate() {
-        let free = *reset == 2;
-        if !free && bit(state, i as u64) != (*reset == 1) {
-            return false;
-        }
-    }
-    true
-}
-
-fn is_in(states: &[bool], state: u64) -> bool {
+pub(crate) fn is_in(states: &[bool], state: u64) -> bool {
     states.get(state as usize).copied().unwrap_or(false)
 }
 
@@ -232,7 +32,11 @@ fn spread(alloc: Global, d: &Drawn, states: &mut [bool]) -> Result<bool, AllocEr
 }
 
 // The states that runs reach, from a state or from the initial states.
-fn reached(alloc: Global, d: &Drawn, from: Option<u64>) -> Result<Vec<bool>, AllocError> {
+pub(crate) fn reached(
+    alloc: Global,
+    d: &Drawn,
+    from: Option<u64>,
+) -> Result<Vec<bool>, AllocError> {
     let mut states = Vec::new(alloc);
     for state in 0..power(d.latches) {
         states.push(match from {
@@ -249,7 +53,12 @@ fn reached(alloc: Global, d: &Drawn, from: Option<u64>) -> Result<Vec<bool>, All
 }
 
 // Whether the literal is true at a position of one of the states.
-fn meets(alloc: Global, d: &Drawn, states: &[bool], literal: u64) -> Result<bool, AllocError> {
+pub(crate) fn meets(
+    alloc: Global,
+    d: &Drawn,
+    states: &[bool],
+    literal: u64,
+) -> Result<bool, AllocError> {
     for state in 0..states.len() {
         if is_in(states, state as u64) {
             for inputs in 0..4 {
@@ -265,14 +74,6 @@ fn meets(alloc: Global, d: &Drawn, states: &[bool], literal: u64) -> Result<bool
 
 // ---- searches
 
-fn state_of(alloc: Global, d: &Drawn, state: u64) -> Result<Items<bool>, AllocError> {
-    let mut values = Items::new(alloc);
-    for i in 0..d.latches {
-        values.push(bit(state, i))?;
-    }
-    Ok(values)
-}
-
 fn search(
     alloc: Global,
     c: &Circuit,
@@ -287,7 +88,7 @@ fn search(
     }
 }
 
-fn is_path(reached: &Result<Reached, ReachEnd>, wanted: bool) -> bool {
+pub(crate) fn is_path(reached: &Result<Reached, ReachEnd>, wanted: bool) -> bool {
     match reached {
         Ok(Reached::Path(_)) => wanted,
         Ok(Reached::Closed { .. }) => !wanted,

@@ -1,5 +1,6 @@
 //! Paths and closed sets of small circuits, from their initial states and from states.
 
+use crate::again::agrees_again;
 use crate::asking::{To, Wanted, answer, is};
 use crate::drawing::{agrees, ends_within};
 use circuit::Circuit;
@@ -119,6 +120,14 @@ fn searches(rt: HostRuntime) -> Result<(), Fail> {
 fn drawn_circuits_are_searched(rt: HostRuntime) -> Result<(), Fail> {
     for seed in 0..200 {
         assert!(rt; agrees(rt.alloc(), seed));
+    }
+    Ok(())
+}
+
+#[test]
+fn one_search_is_asked_again(rt: HostRuntime) -> Result<(), Fail> {
+    for seed in 0..40 {
+        assert!(rt; agrees_again(rt.alloc(), seed));
     }
     Ok(())
 }

@@ -5,7 +5,8 @@ use Rattle.ic3_frames.specs.Frames.{AllDiffer}
 use Rattle.ic3_frames.specs.Room.{room}
 use Rattle.ic3_frames.proofs.Rooms.{frames-take, differing-few}
 use Rattle.ic3_questions.specs.Searching.{Question}
-use Rattle.ic3.specs.Sound.{IsSound, CountsUpTo}
+use Rattle.ic3.specs.Sound.{IsSound}
+use Rattle.ic3.specs.Searches.{CountsUpTo}
 use Rattle.ic3.specs.Pushing.{AllStuck}
 use Rattle.ic3.proofs.Stuck.{stuck_differ}
 use Rattle.ic3.proofs.Ended.{one_step, one_step_of}

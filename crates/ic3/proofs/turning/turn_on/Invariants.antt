@@ -1,6 +1,7 @@
 use Rattle.std.proofs.Common.{◌+◌, ◌≤◌, length}
 use Rattle.ic3_frames.specs.Room.{room}
-use Rattle.ic3.specs.Sound.{IsSearch, KeepsQuestion, CountsUpTo}
+use Rattle.ic3.specs.Sound.{IsSearch, KeepsQuestion}
+use Rattle.ic3.specs.Searches.{CountsUpTo}
 use Rattle.ic3.proofs.turning.turn_on.Given as goal
 
 abbrev pub invariant-turns : goal.invariant-turns

@@ -4,79 +4,21 @@ ghost use Rattle.std.specs.Prelude.{◌↔◌, IsTrue, length};
 ghost use Rattle.cnf_unroll.specs.Laws.{AreOver};
 ghost use Rattle.ic3_questions.specs.Stepping.{IsOver};
 
-use crate::steps::Steps;
-use aig_semantics::Gate;
-use circuit::{Circuit, Latch, ModelEnd, ModelFault, Parts, Position, Reset, check_circuit};
+use circuit::{Circuit, Position};
 use cnf::{Clause, Cube, Lit};
 use edge::{Meter, SolveEnd};
 use entry::good_lists_grow;
-use ic3_questions::{Found, Start};
-use items::Items;
+use ic3::{Start, Steps};
+use ic3_questions::Found;
 use std::alloc::{AllocError, Global};
 use std::test::Fail;
 
-fn latches_of(alloc: Global, nexts: &[u64]) -> Result<Items<Latch>, AllocError> {
-    let mut latches = Items::new(alloc);
-    let mut var = 0_u64;
-    for next in nexts {
-        var = var.saturating_add(1);
-        latches.push(Latch {
-            var,
-            next: *next,
-            reset: Reset::Zero,
-        })?;
-    }
-    Ok(latches)
-}
-
-fn gates_of(alloc: Global, rows: &[(u64, u64, u64)]) -> Result<Items<Gate>, AllocError> {
-    let mut gates = Items::new(alloc);
-    for (var, rhs0, rhs1) in rows {
-        gates.push(Gate {
-            var: *var,
-            rhs0: *rhs0,
-            rhs1: *rhs1,
-        })?;
-    }
-    Ok(gates)
-}
-
-fn parts_of(alloc: Global, max: u64, latches: Items<Latch>, gates: Items<Gate>) -> Parts {
-    Parts {
-        max,
-        inputs: Items::new(alloc),
-        latches,
-        gates,
-        outputs: Items::new(alloc),
-        bad: Items::new(alloc),
-        constraints: Items::new(alloc),
-        justice: Items::new(alloc),
-        fairness: Items::new(alloc),
-    }
-}
-
-fn circuit_of(
-    alloc: Global,
-    max: u64,
-    nexts: &[u64],
-    gates: &[(u64, u64, u64)],
-) -> Result<Circuit, ModelEnd> {
-    let latches = latches_of(alloc, nexts)?;
-    let parts = parts_of(alloc, max, latches, gates_of(alloc, gates)?);
-    if !parts.is_in_range() {
-        return Err(ModelEnd::Fault(ModelFault::Header(0)));
-    }
-    check_circuit(alloc, &parts)
-}
-
 // One latch that changes its value, one that keeps it, and a counter of two bits, the low one first.
-fn circuit_at(alloc: Global, n: u8) -> Result<Circuit, ModelEnd> {
-    match n {
-        0 => circuit_of(alloc, 1, &[3], &[]),
-        1 => circuit_of(alloc, 1, &[2], &[]),
-        _ => circuit_of(alloc, 5, &[3, 11], &[(3, 2, 5), (4, 3, 4), (5, 7, 9)]),
-    }
-}
+const TURNS: &str = "aag 1 0 1 0 0 0 0 0 0\n2 3\n";
+
+const STAYS: &str = "aag 1 0 1 0 0 0 0 0 0\n2 2\n";
+
+const COUNTS: &str = "aag 5 0 2 0 3 0 0 0 0\n2 3\n4 11\n6 5 2\n8 4 3\n10 9 7\n";
 
 fn literals_of(alloc: Global, codes: &[u64]) -> Result<Vec<Lit>, AllocError> {
     let mut literals = Vec::new(alloc);
@@ -117,7 +59,7 @@ fn predecessor_of(
 
 // A circuit; a lemma with its level; the level and the cube of a question; the state of the only step, or nothing.
 type Row = (
-    u8,
+    &'static str,
     (u64, &'static [u64]),
     u64,
     &'static [u64],
@@ -127,18 +69,18 @@ type Row = (
 // The row with a number; the last one is for all from 11 on.
 fn step_row(number: u8) -> Row {
     match number {
-        0 => (0, (0, &[0]), 1, &[0], &[false]),
-        1 => (0, (0, &[0]), 1, &[1], &[true]),
-        2 => (0, (1, &[0]), 1, &[0], &[]),
-        3 => (0, (1, &[0]), 2, &[0], &[false]),
-        4 => (0, (2, &[0]), 1, &[0], &[]),
-        5 => (1, (0, &[0]), 1, &[0], &[]),
-        6 => (1, (0, &[0]), 1, &[0, 1], &[]),
-        7 => (2, (0, &[0]), 1, &[0, 2], &[false, true]),
-        8 => (2, (0, &[0]), 1, &[2], &[true, false]),
-        9 => (2, (0, &[0]), 1, &[0, 3], &[false, false]),
-        10 => (2, (1, &[2]), 1, &[0, 3], &[]),
-        _ => (2, (1, &[2]), 2, &[0, 3], &[false, false]),
+        0 => (TURNS, (0, &[0]), 1, &[0], &[false]),
+        1 => (TURNS, (0, &[0]), 1, &[1], &[true]),
+        2 => (TURNS, (1, &[0]), 1, &[0], &[]),
+        3 => (TURNS, (1, &[0]), 2, &[0], &[false]),
+        4 => (TURNS, (2, &[0]), 1, &[0], &[]),
+        5 => (STAYS, (0, &[0]), 1, &[0], &[]),
+        6 => (STAYS, (0, &[0]), 1, &[0, 1], &[]),
+        7 => (COUNTS, (0, &[0]), 1, &[0, 2], &[false, true]),
+        8 => (COUNTS, (0, &[0]), 1, &[2], &[true, false]),
+        9 => (COUNTS, (0, &[0]), 1, &[0, 3], &[false, false]),
+        10 => (COUNTS, (1, &[2]), 1, &[0, 3], &[]),
+        _ => (COUNTS, (1, &[2]), 2, &[0, 3], &[false, false]),
     }
 }
 
@@ -174,9 +116,10 @@ fn steps_on(alloc: Global, c: &Circuit, row: &Row) -> Result<bool, SolveEnd> {
     leads_as(alloc, c, &clause, &cube, row)
 }
 
+// A model that is not read leads nowhere.
 fn steps_as(alloc: Global, row: &Row) -> Result<bool, SolveEnd> {
-    match circuit_at(alloc, row.0) {
-        Ok(c) => steps_on(alloc, &c, row),
+    match aiger_ascii::read(alloc, row.0.as_bytes()) {
+        Ok(model) => steps_on(alloc, model.circuit(), row),
         Err(_) => Ok(false),
     }
 }
@@ -225,16 +168,17 @@ fn goals_on(
     alloc: Global,
     c: &Circuit,
     literal: u64,
-    avoid: &[Cube],
+    avoid: &[u64],
     wanted: &[bool],
 ) -> Result<bool, SolveEnd> {
-    let found = goal_in(alloc, c, literal, avoid)?;
+    let cubes = [cube_of(alloc, avoid)?];
+    let found = goal_in(alloc, c, literal, &cubes)?;
     Ok(is_state(found, wanted))
 }
 
 fn goals_as(alloc: Global, literal: u64, avoid: &[u64], wanted: &[bool]) -> Result<bool, SolveEnd> {
-    match circuit_at(alloc, 2) {
-        Ok(c) => goals_on(alloc, &c, literal, &[cube_of(alloc, avoid)?], wanted),
+    match aiger_ascii::read(alloc, COUNTS.as_bytes()) {
+        Ok(model) => goals_on(alloc, model.circuit(), literal, avoid, wanted),
         Err(_) => Ok(false),
     }
 }
@@ -275,21 +219,25 @@ fn goals_are_met_where_they_are(rt: HostRuntime) -> Result<(), Fail> {
     Ok(())
 }
 
-// Whether circuit n is seen to have so many latches.
-fn latches_as(alloc: Global, n: u8, wanted: usize) -> Result<bool, AllocError> {
-    let Ok(c) = circuit_at(alloc, n) else {
-        return Ok(false);
-    };
-    good_lists_grow(&c);
+fn latches_on(alloc: Global, c: &Circuit) -> Result<usize, AllocError> {
+    good_lists_grow(c);
     let start = Start::Initial;
-    let steps = Steps::new(alloc, &c, &[], &start, &[])?;
-    Ok(steps.latches() == wanted)
+    let steps = Steps::new(alloc, c, &[], &start, &[])?;
+    Ok(steps.latches())
+}
+
+// Whether a circuit is seen to have so many latches.
+fn latches_as(alloc: Global, text: &str, wanted: usize) -> Result<bool, AllocError> {
+    match aiger_ascii::read(alloc, text.as_bytes()) {
+        Ok(model) => Ok(latches_on(alloc, model.circuit())? == wanted),
+        Err(_) => Ok(false),
+    }
 }
 
 #[test]
 fn latches_are_counted(rt: HostRuntime) -> Result<(), Fail> {
-    assert!(rt; latches_as(rt.alloc(), 0, 1)?);
-    assert!(rt; latches_as(rt.alloc(), 1, 1)?);
-    assert!(rt; latches_as(rt.alloc(), 2, 2)?);
+    assert!(rt; latches_as(rt.alloc(), TURNS, 1)?);
+    assert!(rt; latches_as(rt.alloc(), STAYS, 1)?);
+    assert!(rt; latches_as(rt.alloc(), COUNTS, 2)?);
     Ok(())
 }

@@ -1,6 +1,6 @@
-use Rattle.std.proofs.Common.{◌≡◌, length, ap, sym, subst, ◌∙◌}
+use Rattle.std.proofs.Common.{length, ap, sym, subst, ◌∙◌}
 use Rattle.ic3_questions.specs.Stepping.{IsOver, with_lemma}
-use Rattle.ic3.proofs.stepping_tests.predecessor_of.Goals as goal
+use Rattle.ic3_tests.proofs.stepping.predecessor_of.Goals as goal
 
 pub hold-requires : goal.hold-requires
 hold-requires c =
