@@ -1,23 +1,70 @@
--- Views that go on from what was seen.
-use Rattle.std.proofs.Common.{◌≡◌, ◌+◌, ◌≤◌, List, [], ◌∷◌, ◌++◌, length, sym, ap, ◌∙◌, arith, append-nil}
-use Rattle.std.specs.declared.sync.Arc.{Arc}
-use Rattle.std.proofs.lemmas.List.{length-append, length-map}
-use Rattle.fair_semantics.specs.Entries.{Entry}
-use Rattle.entry.specs.CheckedEntries.{CheckedEntry, entry_in, viewed}
+-- The clauses over a view that goes on from what was seen.
+use Rattle.std.proofs.Common.{◌≡◌, ℕ, ◌+◌, false, List, [], ◌∷◌, ◌++◌, length, refl, sym, ap, ◌∙◌, subst, append_assoc}
+use Rattle.std.proofs.lemmas.Bool.{true≢false}
+use Rattle.aig_semantics.specs.Circuits.{Circuit, fair_literals}
+use Rattle.proof_semantics.specs.declared.literals.Lit.{Lit}
+use Rattle.fair_semantics.specs.Entries.{Entry, Numbered, numbered_from, numbered}
+use Rattle.cnf_unroll.specs.Uses.{Numbering, free_from, use_clauses, after_use, uses_clauses}
+use Rattle.cnf_unroll.specs.Obligations.{block_count, blocks_clauses, blocks_places, literals_clauses, after_blocks, skeleton_clauses}
+use Rattle.entry.specs.CheckedEntries.{viewed}
+use Rattle.skeleton.specs.declared.known.Known.{Known}
 use Rattle.skeleton.specs.Finding.{GoesOnFrom}
+use Rattle.skeleton.specs.Keeping.{IsFront, IsBegun}
 
-pub viewed_length : {Z : Type 0} (view : List (Arc CheckedEntry Z)) → length (viewed view) ≡ length view
-viewed_length view = length-map view entry_in
+-- ---- the clauses over more entries begin with those over the earlier ones
 
-same_by : (earlier entries more : List Entry) → entries ≡ earlier ++ more → length more ≤ 0 → earlier ≡ entries
-same_by earlier entries [] e none = sym (append-nil earlier) ∙ sym e
-same_by earlier entries (x ∷ more) e none = absurd (omega arith)
+front_on : (a b c : List (List Lit)) → IsFront a b → IsFront b c → IsFront a c
+front_on a b c (more, e) (rest, f) = (more ++ rest, f ∙ ap (λ clauses. clauses ++ rest) e ∙ append_assoc a more rest)
 
--- entries that are no more than the earlier ones are these
-pub no_more : (earlier entries : List Entry) → GoesOnFrom earlier entries → length entries ≤ length earlier → earlier ≡ entries
-no_more earlier entries (more, e) few =
-    let long : length entries ≡ length earlier + length more = longer earlier entries more e in
-    same_by earlier entries more e (omega arith)
-  where
-    longer : (earlier entries more : List Entry) → entries ≡ earlier ++ more → length entries ≡ length earlier + length more
-    longer earlier entries more e = ap length e ∙ length-append earlier more
+numbers_on : (n : ℕ) (earlier more : List Entry) → (later : List Numbered) × (numbered_from n (earlier ++ more) ≡ numbered_from n earlier ++ later)
+numbers_on n [] more = (numbered_from n more, refl)
+numbers_on n (e ∷ earlier) more =
+    let h = numbers_on (n + 1) earlier more in
+    (h.0, ap (λ us. record { number = n; entry = e } ∷ us) h.1)
+
+uses_on : (places : List (List ℕ)) (n : Numbering) (us more : List Numbered) → IsFront (uses_clauses places n us) (uses_clauses places n (us ++ more))
+uses_on places n [] more = (uses_clauses places n more, refl)
+uses_on places n (u ∷ us) more =
+    let after = after_use places n u u.entry.kind in
+    let here = use_clauses places n u.entry u.entry.kind in
+    let h = uses_on places after us more in
+    (h.0, ap (λ clauses. here ++ clauses) h.1 ∙ sym (append_assoc here (uses_clauses places after us) h.0))
+
+-- the law of skeleton clauses over more uses
+skeleton_on : (c : Circuit) (j : ℕ) (us more : List Numbered) → IsFront (skeleton_clauses c j us) (skeleton_clauses c j (us ++ more))
+skeleton_on c j us more =
+    let literals = fair_literals c j in
+    let count = block_count literals in
+    let before = blocks_clauses c 0 count ++ literals_clauses c 0 literals in
+    let uses = uses_clauses (blocks_places c 0 count) (free_from (after_blocks c 0 count + 1)) us in
+    let h = uses_on (blocks_places c 0 count) (free_from (after_blocks c 0 count + 1)) us more in
+    (h.0, ap (λ clauses. before ++ clauses) h.1 ∙ sym (append_assoc before uses h.0))
+
+clauses_go_on : (c : Circuit) (j : ℕ) (earlier entries : List Entry) → GoesOnFrom earlier entries
+    → IsFront (skeleton_clauses c j (numbered earlier)) (skeleton_clauses c j (numbered entries))
+clauses_go_on c j earlier entries (more, e) =
+    let h = numbers_on 0 earlier more in
+    let law = skeleton_on c j (numbered earlier) h.0 in
+    (law.0, ap (λ es. skeleton_clauses c j (numbered es)) e ∙ ap (skeleton_clauses c j) h.1 ∙ law.1)
+
+-- ---- what a query keeps
+
+-- what was added is the front of the clauses over a view that goes on from what was seen
+pub added_front : (c : Circuit) (j : ℕ) (known : Known) (entries : List Entry) (clauses : List (List Lit))
+    → IsBegun c j known → GoesOnFrom (viewed known.seen) entries → clauses ≡ skeleton_clauses c j (numbered entries)
+    → IsFront known.solver.added clauses
+added_front c j known entries clauses begun on e =
+    let earlier = skeleton_clauses c j (numbered (viewed known.seen)) in
+    let all = skeleton_clauses c j (numbered entries) in
+    subst (IsFront known.solver.added) (sym e)
+    (front_on known.solver.added earlier all begun.front (clauses_go_on c j (viewed known.seen) entries on))
+
+pub nothing_begun : (c : Circuit) (j : ℕ) (known : Known) → known.solver.added ≡ [] → known.count ≡ 0 → known.whole ≡ false
+    → IsBegun c j known
+nothing_begun c j known none count open_yet =
+    let all = skeleton_clauses c j (numbered (viewed known.seen)) in
+    record {
+      front = (all, sym (ap (λ clauses. clauses ++ all) none));
+      count = count ∙ sym (ap length none);
+      whole = λ is. absurd (true≢false (sym is ∙ open_yet));
+    }

@@ -1,11 +1,11 @@
 //! The solver of a query, with the entries whose clauses it has. The main call is `catch_up`.
-ghost use Rattle.std.specs.Prelude.{◌≡◌, ◌<◌, ◌^◌, [], ◌∷◌, ◌++◌, length, IfOk, OnOk, OnErr};
+ghost use Rattle.std.specs.Prelude.{◌≡◌, ◌<◌, ◌^◌, false, [], ◌∷◌, ◌++◌, length, IfOk, OnOk, OnErr};
 ghost use Rattle.fair_semantics.specs.Entries.{numbered};
 ghost use Rattle.cnf_unroll.specs.Lending.{lent, lent_all};
 ghost use Rattle.cnf_unroll.specs.Obligations.{skeleton_clauses};
 ghost use Rattle.entry.specs.CheckedEntries.{entry_in, viewed};
 ghost use Rattle.skeleton.specs.Finding.{GoesOnFrom};
-ghost use Rattle.skeleton.specs.Keeping.{IsBuilt};
+ghost use Rattle.skeleton.specs.Keeping.{IsFront, IsBuilt, IsBegun};
 
 use cdcl::{Solver, are_sized};
 use circuit::Circuit;
@@ -16,11 +16,14 @@ use items::Items;
 use std::alloc::{AllocError, Global};
 use std::sync::Arc;
 
-/// A solver of skeleton clauses, and the entries whose clauses are among them.
+/// A solver of skeleton clauses, and the entries that were seen. The solver has the first `count` clauses over these,
+/// and all of them where it is `whole`.
 #[derive(Debug, Drop)]
 pub(crate) struct Known {
     pub(crate) solver: Solver,
     pub(crate) seen: Items<Arc<Checked>>,
+    count: usize,
+    whole: bool,
 }
 
 // An entry of a view as clauses take it.
@@ -50,7 +53,8 @@ fn lend(alloc: Global, view: &[Arc<Checked>]) -> Result<Items<Used<'_>>, AllocEr
 
 // A clause that has a number from 2^63 on could not be held.
 fn add_clause(solver: &mut Solver, clause: Clause) -> Result<(), AllocError>
-    ensures { OnOk result (solver.new.added ≡ solver.old.added ++ clause ∷ []) }
+    ensures added { OnOk result (solver.new.added ≡ solver.old.added ++ clause ∷ []) }
+    ensures kept { OnErr result (solver.new ≡ solver.old) }
 {
     if !are_sized(clause.as_slice()) {
         return Err(AllocError);
@@ -58,31 +62,35 @@ fn add_clause(solver: &mut Solver, clause: Clause) -> Result<(), AllocError>
     solver.add(clause)
 }
 
+// Adds what the solver lacks of these clauses, of which it has the first, as many as are counted.
+fn add_rest(
+    solver: &mut Solver,
+    count: &mut usize,
+    mut clauses: Vec<Clause>,
+) -> Result<(), AllocError>
+    requires front { IsFront solver.old.added clauses.items }
+    requires count { count.old ≡ length solver.old.added }
+    ensures all { OnOk result (solver.new.added ≡ clauses.items) }
+    ensures front { IsFront solver.new.added clauses.items }
+    ensures count { count.new ≡ length solver.new.added }
+{
+    let total = clauses.as_slice().len();
+    let rest = clauses.split_off(*count)?;
+    for clause in rest {
+        add_clause(solver, clause)?;
+        *count += 1;
+    }
+    Ok(())
+}
+
 /// A solver of these clauses.
 pub(crate) fn solver_with(alloc: Global, clauses: Vec<Clause>) -> Result<Solver, AllocError>
     ensures { IfOk result (λ solver. solver.added ≡ clauses.items) }
 {
     let mut solver = Solver::new(alloc)?;
-    for clause in clauses {
-        add_clause(&mut solver, clause)?;
-    }
+    let mut count = 0;
+    add_rest(&mut solver, &mut count, clauses)?;
     Ok(solver)
-}
-
-// A solver of the skeleton clauses of a property with all entries of the view.
-fn solver_of(
-    alloc: Global,
-    c: &Circuit,
-    j: u32,
-    view: &[Arc<Checked>],
-) -> Result<Solver, AllocError>
-    requires property { j < length c.now.justice }
-    requires few { length view.now < 2 ^ 32 }
-    ensures { IfOk result (λ solver. solver.added ≡ skeleton_clauses c.now j (numbered (viewed view.now))) }
-{
-    let uses = lend(alloc, view)?;
-    let clauses = skeleton_cnf(alloc, c, j, uses.as_slice())?;
-    solver_with(alloc, clauses.into_vec())
 }
 
 fn share(alloc: Global, view: &[Arc<Checked>]) -> Result<Items<Arc<Checked>>, AllocError>
@@ -95,24 +103,24 @@ fn share(alloc: Global, view: &[Arc<Checked>]) -> Result<Items<Arc<Checked>>, Al
     Ok(copy)
 }
 
-/// A solver of the skeleton clauses of property `j` with all entries of the view. The error is want of memory.
-pub(crate) fn known_of(
-    alloc: Global,
-    c: &Circuit,
-    j: u32,
-    view: &[Arc<Checked>],
-) -> Result<Known, AllocError>
-    requires property { j < length c.now.justice }
-    requires few { length view.now < 2 ^ 32 }
-    ensures built { IfOk result (IsBuilt c.now j) }
-    ensures seen { IfOk result (λ known. viewed known.seen ≡ viewed view.now) }
+/// Nothing was seen, and the solver, which has no clause, begins with this value of each variable. The error is want of
+/// memory.
+pub(crate) fn nothing_known(alloc: Global, value: bool) -> Result<Known, AllocError>
+    ensures added { IfOk result (λ known. known.solver.added ≡ []) }
+    ensures seen { IfOk result (λ known. known.seen ≡ []) }
+    ensures count { IfOk result (λ known. known.count ≡ 0) }
+    ensures whole { IfOk result (λ known. known.whole ≡ false) }
 {
-    let solver = solver_of(alloc, c, j, view)?;
-    let seen = share(alloc, view)?;
-    Ok(Known { solver, seen })
+    Ok(Known {
+        solver: Solver::deciding(alloc, value)?,
+        seen: Items::new(alloc),
+        count: 0,
+        whole: false,
+    })
 }
 
-/// Takes in what the view has more than was seen. The error is want of memory, and changes nothing.
+/// Takes in what the view has more than was seen, and what an error before kept from the solver. The error is want of
+/// memory; the clauses that were added stay.
 pub(crate) fn catch_up(
     alloc: Global,
     c: &Circuit,
@@ -123,13 +131,21 @@ pub(crate) fn catch_up(
     requires property { j < length c.now.justice }
     requires few { length view.now < 2 ^ 32 }
     requires on { GoesOnFrom (viewed known.old.seen) (viewed view.now) }
-    requires built { IsBuilt c.now j known.old }
-    ensures built { IsBuilt c.now j known.new }
+    requires begun { IsBegun c.now j known.old }
+    ensures begun { IsBegun c.now j known.new }
+    ensures built { OnOk result (IsBuilt c.now j known.new) }
     ensures seen { OnOk result (viewed known.new.seen ≡ viewed view.now) }
-    ensures kept { OnErr result (known.new ≡ known.old) }
+    ensures on { GoesOnFrom (viewed known.new.seen) (viewed view.now) }
 {
-    if known.seen.len() < view.len() {
-        *known = known_of(alloc, c, j, view)?;
+    if known.whole && known.seen.len() == view.len() {
+        return Ok(());
     }
+    let seen = share(alloc, view)?;
+    let uses = lend(alloc, view)?;
+    let clauses = skeleton_cnf(alloc, c, j, uses.as_slice())?;
+    known.seen = seen;
+    known.whole = false;
+    add_rest(&mut known.solver, &mut known.count, clauses.into_vec())?;
+    known.whole = true;
     Ok(())
 }

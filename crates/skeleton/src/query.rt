@@ -5,11 +5,11 @@ ghost use Rattle.edge.specs.Ends.{CountsConflicts, IsEnd};
 ghost use Rattle.entry.specs.CheckedEntries.{viewed};
 ghost use Rattle.entry.specs.Laws.{IsGoodList};
 ghost use Rattle.skeleton.specs.Finding.{GoesOnFrom, IsFound, IsFirst};
-ghost use Rattle.skeleton.specs.Keeping.{IsBuilt};
+ghost use Rattle.skeleton.specs.Keeping.{IsBegun};
 
 use crate::asking::{find, find_first};
 use crate::finding::{First, Found};
-use crate::known::{Known, catch_up, known_of};
+use crate::known::{Known, catch_up, nothing_known};
 use circuit::Circuit;
 use edge::{Meter, SolveEnd};
 use entry::Checked;
@@ -47,14 +47,14 @@ fn next_found(
     meter: &mut Meter,
 ) -> Result<Found, SolveEnd>
     requires property { j < length c.now.justice }
-    requires built { IsBuilt c.now j known.old }
+    requires begun { IsBegun c.now j known.old }
     requires on { GoesOnFrom (viewed known.old.seen) (viewed view.now) }
     requires good { IsGoodList c.now (viewed view.now) }
     requires few { length view.now < 2 ^ 32 }
     ensures found { IfOk result (IsFound c.now j (viewed view.now)) }
     ensures end { IfErr result (IsEnd meter.new) }
     ensures counted { CountsConflicts meter.old meter.new }
-    ensures built { IsBuilt c.now j known.new }
+    ensures begun { IsBegun c.now j known.new }
     ensures seen { GoesOnFrom (viewed known.new.seen) (viewed view.now) }
 {
     catch_up(alloc, c, j, known, view)?;
@@ -72,7 +72,7 @@ fn next_first(
     meter: &mut Meter,
 ) -> Result<First, SolveEnd>
     requires property { j < length c.now.justice }
-    requires built { IsBuilt c.now j known.old }
+    requires begun { IsBegun c.now j known.old }
     requires on { GoesOnFrom (viewed known.old.seen) (viewed view.now) }
     requires good { IsGoodList c.now (viewed view.now) }
     requires few { length view.now < 2 ^ 32 }
@@ -80,7 +80,7 @@ fn next_first(
     ensures first { IfOk result (IsFirst c.now j (viewed view.now) state.now) }
     ensures end { IfErr result (IsEnd meter.new) }
     ensures counted { CountsConflicts meter.old meter.new }
-    ensures built { IsBuilt c.now j known.new }
+    ensures begun { IsBegun c.now j known.new }
     ensures seen { GoesOnFrom (viewed known.new.seen) (viewed view.now) }
 {
     catch_up(alloc, c, j, known, view)?;
@@ -89,13 +89,13 @@ fn next_first(
 
 impl Query {
     /// A query for skeletons of the property with the number `j`, counted from 0. `worker` is the number of whoever
-    /// asks; nothing depends on it yet. The error is want of memory.
+    /// asks: the three from 0 on look first for skeletons whose variables are false, the next three for such whose
+    /// variables are true, and so on in turn. The error is want of memory.
     pub fn new(alloc: Global, c: &Arc<Circuit>, j: u32, worker: u32) -> Result<Query, AllocError>
         requires { j < length (arc_value c.now).justice }
         ensures { IfOk result (λ query. query ≡ record { circuit = arc_value c.now; property = j; seen = [] }) }
     {
-        let _steers_nothing = worker;
-        let known = known_of(alloc, &**c, j, &[])?;
+        let known = nothing_known(alloc, worker / 3 % 2 == 1)?;
         let circuit = Arc::try_clone(c)?;
         Ok(Query {
             circuit,

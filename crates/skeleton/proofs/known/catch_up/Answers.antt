@@ -1,9 +1,13 @@
-use Rattle.std.proofs.Common.{arith}
+use Rattle.std.proofs.Common.{ap, ◌∙◌}
+use Rattle.cnf_unroll.specs.Lending.{lent_all}
+use Rattle.cnf_unroll.specs.Obligations.{skeleton_clauses}
 use Rattle.entry.specs.CheckedEntries.{viewed}
-use Rattle.skeleton.proofs.Growing.{viewed_length, no_more}
+use Rattle.skeleton.proofs.Growing.{added_front}
 use Rattle.skeleton.proofs.known.catch_up.Goals as goal
 
-pub returns-else-len-view-clause-seen : goal.returns-else-len-view-clause-seen
-returns-else-len-view-clause-seen c =
-    no_more (viewed c.args.known.now.seen) (viewed c.args.view.now) c.requires.on
-    (omega (arith, viewed_length c.args.known.now.seen, viewed_length c.args.view.now, c.len.ensures, c.if-len-view.false))
+pub add_rest-requires-clause-front : goal.add_rest-requires-clause-front
+add_rest-requires-clause-front c =
+    added_front c.args.c.now c.args.j c.args.known.now (viewed c.args.view.now) c.into_vec.result.items c.requires.begun c.requires.on
+    (c.into_vec.ensures ∙ c.in_ok-clauses.ensures
+    ∙ ap (λ uses. skeleton_clauses c.args.c.now c.args.j (lent_all uses)) c.as_slice.ensures
+    ∙ ap (skeleton_clauses c.args.c.now c.args.j) c.in_ok-uses.ensures)
