@@ -6,4 +6,5 @@ pub mod Turned
 pub mod Together
 pub mod Skeletons
 pub mod Pools
+pub mod Stems
 pub mod Kept

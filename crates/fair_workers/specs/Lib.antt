@@ -5,3 +5,4 @@ pub mod Working
 pub mod Laws
 pub mod Pools
 pub mod Scouts
+pub mod Stems

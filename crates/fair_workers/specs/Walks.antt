@@ -68,6 +68,11 @@ abbrev pub IsStem : Circuit → List Entry → List Situation → Way → Type 0
 IsStem c view situations (ways.Open stem) = IsStemTo c (slice_index_or (states situations) 0 []) stem
 IsStem c view situations (ways.Barred bar) = Excludes c view (entry_of_bar bar) (skeleton_of situations)
 
+-- an initial run, or an entry that excludes the skeleton
+abbrev pub IsLiteralStem : Circuit → List Entry → List Situation → Way → Type 0
+IsLiteralStem c view situations (ways.Open run) = (t : List Bool) × IsStemTo c t run
+IsLiteralStem c view situations (ways.Barred bar) = Excludes c view (entry_of_bar bar) (skeleton_of situations)
+
 -- a run from one state to another, or an entry that excludes the skeleton
 abbrev pub IsWay : Circuit → List Entry → List Bool → List Bool → List Situation → Way → Type 0
 IsWay c view s t situations (ways.Open positions) = LeadsTo c s t positions

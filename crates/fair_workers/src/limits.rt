@@ -25,7 +25,7 @@ pub struct Report {
 /// Why workers ended without an answer.
 #[derive(Drop)]
 pub enum Ended {
-    /// What they may spend is spent.
+    /// The list is full and leaves a skeleton, or what each worker may spend is spent: what they leave.
     Spent(Report),
     /// Memory ran out.
     Memory,

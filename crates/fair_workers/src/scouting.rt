@@ -1,12 +1,14 @@
 //! What a worker keeps from search to search. The main type is `Scout`.
 
-ghost use Rattle.std.specs.Prelude.{◌≡◌, ◌<◌, ◌^◌, [], length, IfOk, IfErr, IfSome, OnOk, OnErr};
+ghost use Rattle.std.specs.Prelude.{◌≡◌, ◌<◌, ◌^◌, [], List, length, All, IfOk, IfErr, IfSome, OnOk, OnErr};
 ghost use Rattle.std.specs.Arc.{arc_value};
 ghost use Rattle.entry.specs.CheckedEntries.{viewed};
 ghost use Rattle.entry.specs.Laws.{IsGoodList};
-ghost use Rattle.skeleton.specs.Finding.{GoesOnFrom, IsFound};
+ghost use Rattle.fair_semantics.specs.Entries.{Entry};
+ghost use Rattle.skeleton.specs.Finding.{GoesOnFrom, IsFound, BeginsNone};
 ghost use Rattle.fair_workers.specs.Walks.{IsStop, KeepsLimits};
 ghost use Rattle.fair_workers.specs.Pools.{IsBegun, IsReachedRun};
+ghost use Rattle.fair_workers.specs.Stems.{IsFit};
 
 use crate::pool::{Begun, Trail, keep, pooled};
 use crate::ways::Stop;
@@ -14,20 +16,52 @@ use circuit::{Circuit, Position};
 use cnf::Cube;
 use edge::{Meter, SolveEnd};
 use entry::Checked;
+use ic3::{Search, Start};
 use items::Items;
 use skeleton::{Found, Query, never_stays};
 use std::alloc::{AllocError, Global};
 use std::marker::Model;
 use std::sync::Arc;
 
-/// The query of a worker, the entries that it has seen, runs whose states were reached, and cubes of states in which no
-/// skeleton begins. Contracts see of it what they see of a query.
-#[derive(Debug, Drop)]
+/// The query of a worker, the entries that it has seen, runs whose states were reached, cubes of states in which no
+/// skeleton begins, and the search from the initial states. Contracts see of it what they see of a query.
+#[derive(Drop)]
 pub(crate) struct Scout {
+    circuit: Arc<Circuit>,
     query: Query,
     seen: Items<Arc<Checked>>,
     trails: Vec<Trail>,
     avoid: Items<Cube>,
+    search: Option<Search>,
+    costs: Costs,
+}
+
+/// What rounds have cost in which the first literal was asked for, and those in which a state was. The cheaper comes next.
+#[derive(Debug, Clone, Copy)]
+struct Costs {
+    by_literal: u64,
+    by_state: u64,
+}
+
+// Where a worker begins: the first by literals, the second by states; the third never asks for literals.
+fn first_costs(worker: u32) -> Costs {
+    let by_literal = match worker % 3 {
+        0 => 0,
+        1 => 1,
+        _ => u64::MAX,
+    };
+    Costs {
+        by_literal,
+        by_state: 0,
+    }
+}
+
+fn add_cost(costs: &mut Costs, by_literal: bool, cost: u64) {
+    if by_literal {
+        costs.by_literal = costs.by_literal.saturating_add(cost);
+    } else {
+        costs.by_state = costs.by_state.saturating_add(cost);
+    }
 }
 
 impl Model for Scout {
@@ -66,6 +100,13 @@ fn found(
     }
 }
 
+// A search from the initial states that was asked nothing yet.
+fn new_search(alloc: Global, c: &Arc<Circuit>) -> Result<Search, AllocError>
+    ensures { IfOk result (λ made. (view : List Entry) → IsFit (arc_value c.now) view made) }
+{
+    Search::new(alloc, c, Start::Initial)
+}
+
 fn share(alloc: Global, view: &[Arc<Checked>]) -> Result<Items<Arc<Checked>>, AllocError>
     ensures { IfOk result (λ copy. viewed copy ≡ viewed view.now) }
 {
@@ -89,10 +130,13 @@ impl Scout {
     {
         let query = Query::new(alloc, c, j, worker)?;
         Ok(Scout {
+            circuit: Arc::try_clone(c)?,
             query,
             seen: Items::new(alloc),
             trails: Vec::new(alloc),
             avoid: Items::new(alloc),
+            search: None,
+            costs: first_costs(worker),
         })
     }
 
@@ -162,6 +206,46 @@ impl Scout {
             &mut self.avoid,
             meter,
         )
+    }
+
+    /// The cubes of states in which no skeleton begins that the view, which was seen, allows.
+    pub(crate) fn avoided(&self) -> &[Cube]
+        ensures { All (BeginsNone self.now.circuit self.now.property self.now.seen) result.now }
+    {
+        self.avoid.as_slice()
+    }
+
+    /// Whether the first literal is asked for next, and not a state.
+    pub(crate) fn asks_literal(&self) -> bool {
+        self.costs.by_literal < u64::MAX && self.costs.by_literal <= self.costs.by_state
+    }
+
+    /// Adds to what one of the two has cost, in conflicts, steps, questions for a literal and rounds.
+    pub(crate) fn charge(&mut self, by_literal: bool, cost: u64)
+        ensures { self.new ≡ self.old }
+    {
+        add_cost(&mut self.costs, by_literal, cost);
+    }
+
+    /// The search from the initial states; it is put back where it answers.
+    pub(crate) fn take_search(&mut self, alloc: Global, c: &Circuit) -> Result<Search, AllocError>
+        requires { self.old.circuit ≡ c.now }
+        ensures fit { IfOk result (IsFit c.now self.old.seen) }
+        ensures same { self.new ≡ self.old }
+    {
+        match self.search.take() {
+            Some(search) => Ok(search),
+            None => new_search(alloc, &self.circuit),
+        }
+    }
+
+    /// Keeps the search for the next round.
+    pub(crate) fn put_search(&mut self, _c: &Circuit, kept: Search)
+        requires circuit { self.old.circuit ≡ _c.now }
+        requires fit { IsFit _c.now self.old.seen kept }
+        ensures { self.new ≡ self.old }
+    {
+        self.search = Some(kept);
     }
 
     /// Keeps a run whose states were reached. The error is want of memory.

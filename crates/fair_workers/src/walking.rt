@@ -34,8 +34,8 @@ pub(crate) enum Walked {
     Barred(Bar, Items<Items<Position>>),
 }
 
-// Literal k of the property and of fairness.
-fn fair_literal(c: &Circuit, j: u32, k: usize) -> u64
+/// Literal k of the property and of fairness.
+pub(crate) fn fair_literal(c: &Circuit, j: u32, k: usize) -> u64
     requires property { j < length c.now.justice }
     requires inside { k < length (fair_literals c.now j) }
     ensures value { result ≡ slice_index_or (fair_literals c.now j) k 0 }

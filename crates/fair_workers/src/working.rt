@@ -48,7 +48,7 @@ pub(crate) enum Phase {
 }
 
 /// A worker: its number, how many entries it has seen, how many turns it had, its scout and its meter.
-#[derive(Debug, Drop)]
+#[derive(Drop)]
 pub(crate) struct Worker {
     pub(crate) number: u32,
     pub(crate) seen: usize,

@@ -1,7 +1,7 @@
 use Rattle.std.proofs.Common.{sym, ap, subst}
 use Rattle.entry.specs.CheckedEntries.{viewed}
 use Rattle.skeleton.specs.Finding.{Asking, GoesOnFrom}
-use Rattle.fair_workers.proofs.Kept.{goes-on-then, avoid-grows}
+use Rattle.fair_workers.proofs.Kept.{goes-on-then, avoid-grows, fit-grows}
 use Rattle.fair_workers.proofs.scouting.Scout.catch_up.Goals as goal
 
 pub invariant_of-self : goal.invariant_of-self
@@ -12,8 +12,10 @@ invariant_of-self c =
     (subst (λ xs. GoesOnFrom xs (viewed c.args.view.now)) (sym (ap (λ (a : Asking). a.seen) c.self.view_is)) c.requires.on)
     in
     record {
+      circuit = c.self.invariant.circuit;
       on = goes-on-then s.query.seen (viewed s.seen) (viewed c.in_ok-self-inside.field-0) c.self.invariant.on grows;
       trails = c.self.invariant.trails;
       avoid = avoid-grows c.never_stays.ensures s.query.circuit s.query.property (viewed s.seen) (viewed c.in_ok-self-inside.field-0) s.avoid grows
           c.self.invariant.avoid;
+      search = fit-grows s.query.circuit (viewed s.seen) (viewed c.in_ok-self-inside.field-0) s.search grows c.self.invariant.search;
     }

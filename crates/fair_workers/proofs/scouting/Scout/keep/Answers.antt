@@ -13,7 +13,9 @@ pub invariant_of-self : goal.invariant_of-self
 invariant_of-self c =
     let same : c.self.inside.query.circuit ≡ c.args.c.now = ap (λ (a : Asking). a.circuit) c.self.view_is ∙ c.requires.circuit in
     record {
+      circuit = c.self.invariant.circuit;
       on = c.self.invariant.on;
       trails = subst (λ k. All (IsTrail k) c.keep.new.trails.items) (sym same) c.keep.ensures.trails;
       avoid = c.self.invariant.avoid;
+      search = c.self.invariant.search;
     }
