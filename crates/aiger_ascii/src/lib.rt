@@ -14,6 +14,3 @@ mod writing;
 pub use laws::ascii_laws;
 pub use reading::read;
 pub use writing::write;
-
-#[cfg(test)]
-mod tests;

@@ -20,6 +20,3 @@ pub use aiger_grammar::{Counts, Names, Symbol};
 pub use models::Model;
 pub use reading::{read_last_names, read_names};
 pub use writing::{push_names, push_next, push_properties, write_names};
-
-#[cfg(test)]
-mod tests;

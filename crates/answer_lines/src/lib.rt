@@ -11,8 +11,6 @@
 mod ends;
 mod lines;
 mod pieces;
-#[cfg(test)]
-mod tests;
 
 pub use ends::LinesEnd;
 pub use lines::Lines;

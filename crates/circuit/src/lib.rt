@@ -18,6 +18,3 @@ pub use evaluating::{eval_into, literal_value, next_into, one_valuation};
 pub use faults::{ModelEnd, ModelFault};
 pub use lassos::{is_fair_lasso, is_initial};
 pub use parts::Parts;
-
-#[cfg(test)]
-mod tests;

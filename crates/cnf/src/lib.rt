@@ -21,6 +21,3 @@ pub type ProofLine = Items<u8>;
 
 /// The lines of a proof, in their order.
 pub type Proof = Items<ProofLine>;
-
-#[cfg(test)]
-mod tests;

@@ -40,6 +40,3 @@ pub use laws::{
 pub use obligations::{Begun, broken, obligation, shared, shared_behind, step_under_uses};
 pub use skeletons::skeleton_cnf;
 pub use used::{ClauseSet, Used};
-
-#[cfg(test)]
-mod tests;

@@ -4,8 +4,6 @@
 #![tactic(auto)]
 
 mod failures;
-#[cfg(test)]
-mod fakes;
 mod files;
 mod gates;
 mod mem_shelf;
@@ -14,8 +12,6 @@ mod metering;
 mod output;
 mod reading;
 mod solve_end;
-#[cfg(test)]
-mod tests;
 mod writing;
 
 pub use failures::Failed;

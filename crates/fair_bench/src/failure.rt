@@ -2,6 +2,8 @@
 
 use circuit::ModelEnd;
 use edge::{Failed, ReadEnd, SolveEnd};
+use entry::EntryEnd;
+use proved_entries::ProvingEnd;
 use std::alloc::{AllocError, AllocFailed};
 use std::io;
 
@@ -74,6 +76,24 @@ impl From<SolveEnd> for Failure {
         match end {
             SolveEnd::Spent(_) => Failure::Spent,
             SolveEnd::Memory => Failure::Memory,
+        }
+    }
+}
+
+impl From<EntryEnd> for Failure {
+    fn from(end: EntryEnd) -> Failure {
+        match end {
+            EntryEnd::Fault(_) => Failure::WrongAnswer,
+            EntryEnd::Memory => Failure::Memory,
+        }
+    }
+}
+
+impl From<ProvingEnd> for Failure {
+    fn from(end: ProvingEnd) -> Failure {
+        match end {
+            ProvingEnd::Refused => Failure::WrongAnswer,
+            ProvingEnd::Memory => Failure::Memory,
         }
     }
 }

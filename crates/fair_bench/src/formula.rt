@@ -18,19 +18,30 @@ pub(crate) fn read_formula(alloc: Global, text: &[u8]) -> Result<Db, Failure> {
     let mut clauses = Db::new(alloc);
     let mut heading: Option<u64> = None;
     for line in Lines(text) {
-        if is_comment(line) {
-            continue;
-        }
-        if heading.is_none() {
-            heading = Some(clauses_said(line).ok_or(Failure::BadInput)?);
-        } else {
-            clauses.push(read_clause(alloc, line)?)?;
-        }
+        take_line(alloc, line, &mut heading, &mut clauses)?;
     }
     if heading != Some(clauses.len() as u64) {
         return Err(Failure::BadInput);
     }
     Ok(clauses)
+}
+
+// The first line that is no comment is the heading, and each later one a clause.
+fn take_line(
+    alloc: Global,
+    line: &[u8],
+    heading: &mut Option<u64>,
+    clauses: &mut Db,
+) -> Result<(), Failure> {
+    if is_comment(line) {
+        return Ok(());
+    }
+    if heading.is_none() {
+        *heading = Some(clauses_said(line).ok_or(Failure::BadInput)?);
+        return Ok(());
+    }
+    clauses.push(read_clause(alloc, line)?)?;
+    Ok(())
 }
 
 fn is_comment(line: &[u8]) -> bool {
@@ -48,6 +59,14 @@ fn clauses_said(line: &[u8]) -> Option<u64> {
 // The clause of a line: literals, 0, and no more.
 fn read_clause(alloc: Global, line: &[u8]) -> Result<Clause, Failure> {
     let mut clause = Clause::new(alloc);
+    if !take_fields(line, &mut clause)? {
+        return Err(Failure::BadInput);
+    }
+    Ok(clause)
+}
+
+// Whether there was a 0, behind which nothing may stand.
+fn take_fields(line: &[u8], clause: &mut Clause) -> Result<bool, Failure> {
     let mut is_ended = false;
     for field in line.split(|byte| *byte == b' ') {
         if is_ended {
@@ -59,10 +78,7 @@ fn read_clause(alloc: Global, line: &[u8]) -> Result<Clause, Failure> {
             clause.push(signed(field).ok_or(Failure::BadInput)?)?;
         }
     }
-    if !is_ended {
-        return Err(Failure::BadInput);
-    }
-    Ok(clause)
+    Ok(is_ended)
 }
 
 // The literal that is the whole field.

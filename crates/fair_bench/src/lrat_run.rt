@@ -3,35 +3,61 @@
 use crate::failure::Failure;
 use crate::formula::read_formula;
 use crate::hints::count_hints;
+use crate::outside::{print_text, read_file};
+use crate::sat_run::MAX_BYTES;
 use crate::stamps::Stamp;
 use crate::verdict::{Verdict, judge_lines, verdict_text};
-use edge::{FileShelf, StdSink, read_text, write_all};
 use lrat::Checker;
-use std::alloc::Global;
 use std::io;
 
-// The greatest length of a file, in bytes. No text in memory is longer.
-const MAX_BYTES: u64 = 9_223_372_036_854_775_807;
+/// What the checker said, and when it began and ended.
+#[derive(Clone, Copy, Debug)]
+struct Checked {
+    verdict: Verdict,
+    proved_empty: bool,
+    start: Stamp,
+    end: Stamp,
+}
 
 /// Checks the proof in a file against the clauses in another, writes the verdict, and gives the number with which the
 /// program ends: 0 where all lines are accepted, and 1 where one is refused.
 pub(crate) fn run_lrat(rt: &HostRuntime, formula: &str, proof: &str) -> Result<u8, Failure> {
-    let alloc: Global = rt.alloc();
-    let mut shelf = FileShelf::new(alloc, rt);
-    let formula = read_text(alloc, &mut shelf, formula, MAX_BYTES)?;
-    let proof = read_text(alloc, &mut shelf, proof, MAX_BYTES)?;
-    let hints = count_hints(&proof);
-    let mut checker = Checker::new(alloc, read_formula(alloc, &formula)?)?;
+    let formula = read_file(rt, formula, MAX_BYTES)?;
+    let proof = read_file(rt, proof, MAX_BYTES)?;
+    check_texts(rt, &formula, &proof)
+}
+
+fn check_texts(rt: &HostRuntime, formula: &[u8], proof: &[u8]) -> Result<u8, Failure> {
+    let mut checker = Checker::new(rt.alloc(), read_formula(rt.alloc(), formula)?)?;
+    let checked = check_timed(rt, &mut checker, proof)?;
+    say_checked(rt, checked, count_hints(proof))
+}
+
+fn check_timed(rt: &HostRuntime, checker: &mut Checker, proof: &[u8]) -> Result<Checked, Failure> {
     let start = Stamp::now(rt)?;
-    let verdict = judge_lines(&mut checker, &proof)?;
+    let verdict = judge_lines(checker, proof)?;
     let end = Stamp::now(rt)?;
-    let text = verdict_text(alloc, verdict, hints, checker.proved_empty())?;
-    write_all(&mut StdSink::new(rt), text.as_bytes())?;
-    print_times(rt, start, end, hints)?;
-    Ok(match verdict {
+    Ok(Checked {
+        verdict,
+        proved_empty: checker.proved_empty(),
+        start,
+        end,
+    })
+}
+
+// Writes the verdict and what the checking took, and gives the number with which the program ends.
+fn say_checked(rt: &HostRuntime, checked: Checked, hints: u64) -> Result<u8, Failure> {
+    print_verdict(rt, checked, hints)?;
+    print_times(rt, checked.start, checked.end, hints)?;
+    Ok(match checked.verdict {
         Verdict::Accepted(_) => 0,
         Verdict::Refused(_, _) => 1,
     })
+}
+
+fn print_verdict(rt: &HostRuntime, checked: Checked, hints: u64) -> Result<(), Failure> {
+    let text = verdict_text(rt.alloc(), checked.verdict, hints, checked.proved_empty)?;
+    print_text(rt, text.as_str())
 }
 
 // Prints to standard error what the checking took between two readings.

@@ -2,6 +2,7 @@
 //! same at each run; what was measured goes to standard error.
 #![tactic(auto)]
 
+mod certify_run;
 mod failure;
 mod formula;
 mod hints;
@@ -15,6 +16,7 @@ mod sat_run;
 mod stamps;
 mod verdict;
 
+use crate::certify_run::run_certify;
 use crate::failure::Failure;
 use crate::lrat_run::run_lrat;
 use crate::outside::print_text;
@@ -26,7 +28,8 @@ use std::process::ExitCode;
 use std::{env, io};
 
 const USAGE: &str = "\
-usage: fair_bench lrat CNF PROOF
+usage: fair_bench certify MODEL
+       fair_bench lrat CNF PROOF
        fair_bench questions CNF QUESTIONS
        fair_bench reach MODEL
        fair_bench rewrite MODEL
@@ -44,49 +47,50 @@ fn main(rt: HostRuntime) -> ExitCode {
 /// Runs the subcommand that the words name, and gives the number with which the program ends.
 fn run(rt: &HostRuntime) -> Result<u8, Failure> {
     let words = words_of(rt)?;
-    if let Some((formula, proof)) = two_names(&words, "lrat") {
-        return run_lrat(rt, formula, proof);
+    run_words(rt, &words)
+}
+
+fn run_words(rt: &HostRuntime, words: &[String]) -> Result<u8, Failure> {
+    match words {
+        [_, command, name] => run_one(rt, command.as_str(), name.as_str()),
+        [_, command, first, second] => {
+            run_two(rt, command.as_str(), first.as_str(), second.as_str())
+        }
+        _ => print_usage(rt),
     }
-    if let Some((formula, questions)) = two_names(&words, "questions") {
-        return run_questions(rt, formula, questions);
+}
+
+// A subcommand with the name of one file.
+fn run_one(rt: &HostRuntime, command: &str, name: &str) -> Result<u8, Failure> {
+    if command == "certify" {
+        return run_certify(rt, name);
     }
-    if let Some(model) = file_name(&words, "reach") {
-        return run_reach(rt, model);
+    if command == "reach" {
+        return run_reach(rt, name);
     }
-    if let Some(model) = file_name(&words, "rewrite") {
-        return run_rewrite(rt, model);
+    if command == "rewrite" {
+        return run_rewrite(rt, name);
     }
-    match file_name(&words, "sat") {
-        Some(formula) => run_sat(rt, formula),
-        None => print_usage(rt),
+    if command == "sat" {
+        return run_sat(rt, name);
     }
+    print_usage(rt)
+}
+
+// A subcommand with the names of two files.
+fn run_two(rt: &HostRuntime, command: &str, first: &str, second: &str) -> Result<u8, Failure> {
+    if command == "lrat" {
+        return run_lrat(rt, first, second);
+    }
+    if command == "questions" {
+        return run_questions(rt, first, second);
+    }
+    print_usage(rt)
 }
 
 fn print_usage(rt: &HostRuntime) -> Result<u8, Failure> {
     print_text(rt, USAGE)?;
     Ok(64)
-}
-
-/// The names of two files, where the words are this subcommand and two names.
-fn two_names<'a>(words: &'a [String], wanted: &str) -> Option<(&'a str, &'a str)> {
-    let [_, command, first, second] = words else {
-        return None;
-    };
-    if command.as_str() != wanted {
-        return None;
-    }
-    Some((first.as_str(), second.as_str()))
-}
-
-/// The name of the file, where the words are this subcommand and one name.
-fn file_name<'a>(words: &'a [String], wanted: &str) -> Option<&'a str> {
-    let [_, command, name] = words else {
-        return None;
-    };
-    if command.as_str() != wanted {
-        return None;
-    }
-    Some(name.as_str())
 }
 
 /// The words of the command line.

@@ -28,12 +28,20 @@ pub(crate) fn run_questions(
     clauses: &str,
     questions: &str,
 ) -> Result<u8, Failure> {
-    let text = read_file(rt, clauses, MAX_BYTES)?;
-    let mut solver = solver_of(rt.alloc(), read_formula(rt.alloc(), &text)?)?;
-    let asked = read_file(rt, questions, MAX_BYTES)?;
-    let lists = read_formula(rt.alloc(), &asked)?;
+    let mut solver = solver_of(rt.alloc(), formula_in(rt, clauses)?)?;
+    let lists = formula_in(rt, questions)?;
+    ask_timed(rt, &mut solver, &lists)
+}
+
+// The clauses in a file.
+fn formula_in(rt: &HostRuntime, name: &str) -> Result<Db, Failure> {
+    let text = read_file(rt, name, MAX_BYTES)?;
+    read_formula(rt.alloc(), &text)
+}
+
+fn ask_timed(rt: &HostRuntime, solver: &mut Solver, lists: &Db) -> Result<u8, Failure> {
     let start = Stamp::now(rt)?;
-    let tally = ask_all(rt.alloc(), &mut solver, &lists)?;
+    let tally = ask_all(rt.alloc(), solver, lists)?;
     let end = Stamp::now(rt)?;
     print_costs(rt, tally, start, end)?;
     print_tally(rt, tally)?;
@@ -64,11 +72,16 @@ fn ask_one(
     if has_opposites(assumptions) || !are_sized(assumptions) {
         return Err(Failure::BadInput);
     }
-    match solver.ask(alloc, assumptions, meter)? {
+    let answer = solver.ask(alloc, assumptions, meter)?;
+    count_answer(&answer, tally);
+    Ok(())
+}
+
+fn count_answer(answer: &Asked, tally: &mut Tally) {
+    match answer {
         Asked::Sat(_) => tally.sat = tally.sat.saturating_add(1),
         Asked::Unsat(_) => tally.unsat = tally.unsat.saturating_add(1),
     }
-    Ok(())
 }
 
 fn print_costs(rt: &HostRuntime, tally: Tally, start: Stamp, end: Stamp) -> io::Result<()> {

@@ -15,7 +15,7 @@ use edge::Meter;
 use entry::good_lists_grow;
 use ic3::{Goal, ReachEnd, Reached, Start, reach};
 use items::Items;
-use std::alloc::Global;
+use std::alloc::{AllocError, Global};
 use std::io;
 
 /// What a search answered: the positions of a path and the state of its last one, or how many clauses a closed set has.
@@ -30,13 +30,33 @@ enum Answer {
 /// each search found; what it took goes to standard error. Gives 0, the number with which the program ends.
 pub(crate) fn run_reach(rt: &HostRuntime, name: &str) -> Result<u8, Failure> {
     let bytes = read_file(rt, name, MAX_MODEL_BYTES)?;
-    let model = read_model(rt.alloc(), &bytes)?;
-    let c = model.circuit();
+    search_text(rt, &bytes)
+}
+
+fn search_text(rt: &HostRuntime, bytes: &[u8]) -> Result<u8, Failure> {
+    let model = read_model(rt.alloc(), bytes)?;
+    search_circuit(rt, model.circuit())
+}
+
+fn search_circuit(rt: &HostRuntime, c: &Circuit) -> Result<u8, Failure> {
     let goals = goals_of(rt.alloc(), c)?;
-    let first = search_all(rt, c, &Start::Initial, "initial", goals.as_slice())?;
-    if let Some(state) = first {
-        search_all(rt, c, &Start::State(state), "state", goals.as_slice())?;
+    search_twice(rt, c, goals.as_slice())
+}
+
+fn search_twice(rt: &HostRuntime, c: &Circuit, goals: &[u64]) -> Result<u8, Failure> {
+    match search_all(rt, c, &Start::Initial, "initial", goals)? {
+        Some(state) => search_from(rt, c, state, goals),
+        None => Ok(0),
     }
+}
+
+fn search_from(
+    rt: &HostRuntime,
+    c: &Circuit,
+    state: Items<bool>,
+    goals: &[u64],
+) -> Result<u8, Failure> {
+    search_all(rt, c, &Start::State(state), "state", goals)?;
     Ok(0)
 }
 
@@ -61,11 +81,15 @@ fn search_all(
     let mut first = None;
     for literal in goals {
         let found = search(rt, c, start, from, *literal)?;
-        if first.is_none() {
-            first = found;
-        }
+        keep_first(&mut first, found);
     }
     Ok(first)
+}
+
+fn keep_first(first: &mut Option<Items<bool>>, found: Option<Items<bool>>) {
+    if first.is_none() {
+        *first = found;
+    }
 }
 
 // One search: what it answered is written, and what it took.
@@ -76,22 +100,55 @@ fn search(
     from: &str,
     literal: u64,
 ) -> Result<Option<Items<bool>>, Failure> {
+    let answer = answer_timed(rt, c, start, literal)?;
+    print_answer(rt, from, literal, &answer)?;
+    Ok(last_of(answer))
+}
+
+fn answer_timed(
+    rt: &HostRuntime,
+    c: &Circuit,
+    start: &Start,
+    literal: u64,
+) -> Result<Answer, Failure> {
     let mut meter = Meter::new(NO_LIMIT, NO_LIMIT);
     let before = Stamp::now(rt)?;
     let answer = answer_of(rt.alloc(), c, start, literal, &mut meter)?;
-    let after = Stamp::now(rt)?;
-    print_costs(rt, &meter, before, after)?;
+    print_costs(rt, &meter, before)?;
+    Ok(answer)
+}
+
+fn print_answer(
+    rt: &HostRuntime,
+    from: &str,
+    literal: u64,
+    answer: &Answer,
+) -> Result<(), Failure> {
+    let text = answer_text(rt.alloc(), from, literal, answer)?;
+    print_text(rt, text.as_str())
+}
+
+fn answer_text(
+    alloc: Global,
+    from: &str,
+    literal: u64,
+    answer: &Answer,
+) -> Result<String, AllocError> {
     match answer {
-        Answer::Path { positions, last } => {
-            let text = format!(in rt.alloc(); "{from} to {literal}: path {positions}\n")?;
-            print_text(rt, text.as_str())?;
-            Ok(Some(last))
+        Answer::Path { positions, last: _ } => {
+            format!(in alloc; "{from} to {literal}: path {positions}\n")
         }
         Answer::Closed { clauses } => {
-            let text = format!(in rt.alloc(); "{from} to {literal}: closed {clauses}\n")?;
-            print_text(rt, text.as_str())?;
-            Ok(None)
+            format!(in alloc; "{from} to {literal}: closed {clauses}\n")
         }
+    }
+}
+
+// The state of the path's last position.
+fn last_of(answer: Answer) -> Option<Items<bool>> {
+    match answer {
+        Answer::Path { positions: _, last } => Some(last),
+        Answer::Closed { clauses: _ } => None,
     }
 }
 
@@ -111,12 +168,24 @@ fn answer_of(
     };
     good_lists_grow(c);
     match reach(alloc, c, &[], start, &goal, meter) {
-        Ok(Reached::Path(positions)) => path_of(alloc, positions.as_slice()),
-        Ok(Reached::Closed { clauses, uses: _ }) => Ok(Answer::Closed {
+        Ok(reached) => answer_in(alloc, &reached),
+        Err(end) => Err(failure_at(end)),
+    }
+}
+
+fn answer_in(alloc: Global, reached: &Reached) -> Result<Answer, Failure> {
+    match reached {
+        Reached::Path(positions) => path_of(alloc, positions.as_slice()),
+        Reached::Closed { clauses, uses: _ } => Ok(Answer::Closed {
             clauses: clauses.len(),
         }),
-        Err(ReachEnd::Memory) => Err(Failure::Memory),
-        Err(ReachEnd::SpentConflicts | ReachEnd::SpentSteps) => Err(Failure::Spent),
+    }
+}
+
+fn failure_at(end: ReachEnd) -> Failure {
+    match end {
+        ReachEnd::Memory => Failure::Memory,
+        ReachEnd::SpentConflicts | ReachEnd::SpentSteps => Failure::Spent,
     }
 }
 
@@ -140,7 +209,8 @@ fn path_of(alloc: Global, positions: &[Position]) -> Result<Answer, Failure> {
     }
 }
 
-fn print_costs(rt: &HostRuntime, meter: &Meter, before: Stamp, after: Stamp) -> io::Result<()> {
+fn print_costs(rt: &HostRuntime, meter: &Meter, before: Stamp) -> io::Result<()> {
+    let after = Stamp::now(rt)?;
     let spent = meter.spending();
     let nanoseconds = before.processor_to(after);
     eprintln!(rt;

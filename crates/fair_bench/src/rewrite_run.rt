@@ -7,7 +7,7 @@ use crate::stamps::Stamp;
 use aig_semantics::MAX_MODEL_BYTES;
 use aiger_names::Model;
 use circuit::ModelEnd;
-use std::alloc::{AllocError, Global};
+use std::alloc::Global;
 use std::io;
 
 /// The length of a text, and the nanoseconds of processor time that reading or writing it took, and that a plain loop
@@ -77,21 +77,27 @@ fn sum_of_numbers(bytes: &[u8]) -> u64 {
 }
 
 fn measure_model(rt: &HostRuntime, bytes: &[u8], plain: Measured) -> Result<Report, Failure> {
-    let (model, work) = time_reading(rt, bytes)?;
-    let ascii = measure_ascii(rt, &model)?;
-    let binary = measure_binary(rt, &model)?;
+    let start = Stamp::now(rt)?;
+    let model = read_model(rt.alloc(), bytes)?;
+    let reading = measure_work(rt, start, plain)?;
+    measure_writing(rt, &model, reading)
+}
+
+// What was measured of the plain loop, with the work since the start.
+fn measure_work(rt: &HostRuntime, start: Stamp, plain: Measured) -> Result<Measured, Failure> {
+    let end = Stamp::now(rt)?;
+    let work = start.processor_to(end);
+    Ok(Measured { work, ..plain })
+}
+
+fn measure_writing(rt: &HostRuntime, model: &Model, reading: Measured) -> Result<Report, Failure> {
+    let ascii = measure_ascii(rt, model)?;
+    let binary = measure_binary(rt, model)?;
     Ok(Report {
-        reading: Measured { work, ..plain },
+        reading,
         ascii,
         binary,
     })
-}
-
-fn time_reading(rt: &HostRuntime, bytes: &[u8]) -> Result<(Model, u64), Failure> {
-    let start = Stamp::now(rt)?;
-    let model = read_model(rt.alloc(), bytes)?;
-    let end = Stamp::now(rt)?;
-    Ok((model, start.processor_to(end)))
 }
 
 /// The model of a text in either form, by its first two bytes.
@@ -103,36 +109,38 @@ pub(crate) fn read_model(alloc: Global, bytes: &[u8]) -> Result<Model, ModelEnd>
 }
 
 fn measure_ascii(rt: &HostRuntime, model: &Model) -> Result<Measured, Failure> {
-    let (text, work) = time_ascii(rt, model)?;
-    let plain = measure_loop(rt, &text)?;
-    Ok(Measured { work, ..plain })
-}
-
-fn time_ascii(rt: &HostRuntime, model: &Model) -> Result<(Vec<u8>, u64), Failure> {
     let start = Stamp::now(rt)?;
     let text = aiger_ascii::write(rt.alloc(), model)?;
-    let end = Stamp::now(rt)?;
-    Ok((text, start.processor_to(end)))
+    measure_text(rt, start, &text)
 }
 
 // None where the model has no binary text as it stands.
 fn measure_binary(rt: &HostRuntime, model: &Model) -> Result<Option<Measured>, Failure> {
-    let start = Stamp::now(rt)?;
-    let Some(text) = write_binary(rt.alloc(), model)? else {
-        return Ok(None);
-    };
-    let end = Stamp::now(rt)?;
-    let plain = measure_loop(rt, &text)?;
-    let work = start.processor_to(end);
-    Ok(Some(Measured { work, ..plain }))
-}
-
-fn write_binary(alloc: Global, model: &Model) -> Result<Option<Vec<u8>>, AllocError> {
     if !aiger_binary::is_ordered(model) {
         return Ok(None);
     }
-    let text = aiger_binary::write(alloc, model)?;
-    Ok(Some(text))
+    Ok(Some(measure_ordered(rt, model)?))
+}
+
+fn measure_ordered(rt: &HostRuntime, model: &Model) -> Result<Measured, Failure> {
+    let start = Stamp::now(rt)?;
+    let text = write_binary(rt.alloc(), model)?;
+    measure_text(rt, start, &text)
+}
+
+fn write_binary(alloc: Global, model: &Model) -> Result<Vec<u8>, Failure> {
+    if !aiger_binary::is_ordered(model) {
+        return Err(Failure::BadInput);
+    }
+    Ok(aiger_binary::write(alloc, model)?)
+}
+
+// What a text took that was begun at the start, and a plain loop over it.
+fn measure_text(rt: &HostRuntime, start: Stamp, text: &[u8]) -> Result<Measured, Failure> {
+    let end = Stamp::now(rt)?;
+    let work = start.processor_to(end);
+    let plain = measure_loop(rt, text)?;
+    Ok(Measured { work, ..plain })
 }
 
 fn print_lengths(rt: &HostRuntime, report: Report) -> Result<(), Failure> {

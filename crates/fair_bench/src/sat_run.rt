@@ -17,42 +17,30 @@ pub(crate) const MAX_BYTES: u64 = 9_223_372_036_854_775_807;
 // No limit of conflicts.
 pub(crate) const NO_LIMIT: u64 = 4_294_967_295;
 
-/// What an answer took: conflicts, and nanoseconds by the clock and of processor time.
-#[derive(Clone, Copy, Debug)]
-struct Cost {
-    conflicts: u64,
-    clock: u64,
-    processor: u64,
-}
-
 /// Solves the clauses in a file, and writes the answer with a model or the length of the proof. What it took goes to
 /// standard error; the look at the answer is not in it. Gives the number with which the program ends: 10 where there
 /// is a model, and 20 where there is none.
 pub(crate) fn run_sat(rt: &HostRuntime, name: &str) -> Result<u8, Failure> {
     let text = read_file(rt, name, MAX_BYTES)?;
-    let (answer, cost) = solve_timed(rt, read_formula(rt.alloc(), &text)?)?;
-    print_cost(rt, cost)?;
-    say_answer(rt, read_formula(rt.alloc(), &text)?, answer)
+    solve_text(rt, &text)
 }
 
-fn solve_timed(rt: &HostRuntime, clauses: Db) -> Result<(Answer, Cost), Failure> {
+fn solve_text(rt: &HostRuntime, text: &[u8]) -> Result<u8, Failure> {
+    let answer = solve_timed(rt, read_formula(rt.alloc(), text)?)?;
+    say_answer(rt, read_formula(rt.alloc(), text)?, &answer)
+}
+
+fn solve_timed(rt: &HostRuntime, clauses: Db) -> Result<Answer, Failure> {
     let start = Stamp::now(rt)?;
-    let (answer, conflicts) = solve(rt.alloc(), clauses)?;
-    let end = Stamp::now(rt)?;
-    let cost = Cost {
-        conflicts,
-        clock: start.clock_to(end),
-        processor: start.processor_to(end),
-    };
-    Ok((answer, cost))
+    let mut meter = Meter::new(NO_LIMIT, 0);
+    let answer = solve(rt.alloc(), clauses, &mut meter)?;
+    print_cost(rt, start, meter.spending().conflicts())?;
+    Ok(answer)
 }
 
-// The answer, and after how many conflicts.
-fn solve(alloc: Global, clauses: Db) -> Result<(Answer, u64), Failure> {
+fn solve(alloc: Global, clauses: Db, meter: &mut Meter) -> Result<Answer, Failure> {
     let mut solver = solver_of(alloc, clauses)?;
-    let mut meter = Meter::new(NO_LIMIT, 0);
-    let answer = solve_free(&mut solver, &mut meter)?;
-    Ok((answer, meter.spending().conflicts()))
+    Ok(solve_free(&mut solver, meter)?)
 }
 
 /// A solver with these clauses.
@@ -77,14 +65,16 @@ fn solve_free(solver: &mut Solver, meter: &mut Meter) -> Result<Answer, SolveEnd
     solver.solve(&[], meter)
 }
 
-fn print_cost(rt: &HostRuntime, cost: Cost) -> io::Result<()> {
-    eprintln!(rt; "conflicts {}", cost.conflicts)?;
-    eprintln!(rt; "nanoseconds by the clock {}", cost.clock)?;
-    eprintln!(rt; "nanoseconds of processor time {}", cost.processor)
+// Prints to standard error what an answer took.
+fn print_cost(rt: &HostRuntime, start: Stamp, conflicts: u64) -> io::Result<()> {
+    let end = Stamp::now(rt)?;
+    eprintln!(rt; "conflicts {conflicts}")?;
+    eprintln!(rt; "nanoseconds by the clock {}", start.clock_to(end))?;
+    eprintln!(rt; "nanoseconds of processor time {}", start.processor_to(end))
 }
 
 // Looks at the answer and writes it.
-fn say_answer(rt: &HostRuntime, clauses: Db, answer: Answer) -> Result<u8, Failure> {
+fn say_answer(rt: &HostRuntime, clauses: Db, answer: &Answer) -> Result<u8, Failure> {
     match answer {
         Answer::Sat(values) => say_model(rt, &clauses, values.as_slice()),
         Answer::Unsat(_, proof) => say_refutation(rt, clauses, proof.as_slice()),

@@ -7,7 +7,7 @@ use std::test::Fail;
 use std::thread::Threads;
 
 // The latch begins with 0, and is 1 from the second position on; the property is that it is 0.
-const RISES: &str = "aag 1 0 1 0 0 0 0 1 0\n2 1\n1\n3\n";
+pub(crate) const RISES: &str = "aag 1 0 1 0 0 0 0 1 0\n2 1\n1\n3\n";
 
 // The property is a literal that is never true.
 const NEVER: &str = "aag 1 0 1 0 0 0 0 1 0\n2 3\n1\n0\n";
@@ -21,7 +21,7 @@ const FALLS: &str = "aag 1 0 1 0 0 0 0 1 0\n2 0 1\n1\n3\n";
 const REACH: &str =
     "0\nj0\nversion 1\nreach 1 0\n\n3 0\nproof 1\n6 0 4 2 5 0\nrefute 1 1\n0\n7 0 4 5 0\nend\n";
 
-const WALL: &str =
+pub(crate) const WALL: &str =
     "0\nj0\nversion 1\nwall 1 0\n\n2 0\nproof 1\n6 0 1 3 5 0\nrefute 1 1\n0\n11 0 1 3 4 9 10 5 0\nend\n";
 
 const REFUTED: &str = "0\nj0\nversion 1\nrefute 0 1\n\n5 0 1 4 0\nend\n";

@@ -1,4 +1,4 @@
-//! Runs of `gen`: its texts, made by another program, its words, and writes that fail.
+//! Runs of `gen`: its texts, made by another program, and its words.
 
 ghost use Rattle.std.specs.Prelude.{◌≤◌};
 
@@ -45,17 +45,16 @@ const MODELS: [(&str, &str, &str, &str, &[u8]); 5] = [
     ),
 ];
 
-/// Runs these words, with at most `most` bytes a call, and with these writes failing.
+/// Runs these words, with at most `most` bytes a call.
 fn run_gen<R: Threads + Wait + Sync>(
     rt: &R,
     alloc: Global,
     words: &[&str],
     most: u64,
-    writes: &[u64],
 ) -> Result<Outcome, Fail>
     requires { 1 ≤ most }
 {
-    run_words(rt, alloc, words, b"", "", most, &[], writes)
+    run_words(rt, alloc, words, b"", "", most, &[], &[])
 }
 
 /// Whether both forms of this model are written.
@@ -85,13 +84,7 @@ fn models_of_gen(rt: HostRuntime) -> Result<(), Fail> {
             "{ascii}"
         );
     }
-    let ran = run_gen(
-        &rt,
-        rt.alloc(),
-        &["fairlive", "gen", "ring", "0", "2"],
-        7,
-        &[],
-    )?;
+    let ran = run_gen(&rt, rt.alloc(), &["fairlive", "gen", "ring", "0", "2"], 7)?;
     assert!(rt; is_printed(&ran.status));
     Ok(())
 }
@@ -132,9 +125,9 @@ fn are_one_model<R: Threads + Wait + Sync>(
     binary: usize,
 ) -> Result<bool, Fail> {
     let words = ["fairlive", "gen", "scramble", seed, size];
-    let plain = run_gen(rt, alloc, &words, 1000, &[])?;
+    let plain = run_gen(rt, alloc, &words, 1000)?;
     let words = ["fairlive", "gen", "scramble", seed, size, "--binary"];
-    let packed = run_gen(rt, alloc, &words, 1000, &[])?;
+    let packed = run_gen(rt, alloc, &words, 1000)?;
     let read = in_ascii(alloc, packed.text.as_slice())?;
     Ok(
         plain.status.number() == 0
@@ -207,40 +200,6 @@ fn words_that_gen_takes(rt: HostRuntime) -> Result<(), Fail> {
         ),
     ] {
         assert!(rt; ends_so(&rt, rt.alloc(), words, b"", "", text, 0)?);
-    }
-    Ok(())
-}
-
-/// How a run of `gen` for the ring ends whose k-th write fails: its number, how long its text is, and whether that is
-/// the front of the ring's.
-fn cut_ring<R: Threads + Wait + Sync>(
-    rt: &R,
-    alloc: Global,
-    most: u64,
-    k: u64,
-) -> Result<(u8, usize, bool), Fail>
-    requires { 1 ≤ most }
-{
-    let words = ["fairlive", "gen", "ring", "0", "2"];
-    let ran = run_gen(rt, alloc, &words, most, &[k])?;
-    Ok((
-        ran.status.number(),
-        ran.text.len(),
-        RING.as_bytes().starts_with(ran.text.as_slice()),
-    ))
-}
-
-/// Each write failing in turn leaves a part of the text. Beside the bytes a call, how many calls a run makes.
-#[test]
-fn failing_writes_of_gen(rt: HostRuntime) -> Result<(), Fail> {
-    let whole = RING.len();
-    for (most, writes) in [(1, 36), (5, 8), (1000, 1)] {
-        for k in 1..45 {
-            let (number, len, front) = cut_ring(&rt, rt.alloc(), most, k)?;
-            assert_eq!(rt; number, if k <= writes { 5 } else { 0 }, "write {k}");
-            assert!(rt; front, "write {k}");
-            assert_eq!(rt; len < whole, k <= writes, "write {k}");
-        }
     }
     Ok(())
 }

@@ -8,6 +8,8 @@ mod demonstrated;
 #[cfg(test)]
 mod dumps;
 #[cfg(test)]
+mod failing;
+#[cfg(test)]
 mod generated;
 #[cfg(test)]
 mod solving;

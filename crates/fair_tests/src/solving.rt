@@ -1,7 +1,5 @@
 //! Runs of `solve` over texts in memory: what it prints of models that were worked out by hand, and that `check` accepts it.
 
-ghost use Rattle.std.specs.Prelude.{◌≤◌};
-
 use crate::tests::{Outcome, USAGE, run_words};
 use std::alloc::Global;
 use std::sync::Wait;
@@ -58,7 +56,7 @@ const ENOUGH: &[&str] = &["--conflicts", "1000", "--steps", "1000"];
 
 // Models, the words behind `solve m`, the number with which the run ends, and what is written: all of it, or of a
 // certificate and of a report how it begins.
-const ROWS: [(&[u8], &[&str], u8, &str); 29] = [
+const ROWS: [(&[u8], &[&str], u8, &str); 39] = [
     (TOGGLE, ENOUGH, 0, TWICE),
     (TOGGLE, &[], 0, TWICE),
     (STUCK, ENOUGH, 0, CERTIFICATE),
@@ -70,6 +68,15 @@ const ROWS: [(&[u8], &[&str], u8, &str); 29] = [
     (BINARY_TOGGLE, ENOUGH, 0, TWICE),
     (BINARY_STUCK, ENOUGH, 0, CERTIFICATE),
     (NO_LITERAL, ENOUGH, 0, TWICE),
+    (STUCK, &[], 0, CERTIFICATE),
+    (RISES, &[], 0, CERTIFICATE),
+    (FREE, &[], 0, "1\nj0\n1\n\n.\n"),
+    (FREE_AT_0, &[], 0, CERTIFICATE),
+    (COUNTER, &[], 0, ROUND),
+    (NO_LATCH, &[], 0, "1\nj0\n\n1\n.\n"),
+    (BINARY_TOGGLE, &[], 0, TWICE),
+    (BINARY_STUCK, &[], 0, CERTIFICATE),
+    (NO_LITERAL, &[], 0, TWICE),
     (RING_2, &[], 0, "1\nj0\n10\n\n\n.\n"),
     (RING_4, &[], 0, "1\nj0\n1000\n\n\n\n\n.\n"),
     (COUNTER, &["--workers", "4"], 0, ROUND),
@@ -102,6 +109,7 @@ const ROWS: [(&[u8], &[&str], u8, &str); 29] = [
     ),
     (TOGGLE, &["--property", "1"], 8, "no property 1\n"),
     (b"aag 1048576 0 0 0 0\n", &[], 8, "no property 0\n"),
+    (b"aag 1048577 0 0 0 0\n", &[], 8, "no property 0\n"),
     (b"aag 16777217 0 0 0 0\n", &[], 3, "model refused limit 0\n"),
     (b"", &[], 3, "model refused truncated 0\n"),
     (CYCLE, &[], 3, "model refused cycle 2\n"),
@@ -110,22 +118,17 @@ const ROWS: [(&[u8], &[&str], u8, &str); 29] = [
     (COUNTER, &["--skeletons", "65537"], 64, USAGE),
 ];
 
-// Runs `solve m` with these words behind it, with these calls failing.
+// Runs `solve m` with these words behind it.
 fn solved<R: Threads + Wait + Sync>(
     rt: &R,
     alloc: Global,
     model: &[u8],
     options: &[&str],
-    most: u64,
-    reads: &[u64],
-    writes: &[u64],
-) -> Result<Outcome, Fail>
-    requires { 1 ≤ most }
-{
+) -> Result<Outcome, Fail> {
     let mut words = Vec::new(alloc);
     words.extend_from_slice(&["fairlive", "solve", "m"])?;
     words.extend_from_slice(options)?;
-    run_words(rt, alloc, &words, model, "", most, reads, writes)
+    run_words(rt, alloc, &words, model, "", 1000, &[], &[])
 }
 
 // Whether `check` accepts what was printed of the model.
@@ -156,7 +159,7 @@ fn is_text(text: &[u8], wanted: &str) -> bool {
 #[test]
 fn answers_of_solve(rt: HostRuntime) -> Result<(), Fail> {
     for (model, options, number, text) in &ROWS {
-        let ran = solved(&rt, rt.alloc(), model, options, 1000, &[], &[])?;
+        let ran = solved(&rt, rt.alloc(), model, options)?;
         assert_eq!(rt; ran.status.number(), *number, "{text}");
         assert!(rt; is_text(ran.text.as_slice(), text), "{text}");
         if *number == 0 {
@@ -164,30 +167,6 @@ fn answers_of_solve(rt: HostRuntime) -> Result<(), Fail> {
                 is_accepted(&rt, rt.alloc(), model, ran.text.as_slice())?,
                 "{text}"
             );
-        }
-    }
-    Ok(())
-}
-
-/// Each read failing in turn ends the run without a text; each write failing in turn leaves the front of the answer.
-#[test]
-fn failing_calls_of_solve(rt: HostRuntime) -> Result<(), Fail> {
-    for (most, reads, writes) in [(1, 31, 11), (3, 11, 4), (1000, 2, 1)] {
-        for k in 1..40 {
-            let ran = solved(&rt, rt.alloc(), TOGGLE, &[], most, &[k], &[])?;
-            let wanted = if k <= reads { (4, 0) } else { (0, 11) };
-            assert_eq!(rt; (ran.status.number(), ran.text.len()), wanted, "read {k}");
-            let ran = solved(&rt, rt.alloc(), TOGGLE, &[], most, &[], &[k])?;
-            assert_eq!(rt;
-                ran.status.number(),
-                if k <= writes { 5 } else { 0 },
-                "write {k}"
-            );
-            assert!(rt;
-                TWICE.as_bytes().starts_with(ran.text.as_slice()),
-                "write {k}"
-            );
-            assert_eq!(rt; ran.text.len() < 11, k <= writes, "write {k}");
         }
     }
     Ok(())

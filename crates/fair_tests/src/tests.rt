@@ -33,12 +33,13 @@ const NO_LATCH: &str = "aag 1 1 0 0 0 0 0 1 0\n2\n1\n2\n";
 const NO_LITERAL: &str = "aag 1 0 1 0 0 0 0 1 0\n2 3\n0\n";
 
 // A counter of two bits; the property is that both are 1.
-const COUNTER: &str = "aag 6 0 2 0 4 0 0 1 0\n2 3\n4 11\n1\n12\n6 5 2\n8 4 3\n10 9 7\n12 4 2\n";
+pub(crate) const COUNTER: &str =
+    "aag 6 0 2 0 4 0 0 1 0\n2 3\n4 11\n1\n12\n6 5 2\n8 4 3\n10 9 7\n12 4 2\n";
 
 // A gate that reads itself.
-const CYCLE: &str = "aag 2 1 0 0 1 0 0 1 0\n2\n1\n4\n4 4 2\n";
+pub(crate) const CYCLE: &str = "aag 2 1 0 0 1 0 0 1 0\n2\n1\n4\n4 4 2\n";
 
-const TWO_POSITIONS: &str = "1\nj0\n0\n\n\n.\n";
+pub(crate) const TWO_POSITIONS: &str = "1\nj0\n0\n\n\n.\n";
 
 pub(crate) const USAGE: &str =
     "usage: fairlive solve MODEL [--property N] [--workers W] [--conflicts C] [--steps S] [--skeletons K]\n       fairlive check MODEL ANSWER\n       fairlive gen KIND SEED SIZE [--binary]\n       fairlive demo SEED SIZE\n       fairlive wave MODEL ANSWER\n";
@@ -392,50 +393,6 @@ fn answers_alone(rt: HostRuntime) -> Result<(), Fail> {
     ] {
         let found = check_alone(rt.alloc(), TOGGLE.as_bytes(), answer, name)?;
         assert_eq!(rt; found, wanted, "{answer}");
-    }
-    Ok(())
-}
-
-/// How a run of `check` over a model and a good answer of the toggle ends: its number, how long its text is, and whether
-/// that is the front of the text of an accepted answer.
-fn cut_run<R: Threads + Wait + Sync>(
-    rt: &R,
-    alloc: Global,
-    model: &[u8],
-    most: u64,
-    reads: &[u64],
-    writes: &[u64],
-) -> Result<(u8, usize, bool), Fail>
-    requires { 1 ≤ most }
-{
-    let ran = check(rt, alloc, model, TWO_POSITIONS, most, reads, writes)?;
-    Ok((
-        ran.status.number(),
-        ran.text.len(),
-        TWO_FROM_0.as_bytes().starts_with(ran.text.as_slice()),
-    ))
-}
-
-/// Each read failing in turn ends the run at once and without a text, and no read comes after the last one that is
-/// owed; each write failing in turn leaves a part of the text. Beside the bytes a call, how many calls a run makes.
-#[test]
-fn failing_calls(rt: HostRuntime) -> Result<(), Fail> {
-    let model = TOGGLE.as_bytes();
-    let whole = TWO_FROM_0.len();
-    for (most, reads, writes) in [(1, 43, 37), (5, 11, 8), (1000, 4, 1)] {
-        for k in 1..60 {
-            let (number, len, _) = cut_run(&rt, rt.alloc(), model, most, &[k], &[])?;
-            assert_eq!(rt; number, if k <= reads { 4 } else { 0 }, "read {k}");
-            assert_eq!(rt; len == 0, k <= reads, "read {k}");
-            let (number, len, front) = cut_run(&rt, rt.alloc(), model, most, &[], &[k])?;
-            assert_eq!(rt; number, if k <= writes { 5 } else { 0 }, "write {k}");
-            assert!(rt; front, "write {k}");
-            assert_eq!(rt; len < whole, k <= writes, "write {k}");
-        }
-    }
-    for k in 1..20 {
-        let (number, _, _) = cut_run(&rt, rt.alloc(), b"aag\n", 1000, &[k], &[])?;
-        assert_eq!(rt; number, if k <= 2 { 4 } else { 3 }, "read {k}");
     }
     Ok(())
 }

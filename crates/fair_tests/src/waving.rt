@@ -1,6 +1,4 @@
-//! Runs of `wave` over texts in memory: waves worked out by hand, refusals, and calls that fail one by one.
-
-ghost use Rattle.std.specs.Prelude.{◌≤◌};
+//! Runs of `wave` over texts in memory: waves worked out by hand, and refusals.
 
 use crate::certificates::says_of_waves;
 use crate::dumps::{NOTHING, NOTHING_DUMP, TOGGLE, TOGGLE_DUMP};
@@ -268,65 +266,5 @@ fn refusals_of_wave(rt: HostRuntime) -> Result<(), Fail> {
     assert_eq!(rt; wrong, None);
     let wrong = says_of_waves(&rt, rt.alloc())?;
     assert_eq!(rt; wrong, None);
-    Ok(())
-}
-
-/// How `wave` over the toggle ends where these calls fail: its number, the length of its text, and whether that is the
-/// front of the dump.
-fn cut_run<R: Threads + Wait + Sync>(
-    rt: &R,
-    alloc: Global,
-    most: u64,
-    reads: &[u64],
-    writes: &[u64],
-) -> Result<(u8, usize, bool), Fail>
-    requires { 1 ≤ most }
-{
-    let ran = run_words(rt, alloc, &WORDS, TOGGLE, TWICE, most, reads, writes)?;
-    Ok((
-        ran.status.number(),
-        ran.text.len(),
-        TOGGLE_DUMP.starts_with(ran.text.as_slice()),
-    ))
-}
-
-/// How many reads a run makes: each that fails in turn ends it without a text, until none fails.
-fn reads_until<R: Threads + Wait + Sync>(rt: &R, alloc: Global, most: u64) -> Result<u64, Fail>
-    requires { 1 ≤ most }
-{
-    for k in 1..300 {
-        match cut_run(rt, alloc, most, &[k], &[])? {
-            (4, 0, _) => {}
-            (0, len, true) if len == TOGGLE_DUMP.len() => return Ok(k - 1),
-            _ => return Ok(0),
-        }
-    }
-    Ok(0)
-}
-
-/// How many writes a run makes: each that fails in turn leaves a part of the text, until none fails.
-fn writes_until<R: Threads + Wait + Sync>(rt: &R, alloc: Global, most: u64) -> Result<u64, Fail>
-    requires { 1 ≤ most }
-{
-    for k in 1..300 {
-        match cut_run(rt, alloc, most, &[], &[k])? {
-            (5, len, true) if len < TOGGLE_DUMP.len() => {}
-            (0, len, true) if len == TOGGLE_DUMP.len() => return Ok(k - 1),
-            _ => return Ok(0),
-        }
-    }
-    Ok(0)
-}
-
-/// A read that fails at each call in turn, and a write, until none fails. Beside the bytes a call, how many calls a run
-/// makes.
-#[test]
-fn failing_calls_of_wave(rt: HostRuntime) -> Result<(), Fail> {
-    for (most, reads, writes) in [(7, 8, 34), (1000, 4, 1)] {
-        let found = reads_until(&rt, rt.alloc(), most)?;
-        assert_eq!(rt; found, reads, "{most}");
-        let found = writes_until(&rt, rt.alloc(), most)?;
-        assert_eq!(rt; found, writes, "{most}");
-    }
     Ok(())
 }

@@ -23,6 +23,3 @@ mod levels;
 
 pub use frames::{FrameAt, Frames};
 pub use laws::{frames_grow, steps_take_room};
-
-#[cfg(test)]
-mod tests;

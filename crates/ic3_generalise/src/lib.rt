@@ -15,6 +15,3 @@ pub use asking::Asker;
 pub use cnf::{Cube, Lit};
 pub use edge::{Meter, SolveEnd};
 pub use generalising::generalise;
-
-#[cfg(test)]
-mod tests;

@@ -1,4 +1,3 @@
 pub mod Ways
 pub mod Joined
 pub mod Prefixes
-pub mod Seen

@@ -17,6 +17,3 @@ pub use fair_semantics::{Situation, Skeleton};
 pub use items::Items;
 pub use joining::join;
 pub use shortening::shortest_prefix;
-
-#[cfg(test)]
-mod tests;

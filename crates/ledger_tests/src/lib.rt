@@ -2,17 +2,17 @@
 //! by one thread.
 #![tactic(auto)]
 
+#[cfg(test)]
 mod crew;
+#[cfg(test)]
 mod driving;
+#[cfg(test)]
 mod finds;
+#[cfg(test)]
 mod knowing;
+#[cfg(test)]
 mod passing;
+#[cfg(test)]
 mod plain;
-
-pub use crew::{Crew, closed, crew_of};
-pub use driving::{Driven, Tally, drive};
-pub use finds::{circuit, find, front};
-pub use passing::{Event, Told};
-
 #[cfg(test)]
 mod tests;

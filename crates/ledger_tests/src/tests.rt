@@ -1,6 +1,9 @@
 //! What passes are told and know, event by event, and the board at the end.
 
-use crate::{Crew, Event, Tally, Told, circuit, closed, crew_of, drive};
+use crate::crew::{Crew, closed, crew_of};
+use crate::driving::{Tally, drive};
+use crate::finds::circuit;
+use crate::passing::{Event, Told};
 use entry::{Checked, Origin};
 use std::alloc::Global;
 use std::sync::{Arc, Wait};

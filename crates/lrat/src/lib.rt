@@ -19,6 +19,3 @@ mod store;
 pub use checker::Checker;
 pub use faults::LratEnd;
 pub use proof_semantics::LratFault;
-
-#[cfg(test)]
-mod tests;

@@ -43,32 +43,42 @@ pub(crate) fn draw_sequence(alloc: Global, seed: u64) -> Result<Vec<Turn>, Alloc
     let variables = draws.below(10).saturating_add(3);
     let mut turns = Vec::new(alloc);
     for _ in 0..8 {
-        let turn = draw_turn(alloc, &mut draws, variables)?;
-        turns.push(turn)?;
+        turns.push(draw_turn(alloc, &mut draws, variables)?)?;
     }
     Ok(turns)
 }
 
 fn draw_turn(alloc: Global, draws: &mut Draws, variables: u64) -> Result<Turn, AllocError> {
     let count = draws.below(variables.saturating_add(1));
+    let added = draw_clauses(alloc, draws, variables, count)?;
+    let way = draw_way(draws);
+    let assumed = draw_assumptions(alloc, draws, variables)?;
+    let limit = draw_limit(draws);
     Ok(Turn {
-        added: draw_clauses(alloc, draws, variables, count)?,
-        way: match draws.below(3) {
-            0 => Way::Solve,
-            1 => Way::Ask,
-            _ => Way::Refute,
-        },
-        assumed: draw_assumptions(alloc, draws, variables)?,
-        limit: match draws.below(4) {
-            0 => 0,
-            1 => 1,
-            _ => NO_LIMIT,
-        },
+        added,
+        way,
+        assumed,
+        limit,
     })
 }
 
-// So many clauses, with a 0 behind each. One in 32 has one literal, and two in 32 have two. A literal may stand
-// twice, or beside its negation.
+fn draw_way(draws: &mut Draws) -> Way {
+    match draws.below(3) {
+        0 => Way::Solve,
+        1 => Way::Ask,
+        _ => Way::Refute,
+    }
+}
+
+fn draw_limit(draws: &mut Draws) -> u64 {
+    match draws.below(4) {
+        0 => 0,
+        1 => 1,
+        _ => NO_LIMIT,
+    }
+}
+
+// So many clauses, with a 0 behind each.
 fn draw_clauses(
     alloc: Global,
     draws: &mut Draws,
@@ -77,17 +87,27 @@ fn draw_clauses(
 ) -> Result<Vec<i64>, AllocError> {
     let mut made = Vec::new(alloc);
     for _ in 0..count {
-        let length = match draws.below(32) {
-            0 => 1,
-            1 | 2 => 2,
-            _ => 3u64,
-        };
-        for _ in 0..length {
-            made.push(draws.literal(variables))?;
-        }
-        made.push(0)?;
+        draw_clause(draws, variables, &mut made)?;
     }
     Ok(made)
+}
+
+// A literal may stand twice, or beside its negation.
+fn draw_clause(draws: &mut Draws, variables: u64, made: &mut Vec<i64>) -> Result<(), AllocError> {
+    for _ in 0..draw_length(draws) {
+        made.push(draws.literal(variables))?;
+    }
+    made.push(0)?;
+    Ok(())
+}
+
+// One in 32 clauses has one literal, and two in 32 have two.
+fn draw_length(draws: &mut Draws) -> u64 {
+    match draws.below(32) {
+        0 => 1,
+        1 | 2 => 2,
+        _ => 3,
+    }
 }
 
 // None to two literals. The second is the first one again where it would be its negation.
@@ -96,18 +116,22 @@ fn draw_assumptions(
     draws: &mut Draws,
     variables: u64,
 ) -> Result<Vec<i64>, AllocError> {
-    let mut made = Vec::new(alloc);
     let count = draws.below(3);
     let first = draws.literal(variables);
     let second = draws.literal(variables);
-    if count > 0 {
-        made.push(first)?;
+    match count {
+        0 => Ok(Vec::new(alloc)),
+        1 => Vec::from_slice(alloc, &[first]),
+        _ => Vec::from_slice(alloc, &[first, beside(first, second)]),
     }
-    if count > 1 {
-        let is_same = second.unsigned_abs() == first.unsigned_abs();
-        made.push(if is_same { first } else { second })?;
+}
+
+fn beside(first: i64, second: i64) -> i64 {
+    if second.unsigned_abs() == first.unsigned_abs() {
+        first
+    } else {
+        second
     }
-    Ok(made)
 }
 
 /// A linear congruential generator with the constants of Knuth's MMIX. Its first state is the seed.

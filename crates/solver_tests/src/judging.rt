@@ -1,6 +1,6 @@
 //! An own look at an answer. The main call is `judge`.
 
-use crate::questions::{clauses, has_model, literal};
+use crate::questions::{clauses, has_model, literal, note_numbers};
 use cdcl::{Answer, Asked, Assignment, Refuted};
 use cnf::{Db, Lit, ProofLine};
 use lrat::Checker;
@@ -47,24 +47,19 @@ pub(crate) enum Mistake {
     Needless,
 }
 
-/// Holds an answer against a search through all values, and looks at what came with it.
+/// Holds an answer against a search through all values, and looks at what came with it. The numbers of the core come
+/// into `noted`.
 pub(crate) fn judge(
     alloc: Global,
     asked: &[i64],
     assumed: &[i64],
     answer: &Answer,
+    noted: &mut Vec<i64>,
 ) -> Result<Said, AllocError> {
-    let is_satisfiable = has_model(alloc, asked, assumed)?;
     match answer {
-        Answer::Sat(values) => {
-            let clauses_true = truths_in(alloc, values.as_slice(), asked)?;
-            let assumed_true = truths_in(alloc, values.as_slice(), assumed)?;
-            Ok(judge_truths(is_satisfiable, asked, &clauses_true, &assumed_true))
-        }
+        Answer::Sat(values) => judge_values(alloc, asked, assumed, values.as_slice()),
         Answer::Unsat(core, proof) => {
-            if is_satisfiable {
-                return Ok(Said::Wrong(Mistake::HasModel));
-            }
+            note_numbers(core.as_slice(), noted)?;
             judge_refusal(alloc, asked, assumed, core.as_slice(), proof.as_slice())
         }
     }
@@ -76,66 +71,62 @@ pub(crate) fn judge_asked(
     asked: &[i64],
     assumed: &[i64],
     answer: &Asked,
+    noted: &mut Vec<i64>,
 ) -> Result<Said, AllocError> {
-    let is_satisfiable = has_model(alloc, asked, assumed)?;
     match answer {
-        Asked::Sat(assignment) => {
-            let clauses_true = truths_of(alloc, assignment, asked)?;
-            let assumed_true = truths_of(alloc, assignment, assumed)?;
-            Ok(judge_truths(is_satisfiable, asked, &clauses_true, &assumed_true))
-        }
+        Asked::Sat(assignment) => judge_assignment(alloc, asked, assumed, assignment),
         Asked::Unsat(core) => {
-            if is_satisfiable {
-                return Ok(Said::Wrong(Mistake::HasModel));
-            }
-            let fault = core_fault(alloc, asked, assumed, core.as_slice())?;
-            Ok(fault.map_or(Said::Unsat, Said::Wrong))
+            note_numbers(core.as_slice(), noted)?;
+            judge_core(alloc, asked, assumed, core.as_slice())
         }
     }
 }
 
-/// The same of an answer on clauses and units behind them.
+/// The same of an answer on clauses and units behind them, which has no core.
 pub(crate) fn judge_refuted(
     alloc: Global,
     asked: &[i64],
     units: &[i64],
     answer: &Refuted,
 ) -> Result<Said, AllocError> {
-    let is_satisfiable = has_model(alloc, asked, units)?;
     match answer {
-        Refuted::Sat(assignment) => {
-            let clauses_true = truths_of(alloc, assignment, asked)?;
-            let units_true = truths_of(alloc, assignment, units)?;
-            Ok(judge_truths(is_satisfiable, asked, &clauses_true, &units_true))
-        }
-        Refuted::Unsat(proof) => {
-            if is_satisfiable {
-                return Ok(Said::Wrong(Mistake::HasModel));
-            }
-            judge_refutation(alloc, asked, units, proof.as_slice())
-        }
+        Refuted::Sat(assignment) => judge_assignment(alloc, asked, units, assignment),
+        Refuted::Unsat(proof) => judge_refutation(alloc, asked, units, proof.as_slice()),
     }
 }
 
-fn judge_refutation(
+fn judge_values(
     alloc: Global,
     asked: &[i64],
-    units: &[i64],
-    proof: &[ProofLine],
+    assumed: &[i64],
+    values: &[bool],
 ) -> Result<Said, AllocError> {
-    let mut listed = Vec::new(alloc);
-    listed.extend_from_slice(asked)?;
-    for unit in units {
-        listed.push(*unit)?;
-        listed.push(0)?;
-    }
-    if !adds_last(alloc, listed.as_slice(), &[], proof)? {
-        return Ok(Said::Wrong(Mistake::OtherClause));
-    }
-    if !are_needed(proof) {
-        return Ok(Said::Wrong(Mistake::Needless));
-    }
-    judge_proof(alloc, listed.as_slice(), true, proof)
+    let clauses_true = truths_in(alloc, values, asked)?;
+    let assumed_true = truths_in(alloc, values, assumed)?;
+    judge_truths(
+        alloc,
+        asked,
+        assumed,
+        clauses_true.as_slice(),
+        assumed_true.as_slice(),
+    )
+}
+
+fn judge_assignment(
+    alloc: Global,
+    asked: &[i64],
+    assumed: &[i64],
+    assignment: &Assignment,
+) -> Result<Said, AllocError> {
+    let clauses_true = truths_of(alloc, assignment, asked)?;
+    let assumed_true = truths_of(alloc, assignment, assumed)?;
+    judge_truths(
+        alloc,
+        asked,
+        assumed,
+        clauses_true.as_slice(),
+        assumed_true.as_slice(),
+    )
 }
 
 // Which of the literals are true under values.
@@ -161,21 +152,22 @@ fn truths_of(
 }
 
 fn judge_truths(
-    is_satisfiable: bool,
+    alloc: Global,
     asked: &[i64],
+    assumed: &[i64],
     clauses_true: &[bool],
     assumed_true: &[bool],
-) -> Said {
-    if !is_satisfiable {
-        return Said::Wrong(Mistake::NoModel);
+) -> Result<Said, AllocError> {
+    if !has_model(alloc, asked, assumed)? {
+        return Ok(Said::Wrong(Mistake::NoModel));
     }
     if !are_true(asked, clauses_true) {
-        return Said::Wrong(Mistake::FalseClause);
+        return Ok(Said::Wrong(Mistake::FalseClause));
     }
-    if !assumed_true.iter().all(|truth| *truth) {
-        return Said::Wrong(Mistake::FalseAssumption);
+    if assumed_true.contains(&false) {
+        return Ok(Said::Wrong(Mistake::FalseAssumption));
     }
-    Said::Sat
+    Ok(Said::Sat)
 }
 
 // Whether each clause has a true literal.
@@ -210,9 +202,60 @@ fn judge_refusal(
     core: &[Lit],
     proof: &[ProofLine],
 ) -> Result<Said, AllocError> {
-    if let Some(mistake) = core_fault(alloc, asked, assumed, core)? {
-        return Ok(Said::Wrong(mistake));
+    let said = judge_core(alloc, asked, assumed, core)?;
+    if said != Said::Unsat {
+        return Ok(said);
     }
+    judge_lines(alloc, asked, core, proof)
+}
+
+fn judge_core(
+    alloc: Global,
+    asked: &[i64],
+    assumed: &[i64],
+    core: &[Lit],
+) -> Result<Said, AllocError> {
+    if has_model(alloc, asked, assumed)? {
+        return Ok(Said::Wrong(Mistake::HasModel));
+    }
+    if !are_among(core, assumed) {
+        return Ok(Said::Wrong(Mistake::NotAssumed));
+    }
+    if has_model(alloc, asked, kept(alloc, assumed, core)?.as_slice())? {
+        return Ok(Said::Wrong(Mistake::WeakCore));
+    }
+    Ok(Said::Unsat)
+}
+
+fn judge_refutation(
+    alloc: Global,
+    asked: &[i64],
+    units: &[i64],
+    proof: &[ProofLine],
+) -> Result<Said, AllocError> {
+    if has_model(alloc, asked, units)? {
+        return Ok(Said::Wrong(Mistake::HasModel));
+    }
+    let listed = with_units(alloc, asked, units)?;
+    judge_lines(alloc, listed.as_slice(), &[], proof)
+}
+
+// The clauses, and behind them the units as clauses.
+fn with_units(alloc: Global, asked: &[i64], units: &[i64]) -> Result<Vec<i64>, AllocError> {
+    let mut listed = Vec::from_slice(alloc, asked)?;
+    for unit in units {
+        listed.extend_from_slice(&[*unit, 0])?;
+    }
+    Ok(listed)
+}
+
+// Whether the lines prove the clause of the core's negations, and none is needless.
+fn judge_lines(
+    alloc: Global,
+    asked: &[i64],
+    core: &[Lit],
+    proof: &[ProofLine],
+) -> Result<Said, AllocError> {
     if !adds_last(alloc, asked, core, proof)? {
         return Ok(Said::Wrong(Mistake::OtherClause));
     }
@@ -220,22 +263,6 @@ fn judge_refusal(
         return Ok(Said::Wrong(Mistake::Needless));
     }
     judge_proof(alloc, asked, core.is_empty(), proof)
-}
-
-// What is wrong with a core.
-fn core_fault(
-    alloc: Global,
-    asked: &[i64],
-    assumed: &[i64],
-    core: &[Lit],
-) -> Result<Option<Mistake>, AllocError> {
-    if !are_among(core, assumed) {
-        return Ok(Some(Mistake::NotAssumed));
-    }
-    if has_model(alloc, asked, kept(alloc, assumed, core)?.as_slice())? {
-        return Ok(Some(Mistake::WeakCore));
-    }
-    Ok(None)
 }
 
 // Whether each literal of the core was assumed.

@@ -20,18 +20,21 @@ pub(crate) fn literals(alloc: Global, numbers: &[i64]) -> Result<Vec<Lit>, Alloc
     Ok(made)
 }
 
-/// The numbers of literals; 0 for one that has none.
-pub(crate) fn numbers_of(alloc: Global, literals: &[Lit]) -> Result<Vec<i64>, AllocError> {
-    let mut made = Vec::new(alloc);
+/// Puts the numbers of literals behind those that are there; 0 for a literal that has none.
+pub(crate) fn note_numbers(literals: &[Lit], noted: &mut Vec<i64>) -> Result<(), AllocError> {
     for one in literals {
-        let number = i64::try_from(one.var).unwrap_or(0);
-        made.push(if one.positive {
-            number
-        } else {
-            0i64.saturating_sub(number)
-        })?;
+        noted.push(number_of(*one))?;
     }
-    Ok(made)
+    Ok(())
+}
+
+fn number_of(literal: Lit) -> i64 {
+    let number = i64::try_from(literal.var).unwrap_or(0);
+    if literal.positive {
+        number
+    } else {
+        0i64.saturating_sub(number)
+    }
 }
 
 /// The clauses of numbers, with a 0 behind each clause.

@@ -1,141 +1,312 @@
-//! Questions whose answers were worked out by hand.
-use crate::questions::{clauses, literals};
-use cdcl::{Answer, Solver, are_sized, has_opposites};
-use cnf::{Db, Lit, Proof};
-use edge::{Meter, SolveEnd};
-use lrat::Checker;
+//! Questions whose answers were worked out by hand: tables of clauses, each with a 0 behind it, with what is asked and
+//! what must be said.
+use crate::judging::Said;
+use crate::session::{NO_LIMIT, Session, Way};
 use std::alloc::{AllocError, Global};
 use std::test::*;
 
-fn solver(alloc: Global, numbers: &[i64]) -> Result<Solver, AllocError> {
-    let mut made = Solver::new(alloc)?;
-    for clause in clauses(alloc, numbers)? {
-        if are_sized(clause.as_slice()) {
-            made.add(clause)?;
-        }
-    }
-    Ok(made)
-}
-
-// Whether each line is accepted.
-fn accepts(alloc: Global, numbers: &[i64], proof: &Proof) -> Result<bool, AllocError> {
-    let mut checker = Checker::new(alloc, Db::from_vec(clauses(alloc, numbers)?))?;
-    for line in proof.as_slice() {
-        if checker.step(line.as_slice()).is_err() {
-            return Ok(false);
-        }
-    }
-    Ok(true)
-}
-
-// What the solver says: a word, and the core.
-fn ask(
-    alloc: Global,
-    numbers: &[i64],
-    solver: &mut Solver,
-    assumed: &[i64],
-    meter: &mut Meter,
-) -> Result<(&'static str, Vec<Lit>), AllocError> {
-    let assumptions = literals(alloc, assumed)?;
-    if has_opposites(assumptions.as_slice()) || !are_sized(assumptions.as_slice()) {
-        return Ok(("not asked", Vec::new(alloc)));
-    }
-    match solver.solve(assumptions.as_slice(), meter) {
-        Ok(Answer::Sat(_)) => Ok(("sat", Vec::new(alloc))),
-        Ok(Answer::Unsat(core, proof)) => {
-            if accepts(alloc, numbers, &proof)? {
-                Ok(("unsat", core))
-            } else {
-                Ok(("not accepted", core))
-            }
-        }
-        Err(SolveEnd::Spent(_)) => Ok(("spent", Vec::new(alloc))),
-        Err(SolveEnd::Memory) => Err(AllocError),
-    }
-}
-
-// The clauses in which no values serve, then in another order.
+// The clauses that no values of two variables make true together, then in another order.
 const SQUARE: &[i64] = &[1, 2, 0, -1, 2, 0, 1, -2, 0, -1, -2, 0];
 
 const TURNED: &[i64] = &[-1, -2, 0, 1, -2, 0, -1, 2, 0, 1, 2, 0];
 
-// Clauses, each ended by 0; the assumptions; a limit of conflicts; what is said; the core; how many conflicts are counted.
-const ROWS: [(&[i64], &[i64], u64, &str, &[i64], u64); 11] = [
-    (SQUARE, &[], 1, "unsat", &[], 1),
-    (SQUARE, &[], 0, "spent", &[], 0),
-    (SQUARE, &[], 4_294_967_295, "unsat", &[], 1),
-    (TURNED, &[], 1, "unsat", &[], 1),
-    (&[1, 0], &[-1], 0, "unsat", &[-1], 0),
-    (&[1, 2, 0], &[-1], 0, "sat", &[], 0),
-    (&[0], &[], 0, "unsat", &[], 0),
-    (&[], &[5], 0, "sat", &[], 0),
-    (&[1, -1, 0, 2, 2, 0], &[-2], 0, "unsat", &[-2], 0),
-    (&[-1, 2, 0, -2, 3, 0], &[1, 1, -3], 0, "unsat", &[-3, 1], 0),
-    (&[1, 100_000, 0, -100_000, 0], &[], 0, "sat", &[], 0),
-];
+// The square with a third literal in each clause.
+const WITH_3: &[i64] = &[1, 2, 3, 0, -1, 2, 3, 0, 1, -2, 3, 0, -1, -2, 3, 0];
 
-// Whether a core is of these literals; their order is free.
-fn is_core(core: &[Lit], wanted: &[Lit]) -> bool {
-    core.len() == wanted.len() && wanted.iter().all(|literal| core.contains(literal))
+// A question to a new solver: clauses, assumptions, a limit of conflicts, what is said, the core in any order, and how
+// many conflicts are counted.
+type Question = (
+    &'static [i64],
+    &'static [i64],
+    u64,
+    Said,
+    &'static [i64],
+    u64,
+);
+
+fn questions() -> &'static [Question] {
+    &[
+        (SQUARE, &[], 1, Said::Unsat, &[], 1),
+        (SQUARE, &[], 0, Said::Spent, &[], 0),
+        (SQUARE, &[], NO_LIMIT, Said::Unsat, &[], 1),
+        (TURNED, &[], 1, Said::Unsat, &[], 1),
+        (&[1, 0], &[-1], 0, Said::Unsat, &[-1], 0),
+        (&[1, 2, 0], &[-1], 0, Said::Sat, &[], 0),
+        (&[0], &[], 0, Said::Unsat, &[], 0),
+        (&[], &[5], 0, Said::Sat, &[], 0),
+        (&[1, -1, 0, 2, 2, 0], &[-2], 0, Said::Unsat, &[-2], 0),
+        (
+            &[-1, 2, 0, -2, 3, 0],
+            &[1, 1, -3],
+            0,
+            Said::Unsat,
+            &[-3, 1],
+            0,
+        ),
+        (&[1, 100_000, 0, -100_000, 0], &[], 0, Said::Sat, &[], 0),
+    ]
+}
+
+// Whether the last core has these numbers, in any order.
+fn is_core(session: &Session, wanted: &[i64]) -> bool {
+    let core = session.core();
+    core.len() == wanted.len() && wanted.iter().all(|number| core.contains(number))
+}
+
+fn is_answered(session: &mut Session, question: &Question) -> Result<bool, AllocError> {
+    let (_, assumed, limit, wanted, core, conflicts) = question;
+    let said = session.ask(assumed, *limit)?;
+    Ok(said == *wanted && is_core(session, core) && session.conflicts() == *conflicts)
+}
+
+// After a limit was reached it can be asked again.
+fn is_answered_again(session: &mut Session, question: &Question) -> Result<bool, AllocError> {
+    let (_, assumed, _, wanted, _, _) = question;
+    let again = session.ask(assumed, 9)?;
+    Ok(again == *wanted || *wanted == Said::Spent)
+}
+
+fn is_answered_twice(alloc: Global, question: &Question) -> Result<bool, AllocError> {
+    let mut session = Session::new(alloc, Way::Solve, question.0)?;
+    Ok(is_answered(&mut session, question)? && is_answered_again(&mut session, question)?)
 }
 
 #[test]
 fn answers(rt: HostRuntime) -> Result<(), Fail> {
-    let alloc = rt.alloc();
-    for (numbers, assumed, limit, wanted, wanted_core, conflicts) in &ROWS {
-        let mut asked = solver(alloc, numbers)?;
-        let mut meter = Meter::new(*limit, 0);
-        let (said, core) = ask(alloc, numbers, &mut asked, assumed, &mut meter)?;
-        assert_eq!(rt; said, *wanted, "of {numbers:?} under {assumed:?}");
-        assert!(rt; is_core(core.as_slice(), literals(alloc, wanted_core)?.as_slice()));
-        assert_eq!(rt; meter.spending().conflicts(), *conflicts);
-        // after a limit was reached it can be asked again
-        let (again, _core) = ask(alloc, numbers, &mut asked, assumed, &mut Meter::new(9, 0))?;
-        assert!(rt; again == *wanted || *wanted == "spent");
+    for question in questions() {
+        assert!(rt; is_answered_twice(rt.alloc(), question)?, "of {question:?}");
     }
     Ok(())
 }
 
-// Four pigeons find no place in three holes, also where the first two may not sit in the first one;
-// and three do.
+// Clauses, assumptions of which some are not needed, and the core, in ascending order of the numbers.
+type Core = (&'static [i64], &'static [i64], &'static [i64]);
+
+fn cores() -> &'static [Core] {
+    &[
+        (&[-1, 0], &[2, 1], &[1]),
+        (&[-1, 0], &[1, 2], &[1]),
+        (&[-1, 2, 0, -2, 3, 0], &[5, 1, 6, -3], &[-3, 1]),
+        (&[-1, 2, 0, -2, 3, 0], &[4, -3, 2], &[-3, 2]),
+        (WITH_3, &[4, -3, 5], &[-3]),
+        (&[-1, -2, -3, 0], &[1, 4, 2, -5, 3], &[1, 2, 3]),
+        (&[1, 0, -1, 0], &[2, 3], &[]),
+    ]
+}
+
+fn has_core(alloc: Global, way: Way, row: &Core) -> Result<bool, AllocError> {
+    let (numbers, assumed, wanted) = row;
+    let mut session = Session::new(alloc, way, numbers)?;
+    let said = session.ask(assumed, NO_LIMIT)?;
+    Ok(said == Said::Unsat && is_core(&session, wanted))
+}
+
 #[test]
-fn pigeons(rt: HostRuntime) -> Result<(), Fail> {
-    let alloc = rt.alloc();
-    let apart = [
-        -1i64, -4, 0, -1, -7, 0, -1, -10, 0, -4, -7, 0, -4, -10, 0, -7, -10, 0, -2, -5, 0, -2, -8,
-        0, -2, -11, 0, -5, -8, 0, -5, -11, 0, -8, -11, 0, -3, -6, 0, -3, -9, 0, -3, -12, 0, -6, -9,
-        0, -6, -12, 0, -9, -12, 0,
-    ];
-    for (placed, assumed, wanted) in [
-        (
-            [1i64, 2, 3, 0, 4, 5, 6, 0, 7, 8, 9, 0, 10, 11, 12, 0].as_slice(),
-            [].as_slice(),
-            "unsat",
-        ),
-        (
-            &[1i64, 2, 3, 0, 4, 5, 6, 0, 7, 8, 9, 0, 10, 11, 12, 0],
-            &[-1i64, -4],
-            "unsat",
-        ),
-        (
-            &[1i64, 2, 3, 0, 4, 5, 6, 0, 7, 8, 9, 0],
-            &[-1i64, -4],
-            "sat",
-        ),
-        (
-            &[1i64, 2, 3, 0, 4, 5, 6, 0, 7, 8, 9, 0],
-            &[-1i64, -4, -7],
-            "unsat",
-        ),
-    ] {
-        let mut numbers: Vec<i64> = Vec::from_slice(alloc, placed)?;
-        numbers.extend_from_slice(apart.as_slice())?;
-        let mut asked = solver(alloc, numbers.as_slice())?;
-        let mut meter = Meter::new(4_294_967_295, 0);
-        for _again in 0..2 {
-            let (said, _core) = ask(alloc, numbers.as_slice(), &mut asked, assumed, &mut meter)?;
-            assert_eq!(rt; said, wanted, "of {placed:?} under {assumed:?}");
+fn cores_are_without_what_is_not_needed(rt: HostRuntime) -> Result<(), Fail> {
+    for row in cores() {
+        for way in [Way::Solve, Way::Ask] {
+            assert!(rt; has_core(rt.alloc(), way, row)?, "{way:?} of {row:?}");
         }
     }
+    Ok(())
+}
+
+// The clauses of the square.
+const SIDES: [[i64; 3]; 4] = [[1, 2, 0], [-1, 2, 0], [1, -2, 0], [-1, -2, 0]];
+
+// Four places from 0 to 3, by a number below 256.
+fn places_of(code: usize) -> [usize; 4] {
+    [code % 4, code / 4 % 4, code / 16 % 4, code / 64 % 4]
+}
+
+// Whether no place comes twice.
+fn is_order(places: [usize; 4]) -> bool {
+    let [a, b, c, d] = places;
+    a != b && a != c && a != d && b != c && b != d && c != d
+}
+
+fn count_orders() -> usize {
+    (0..256usize)
+        .filter(|code| is_order(places_of(*code)))
+        .count()
+}
+
+fn add_in_order(session: &mut Session, order: [usize; 4]) -> Result<(), AllocError> {
+    for place in order {
+        session.add(&SIDES[place % 4])?;
+    }
+    Ok(())
+}
+
+fn is_refuted_once(session: &mut Session) -> Result<bool, AllocError> {
+    Ok(session.ask(&[], NO_LIMIT)? == Said::Unsat && session.conflicts() == 1)
+}
+
+// Whether the square is refuted after one conflict when its clauses are added in an order.
+fn is_refuted_in(alloc: Global, order: [usize; 4]) -> Result<bool, AllocError> {
+    let mut session = Session::new(alloc, Way::Solve, &[])?;
+    add_in_order(&mut session, order)?;
+    is_refuted_once(&mut session)
+}
+
+#[test]
+fn the_square_in_each_order(rt: HostRuntime) -> Result<(), Fail> {
+    for code in 0..256usize {
+        let order = places_of(code);
+        assert!(rt;
+            !is_order(order) || is_refuted_in(rt.alloc(), order)?,
+            "in {order:?}"
+        );
+    }
+    assert_eq!(rt; count_orders(), 24);
+    Ok(())
+}
+
+// Clauses and assumptions, or units, and what must be said each time.
+type Row = (&'static [i64], &'static [i64], Said);
+
+fn special_rows() -> &'static [Row] {
+    &[
+        // an assumption that the clauses imply, and one that they refuse without another
+        (&[1, 0], &[1], Said::Sat),
+        (&[1, 0, -1, 2, 0], &[2, 2], Said::Sat),
+        (&[1, 0, -1, 2, 0], &[3, -2], Said::Unsat),
+        // the same literal twice, in an assumption and in a clause
+        (&[-1, 2, 0], &[1, 1], Said::Sat),
+        (&[-1, 0], &[1, 1], Said::Unsat),
+        (&[5, 5, 0, -5, -5, 0], &[], Said::Unsat),
+        // each of the assumptions is needed
+        (&[-1, -2, -3, 0], &[1, 2, 3], Said::Unsat),
+        (&[1, 2, 3, 0], &[-1, -2], Said::Sat),
+        // empty clauses
+        (&[0, 0], &[1], Said::Unsat),
+        (&[1, 2, 0, 0], &[-1], Said::Unsat),
+        // clauses that every choice makes true
+        (&[1, -1, 0], &[-1], Said::Sat),
+        (&[1, 1, -1, 0, -1, 2, -2, 0], &[1, -2], Said::Sat),
+        // a variable of no clause, and gaps in the numbers
+        (&[1, 0], &[-7], Said::Sat),
+        (&[1, 100_000, 0, -1, 100_000, 0], &[1], Said::Sat),
+        (&[1, 100_000, 0, -1, 100_000, 0], &[-100_000], Said::Unsat),
+    ]
+}
+
+fn says(session: &mut Session, assumed: &[i64], wanted: Said) -> Result<bool, AllocError> {
+    Ok(session.ask(assumed, NO_LIMIT)? == wanted)
+}
+
+fn says_twice(alloc: Global, way: Way, row: &Row) -> Result<bool, AllocError> {
+    let (numbers, assumed, wanted) = row;
+    let mut session = Session::new(alloc, way, numbers)?;
+    Ok(says(&mut session, assumed, *wanted)? && says(&mut session, assumed, *wanted)?)
+}
+
+#[test]
+fn special_clauses_and_assumptions(rt: HostRuntime) -> Result<(), Fail> {
+    for row in special_rows() {
+        for way in [Way::Solve, Way::Ask, Way::Refute] {
+            assert!(rt; says_twice(rt.alloc(), way, row)?, "{way:?} of {row:?}");
+        }
+    }
+    Ok(())
+}
+
+// Units together with clauses: opposite units, also beside others, and units that are added clauses already.
+fn unit_rows() -> &'static [Row] {
+    &[
+        (&[], &[1, -1], Said::Unsat),
+        (&[1, 2, 0], &[-3, 2, -1, 3], Said::Unsat),
+        (&[0], &[2, -2], Said::Unsat),
+        (&[1, 0], &[1, 1], Said::Sat),
+        (&[1, 0, -1, 0], &[1], Said::Unsat),
+        (&[1, 0, -1, 2, 0], &[1, -2], Said::Unsat),
+        (&[1, 2, 0, -1, 2, 0], &[4, -2, 5], Said::Unsat),
+    ]
+}
+
+#[test]
+fn units_behind_clauses(rt: HostRuntime) -> Result<(), Fail> {
+    for row in unit_rows() {
+        assert!(rt; says_twice(rt.alloc(), Way::Refute, row)?, "of {row:?}");
+    }
+    Ok(())
+}
+
+// No two of four pigeons sit in one of three holes, and each of the pigeons, of whom three or four come, sits in one.
+const THREE: &[i64] = &[
+    -1, -4, 0, -1, -7, 0, -1, -10, 0, -4, -7, 0, -4, -10, 0, -7, -10, 0, -2, -5, 0, -2, -8, 0, -2,
+    -11, 0, -5, -8, 0, -5, -11, 0, -8, -11, 0, -3, -6, 0, -3, -9, 0, -3, -12, 0, -6, -9, 0, -6,
+    -12, 0, -9, -12, 0, 1, 2, 3, 0, 4, 5, 6, 0, 7, 8, 9, 0,
+];
+
+const FOUR: &[i64] = &[
+    -1, -4, 0, -1, -7, 0, -1, -10, 0, -4, -7, 0, -4, -10, 0, -7, -10, 0, -2, -5, 0, -2, -8, 0, -2,
+    -11, 0, -5, -8, 0, -5, -11, 0, -8, -11, 0, -3, -6, 0, -3, -9, 0, -3, -12, 0, -6, -9, 0, -6,
+    -12, 0, -9, -12, 0, 1, 2, 3, 0, 4, 5, 6, 0, 7, 8, 9, 0, 10, 11, 12, 0,
+];
+
+fn pigeon_rows() -> &'static [Row] {
+    &[
+        (FOUR, &[], Said::Unsat),
+        // the first two may not sit in the first hole
+        (FOUR, &[-1, -4], Said::Unsat),
+        (THREE, &[-1, -4], Said::Sat),
+        (THREE, &[-1, -4, -7], Said::Unsat),
+    ]
+}
+
+#[test]
+fn pigeons(rt: HostRuntime) -> Result<(), Fail> {
+    for row in pigeon_rows() {
+        assert!(rt; says_twice(rt.alloc(), Way::Solve, row)?, "of {row:?}");
+    }
+    Ok(())
+}
+
+// Clauses that are added, assumptions, the limit of conflicts, and what must be said after how many conflicts. The
+// added clauses have the numbers behind those before, whatever was learned between.
+type Step = (&'static [i64], &'static [i64], u64, Said, u64);
+
+fn steps() -> &'static [Step] {
+    &[
+        (WITH_3, &[-3], 0, Said::Spent, 0),
+        (&[], &[-3], 1, Said::Unsat, 1),
+        (&[], &[3, 1], 0, Said::Sat, 0),
+        (&[], &[-1, 3], 0, Said::Sat, 0),
+        (&[-3, 4, 0], &[3], 0, Said::Sat, 0),
+        (&[-4, 0], &[3], 0, Said::Unsat, 0),
+        (&[5, -5, 0], &[], NO_LIMIT, Said::Unsat, 0),
+        (&[1, 0], &[1], 0, Said::Unsat, 0),
+    ]
+}
+
+fn is_step_right(session: &mut Session, step: &Step) -> Result<bool, AllocError> {
+    let (added, assumed, limit, wanted, conflicts) = step;
+    session.add(added)?;
+    let said = session.ask(assumed, *limit)?;
+    Ok(said == *wanted && session.conflicts() == *conflicts)
+}
+
+// How many steps come before the first wrong one.
+fn right_steps(session: &mut Session) -> Result<u64, AllocError> {
+    let mut count = 0u64;
+    for step in steps() {
+        if !is_step_right(session, step)? {
+            return Ok(count);
+        }
+        count = count.saturating_add(1);
+    }
+    Ok(count)
+}
+
+fn right_steps_by(alloc: Global, way: Way) -> Result<u64, AllocError> {
+    let mut session = Session::new(alloc, way, &[])?;
+    right_steps(&mut session)
+}
+
+#[test]
+fn asked_again(rt: HostRuntime) -> Result<(), Fail> {
+    assert_eq!(rt; right_steps_by(rt.alloc(), Way::Solve)?, 8);
+    assert_eq!(rt; right_steps_by(rt.alloc(), Way::Ask)?, 8);
     Ok(())
 }

@@ -14,6 +14,3 @@ pub use ends::{ReplayEnd, ReplayFault};
 pub use reading::{is_skipped, read, values_of};
 pub use replaying::replay;
 pub use writing::write;
-
-#[cfg(test)]
-mod tests;

@@ -18,6 +18,3 @@ pub use lanes::{LANES, Lanes};
 pub use lifting::lift;
 pub use simulating::{eval3_into, eval3_lanes, literal3_lanes, literal3_value};
 pub use values::Value3;
-
-#[cfg(test)]
-mod tests;

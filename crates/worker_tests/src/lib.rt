@@ -5,10 +5,9 @@
 mod drawing;
 #[cfg(test)]
 mod judging;
+#[cfg(test)]
 mod running;
 #[cfg(test)]
 mod searching;
 #[cfg(test)]
 mod tests;
-
-pub use running::{Numbers, limits, run, with_property};

@@ -121,7 +121,7 @@ fn rows(rt: HostRuntime) -> Result<(), Fail> {
 
 #[test]
 fn drawn_models_are_decided(rt: HostRuntime) -> Result<(), Fail> {
-    for number in 0..40 {
+    for number in 0..300 {
         assert!(rt; is_decided(rt.alloc(), number)?, "{number}");
     }
     Ok(())
@@ -130,7 +130,7 @@ fn drawn_models_are_decided(rt: HostRuntime) -> Result<(), Fail> {
 /// Limits of 0, 1, 2, .., until none is spent.
 #[test]
 fn drawn_models_under_limits(rt: HostRuntime) -> Result<(), Fail> {
-    for number in 0..40 {
+    for number in 0..300 {
         assert!(rt; ends_within(rt.alloc(), number)?, "{number}");
     }
     Ok(())

@@ -1,0 +1,296 @@
+//! Ternary simulation and lifting on small circuits, with values worked out by hand.
+
+ghost use Rattle.std.specs.Prelude.{IfOk, IsTrue};
+ghost use Rattle.aig_semantics.specs.Runs.{IsPosition};
+ghost use Rattle.ternary.specs.Cubes.{MakesTrue};
+
+use crate::models::{Model, checked, circuit_of, parts_of};
+use circuit::{Circuit, Gate, Latch, ModelEnd, Position, Reset, eval_into, literal_value};
+use items::Items;
+use std::alloc::{AllocError, Global};
+use std::process::Abort;
+use std::test::Fail;
+use ternary::{LANES, Lanes, Value3, eval3_into, eval3_lanes, lift};
+
+// A counter of two bits: variables 1 and 2 are its bits, 5 tells that they are alike, and 6 that both are true.
+const COUNTER: Model = Model {
+    max: 6,
+    inputs: &[],
+    latches: &[
+        Latch {
+            var: 1,
+            next: 3,
+            reset: Reset::Zero,
+        },
+        Latch {
+            var: 2,
+            next: 11,
+            reset: Reset::Zero,
+        },
+    ],
+    gates: &[
+        Gate {
+            var: 3,
+            rhs0: 5,
+            rhs1: 2,
+        },
+        Gate {
+            var: 4,
+            rhs0: 4,
+            rhs1: 3,
+        },
+        Gate {
+            var: 5,
+            rhs0: 9,
+            rhs1: 7,
+        },
+        Gate {
+            var: 6,
+            rhs0: 4,
+            rhs1: 2,
+        },
+    ],
+    constraints: &[],
+    property: &[],
+    fairness: &[],
+};
+
+// A gate, variable 3, over an input and a latch.
+const GUARDED: Model = Model {
+    max: 3,
+    inputs: &[1],
+    latches: &[Latch {
+        var: 2,
+        next: 2,
+        reset: Reset::Free,
+    }],
+    gates: &[Gate {
+        var: 3,
+        rhs0: 2,
+        rhs1: 4,
+    }],
+    constraints: &[],
+    property: &[],
+    fairness: &[],
+};
+
+// How many latches the widest circuit has.
+const WIDTH: u64 = 200;
+
+// Nothing but so many variables.
+const WIDE: Model = Model {
+    max: WIDTH,
+    inputs: &[],
+    latches: &[],
+    gates: &[],
+    constraints: &[],
+    property: &[],
+    fairness: &[],
+};
+
+/// So many latches whose next value is 1.
+fn latches_to(alloc: Global, count: u64) -> Result<Items<Latch>, AllocError> {
+    let mut latches = Items::new(alloc);
+    for var in 1..=count {
+        latches.push(Latch {
+            var,
+            next: 1,
+            reset: Reset::Free,
+        })?;
+    }
+    Ok(latches)
+}
+
+fn wide(alloc: Global) -> Result<Circuit, ModelEnd> {
+    let mut parts = parts_of(alloc, &WIDE)?;
+    parts.latches = latches_to(alloc, WIDTH)?;
+    checked(alloc, &parts)
+}
+
+fn letter(value: Value3) -> u8 {
+    match value {
+        Value3::Zero => b'0',
+        Value3::One => b'1',
+        Value3::X => b'x',
+    }
+}
+
+fn digit(number: usize) -> Value3 {
+    match number % 3 {
+        0 => Value3::Zero,
+        1 => Value3::One,
+        _ => Value3::X,
+    }
+}
+
+/// Whether the variables have these values where the latches have those of a list.
+fn simulates(
+    alloc: Global,
+    c: &Circuit,
+    latches: &[Value3],
+    wanted: &[u8],
+) -> Result<bool, AllocError> {
+    if latches.len() != c.latches().len() || !c.inputs().is_empty() {
+        return Ok(false);
+    }
+    let mut values = vec![in alloc; Value3::X; c.max() as usize + 1]?;
+    eval3_into(c, latches, &[], &mut values);
+    Ok(values.iter().map(|v| letter(*v)).eq(wanted.iter().copied()))
+}
+
+/// The lanes of two latches: lane k has the two ternary digits of k.
+fn digits_in_lanes() -> [Lanes; 2] {
+    let mut low = Lanes::splat(Value3::X);
+    let mut high = Lanes::splat(Value3::X);
+    for k in 0..LANES {
+        low = low.with_lane(k, digit(k % 9));
+        high = high.with_lane(k, digit(k % 9 / 3));
+    }
+    [low, high]
+}
+
+/// The first lane that has other values than the rows of a table, taken again and again.
+fn first_wrong_lane(
+    alloc: Global,
+    c: &Circuit,
+    latches: &[Lanes],
+    rows: &[&[u8]],
+) -> Result<Option<usize>, AllocError> {
+    if latches.len() != c.latches().len() || !c.inputs().is_empty() || rows.is_empty() {
+        return Ok(Some(LANES));
+    }
+    let mut values = vec![in alloc; Lanes::splat(Value3::X); c.max() as usize + 1]?;
+    eval3_lanes(c, latches, &[], &mut values);
+    for k in 0..LANES {
+        let row = rows[k % rows.len()];
+        if !values
+            .iter()
+            .map(|lanes| letter(lanes.lane(k)))
+            .eq(row.iter().copied())
+        {
+            return Ok(Some(k));
+        }
+    }
+    Ok(None)
+}
+
+/// Whether each literal is true at the position.
+fn are_true(alloc: Global, c: &Circuit, at: &Position, keep: &[u64]) -> Result<bool, AllocError>
+    requires { IsPosition c.now at.now }
+    ensures { IfOk result (λ all. IsTrue all → MakesTrue c.now at.now keep.now) }
+{
+    let mut values = vec![in alloc; false; c.max() as usize + 1]?;
+    eval_into(c, at.latches.as_slice(), at.inputs.as_slice(), &mut values);
+    Ok(keep.iter().all(|l| literal_value(&values, *l)))
+}
+
+/// Whether the cube lifted from a position has these literals.
+fn lifts(
+    alloc: Global,
+    c: &Circuit,
+    latches: &[bool],
+    inputs: &[bool],
+    keep: &[u64],
+    wanted: &[(u64, bool)],
+) -> Result<bool, AllocError> {
+    let at = Position {
+        latches: Items::from_slice(alloc, latches)?,
+        inputs: Items::from_slice(alloc, inputs)?,
+    };
+    if latches.len() != c.latches().len() || inputs.len() != c.inputs().len() {
+        return Ok(false);
+    }
+    if !are_true(alloc, c, &at, keep)? {
+        return Ok(false);
+    }
+    let cube = lift(alloc, c, &at, keep)?;
+    Ok(
+        cube.as_slice()
+            .iter()
+            .map(|l| (l.var, l.positive))
+            .eq(wanted.iter().copied()),
+    )
+}
+
+// The values of the counter's variables 0 to 6, where its bits are the two ternary digits of the row's number.
+const SIMULATIONS: [&[u8]; 9] = [
+    b"0000010", b"0101000", b"0x0x0x0", b"0010100", b"0110011", b"0x10xxx", b"00x0xx0", b"01xx0xx",
+    b"0xxxxxx",
+];
+
+// The bits of the counter, literals that are true there, and the only cube that is lifted from there.
+const LIFTS: [(&[bool], &[u64], &[(u64, bool)]); 8] = [
+    (&[true, true], &[12], &[(0, true), (1, true)]),
+    (&[false, false], &[10], &[(0, false), (1, false)]),
+    (&[true, false], &[6], &[(0, true), (1, false)]),
+    (&[true, false], &[2], &[(0, true)]),
+    (&[true, false], &[5], &[(1, false)]),
+    (&[true, false], &[2, 5], &[(0, true), (1, false)]),
+    (&[true, false], &[1], &[]),
+    (&[false, true], &[], &[]),
+];
+
+fn check_simulations(rt: &impl Abort, alloc: Global, c: &Circuit) -> Result<(), AllocError> {
+    for (k, row) in SIMULATIONS.iter().enumerate() {
+        let agree = simulates(alloc, c, &[digit(k), digit(k / 3)], row)?;
+        assert!(rt; agree, "of row {k}");
+    }
+    Ok(())
+}
+
+fn check_lifts(rt: &impl Abort, alloc: Global, c: &Circuit) -> Result<(), AllocError> {
+    for (latches, keep, wanted) in LIFTS {
+        let agree = lifts(alloc, c, latches, &[], keep, wanted)?;
+        assert!(rt; agree, "of {keep:?} at {latches:?}");
+    }
+    Ok(())
+}
+
+fn check_counter(rt: &impl Abort, alloc: Global, c: &Circuit) -> Result<(), AllocError> {
+    check_simulations(rt, alloc, c)?;
+    let wrong = first_wrong_lane(alloc, c, &digits_in_lanes(), &SIMULATIONS)?;
+    assert!(rt; wrong.is_none(), "in lane {wrong:?}");
+    check_lifts(rt, alloc, c)
+}
+
+/// An input that is 0 needs no latch.
+fn check_guarded(rt: &impl Abort, alloc: Global, c: &Circuit) -> Result<(), AllocError> {
+    let freely = lifts(alloc, c, &[true], &[false], &[7], &[])?;
+    assert!(rt; freely);
+    let bound = lifts(alloc, c, &[false], &[true], &[7], &[(0, false)])?;
+    assert!(rt; bound);
+    Ok(())
+}
+
+/// Of many latches the two that are read are kept.
+fn check_wide(rt: &impl Abort, alloc: Global, c: &Circuit) -> Result<(), AllocError> {
+    let latches = vec![in alloc; true; 200]?;
+    let agree = lifts(
+        alloc,
+        c,
+        &latches,
+        &[],
+        &[130, 6, 258],
+        &[(2, true), (64, true), (128, true)],
+    )?;
+    assert!(rt; agree);
+    Ok(())
+}
+
+#[test]
+fn counter_is_simulated_and_lifted(rt: HostRuntime) -> Result<(), Fail> {
+    let c = circuit_of(rt.alloc(), &COUNTER)?;
+    Ok(check_counter(&rt, rt.alloc(), &c)?)
+}
+
+#[test]
+fn inputs_are_known(rt: HostRuntime) -> Result<(), Fail> {
+    let c = circuit_of(rt.alloc(), &GUARDED)?;
+    Ok(check_guarded(&rt, rt.alloc(), &c)?)
+}
+
+#[test]
+fn many_latches_are_forgotten(rt: HostRuntime) -> Result<(), Fail> {
+    let c = wide(rt.alloc())?;
+    Ok(check_wide(&rt, rt.alloc(), &c)?)
+}

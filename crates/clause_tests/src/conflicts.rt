@@ -1,0 +1,115 @@
+//! Conflicts worked out by hand.
+use crate::literals::{clause, clauses, literal};
+use cdcl_learn::{Learned, learn};
+use cdcl_trail::Trail;
+use cnf::Db;
+use std::alloc::{AllocError, Global};
+use std::test::*;
+
+// What the first conflict teaches, where these literals are decided one after the other.
+fn first_conflict(alloc: Global, db: &Db, decided: &[i64]) -> Result<Option<Learned>, AllocError> {
+    let mut trail = Trail::new(alloc);
+    if trail.propagate(db)?.is_some() {
+        return Ok(None);
+    }
+    for number in decided {
+        let assumed = literal(*number);
+        if trail.value(assumed.var).is_some() {
+            continue;
+        }
+        trail.assume(assumed)?;
+        if let Some(conflict) = trail.propagate(db)? {
+            return Ok(Some(learn(alloc, db, &trail, conflict)?));
+        }
+    }
+    Ok(None)
+}
+
+// Clauses, decided literals, the clause that the first conflict teaches, and its hints.
+type Row = (
+    &'static [&'static [i64]],
+    &'static [i64],
+    &'static [i64],
+    &'static [u64],
+);
+
+fn rows() -> &'static [Row] {
+    &[
+        (
+            &[
+                &[-1, 2],
+                &[-1, 3],
+                &[-2, -3, 4],
+                &[-4, 5],
+                &[-4, 6],
+                &[-5, -6],
+            ],
+            &[1],
+            &[-4],
+            &[4, 5, 6],
+        ),
+        // the literal of a lower level stays
+        (
+            &[&[-7, -1, 2], &[-2, 3], &[-7, -2, -3]],
+            &[7, 1],
+            &[-7, -2],
+            &[2, 3],
+        ),
+    ]
+}
+
+fn minimised_rows() -> &'static [Row] {
+    &[
+        // a literal goes that another one of the clause forces
+        (
+            &[&[-7, 8], &[-1, 2], &[-2, -7, 3], &[-2, -8, -3]],
+            &[7, 1],
+            &[-7, -2],
+            &[1, 3, 4],
+        ),
+        // and one that it forces through a literal outside the clause
+        (
+            &[&[-7, 8], &[-8, 9], &[-1, 2], &[-2, -7, 3], &[-2, -9, -3]],
+            &[7, 1],
+            &[-7, -2],
+            &[1, 2, 4, 5],
+        ),
+        // but not one that a literal of another level has a part in
+        (
+            &[&[-7, -6, 8], &[-1, 2], &[-2, -7, 3], &[-2, -8, -3]],
+            &[6, 7, 1],
+            &[-7, -8, -2],
+            &[3, 4],
+        ),
+    ]
+}
+
+fn is(alloc: Global, found: &Learned, row: &Row) -> Result<bool, AllocError> {
+    let (_, _, learned, hints) = row;
+    Ok(found.clause == clause(alloc, learned)? && found.hints.as_slice() == *hints)
+}
+
+fn teaches(alloc: Global, row: &Row) -> Result<bool, AllocError> {
+    let (lists, decided, _, _) = row;
+    let db = clauses(alloc, lists)?;
+    match first_conflict(alloc, &db, decided)? {
+        Some(found) => is(alloc, &found, row),
+        None => Ok(false),
+    }
+}
+
+#[test]
+fn first_implication_points(rt: HostRuntime) -> Result<(), Fail> {
+    for row in rows() {
+        assert!(rt; teaches(rt.alloc(), row)?, "of {:?}", row.1);
+    }
+    Ok(())
+}
+
+#[test]
+fn minimised_clauses(rt: HostRuntime) -> Result<(), Fail> {
+    for row in minimised_rows() {
+        assert!(rt; teaches(rt.alloc(), row)?, "of {:?}", row.1);
+    }
+    Ok(())
+}

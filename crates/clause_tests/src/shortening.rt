@@ -1,0 +1,221 @@
+//! Cubes shortened under tests that are lists of cubes. A literal is written as twice its variable, and one more where
+//! it is negated.
+ghost use Rattle.std.specs.Prelude.{List, ◌≡◌, ◌↔◌, true, refl, IfSome};
+ghost use Rattle.std.specs.List.{list_any};
+ghost use Rattle.std.proofs.Common.{◌∙◌};
+ghost use Rattle.proof_semantics.specs.declared.literals.Lit.{Lit};
+ghost use Rattle.proof_semantics.specs.Clauses.{is_part};
+ghost use Rattle.edge.specs.Ends.{IsEnd};
+
+use cnf::{Clause, Cube, Lit, subset};
+use edge::{Counted, Meter, SolveEnd, Spent};
+use ic3_generalise::{Asker, generalise};
+use std::alloc::{AllocError, Global};
+use std::test::Fail;
+
+fn holds_one(own: &[Clause], cube: &Clause) -> bool
+    ensures { result ≡ list_any (λ part. is_part part cube.now) own.now }
+{
+    own.iter().any(|part| subset(part, cube))
+}
+
+fn end_of(meter: &Meter) -> Option<SolveEnd>
+    ensures { IfSome result (IsEnd meter.now) }
+{
+    let spending = meter.spending();
+    let conflicts = spending.conflicts();
+    if spending.conflict_limit() == Some(conflicts) {
+        return Some(SolveEnd::Spent(Spent {
+            kind: Counted::Conflicts,
+            limit: conflicts,
+        }));
+    }
+    None
+}
+
+/// Passes each cube that holds one of its own, and answers the whole cube that was asked for. It has no answer where
+/// the meter is at its limit.
+#[derive(Drop)]
+struct Listed {
+    own: Vec<Clause>,
+    asked: u64,
+}
+
+impl Asker for Listed {
+    ghost passes = { λ s cube. list_any (λ part. is_part part cube) s.own.items ≡ true };
+
+    ghost leaves = { λ s t. t.own.items ≡ s.own.items };
+
+    fn excluded(
+        &mut self,
+        alloc: Global,
+        cube: &Cube,
+        meter: &mut Meter,
+    ) -> Result<Option<Cube>, SolveEnd> {
+        if let Some(end) = end_of(meter) {
+            return Err(end);
+        }
+        self.asked = self.asked.saturating_add(1);
+        let asked = Clause::from_slice(alloc, cube.as_slice())?;
+        if holds_one(&self.own, &asked) {
+            Ok(Some(cube.clone()?))
+        } else {
+            Ok(None)
+        }
+    }
+
+    ghost leaves_itself = { λ s. refl };
+
+    ghost leaves_on = { λ s t u first second. second ∙ first };
+}
+
+/// Passes each cube that holds its own, and answers that.
+#[derive(Drop)]
+struct Core {
+    own: Clause,
+    asked: u64,
+}
+
+impl Asker for Core {
+    ghost passes = { λ s cube. is_part s.own cube ≡ true };
+
+    ghost leaves = { λ s t. t.own ≡ s.own };
+
+    fn excluded(
+        &mut self,
+        alloc: Global,
+        cube: &Cube,
+        _meter: &mut Meter,
+    ) -> Result<Option<Cube>, SolveEnd> {
+        self.asked = self.asked.saturating_add(1);
+        let asked = Clause::from_slice(alloc, cube.as_slice())?;
+        if subset(&self.own, &asked) {
+            Ok(Some(Cube::from_slice(alloc, self.own.as_slice())?))
+        } else {
+            Ok(None)
+        }
+    }
+
+    ghost leaves_itself = { λ s. refl };
+
+    ghost leaves_on = { λ s t u first second. second ∙ first };
+}
+
+fn literals_of(alloc: Global, codes: &[u64]) -> Result<Vec<Lit>, AllocError> {
+    let mut literals = Vec::new(alloc);
+    for code in codes {
+        literals.push(Lit {
+            var: *code / 2,
+            positive: *code % 2 == 0,
+        })?;
+    }
+    Ok(literals)
+}
+
+fn codes_of(alloc: Global, cube: &Cube) -> Result<Vec<u64>, AllocError> {
+    let mut codes = Vec::new(alloc);
+    for literal in cube.as_slice() {
+        let sign = if literal.positive { 0 } else { 1 };
+        codes.push(literal.var.saturating_mul(2).saturating_add(sign))?;
+    }
+    Ok(codes)
+}
+
+/// What is left of a cube whose literals are dropped in an order; nothing where the asker does not pass it.
+fn shortened<A: Asker>(
+    alloc: Global,
+    codes: &[u64],
+    order: &[u64],
+    asker: &mut A,
+    meter: &mut Meter,
+) -> Result<Vec<u64>, SolveEnd> {
+    let cube = Cube::from_slice(alloc, literals_of(alloc, codes)?.as_slice())?;
+    match asker.excluded(alloc, &cube, meter)? {
+        Some(_) => {
+            let order = literals_of(alloc, order)?;
+            let left = generalise(alloc, cube, order.as_slice(), asker, meter)?;
+            Ok(codes_of(alloc, &left)?)
+        }
+        None => Ok(Vec::new(alloc)),
+    }
+}
+
+/// An asker's own cubes, a cube, the order of its literals, what is left of it, and how many questions that takes after
+/// the first.
+type Row = (
+    &'static [&'static [u64]],
+    &'static [u64],
+    &'static [u64],
+    &'static [u64],
+    u64,
+);
+
+fn by_list(alloc: Global, row: &Row, meter: &mut Meter) -> Result<bool, SolveEnd> {
+    let (own, cube, order, wanted, questions) = *row;
+    let mut asker = Listed {
+        own: Vec::new(alloc),
+        asked: 0,
+    };
+    for codes in own {
+        let literals = literals_of(alloc, codes)?;
+        asker
+            .own
+            .push(Clause::from_slice(alloc, literals.as_slice())?)?;
+    }
+    let left = shortened(alloc, cube, order, &mut asker, meter)?;
+    Ok(left.as_slice() == wanted && asker.asked == questions.saturating_add(1))
+}
+
+fn by_core(alloc: Global, row: &Row) -> Result<bool, SolveEnd> {
+    let (own, cube, order, wanted, questions) = *row;
+    let literals = literals_of(alloc, own.first().unwrap_or(&[].as_slice()))?;
+    let mut asker = Core {
+        own: Clause::from_slice(alloc, literals.as_slice())?,
+        asked: 0,
+    };
+    let left = shortened(alloc, cube, order, &mut asker, &mut Meter::new(0, 0))?;
+    Ok(left.as_slice() == wanted && asker.asked == questions.saturating_add(1))
+}
+
+// The order of the literals decides where two cubes pass, and of a literal that is not in it nothing is asked.
+const LISTED: [Row; 8] = [
+    (&[&[2]], &[2, 4, 6], &[2, 4, 6], &[2], 3),
+    (&[&[2], &[4, 6]], &[2, 4, 6], &[2, 4, 6], &[4, 6], 3),
+    (&[&[2], &[4, 6]], &[2, 4, 6], &[4, 6, 2], &[2], 3),
+    (&[&[2], &[4, 6]], &[2, 4, 6], &[8, 4], &[2, 6], 1),
+    (&[&[2], &[4, 6]], &[2, 4, 6], &[], &[2, 4, 6], 0),
+    (&[&[5]], &[4, 5, 2], &[4, 5, 2], &[5], 3),
+    (&[&[2, 5]], &[2, 5], &[2, 5], &[2, 5], 2),
+    (&[&[]], &[2, 4], &[2, 4], &[], 2),
+];
+
+// Nothing is asked of a literal that an answer left out.
+const CORES: [Row; 4] = [
+    (&[&[6]], &[2, 4, 6, 8], &[2, 4, 6, 8], &[6], 2),
+    (&[&[2]], &[2, 4, 6], &[2, 4, 6], &[2], 2),
+    (&[&[8, 2]], &[2, 4, 6, 8], &[2, 4, 6, 8], &[8, 2], 3),
+    (&[&[]], &[2, 4, 6], &[2, 4, 6], &[], 1),
+];
+
+#[test]
+fn literals_are_dropped_in_order(rt: HostRuntime) -> Result<(), Fail> {
+    for row in LISTED {
+        assert!(rt; by_list(rt.alloc(), &row, &mut Meter::new(7, 0))?);
+    }
+    Ok(())
+}
+
+#[test]
+fn answers_are_taken_up(rt: HostRuntime) -> Result<(), Fail> {
+    for row in CORES {
+        assert!(rt; by_core(rt.alloc(), &row)?);
+    }
+    Ok(())
+}
+
+#[test]
+fn spent_where_the_meter_is(rt: HostRuntime) -> Result<(), Fail> {
+    let spent = by_list(rt.alloc(), &LISTED[0], &mut Meter::new(0, 7));
+    assert!(rt; matches!(spent, Err(SolveEnd::Spent(_))));
+    Ok(())
+}

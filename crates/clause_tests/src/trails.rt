@@ -1,0 +1,236 @@
+//! Trails worked out by hand, and a long row.
+ghost use Rattle.std.specs.Prelude.{IsTrue};
+ghost use Rattle.cdcl_trail.specs.Watched.{HasTwo};
+
+use crate::literals::{clause, literal};
+use cdcl_trail::Trail;
+use cnf::{Clause, Db, Lit};
+use std::alloc::{AllocError, Global};
+use std::marker::Model;
+use std::test::*;
+
+/// How many variables the row has.
+const ROW: u64 = 10_000;
+
+/// Clauses, and a trail that takes them over.
+#[derive(Drop)]
+struct Session {
+    db: Db,
+    trail: Trail,
+}
+
+impl Model for Session {
+    ghost use Rattle.std.specs.Prelude.{List};
+    ghost use Rattle.proof_semantics.specs.declared.literals.Lit.{Lit};
+    ghost use Rattle.cdcl_trail.specs.Watched.{Extends};
+
+    ghost Value = { List (List Lit) };
+
+    ghost view = { λ s. s.db.clauses };
+
+    ghost invariant = { λ s. Extends s.trail.taken s.db.clauses };
+}
+
+impl Session {
+    fn new(alloc: Global) -> Session {
+        Session {
+            db: Db::new(alloc),
+            trail: Trail::new(alloc),
+        }
+    }
+
+    // The same clauses, and a new trail.
+    fn begin_anew(&mut self, alloc: Global) {
+        self.trail = Trail::new(alloc);
+    }
+
+    fn add(&mut self, clause: Clause) -> Result<(), AllocError> {
+        self.db.push(clause)?;
+        Ok(())
+    }
+
+    // Assumes a literal whose variable has no value.
+    fn assume(&mut self, number: i64) -> Result<(), AllocError> {
+        let assumed = literal(number);
+        if self.trail.value(assumed.var).is_none() {
+            self.trail.assume(assumed)?;
+        }
+        Ok(())
+    }
+
+    fn propagate(&mut self) -> Result<Option<u64>, AllocError> {
+        self.trail.propagate(&self.db)
+    }
+
+    // Goes back to a level that is below the present one.
+    fn back_to(&mut self, target: u64) {
+        if target < self.trail.level() {
+            self.trail.back_to(target);
+        }
+    }
+
+    // The level of a variable with a value.
+    fn level_of(&self, var: u64) -> Option<u64> {
+        self.trail.value(var)?;
+        Some(self.trail.level_of(var))
+    }
+
+    // The watched literals of a clause with two different literals, once propagation is done.
+    fn watched(&mut self, number: u64) -> Result<Option<(Lit, Lit)>, AllocError> {
+        self.trail.propagate(&self.db)?;
+        let Some(clause) = self.db.get(number) else {
+            return Ok(None);
+        };
+        if !has_two(clause.as_slice()) {
+            return Ok(None);
+        }
+        Ok(Some(self.trail.watched(number)))
+    }
+
+    // Whether propagation ends in a clause of which each literal is false.
+    fn ends_in_conflict(&mut self) -> Result<bool, AllocError> {
+        match self.trail.propagate(&self.db)? {
+            None => Ok(false),
+            Some(number) => Ok(self.is_falsified(number)),
+        }
+    }
+
+    // Whether each literal of a clause is false.
+    fn is_falsified(&self, number: u64) -> bool {
+        let Some(clause) = self.db.get(number) else {
+            return false;
+        };
+        for literal in clause.as_slice() {
+            if self.trail.value(literal.var) != Some(!literal.positive) {
+                return false;
+            }
+        }
+        true
+    }
+}
+
+// Whether the first two literals are different.
+fn has_two(clause: &[Lit]) -> bool
+    ensures { IsTrue result → HasTwo clause.now }
+{
+    match clause {
+        [first, second, ..] => !first.is(*second),
+        _ => false,
+    }
+}
+
+// That the first variable is true, and with each variable the one that comes after it.
+fn add_row(session: &mut Session, alloc: Global) -> Result<(), AllocError> {
+    session.add(clause(alloc, &[1])?)?;
+    for var in 1..ROW {
+        let mut made = Clause::new(alloc);
+        made.push(Lit {
+            var,
+            positive: false,
+        })?;
+        made.push(Lit {
+            var: var + 1,
+            positive: true,
+        })?;
+        session.add(made)?;
+    }
+    Ok(())
+}
+
+// The clauses (1), (-1 2), (-2 -3 4) and (3 5).
+fn four_clauses(alloc: Global) -> Result<Session, AllocError> {
+    let mut session = Session::new(alloc);
+    for numbers in [
+        [1i64].as_slice(),
+        [-1, 2].as_slice(),
+        [-2, -3, 4].as_slice(),
+        [3, 5].as_slice(),
+    ] {
+        session.add(clause(alloc, numbers)?)?;
+    }
+    Ok(session)
+}
+
+// Whether the literals are these, and nothing is known of variable 5.
+fn has_literals(trail: &Trail, numbers: &[i64]) -> bool {
+    let literals = trail.literals();
+    literals.len() == numbers.len()
+        && literals
+            .iter()
+            .zip(numbers)
+            .all(|(found, number)| found.is(literal(*number)))
+        && trail.value(5).is_none()
+}
+
+// Whether 3 is assumed on the first level, and 4 is forced there by the third clause.
+fn has_reasons(trail: &Trail) -> bool {
+    trail.reasons() == [Some(1), Some(2), None, Some(3)].as_slice()
+        && trail.level() == 1
+        && trail.reason(4) == Some(3)
+        && trail.reason(3).is_none()
+}
+
+// What is so of the four clauses when 3 is assumed, after the way back, and when -3 is assumed with
+// (-5 -1) beside them.
+fn one_way_and_the_other(alloc: Global) -> Result<[bool; 4], AllocError> {
+    let mut session = four_clauses(alloc)?;
+    let is_open = session.propagate()?.is_none();
+    session.assume(3)?;
+    let is_complete = session.propagate()?.is_none()
+        && has_literals(&session.trail, &[1, 2, 3, 4])
+        && session.level_of(2) == Some(0)
+        && session.level_of(4) == Some(1);
+    let is_reasoned = has_reasons(&session.trail);
+    session.back_to(0);
+    let is_back = has_literals(&session.trail, &[1, 2]);
+    session.add(clause(alloc, &[-5, -1])?)?;
+    session.assume(-3)?;
+    Ok([
+        is_open && is_complete,
+        is_reasoned,
+        is_back,
+        session.ends_in_conflict()?,
+    ])
+}
+
+#[test]
+fn assumed_and_forced(rt: HostRuntime) -> Result<(), Fail> {
+    assert_eq!(rt; one_way_and_the_other(rt.alloc())?, [true; 4]);
+    Ok(())
+}
+
+// Whether the false literal of (1 2 3) is watched no more, and the two others are.
+fn false_one_is_left(alloc: Global) -> Result<bool, AllocError> {
+    let mut session = Session::new(alloc);
+    session.add(clause(alloc, &[1, 2, 3])?)?;
+    session.assume(-1)?;
+    let Some((first, second)) = session.watched(1)? else {
+        return Ok(false);
+    };
+    Ok(first.var != 1 && second.var != 1 && first.var != second.var)
+}
+
+#[test]
+fn watches_move(rt: HostRuntime) -> Result<(), Fail> {
+    assert!(rt; false_one_is_left(rt.alloc())?);
+    Ok(())
+}
+
+// How many literals the row gives, and whether it ends in a conflict with the negation of its last.
+fn follow_row(alloc: Global) -> Result<(usize, bool), AllocError> {
+    let mut session = Session::new(alloc);
+    add_row(&mut session, alloc)?;
+    if session.propagate()?.is_some() {
+        return Ok((0, false));
+    }
+    let count = session.trail.literals().len();
+    session.begin_anew(alloc);
+    session.add(clause(alloc, &[-10_000])?)?;
+    Ok((count, session.ends_in_conflict()?))
+}
+
+#[test]
+fn a_long_row(rt: HostRuntime) -> Result<(), Fail> {
+    assert_eq!(rt; follow_row(rt.alloc())?, (ROW as usize, true));
+    Ok(())
+}

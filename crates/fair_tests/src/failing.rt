@@ -1,0 +1,315 @@
+//! Runs of each command in which one read or one write fails: each in turn, until none is left to fail.
+
+ghost use Rattle.std.specs.Prelude.{◌≤◌};
+
+use crate::certificates::{RISES, WALL};
+use crate::tests::{COUNTER, CYCLE, STUCK, TOGGLE, TWO_FROM_0, TWO_POSITIONS, USAGE, run_words};
+use std::alloc::Global;
+use std::sync::Wait;
+use std::test::Fail;
+use std::thread::Threads;
+
+/// The words, MODEL and ANSWER, how many of the two are read to their end, and the number and the text of a run without a
+/// failing call, or how its text begins.
+type Row = (
+    &'static [&'static str],
+    &'static str,
+    &'static str,
+    u64,
+    u8,
+    &'static str,
+);
+
+const ROWS: [Row; 18] = [
+    (&["fairlive", "solve", "m"], TOGGLE, "", 1, 0, TWO_POSITIONS),
+    (
+        &["fairlive", "solve", "m"],
+        STUCK,
+        "",
+        1,
+        0,
+        "0\nj0\nversion 2\n",
+    ),
+    (
+        &["fairlive", "solve", "m", "--workers", "4"],
+        COUNTER,
+        "",
+        1,
+        0,
+        "1\nj0\n00\n\n\n\n\n.\n",
+    ),
+    (
+        &["fairlive", "solve", "m", "--steps", "0"],
+        STUCK,
+        "",
+        1,
+        2,
+        "2\nj0\nc entries 0 of 10000\n",
+    ),
+    (
+        &["fairlive", "solve", "m", "--property", "1"],
+        TOGGLE,
+        "",
+        1,
+        8,
+        "no property 1\n",
+    ),
+    (
+        &["fairlive", "solve", "m"],
+        CYCLE,
+        "",
+        1,
+        3,
+        "model refused cycle 2\n",
+    ),
+    (
+        &["fairlive", "check", "m", "a"],
+        TOGGLE,
+        TWO_POSITIONS,
+        2,
+        0,
+        TWO_FROM_0,
+    ),
+    (
+        &["fairlive", "check", "m", "a"],
+        RISES,
+        WALL,
+        2,
+        0,
+        "accepted certificate j0 entries 1\n",
+    ),
+    (
+        &["fairlive", "check", "m", "a"],
+        STUCK,
+        "1\nj0\n0\n\n.\n",
+        2,
+        1,
+        "refused no fair loop\n",
+    ),
+    (
+        &["fairlive", "check", "m", "a"],
+        "aag\n",
+        TWO_POSITIONS,
+        1,
+        3,
+        "model refused header 0\n",
+    ),
+    (
+        &["fairlive", "wave", "m", "a"],
+        TOGGLE,
+        TWO_POSITIONS,
+        2,
+        0,
+        "$timescale 1ns $end\n",
+    ),
+    (
+        &["fairlive", "wave", "m", "a"],
+        RISES,
+        WALL,
+        2,
+        1,
+        "refused unknown status\n",
+    ),
+    (
+        &["fairlive", "wave", "m", "a"],
+        CYCLE,
+        TWO_POSITIONS,
+        1,
+        3,
+        "model refused cycle 2\n",
+    ),
+    (
+        &["fairlive", "gen", "ring", "0", "2"],
+        "",
+        "",
+        0,
+        0,
+        "aag 2 0 2 0 0 0 0 1\n2 4 1\n4 2\n2\n2\n4\n",
+    ),
+    (
+        &["fairlive", "gen", "scramble", "0", "1", "--binary"],
+        "",
+        "",
+        0,
+        0,
+        "aig 5 2 1 0 2 0 0 1 1\n5 6\n2\n8\n11\n0\n\x01\x07\x03\x01",
+    ),
+    (
+        &["fairlive", "demo", "1", "4"],
+        "",
+        "",
+        0,
+        0,
+        "demo scramble 1 4\nverdict 0\n",
+    ),
+    (
+        &["fairlive", "demo", "0", "4"],
+        "",
+        "",
+        0,
+        0,
+        "demo scramble 0 4\nverdict 1\n",
+    ),
+    (&["fairlive"], TOGGLE, TWO_POSITIONS, 0, 64, USAGE),
+];
+
+// How the run of a row ends where these calls fail: its number, how long its text is, and whether that is the front of
+// this one.
+fn cut_run<R: Threads + Wait + Sync>(
+    rt: &R,
+    alloc: Global,
+    row: &Row,
+    most: u64,
+    reads: &[u64],
+    writes: &[u64],
+    whole: &[u8],
+) -> Result<(u8, u64, bool), Fail>
+    requires { 1 ≤ most }
+{
+    let (words, model, answer, _, _, _) = row;
+    let ran = run_words(
+        rt,
+        alloc,
+        words,
+        model.as_bytes(),
+        answer,
+        most,
+        reads,
+        writes,
+    )?;
+    Ok((
+        ran.status.number(),
+        ran.text.len() as u64,
+        whole.starts_with(ran.text.as_slice()),
+    ))
+}
+
+// The text of a run without a failing call; an empty one where it does not begin or end as the row says.
+fn whole_text<R: Threads + Wait + Sync>(rt: &R, alloc: Global, row: &Row) -> Result<Vec<u8>, Fail> {
+    let (words, model, answer, _, number, text) = row;
+    let ran = run_words(rt, alloc, words, model.as_bytes(), answer, 1000, &[], &[])?;
+    if ran.status.number() == *number && ran.text.as_slice().starts_with(text.as_bytes()) {
+        Ok(ran.text)
+    } else {
+        Ok(Vec::new(alloc))
+    }
+}
+
+// How many reads a run makes: each that fails in turn ends it without a text, until none fails and it ends as without. None
+// where a run ends otherwise.
+fn reads_of<R: Threads + Wait + Sync>(
+    rt: &R,
+    alloc: Global,
+    row: &Row,
+    most: u64,
+    whole: &[u8],
+) -> Result<Option<u64>, Fail>
+    requires { 1 ≤ most }
+{
+    for k in 1..1000 {
+        let ended = cut_run(rt, alloc, row, most, &[k], &[], whole)?;
+        if ended == (row.4, whole.len() as u64, true) {
+            return Ok(Some(k - 1));
+        }
+        if ended != (4, 0, true) {
+            return Ok(None);
+        }
+    }
+    Ok(None)
+}
+
+// Whether each write that fails in turn leaves what was written before it, until the whole text is written and the run ends
+// as without.
+fn is_cut_by_writes<R: Threads + Wait + Sync>(
+    rt: &R,
+    alloc: Global,
+    row: &Row,
+    most: u64,
+    whole: &[u8],
+) -> Result<bool, Fail>
+    requires { 1 ≤ most }
+{
+    let len = whole.len() as u64;
+    let mut before: u64 = 0;
+    for k in 1..1000 {
+        let ended = cut_run(rt, alloc, row, most, &[], &[k], whole)?;
+        if before >= len {
+            return Ok(ended == (row.4, len, true));
+        }
+        if ended != (5, before, true) {
+            return Ok(false);
+        }
+        before = before.saturating_add(most);
+    }
+    Ok(false)
+}
+
+// How many calls read a text of so many bytes, and then its end.
+fn calls(len: usize, most: u64) -> u64
+    requires { 1 ≤ most }
+{
+    let len = len as u64;
+    let pieces = len / most;
+    if pieces.saturating_mul(most) < len {
+        pieces.saturating_add(2)
+    } else {
+        pieces.saturating_add(1)
+    }
+}
+
+// How many calls read the texts that the row says.
+fn calls_of(row: &Row, most: u64) -> u64
+    requires { 1 ≤ most }
+{
+    let (_, model, answer, read, _, _) = row;
+    match *read {
+        0 => 0,
+        1 => calls(model.len(), most),
+        _ => calls(model.len(), most).saturating_add(calls(answer.len(), most)),
+    }
+}
+
+// Whether a run is cut by each read and by each write of so many bytes, and reads no more than it has to.
+fn is_cut_by_each<R: Threads + Wait + Sync>(
+    rt: &R,
+    alloc: Global,
+    row: &Row,
+    most: u64,
+) -> Result<bool, Fail>
+    requires { 1 ≤ most }
+{
+    let whole = whole_text(rt, alloc, row)?;
+    let reads = reads_of(rt, alloc, row, most, &whole)?;
+    Ok(
+        !whole.is_empty()
+            && reads == Some(calls_of(row, most))
+            && is_cut_by_writes(rt, alloc, row, most, &whole)?,
+    )
+}
+
+// The place of the first row that ends otherwise, from 0.
+fn wrong_row<R: Threads + Wait + Sync>(
+    rt: &R,
+    alloc: Global,
+    most: u64,
+) -> Result<Option<usize>, Fail>
+    requires { 1 ≤ most }
+{
+    for (k, row) in ROWS.iter().enumerate() {
+        if !is_cut_by_each(rt, alloc, row, most)? {
+            return Ok(Some(k));
+        }
+    }
+    Ok(None)
+}
+
+/// Each read failing in turn ends a run without a text, and each write failing in turn leaves exactly what was written before
+/// it, at three sizes of what a call takes.
+#[test]
+fn failing_calls(rt: HostRuntime) -> Result<(), Fail> {
+    for most in [1, 3, 1000] {
+        let wrong = wrong_row(&rt, rt.alloc(), most)?;
+        assert_eq!(rt; wrong, None, "{most}");
+    }
+    Ok(())
+}

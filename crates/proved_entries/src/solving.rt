@@ -1,0 +1,98 @@
+//! Proofs of entries by a solver. The main call is `proofs_of`.
+
+use crate::ends::ProvingEnd;
+use cdcl::{Refuted, Solver, are_sized};
+use circuit::Circuit;
+use cnf::{Clause, Proof};
+use cnf_unroll::{Used, broken, shared};
+use edge::Meter;
+use entry::{Checked, Listed, Use};
+use items::Items;
+use std::alloc::{AllocError, Global};
+use std::sync::Arc;
+
+// No limit of conflicts.
+const NO_LIMIT: u64 = 4_294_967_295;
+
+fn lent(number: u32, checked: &Arc<Checked>) -> Used<'_> {
+    let listed = checked.listed();
+    Used {
+        number,
+        kind: listed.kind,
+        set: &listed.set,
+        uses: listed.uses.as_slice(),
+    }
+}
+
+// The entries that these uses name, as clauses take them.
+fn lend<'a>(
+    alloc: Global,
+    view: &'a [Arc<Checked>],
+    uses: &[Use],
+) -> Result<Items<Used<'a>>, AllocError> {
+    let mut found = Items::new(alloc);
+    for u in uses {
+        match view.get(u.entry as usize) {
+            Some(checked) => found.push(lent(u.entry, checked))?,
+            None => {}
+        }
+    }
+    Ok(found)
+}
+
+fn add_clause(solver: &mut Solver, clause: Clause) -> Result<(), AllocError> {
+    if !are_sized(clause.as_slice()) {
+        return Err(AllocError);
+    }
+    solver.add(clause)
+}
+
+// A solver of what the obligations of an entry share.
+fn solver_of(
+    alloc: Global,
+    c: &Circuit,
+    view: &[Arc<Checked>],
+    entry: &Listed,
+) -> Result<Solver, AllocError> {
+    let uses = entry.uses.as_slice();
+    let used = lend(alloc, view, uses)?;
+    let begun = shared(alloc, c, used.as_slice(), uses, &entry.set)?;
+    let mut solver = Solver::new(alloc)?;
+    for clause in begun.clauses.into_vec() {
+        add_clause(&mut solver, clause)?;
+    }
+    Ok(solver)
+}
+
+// A proof that no step breaks the clause, if there is one.
+fn clause_proof(
+    alloc: Global,
+    c: &Circuit,
+    solver: &mut Solver,
+    clause: &Clause,
+) -> Result<Proof, ProvingEnd> {
+    let literals = broken(alloc, c, clause)?;
+    if !are_sized(literals.as_slice()) {
+        return Err(ProvingEnd::Refused);
+    }
+    let mut meter = Meter::new(NO_LIMIT, 0);
+    match solver.refute(alloc, literals.as_slice(), &mut meter)? {
+        Refuted::Unsat(proof) => Ok(proof),
+        Refuted::Sat(_) => Err(ProvingEnd::Refused),
+    }
+}
+
+/// A proof for each clause of an entry behind those of the view. `Refused` where a step that its uses allow leaves its set.
+pub(crate) fn proofs_of(
+    alloc: Global,
+    c: &Circuit,
+    view: &[Arc<Checked>],
+    entry: &Listed,
+) -> Result<Items<Proof>, ProvingEnd> {
+    let mut solver = solver_of(alloc, c, view, entry)?;
+    let mut proofs = Items::new(alloc);
+    for clause in entry.set.as_slice() {
+        proofs.push(clause_proof(alloc, c, &mut solver, clause)?)?;
+    }
+    Ok(proofs)
+}
