@@ -22,7 +22,7 @@ TOP = os.path.dirname(os.path.dirname(os.path.abspath(__file__)))
 FAIRLIVE = os.path.join(TOP, "fairlive")
 # the program itself, without the script before it that looks for sources that are newer
 PROGRAM = os.path.join(TOP, "crates", "fair_main", "out", "fair_main")
-EXAMPLES = ("toggle", "counter", "arbiter", "bus_priority")
+EXAMPLES = ("toggle", "counter", "arbiter_starves", "bus_priority")
 
 TOGGLE = b"aag 1 0 1 0 0 0 0 1\n2 3\n1\n2\n"
 TOGGLE_ANSWER = b"1\nj0\n0\n\n\n.\n"
