@@ -4,3 +4,4 @@ pub mod WalkLaws
 pub mod TraceLaws
 pub mod LiteralTraceLaws
 pub mod MarkLaws
+pub mod LastLaws

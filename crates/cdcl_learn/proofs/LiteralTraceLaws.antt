@@ -1,5 +1,5 @@
 -- Laws of the walk back from a false literal: the trail before its negation came, and the literal assumed behind.
-use Rattle.std.proofs.Common.{◌≡◌, ℕ, zero, suc, ◌+◌, ◌<◌, ◌≤◌, Bool, true, false, ◌&&◌, List, [], ◌∷◌, ◌++◌, length, get_or, take, drop, Option, Some, None, refl, ap, sym, subst, ◌∙◌, ◌⊎◌, inl, inr, arith, append_assoc, eqb, eqb-true}
+use Rattle.std.proofs.Common.{◌≡◌, ℕ, zero, suc, ◌+◌, ◌<◌, ◌≤◌, Bool, true, false, ◌&&◌, List, [], ◌∷◌, ◌++◌, length, take, Option, Some, None, refl, ap, sym, subst, ◌∙◌, ◌⊎◌, inl, inr, arith, append_assoc, eqb, eqb-true}
 use Rattle.std.specs.Prelude.{is_none, slice_get, Result, Ok, Err, IfOk}
 use Rattle.std.specs.List.{list_any}
 use Rattle.std.specs.Option.{option_map, option_flatten, unwrap_or}
@@ -206,6 +206,37 @@ true_stands steps a e =
 pub false_stands : (steps : List Step) (a : Lit) → is_false steps a ≡ true → Has (literals_of steps) (negation a)
 false_stands steps a e = true_stands steps (negation a) e
 
+step_place : (steps : List Step) (v : ℕ) (x : Step) → step_of steps v ≡ Some x → (p : ℕ) × (place_in (literals_of steps) v ≡ Some p) × (slice_get (literals_of steps) p ≡ Some x.literal)
+step_place [] v x e = absurd (none-some x e)
+step_place (y ∷ steps) v x e =
+    elim (either (eqb y.literal.var v)) [
+      | inl same ↦ (
+        0,
+        cond-true (eqb y.literal.var v) (Some 0) (option_map (λ place. place + 1) (place_in (literals_of steps) v)) same,
+        ap (λ (s : Step). Some s.literal) (same_Some y x (sym (cond-true (eqb y.literal.var v) (Some y) (step_of steps v) same) ∙ e)),
+      )
+      | inr differs ↦
+          let later = step_place steps v x (sym (cond-false (eqb y.literal.var v) (Some y) (step_of steps v) differs) ∙ e) in (
+            suc later.0,
+            cond-false (eqb y.literal.var v) (Some 0) (option_map (λ place. place + 1) (place_in (literals_of steps) v)) differs
+                ∙ ap (option_map (λ place. place + 1)) later.1 ∙ ap Some (one_more_is later.0),
+            later.2,
+          )
+    ]
+  where
+    one_more_is : (i : ℕ) → i + 1 ≡ suc i
+    one_more_is i = omega arith
+
+-- where a literal is false, its negation stands at the place that is told of its variable
+pub stands_told : (steps : List Step) (a : Lit) (place : ℕ) (told : Option ℕ) → place ≡ unwrap_or told 0 → told ≡ place_in (literals_of steps) a.var
+    → is_false steps a ≡ true → slice_get (literals_of steps) place ≡ Some (negation a)
+stands_told steps a place told is told_is e =
+    let found = valued_step (step_of steps a.var) (negation a).positive e in
+    let x = found.0 in
+    let stands = step_found steps a.var x found.1 in
+    let at = step_place steps a.var x found.1 in
+    ap (slice_get (literals_of steps)) (is ∙ ap (λ o. unwrap_or o 0) (told_is ∙ at.1)) ∙ at.2 ∙ ap Some (same_lit x.literal (negation a) stands.0 found.2)
+
 -- a trail is made of its literals and reasons
 pub steps_own : (steps : List Step) → steps_from (literals_of steps) (reasons_in steps) ≡ steps
 steps_own [] = refl
@@ -214,27 +245,6 @@ steps_own (x ∷ steps) = ap (λ xs. x ∷ xs) (steps_own steps)
 pub beside_own : (steps : List Step) → length (reasons_in steps) ≡ length (literals_of steps)
 beside_own [] = refl
 beside_own (x ∷ steps) = ap suc (beside_own steps)
-
--- The literals from a place on.
-
-pub has_behind : (lits : List Lit) (i : ℕ) (a d : Lit) → i < length lits → lit_eq a (get_or lits i d) ≡ false → Has (drop i lits) a → Has (drop (i + 1) lits) a
-has_behind [] i a d below other has = absurd (omega (arith, below))
-has_behind (x ∷ lits) zero a d below other has =
-    elim (or_cases (lit_eq a x) (has_literal lits a) has) [
-      | inl here ↦ absurd (false≢true (sym other ∙ here))
-      | inr later ↦ later
-    ]
-has_behind (x ∷ lits) (suc i) a d below other has =
-    ap (λ n. has_literal (drop n (x ∷ lits)) a) (one_more_is i) ∙ has_behind lits i a d (omega (arith, below)) other has
-  where
-    one_more_is : (i : ℕ) → suc i + 1 ≡ suc (i + 1)
-    one_more_is i = omega arith
-
-pub none_behind : (lits : List Lit) (i : ℕ) (a : Lit) → length lits ≤ i → Has (drop i lits) a → ⊥
-none_behind [] zero a past has = false≢true has
-none_behind [] (suc i) a past has = false≢true has
-none_behind (x ∷ lits) zero a past has = omega (arith, past)
-none_behind (x ∷ lits) (suc i) a past has = none_behind lits i a (omega (arith, past)) has
 
 pub place_within : (steps : List Step) (literals : List Lit) (place : ℕ) (u : Lit) → literals ≡ literals_of steps → slice_get literals place ≡ Some u
     → (place ≤ length literals) × (place ≤ length (reasons_in steps))

@@ -235,6 +235,33 @@ marked_takes marks lits i clause later below same has is comes =
     ∙ sym (marked_more marks lits i below same
     ∙ cond-true (get_or marks i false) (marked (take i marks) (take i lits) ++ negation (get_or lits i no_literal) ∷ []) (marked (take i marks) (take i lits)) has)
 
+-- places without a mark
+
+blank_front : (k : ℕ) (marks : List Bool) (lits : List Lit) → list_any (λ m. m) (take k marks) ≡ false → marked (take k marks) (take k lits) ≡ []
+blank_front zero marks lits e = refl
+blank_front (suc k) [] lits e = refl
+blank_front (suc k) (true ∷ marks) [] e = refl
+blank_front (suc k) (false ∷ marks) [] e = refl
+blank_front (suc k) (true ∷ marks) (a ∷ lits) e = absurd (false≢true (sym e))
+blank_front (suc k) (false ∷ marks) (a ∷ lits) e = blank_front k marks lits e
+
+blank_more : (p k q : ℕ) (marks : List Bool) (lits : List Lit) → q ≡ p + k → list_any (λ m. m) (take k (drop p marks)) ≡ false
+    → marked (take q marks) (take q lits) ≡ marked (take p marks) (take p lits)
+blank_more zero k q marks lits at e =
+    let same : q ≡ k = omega (arith, at) in
+    ap (λ n. marked (take n marks) (take n lits)) same ∙ blank_front k marks lits e
+blank_more (suc p) k zero marks lits at e = absurd (omega (arith, at))
+blank_more (suc p) k (suc q) [] lits at e = refl
+blank_more (suc p) k (suc q) (true ∷ marks) [] at e = refl
+blank_more (suc p) k (suc q) (false ∷ marks) [] at e = refl
+blank_more (suc p) k (suc q) (true ∷ marks) (a ∷ lits) at e = ap (λ xs. negation a ∷ xs) (blank_more p k q marks lits (omega (arith, at)) e)
+blank_more (suc p) k (suc q) (false ∷ marks) (a ∷ lits) at e = blank_more p k q marks lits (omega (arith, at)) e
+
+pub marked_past : (marks seen : List Bool) (lits clause : List Lit) (start end : ℕ) (found : Bool) → start ≤ end → seen ≡ take (end - start) (drop start marks)
+    → found ≡ list_any (λ m. m) seen → found ≡ false → clause ≡ marked (take start marks) (take start lits) → clause ≡ marked (take end marks) (take end lits)
+marked_past marks seen lits clause start end found before at told lacks is =
+    is ∙ sym (blank_more start (end - start) end marks lits (omega (arith, before)) (ap (list_any (λ m. m)) (sym at) ∙ sym told ∙ lacks))
+
 pub marked_whole : (marks : List Bool) (lits : List Lit) (i : ℕ) → length lits ≤ i → length marks ≡ length lits → marked (take i marks) (take i lits) ≡ marked marks lits
 marked_whole marks lits i past same =
     ap (λ ms. marked ms (take i lits)) (take_all i marks (omega (arith, past, same))) ∙ ap (marked marks) (take_all i lits past)

@@ -19,7 +19,7 @@ use Rattle.cdcl_trail.proofs.TrailLaws.{either, not-true, or_neither, or_both}
 use Rattle.cdcl_trail.proofs.ScanLaws.{all_has, any_gives, any_has, no_value, untrue, unvalued_test}
 use Rattle.cdcl_trail.proofs.PassLaws.{step_comes, no_step, complete_at, held_at}
 use Rattle.cdcl_trail.proofs.PrefixLaws.{all_from, not_all_gives, step_more, false_more, true_more, none_before, false_before}
-use Rattle.cdcl_learn.specs.Walking.{IsLastAssumed, IsResolvent, Explains, IsOnTheWay, IsAtPoint, IsLearned}
+use Rattle.cdcl_learn.specs.Walking.{IsLastAssumed, IsResolvent, Explains, IsConflictCut, IsAtPoint, IsLearned}
 use Rattle.cdcl_learn.proofs.ExplainLaws.{explains_conflict, explains_resolvent, explained_ends}
 
 abbrev Has : List Lit → Lit → Type 0
@@ -90,7 +90,7 @@ pub start_way : (clauses : List (List Lit)) (steps : List Step) (start place num
     → clause_numbered clauses number ≡ Some held → is_falsified steps held ≡ true → length steps ≤ place
     → is_complete clauses (lower_steps steps) ≡ true → lower_steps steps ≡ take start steps
     → ((a : Lit) → has_literal clause a ≡ has_literal held a) → hints ≡ number ∷ []
-    → IsOnTheWay clauses steps start place clause (reverse hints)
+    → IsConflictCut clauses steps start place clause (reverse hints)
 start_way clauses steps start place number held clause hints is falsified past complete lower same one =
     let some = not_all_gives (is_false (take start steps)) held
     (ap (λ xs. is_falsified xs held) (sym lower) ∙ complete_at clauses (number - 1) (lower_steps steps) held (held_at clauses number held is) complete) in
@@ -107,7 +107,7 @@ step_in steps i d below = take_more steps i d below
 
 pub way_on : (clauses : List (List Lit)) (steps : List Step) (start i : ℕ) (d : Step) (clause : List Lit) (hints : List ℕ) → i < length steps
     → has_literal clause (negation (get_or steps i d).literal) ≡ false
-    → IsOnTheWay clauses steps start (i + 1) clause hints → IsOnTheWay clauses steps start i clause hints
+    → IsConflictCut clauses steps start (i + 1) clause hints → IsConflictCut clauses steps start i clause hints
 way_on clauses steps start i d clause hints below lacks way = record {
   within = λ a has.
       false_before (take i steps) (get_or steps i d) a (ap (λ xs. is_false xs a) (sym (step_in steps i d below)) ∙ way.within a has)
@@ -200,7 +200,7 @@ found_between clauses steps start i f reasoned below any =
 pub way_ends : (clauses : List (List Lit)) (steps : List Step) (start i : ℕ) (d : Step) (clause : List Lit) (hints : List ℕ) → IsFreshTrail clauses steps
     → start ≤ i → i < length steps → Has clause (negation (get_or steps i d).literal)
     → list_any (λ l. has_literal clause (negation l)) (take (i - start) (drop start (literals_of steps))) ≡ false
-    → IsOnTheWay clauses steps start (i + 1) clause hints → IsAtPoint clauses steps start clause hints
+    → IsConflictCut clauses steps start (i + 1) clause hints → IsAtPoint clauses steps start clause hints
 way_ends clauses steps start i d clause hints reasoned above below has none way =
     let u = (get_or steps i d).literal in
     record {
@@ -273,7 +273,7 @@ pub way_resolves : (clauses : List (List Lit)) (steps : List Step) (start i : �
     → (get_or steps i d).reason ≡ Some number → clause_numbered clauses number ≡ Some reason → is_unit_for (take i steps) reason (get_or steps i d).literal ≡ true
     → list_any (λ l. has_literal clause (negation l)) (take (i - start) (drop start (literals_of steps))) ≡ true
     → IsResolvent clause (get_or steps i d).literal reason more
-    → IsOnTheWay clauses steps start (i + 1) clause hints → IsOnTheWay clauses steps start i more (number ∷ hints)
+    → IsConflictCut clauses steps start (i + 1) clause hints → IsConflictCut clauses steps start i more (number ∷ hints)
 way_resolves clauses steps start i d clause more reason hints number reasoned above below has_reason held unit any resolvent way =
     let s = get_or steps i d in
     let u = s.literal in
@@ -359,7 +359,7 @@ point_resolves clauses steps start i d clause more reason hints number reasoned 
 
 -- The walk can't go past the start of the level.
 pub way_over : {P : Type 0} (clauses : List (List Lit)) (steps : List Step) (start place : ℕ) (clause : List Lit) (hints : List ℕ) → place ≡ start
-    → IsOnTheWay clauses steps start place clause hints → P
+    → IsConflictCut clauses steps start place clause hints → P
 way_over clauses steps start place clause hints same way =
     absurd (false≢true (sym way.above.2 ∙ ap (λ n. is_false (take n steps) way.above.0) (sym same) ∙ way.within way.above.0 way.above.1))
 
@@ -450,25 +450,25 @@ reads steps literals start p same after within =
 pub code_on : (clauses : List (List Lit)) (steps : List Step) (start p : ℕ) (clause : List Lit) (hints : List ℕ) (literals : List Lit) (negated : Lit) (contained : Bool)
     → literals ≡ literals_of steps → start < p → p ≤ length literals → negated ≡ negation (get_or literals (p - 1) no_literal)
     → contained ≡ has_literal clause negated → contained ≡ false
-    → IsOnTheWay clauses steps start p clause hints → IsOnTheWay clauses steps start (p - 1) clause hints
+    → IsConflictCut clauses steps start p clause hints → IsConflictCut clauses steps start (p - 1) clause hints
 code_on clauses steps start p clause hints literals negated contained same after within negates told lacks way =
     let r = reads steps literals start p same after within in
     way_on clauses steps start (p - 1) no_step_there clause hints r.below
     (ap (has_literal clause) (sym (negates ∙ ap negation r.literal)) ∙ sym told ∙ lacks)
-    (subst (λ n. IsOnTheWay clauses steps start n clause hints) (sym r.next) way)
+    (subst (λ n. IsConflictCut clauses steps start n clause hints) (sym r.next) way)
 
 pub code_ends : (clauses : List (List Lit)) (steps : List Step) (start p : ℕ) (clause : List Lit) (hints : List ℕ) (literals : List Lit) (negated : Lit) (contained others : Bool)
     → literals ≡ literals_of steps → start < p → p ≤ length literals → negated ≡ negation (get_or literals (p - 1) no_literal)
     → contained ≡ has_literal clause negated → contained ≡ true
     → others ≡ list_any (λ l. has_literal clause (negation l)) (take (p - 1 - start) (drop start literals)) → others ≡ false
     → IsFreshTrail clauses steps
-    → IsOnTheWay clauses steps start p clause hints → IsAtPoint clauses steps start clause hints
+    → IsConflictCut clauses steps start p clause hints → IsAtPoint clauses steps start clause hints
 code_ends clauses steps start p clause hints literals negated contained others same after within negates told has told_others none reasoned way =
     let r = reads steps literals start p same after within in
     way_ends clauses steps start (p - 1) no_step_there clause hints reasoned (omega (arith, after)) r.below
     (ap (has_literal clause) (sym (negates ∙ ap negation r.literal)) ∙ sym told ∙ has)
     (ap (λ ls. list_any (λ l. has_literal clause (negation l)) (take (p - 1 - start) (drop start ls))) (sym same) ∙ sym told_others ∙ none)
-    (subst (λ n. IsOnTheWay clauses steps start n clause hints) (sym r.next) way)
+    (subst (λ n. IsConflictCut clauses steps start n clause hints) (sym r.next) way)
 
 -- the reason that the code reads is that of the step
 pub record ReadsReason (clauses : List (List Lit)) (steps : List Step) (p number : ℕ) : Type 0 where
@@ -505,17 +505,17 @@ pub code_resolves : (clauses : List (List Lit)) (steps : List Step) (start p : �
     → others ≡ list_any (λ l. has_literal clause (negation l)) (take (p - 1 - start) (drop start literals)) → others ≡ true
     → IsFreshTrail clauses steps → seen ≡ clause → IsResolvent seen (get_or literals (p - 1) no_literal) reason more
     → longer ≡ hints ++ number ∷ []
-    → IsOnTheWay clauses steps start p clause (reverse hints) → IsOnTheWay clauses steps start (p - 1) more (reverse longer)
+    → IsConflictCut clauses steps start p clause (reverse hints) → IsConflictCut clauses steps start (p - 1) more (reverse longer)
 code_resolves clauses steps start p clause seen more reason hints longer literals reasons number others same same_reasons after within read held told_others any reasoned sees resolvent pushed way =
     let r = reads steps literals start p same after within in
     let q = reads_reason clauses steps literals reasons start p number same same_reasons after within read reasoned in
     let one : q.clause ≡ reason = same_Some q.clause reason (sym q.held ∙ held) in
-    subst (λ h. IsOnTheWay clauses steps start (p - 1) more h) (sym (ap reverse pushed ∙ reverse-append hints (number ∷ [])))
+    subst (λ h. IsConflictCut clauses steps start (p - 1) more h) (sym (ap reverse pushed ∙ reverse-append hints (number ∷ [])))
     (way_resolves clauses steps start (p - 1) no_step_there clause more reason (reverse hints) number reasoned (omega (arith, after)) r.below
     q.reason held (ap (λ c. is_unit_for (take (p - 1) steps) c (get_or steps (p - 1) no_step_there).literal) (sym one) ∙ q.left)
     (ap (λ ls. list_any (λ l. has_literal clause (negation l)) (take (p - 1 - start) (drop start ls))) (sym same) ∙ sym told_others ∙ any)
     (subst (λ u. IsResolvent clause u reason more) r.literal (subst (λ c. IsResolvent c (get_or literals (p - 1) no_literal) reason more) sees resolvent))
-    (subst (λ n. IsOnTheWay clauses steps start n clause (reverse hints)) (sym r.next) way))
+    (subst (λ n. IsConflictCut clauses steps start n clause (reverse hints)) (sym r.next) way))
 
 -- a literal of a lower level is resolved, as the code does it
 pub code_minimises : (clauses : List (List Lit)) (steps : List Step) (start place : ℕ) (clause more reason : List Lit) (hints longer : List ℕ) (literals : List Lit)

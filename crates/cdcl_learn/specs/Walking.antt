@@ -1,9 +1,10 @@
 -- Scaffolding of inner functions. The way back over a trail, from its last literal to the one that opened the last level.
-use Rattle.std.specs.Prelude.{◌≡◌, ℕ, zero, suc, ◌+◌, ◌<◌, Bool, true, false, not, ◌&&◌, ◌||◌, ◌==◌, if◌then◌else◌, slice_index_or, List, [], ◌∷◌, length, take, drop, Option, Some, None, is_some, slice_get, map, ◌⊎◌}
+use Rattle.std.specs.Prelude.{◌≡◌, ℕ, zero, suc, ◌+◌, ◌<◌, Bool, true, false, not, ◌&&◌, ◌||◌, ◌==◌, if◌then◌else◌, slice_index_or, List, [], ◌∷◌, ◌++◌, length, take, drop, Option, Some, None, is_some, slice_get, map, ◌⊎◌}
 use Rattle.std.specs.List.{list_all}
 use Rattle.proof_semantics.specs.Clauses.{lit_eq, negation, has_literal}
 use Rattle.proof_semantics.specs.Propagation.{hints_fault}
 use Rattle.proof_semantics.specs.declared.literals.Lit.{Lit}
+use Rattle.cdcl_trail.specs.AssignmentOf.{steps_from}
 use Rattle.cdcl_trail.specs.Trails.{Step, value_of, lower_steps}
 use Rattle.cdcl_learn.specs.Learning.{is_assumed}
 use Rattle.cdcl_trail.specs.Propagation.{is_true, is_false, is_falsified, is_unit}
@@ -27,9 +28,9 @@ pub record Explains (clauses : List (List Lit)) (steps : List Step) (clause : Li
       → ((a : Lit) → has_literal clause a ≡ true → has_literal assumed (negation a) ≡ true)
       → hints_fault (clause_numbered clauses) assumed hints ≡ None
 
--- What holds on the way, where the places from `place` on are behind: the clause is false by what comes before, it is
--- not false on the lower levels alone, and the hints explain it.
-pub record IsOnTheWay (clauses : List (List Lit)) (steps : List Step) (start place : ℕ) (clause : List Lit) (hints : List ℕ) : Type 0 where
+-- What holds of a cut of the implication graph, with the places from `place` on behind it: the clause is false by what
+-- comes before, it is not false on the lower levels alone, and the hints explain it.
+pub record IsConflictCut (clauses : List (List Lit)) (steps : List Step) (start place : ℕ) (clause : List Lit) (hints : List ℕ) : Type 0 where
   pub within : (a : Lit) → has_literal clause a ≡ true → is_false (take place steps) a ≡ true
   pub above : (a : Lit) × (has_literal clause a ≡ true) × (is_false (take start steps) a ≡ false)
   pub explained : Explains clauses steps clause hints
@@ -87,3 +88,17 @@ abbrev pub counts_at : ℕ → ℕ → ℕ
 counts_at zero place = 1
 counts_at (suc start) zero = 0
 counts_at (suc start) (suc place) = counts_at start place
+
+-- literals, and maybe one behind them
+abbrev pub with_last : List Lit → Option Lit → List Lit
+with_last lits None = lits
+with_last lits (Some a) = lits ++ a ∷ []
+
+-- their reasons, where the one behind them has none
+abbrev pub reasons_with : List (Option ℕ) → Option Lit → List (Option ℕ)
+reasons_with reasons None = reasons
+reasons_with reasons (Some a) = reasons ++ None ∷ []
+
+-- the steps, where the last is assumed
+abbrev pub steps_with : List Lit → List (Option ℕ) → Option Lit → List Step
+steps_with lits reasons last = steps_from (with_last lits last) (reasons_with reasons last)

@@ -5,7 +5,7 @@ ghost use Rattle.std.specs.Prelude.{◌<◌, IfSome};
 
 use crate::learning::Resolvent;
 use crate::marking::Marks;
-use cdcl_trail::{Table, Trail};
+use cdcl_trail::{Places, Trail};
 use cnf::{Clause, Lit, Var};
 use std::alloc::{AllocError, Global};
 use std::collections::BinaryHeap;
@@ -30,7 +30,7 @@ impl Implied {
         alloc: Global,
         clauses: &[Clause],
         trail: &Trail,
-        table: &Table<usize>,
+        table: &Places<'_>,
         start: usize,
         resolvent: &Resolvent,
     ) -> Result<Implied, AllocError> {
@@ -53,7 +53,7 @@ impl Implied {
     pub(crate) fn ask(
         &mut self,
         trail: &Trail,
-        table: &Table<usize>,
+        table: &Places<'_>,
         marks: &Marks,
         clause: &[Lit],
     ) -> Result<(), AllocError> {
@@ -88,7 +88,7 @@ impl Implied {
         &mut self,
         clauses: &[Clause],
         trail: &Trail,
-        table: &Table<usize>,
+        table: &Places<'_>,
         marks: &Marks,
         place: usize,
     ) -> Result<bool, AllocError> {
@@ -118,7 +118,7 @@ impl Implied {
     fn opens(
         &mut self,
         trail: &Trail,
-        table: &Table<usize>,
+        table: &Places<'_>,
         marks: &Marks,
         place: usize,
         reason: &[Lit],

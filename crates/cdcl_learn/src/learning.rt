@@ -4,7 +4,7 @@ ghost use Rattle.std.specs.List.{list_any};
 ghost use Rattle.proof_semantics.specs.Clauses.{negation, is_subsumed};
 ghost use Rattle.proof_semantics.specs.Propagation.{hints_fault};
 ghost use Rattle.cdcl_trail.specs.AssignmentOf.{place_in};
-ghost use Rattle.cdcl_trail.specs.Tables.{told};
+ghost use Rattle.cdcl_trail.specs.Places.{told};
 ghost use Rattle.cdcl_trail.specs.Trails.{level, literals_of, lower_steps, reasons_in};
 ghost use Rattle.cdcl_trail.specs.Propagation.{is_complete, is_falsified, is_unit, IsConflict, IsReasonedTrail};
 ghost use Rattle.cnf.specs.Clauses.{clause_numbered};
@@ -13,7 +13,7 @@ ghost use Rattle.cdcl_learn.specs.Walking.{IsAtPoint, IsLastAssumed, IsLearned, 
 use crate::marking::Marks;
 use crate::minimising::minimise;
 use crate::numbered::clause_at;
-use cdcl_trail::{Table, Trail};
+use cdcl_trail::{Places, Trail};
 use cnf::{Clause, Db};
 use items::Items;
 use std::alloc::{AllocError, Global};
@@ -72,8 +72,8 @@ fn walk(
     let literals = trail.literals();
     let table = trail.places();
     let start = last_assumed(trail.reasons());
-    let mut resolvent = to_point(alloc, clauses, trail, table, start, conflict)?;
-    minimise(alloc, clauses, trail, table, start, &mut resolvent)?;
+    let mut resolvent = to_point(alloc, clauses, trail, &table, start, conflict)?;
+    minimise(alloc, clauses, trail, &table, start, &mut resolvent)?;
     let clause = resolvent.marks.clause_of(alloc, literals)?;
     Ok(in_order(clause, resolvent.hints))
 }
@@ -84,7 +84,7 @@ fn to_point(
     alloc: Global,
     clauses: &[Clause],
     trail: &Trail,
-    table: &Table<usize>,
+    table: &Places<'_>,
     start: usize,
     conflict: u64,
 ) -> Result<Resolvent, AllocError>

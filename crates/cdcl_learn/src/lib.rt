@@ -13,8 +13,9 @@ mod learning;
 mod marking;
 mod minimising;
 mod numbered;
+mod placing;
 mod tracing;
 
 pub use learning::{Learned, learn};
-pub use marking::places_of;
+pub use placing::places_of;
 pub use tracing::{trace, trace_literal};

@@ -1,28 +1,16 @@
 //! Marks of the literals of a trail whose negations a clause has. The main type is `Marks`.
-ghost use Rattle.std.specs.Prelude.{◌≡◌, ◌<◌, ◌+◌, ◌||◌, ℕ, IfOk, IsTrue, length, replicate, slice_set, false, true};
+ghost use Rattle.std.specs.Prelude.{◌≡◌, ◌≤◌, ◌<◌, ◌+◌, ◌||◌, ℕ, IfOk, OnOk, length, replicate, slice_set, take, false, true};
 ghost use Rattle.std.specs.List.{list_any};
-ghost use Rattle.cdcl_trail.specs.AssignmentOf.{place_in};
-ghost use Rattle.cdcl_trail.specs.Tables.{told};
-ghost use Rattle.cdcl_trail.specs.Trails.{once};
-ghost use Rattle.cdcl_learn.specs.Walking.{Marked, is_at, is_marked, marked, count_from, counts_at};
+ghost use Rattle.cdcl_trail.specs.Places.{told};
+ghost use Rattle.cdcl_learn.specs.Walking.{Marked, is_at, is_marked, marked, count_from, counts_at, with_last};
 
-use cdcl_trail::Table;
+use cdcl_trail::Places;
 use cnf::{Clause, Lit};
 use std::alloc::{AllocError, Global};
 use std::marker::Model;
 
-/// The place of each variable among literals, of which no two have one variable. The error is want
-/// of memory.
-pub fn places_of(alloc: Global, literals: &[Lit]) -> Result<Table<usize>, AllocError>
-    requires { IsTrue (once literals.now) }
-    ensures { IfOk result (λ places. (var : ℕ) → told places var ≡ place_in literals.now var) }
-{
-    let mut places = Table::new(alloc);
-    for (place, literal) in literals.iter().enumerate() {
-        places.insert(literal.var, place)?;
-    }
-    Ok(places)
-}
+/// How many places are looked at together for marks.
+const STRIDE: usize = 64;
 
 /// Which places of a trail are marked, and how many of them from a place on.
 #[derive(Debug, Drop)]
@@ -73,7 +61,7 @@ impl Marks {
     }
 
     /// Marks the places of the variables of a clause.
-    pub(crate) fn mark_all(&mut self, places: &Table<usize>, clause: &[Lit])
+    pub(crate) fn mark_all(&mut self, places: &Places<'_>, clause: &[Lit])
         ensures start { self.new.start ≡ self.old.start }
         ensures long { length self.new.marks ≡ length self.old.marks }
         ensures marks { (q : ℕ) → q < length self.old.marks → is_marked self.new.marks q ≡ (is_marked self.old.marks q || list_any (λ b. is_at (told places.now b.var) q) clause.now) }
@@ -107,6 +95,27 @@ impl Marks {
         ensures { IfOk result (λ clause. clause ≡ marked self.now.marks literals.now) }
     {
         marked_clause(alloc, self.marks.as_slice(), literals)
+    }
+
+    /// The same, where one more literal may stand behind the others.
+    pub(crate) fn clause_with(
+        &self,
+        alloc: Global,
+        literals: &[Lit],
+        last: Option<Lit>,
+    ) -> Result<Clause, AllocError>
+        requires { length self.now.marks ≡ length (with_last literals.now last) }
+        ensures { IfOk result (λ clause. clause ≡ marked self.now.marks (with_last literals.now last)) }
+    {
+        let Some(last) = last else {
+            return marked_clause(alloc, self.marks.as_slice(), literals);
+        };
+        let count = literals.len();
+        let mut clause = marked_clause(alloc, &self.marks.as_slice()[..count], literals)?;
+        if is_marked(self.marks.as_slice(), count) {
+            clause.push(last.negation())?;
+        }
+        Ok(clause)
     }
 }
 
@@ -162,17 +171,67 @@ fn is_marked(marks: &[bool], place: usize) -> bool
     marks.get(place).copied().unwrap_or(false)
 }
 
-// The negations of the marked literals.
+// The negations of the marked literals. Places without a mark are passed a stride at a time.
 fn marked_clause(alloc: Global, marks: &[bool], literals: &[Lit]) -> Result<Clause, AllocError>
     requires { length marks.now ≡ length literals.now }
     ensures { IfOk result (λ clause. clause ≡ marked marks.now literals.now) }
 {
     let mut clause = Clause::new(alloc);
-    for (place, literal) in literals.iter().enumerate() {
+    let mut place = 0;
+    'strides: while place < marks.len() {
+        let end = stride_end(place, marks.len());
+        push_marked(&mut clause, marks, literals, place, end)?;
+        place = end;
+    }
+    Ok(clause)
+}
+
+// Where the stride from a place ends.
+fn stride_end(place: usize, length: usize) -> usize
+    requires { place < length }
+    ensures after { place < result }
+    ensures within { result ≤ length }
+{
+    if length - place > STRIDE {
+        place + STRIDE
+    } else {
+        length
+    }
+}
+
+// Puts the negations of the marked literals of a stride behind those before it.
+fn push_marked(
+    clause: &mut Clause,
+    marks: &[bool],
+    literals: &[Lit],
+    start: usize,
+    end: usize,
+) -> Result<(), AllocError>
+    requires long { length marks.now ≡ length literals.now }
+    requires before { start ≤ end }
+    requires within { end ≤ length marks.now }
+    requires clause { clause.old ≡ marked (take start marks.now) (take start literals.now) }
+    ensures { OnOk result (clause.new ≡ marked (take end marks.now) (take end literals.now)) }
+{
+    if !has_mark(&marks[start..end]) {
+        return Ok(());
+    }
+    for place in start..end {
         if !is_marked(marks, place) {
             continue;
         }
-        clause.push(literal.negation())?;
+        clause.push(literals[place].negation())?;
     }
-    Ok(clause)
+    Ok(())
+}
+
+// Whether one of the places is marked. Looks at all, so that it looks at many at once.
+fn has_mark(marks: &[bool]) -> bool
+    ensures { result ≡ list_any (λ mark. mark) marks.now }
+{
+    let mut found = false;
+    for mark in marks {
+        found = found | *mark;
+    }
+    found
 }

@@ -2,14 +2,14 @@
 ghost use Rattle.std.specs.Prelude.{◌≡◌, ◌≤◌, ℕ, OnOk, true, length, reverse};
 ghost use Rattle.cdcl_trail.specs.Propagation.{IsReasonedTrail};
 ghost use Rattle.cdcl_trail.specs.AssignmentOf.{place_in};
-ghost use Rattle.cdcl_trail.specs.Tables.{told};
+ghost use Rattle.cdcl_trail.specs.Places.{told};
 ghost use Rattle.cdcl_trail.specs.Trails.{literals_of, once};
 ghost use Rattle.cdcl_learn.specs.Walking.{IsAtPoint, marked};
 
 use crate::implied::Implied;
 use crate::learning::Resolvent;
 use crate::numbered::clause_at;
-use cdcl_trail::{Table, Trail};
+use cdcl_trail::{Places, Trail};
 use cnf::Clause;
 use std::alloc::{AllocError, Global};
 
@@ -19,7 +19,7 @@ pub(crate) fn minimise(
     alloc: Global,
     clauses: &[Clause],
     trail: &Trail,
-    table: &Table<usize>,
+    table: &Places<'_>,
     start: usize,
     resolvent: &mut Resolvent,
 ) -> Result<(), AllocError>

@@ -1,23 +1,23 @@
 //! The walk back from a conflict, or from a false literal, to the assumed literals that it follows
 //! from. The main calls are `trace` and `trace_literal`.
-ghost use Rattle.std.specs.Prelude.{◌≡◌, ◌≤◌, ◌<◌, ◌⊎◌, ℕ, [], ◌∷◌, ◌++◌, IfOk, None, Some, true, false, length, map, slice_get, take};
+ghost use Rattle.std.specs.Prelude.{◌≡◌, ◌≤◌, ◌<◌, ◌⊎◌, ℕ, IfOk, None, true, false, length, map, slice_get, take};
 ghost use Rattle.proof_semantics.specs.Clauses.{negation, has_literal};
 ghost use Rattle.proof_semantics.specs.Propagation.{hints_fault};
 ghost use Rattle.proof_semantics.specs.declared.literals.Lit.{Lit};
-ghost use Rattle.cdcl_trail.specs.AssignmentOf.{place_in, steps_from};
-ghost use Rattle.cdcl_trail.specs.Tables.{told};
+ghost use Rattle.cdcl_trail.specs.AssignmentOf.{place_in};
+ghost use Rattle.cdcl_trail.specs.Places.{told};
 ghost use Rattle.cdcl_trail.specs.Propagation.{is_false, is_falsified, IsConflict, IsReasonedTrail};
 ghost use Rattle.cdcl_trail.specs.Trails.{once};
 ghost use Rattle.std.specs.Option.{unwrap_or, option_flatten};
 ghost use Rattle.cnf.specs.Clauses.{clause_numbered};
 ghost use Rattle.cdcl_learn.specs.Learning.{is_assumed};
-ghost use Rattle.cdcl_learn.specs.Walking.{is_at};
+ghost use Rattle.cdcl_learn.specs.Walking.{is_at, steps_with, with_last};
 
 use crate::learning::{Learned, in_order};
 use crate::marking::Marks;
 use crate::numbered::clause_at;
-use cdcl_trail::{Table, Trail};
-use cnf::{Clause, Db, Lit};
+use cdcl_trail::{Places, Trail};
+use cnf::{Clause, Db, Lit, Var};
 use std::alloc::{AllocError, Global};
 
 /// The clause of negations of assumed literals that a conflict comes from, with its hints. The
@@ -30,12 +30,14 @@ pub fn trace(alloc: Global, db: &Db, trail: &Trail, conflict: u64) -> Result<Lea
     ensures assumed { IfOk result (λ traced. (a : Lit) → has_literal traced.clause a ≡ true → is_assumed trail.now.steps (negation a) ≡ true) }
     ensures hints { IfOk result (λ traced. hints_fault (clause_numbered db.now.clauses) (map negation traced.clause) traced.hints ≡ None) }
 {
+    let table = trail.places();
     trace_back(
         alloc,
         db.as_slice(),
-        trail.places(),
+        &table,
         trail.literals(),
         trail.reasons(),
+        None,
         conflict,
     )
 }
@@ -55,62 +57,41 @@ pub fn trace_literal(
     ensures assumed { IfOk result (λ traced. (a : Lit) → has_literal traced.clause a ≡ true → (is_assumed trail.now.steps (negation a) ≡ true) ⊎ (negation a ≡ literal)) }
     ensures hints { IfOk result (λ traced. hints_fault (clause_numbered db.now.clauses) (map negation traced.clause) traced.hints ≡ None) }
 {
-    let place = place_of(trail.literals(), literal.negation());
+    let table = trail.places();
+    let place = place_of(&table, literal.var);
     let number = reason_at(trail.reasons(), place);
-    let literals = literals_before(alloc, trail.literals(), place, literal)?;
-    let reasons = reasons_before(alloc, trail.reasons(), place)?;
     trace_back(
         alloc,
         db.as_slice(),
-        trail.places(),
-        literals.as_slice(),
-        reasons.as_slice(),
+        &table,
+        front_literals(trail.literals(), place),
+        front_reasons(trail.reasons(), place),
+        Some(literal),
         number,
     )
 }
 
-// The literals before a place, and one behind them.
-fn literals_before(
-    alloc: Global,
-    literals: &[Lit],
-    place: usize,
-    last: Lit,
-) -> Result<Vec<Lit>, AllocError>
+// The literals before a place.
+fn front_literals(literals: &[Lit], place: usize) -> &[Lit]
     requires { place ≤ length literals.now }
-    ensures { IfOk result (λ front. front.items ≡ take place literals.now ++ last ∷ []) }
+    ensures { result.now ≡ take place literals.now }
 {
-    let mut front = Vec::new(alloc);
-    front.extend_from_slice(&literals[..place])?;
-    front.push(last)?;
-    Ok(front)
+    &literals[..place]
 }
 
-// The reasons before a place, and none behind them.
-fn reasons_before(
-    alloc: Global,
-    reasons: &[Option<u64>],
-    place: usize,
-) -> Result<Vec<Option<u64>>, AllocError>
+// The reasons before a place.
+fn front_reasons(reasons: &[Option<u64>], place: usize) -> &[Option<u64>]
     requires { place ≤ length reasons.now }
-    ensures { IfOk result (λ front. front.items ≡ take place reasons.now ++ None ∷ []) }
+    ensures { result.now ≡ take place reasons.now }
 {
-    let mut front = Vec::new(alloc);
-    front.extend_from_slice(&reasons[..place])?;
-    front.push(None)?;
-    Ok(front)
+    &reasons[..place]
 }
 
-// The place of a literal.
-fn place_of(literals: &[Lit], literal: Lit) -> usize
-    requires { has_literal literals.now literal ≡ true }
-    ensures { slice_get literals.now result ≡ Some literal }
+// The place that is told of a variable.
+fn place_of(table: &Places<'_>, var: Var) -> usize
+    ensures { result ≡ unwrap_or (told table.now var) 0 }
 {
-    for (place, other) in literals.iter().enumerate() {
-        if literal.is(*other) {
-            return place;
-        }
-    }
-    literals.len()
+    table.get(var).unwrap_or(0)
 }
 
 // The reason at a place.
@@ -124,25 +105,28 @@ fn reason_at(reasons: &[Option<u64>], place: usize) -> u64
 }
 
 // The walk over literals and their reasons: resolves the conflict with each reason, from the last
-// literal back to the first. Of each literal that is false, the negation is marked. The table tells
-// where variables stand among the literals, and maybe of others, which stand behind them.
+// literal back to the first. Of each literal that is false, the negation is marked. The last, if
+// there is one, is assumed behind the others. The table tells where variables stand among them, and
+// maybe of others, which stand further behind.
 fn trace_back(
     alloc: Global,
     clauses: &[Clause],
-    table: &Table<usize>,
+    table: &Places<'_>,
     literals: &[Lit],
     reasons: &[Option<u64>],
+    last: Option<Lit>,
     conflict: u64,
 ) -> Result<Learned, AllocError>
     requires beside { length reasons.now ≡ length literals.now }
-    requires table { (v q : ℕ) → q < length literals.now → is_at (told table.now v) q ≡ is_at (place_in literals.now v) q }
-    requires once { once literals.now ≡ true }
-    requires conflict { IsConflict clauses.now (steps_from literals.now reasons.now) conflict }
-    requires reasons { IsReasonedTrail clauses.now (steps_from literals.now reasons.now) }
-    ensures assumed { IfOk result (λ traced. (a : Lit) → has_literal traced.clause a ≡ true → is_assumed (steps_from literals.now reasons.now) (negation a) ≡ true) }
+    requires table { (v q : ℕ) → q < length (with_last literals.now last) → is_at (told table.now v) q ≡ is_at (place_in (with_last literals.now last) v) q }
+    requires once { once (with_last literals.now last) ≡ true }
+    requires conflict { IsConflict clauses.now (steps_with literals.now reasons.now last) conflict }
+    requires reasons { IsReasonedTrail clauses.now (steps_with literals.now reasons.now last) }
+    ensures assumed { IfOk result (λ traced. (a : Lit) → has_literal traced.clause a ≡ true → is_assumed (steps_with literals.now reasons.now last) (negation a) ≡ true) }
     ensures hints { IfOk result (λ traced. hints_fault (clause_numbered clauses.now) (map negation traced.clause) traced.hints ≡ None) }
 {
-    let mut marks = Marks::new(alloc, literals.len(), literals.len())?;
+    let length = count_with(literals, last);
+    let mut marks = Marks::new(alloc, length, length)?;
     marks.mark_all(table, clause_at(clauses, conflict));
     let mut hints: Vec<u64> = Vec::new(alloc);
     hints.push(conflict)?;
@@ -159,6 +143,16 @@ fn trace_back(
         marks.unmark(place);
         hints.push(number)?;
     }
-    let clause = marks.clause_of(alloc, literals)?;
+    let clause = marks.clause_with(alloc, literals, last)?;
     Ok(in_order(clause, hints))
+}
+
+// How many literals there are, with the last.
+fn count_with(literals: &[Lit], last: Option<Lit>) -> usize
+    ensures { result ≡ length (with_last literals.now last) }
+{
+    match last {
+        None => literals.len(),
+        Some(_) => literals.len() + 1,
+    }
 }

@@ -10,3 +10,7 @@ pub mod LoopLaws
 pub mod SoundLaws
 pub mod TakeLaws
 pub mod ExtendLaws
+pub mod RenameLaws
+pub mod CountLaws
+pub mod BorderLaws
+pub mod NamedLaws

@@ -1,10 +1,15 @@
 -- Laws of lists of numbers: what is taken out, and what is put behind.
-use Rattle.std.proofs.Common.{◌≡◌, ℕ, zero, suc, ◌<◌, ◌≤◌, List, [], ◌∷◌, ◌++◌, length, Some, refl, ap, sym, subst, ◌∙◌, inl, inr, arith, ◌⊎◌}
+use Rattle.std.proofs.Common.{◌≡◌, ℕ, zero, suc, ◌<◌, ◌≤◌, Bool, true, false, List, [], ◌∷◌, ◌++◌, length, Some, refl, ap, sym, subst, ◌∙◌, inl, inr, arith, ◌⊎◌}
 use Rattle.std.specs.Prelude.{slice_get}
 use Rattle.std.proofs.Math.ListN.{set, length-set}
 use Rattle.std.proofs.lemmas.Option.{none-some, same_Some, slice_get_within}
+use Rattle.std.proofs.lemmas.Bool.{false≢true}
 use Rattle.std.specs.Global.{Vec}
-use Rattle.cdcl_trail.specs.Lists.{IsIn, IsWithout, items_of, near_list}
+use Rattle.proof_semantics.specs.Clauses.{lit_eq}
+use Rattle.proof_semantics.specs.declared.literals.Lit.{Lit}
+use Rattle.proof_semantics.proofs.LiteralLaws.{lit_eq-same}
+use Rattle.packed_literals.specs.Packing.{literal, code_of}
+use Rattle.cdcl_trail.specs.Lists.{IsIn, IsWithout, items_of, list_at}
 
 pub get_in_append : {A : Type 0} (xs ys : List A) (i : ℕ) (x : A) → slice_get xs i ≡ Some x → slice_get (xs ++ ys) i ≡ Some x
 get_in_append [] ys i x e = absurd (none-some x e)
@@ -90,16 +95,30 @@ without_last list rest place last is within past =
 
 -- Rows of lists.
 
-pub row_more : (rows : List (Vec ℕ)) (empty : Vec ℕ) (v : ℕ) → empty.items ≡ [] → near_list (rows ++ empty ∷ []) v ≡ near_list rows v
+pub row_more : (rows : List (Vec ℕ)) (empty : Vec ℕ) (v : ℕ) → empty.items ≡ [] → list_at (rows ++ empty ∷ []) v ≡ list_at rows v
 row_more [] empty zero is = is
 row_more [] empty (suc v) is = refl
 row_more (x ∷ rows) empty zero is = refl
 row_more (x ∷ rows) empty (suc v) is = row_more rows empty v is
 
-pub row_set : (rows : List (Vec ℕ)) (var : ℕ) (list : Vec ℕ) → var < length rows → near_list (set rows var list) var ≡ list.items
+pub row_set : (rows : List (Vec ℕ)) (var : ℕ) (list : Vec ℕ) → var < length rows → list_at (set rows var list) var ≡ list.items
 row_set [] var list below = absurd (omega (arith, below))
 row_set (x ∷ rows) zero list below = refl
 row_set (x ∷ rows) (suc var) list below = row_set rows var list (omega (arith, below))
 
-pub row_other : (rows : List (Vec ℕ)) (var : ℕ) (list : Vec ℕ) (v : ℕ) → (v ≡ var → ⊥) → near_list (set rows var list) v ≡ near_list rows v
+pub row_other : (rows : List (Vec ℕ)) (var : ℕ) (list : Vec ℕ) (v : ℕ) → (v ≡ var → ⊥) → list_at (set rows var list) v ≡ list_at rows v
 row_other rows var list v apart = ap items_of (get_set_other rows var v list (λ e. apart (sym e)))
+
+-- Codes of literals.
+
+same_sign : (m n : ℕ) (b c : Bool) → code_of (literal m b) ≡ code_of (literal n c) → (m ≡ n) × (b ≡ c)
+same_sign m n true true e = (omega (arith, e), refl)
+same_sign m n true false e = absurd (omega (arith, e))
+same_sign m n false true e = absurd (omega (arith, e))
+same_sign m n false false e = (omega (arith, e), refl)
+
+-- literals that differ have codes that differ
+pub codes_apart : (a b : Lit) → lit_eq a b ≡ false → code_of a ≡ code_of b → ⊥
+codes_apart a b differs e =
+    let same = same_sign a.var b.var a.positive b.positive e in
+    false≢true (sym differs ∙ subst (λ (c : Lit). lit_eq c b ≡ true) (λ i. literal (sym same.0 i) (sym same.1 i)) (lit_eq-same b))

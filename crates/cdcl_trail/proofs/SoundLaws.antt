@@ -10,8 +10,8 @@ use Rattle.cdcl_trail.specs.Trails.{Step, assumed, opened_by, level, up_to_level
 use Rattle.cdcl_trail.specs.Propagation.{Propagates}
 use Rattle.cdcl_trail.specs.Guards.{AreSure, IsFront, KeepsGuards}
 use Rattle.cdcl_trail.specs.Storing.{held, IsRewatched}
-use Rattle.cdcl_trail.specs.TrailOf.{HasReached, Sound}
-use Rattle.cdcl_trail.specs.declared.trail.Reached.{Reached}
+use Rattle.cdcl_trail.specs.TracksOf.{HasReached, Sound}
+use Rattle.cdcl_trail.specs.declared.tracks.Reached.{Reached}
 use Rattle.cdcl_trail.specs.declared.watching.Watching.{Watching}
 use Rattle.cdcl_trail.proofs.TrailLaws.{either, cut_step, cut_last, cut_nothing, level_push}
 use Rattle.cdcl_trail.proofs.PassLaws.{propagates_level}

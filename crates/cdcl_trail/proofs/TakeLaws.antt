@@ -14,10 +14,11 @@ use Rattle.cdcl_trail.specs.Propagation.{is_falsified, is_unit, is_complete, Pro
 use Rattle.cdcl_trail.specs.Guards.{IsGuarded, AreGuarded, AreSure, IsFront, KeepsGuards}
 use Rattle.cdcl_trail.specs.Looking.{IsOpenTo}
 use Rattle.cdcl_trail.specs.Storing.{held, IsStored, IsAsBefore, IsRewatched, IsPairAt, has_more_singles}
-use Rattle.cdcl_trail.specs.TrailOf.{HasReached, Sound, AreLowered, IsLowered, IsTaking, IsLowering}
+use Rattle.cdcl_trail.specs.TracksOf.{HasReached, Sound, AreLowered, IsLowered, IsTaking, IsLowering}
+use Rattle.cdcl_trail.specs.Renaming.{ArePaired}
 use Rattle.cdcl_trail.specs.Watched.{Extends, AreWatchedWell, HasTwo, IsWatchedAt}
 use Rattle.cdcl_trail.specs.declared.pairs.Pair.{Pair}
-use Rattle.cdcl_trail.specs.declared.trail.Reached.{Reached}
+use Rattle.cdcl_trail.specs.declared.tracks.Reached.{Reached}
 use Rattle.cdcl_trail.specs.declared.watching.Watching.{Watching}
 use Rattle.cdcl_trail.proofs.ListLaws.{get_push, below_push, get_set, get_set_other, place_either}
 use Rattle.cdcl_trail.proofs.GuardLaws.{guarded_fewer, guarded_late, front_same, pair_settles, true_settles, keeps_same, take_whole}
@@ -298,3 +299,10 @@ watched_at w steps number pair stored at = record {
   pair = at;
   inside = λ clause held_is. stored.paired (number - 1) pair clause at (held_at (held w) number clause held_is);
 }
+
+-- each pair is one of the clause beside it
+pub stored_paired : (w : Watching) (steps : List Step) → IsStored w → ArePaired (record { steps = steps; taken = held w; watched = w.pairs.items })
+stored_paired w steps stored place pair e =
+    let within = slice_get_within w.pairs.items place (Some pair) e in
+    let found = get_within (held w) place (omega (arith, within, stored.beside, length_held w)) in
+    (found.0, found.1, stored.paired place pair found.0 e found.1)

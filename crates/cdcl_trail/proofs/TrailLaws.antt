@@ -11,8 +11,8 @@ use Rattle.std.proofs.lemmas.Bool.Decides.{leb_tells}
 use Rattle.std.proofs.Math.Dec.{leb}
 use Rattle.proof_semantics.specs.declared.literals.Lit.{Lit}
 use Rattle.cdcl_trail.specs.Trails.{Step, step, assumed, opened_by, literals_of, reasons_in, step_of, value_of, reason_in, reason_of, level, up_to_variable, level_of, up_to_level, once}
-use Rattle.cdcl_trail.specs.Tables.{told}
-use Rattle.cdcl_trail.specs.AssignmentOf.{steps_from, place_in, reason_at, count_assumed, levels_from, state_of, IsOrderly}
+use Rattle.packed_literals.specs.Tables.{told}
+use Rattle.cdcl_trail.specs.AssignmentOf.{steps_from, place_in, reason_at, count_assumed, levels_from, state_of, IsTabulated}
 use Rattle.cdcl_trail.specs.declared.assignment.Assignment.TheInside.{Inside}
 
 pub either : (b : Bool) → (b ≡ true) ⊎ (b ≡ false)
@@ -272,7 +272,7 @@ flat : (o : Option ℕ) → option_flatten (Some o) ≡ o
 flat None = refl
 flat (Some n) = refl
 
-nothing_some : {o : Option Bool} → o ≡ None → IsSome o → ⊥
+pub nothing_some : {o : Option Bool} → o ≡ None → IsSome o → ⊥
 nothing_some {o = None} e some = false≢true some
 nothing_some {o = Some b} e some = none-some b (sym e)
 
@@ -353,19 +353,19 @@ level_read levels reasons p is below = ap (λ ms. unwrap_or (slice_get ms p) 0) 
 
 -- One more literal, and one less.
 
-pub pushed_steps : (t u : Inside) (a : Lit) (r : Option ℕ) → IsOrderly t
+pub pushed_steps : (t u : Inside) (a : Lit) (r : Option ℕ) → IsTabulated t
     → u.literals.items ≡ t.literals.items ++ a ∷ [] → u.reasons.items ≡ t.reasons.items ++ r ∷ []
     → (state_of u).steps ≡ (state_of t).steps ++ step a r ∷ []
 pushed_steps t u a r orderly literals reasons =
     ap (λ lits. steps_from lits u.reasons.items) literals ∙ ap (steps_from (t.literals.items ++ a ∷ [])) reasons
     ∙ steps_push t.literals.items t.reasons.items a r orderly.beside
 
-popped_beside : (t u : Inside) (a : Lit) (r : Option ℕ) → IsOrderly t
+popped_beside : (t u : Inside) (a : Lit) (r : Option ℕ) → IsTabulated t
     → t.literals.items ≡ u.literals.items ++ a ∷ [] → t.reasons.items ≡ u.reasons.items ++ r ∷ [] → length u.reasons.items ≡ length u.literals.items
 popped_beside t u a r orderly literals reasons =
     omega (arith, ap length literals, ap length reasons, length_push u.literals.items a, length_push u.reasons.items r, orderly.beside)
 
-pub popped_steps : (t u : Inside) (a : Lit) (r : Option ℕ) → IsOrderly t
+pub popped_steps : (t u : Inside) (a : Lit) (r : Option ℕ) → IsTabulated t
     → t.literals.items ≡ u.literals.items ++ a ∷ [] → t.reasons.items ≡ u.reasons.items ++ r ∷ []
     → (state_of t).steps ≡ (state_of u).steps ++ step a r ∷ []
 popped_steps t u a r orderly literals reasons =
@@ -402,11 +402,11 @@ value_popped xs s v none =
       | inr differs ↦ cond-false (eqb s.literal.var v) None _ differs ∙ value_pushed xs s v none ∙ cond-false (eqb s.literal.var v) _ _ differs
     ]
 
-pub pushed : (t u : Inside) (a : Lit) (r : Option ℕ) → IsOrderly t → value_of (state_of t).steps a.var ≡ None
+pub pushed : (t u : Inside) (a : Lit) (r : Option ℕ) → IsTabulated t → value_of (state_of t).steps a.var ≡ None
     → u.literals.items ≡ t.literals.items ++ a ∷ [] → u.reasons.items ≡ t.reasons.items ++ r ∷ []
     → ((v : ℕ) → told u.places v ≡ cond (eqb a.var v) (Some (length t.literals.items)) (told t.places v))
     → ((v : ℕ) → told u.values v ≡ cond (eqb a.var v) (Some a.positive) (told t.values v))
-    → u.level ≡ t.level + opened_by r → u.levels.items ≡ t.levels.items ++ u.level ∷ [] → IsOrderly u
+    → u.level ≡ t.level + opened_by r → u.levels.items ≡ t.levels.items ++ u.level ∷ [] → IsTabulated u
 pushed t u a r orderly fresh literals reasons places values deep levels =
     let none_there = without_value t.literals.items t.reasons.items a.var (place_in t.literals.items a.var) orderly.beside refl fresh in
     let steps : (state_of u).steps ≡ (state_of t).steps ++ step a r ∷ [] = pushed_steps t u a r orderly literals reasons in
@@ -432,11 +432,11 @@ pushed t u a r orderly fresh literals reasons places values deep levels =
       depth = deep ∙ ap (λ n. n + opened_by r) orderly.depth ∙ sym (level_push (state_of t).steps (step a r)) ∙ ap level (sym steps);
     }
 
-pub popped : (t u : Inside) (a : Lit) (r : Option ℕ) → IsOrderly t
+pub popped : (t u : Inside) (a : Lit) (r : Option ℕ) → IsTabulated t
     → t.literals.items ≡ u.literals.items ++ a ∷ [] → t.reasons.items ≡ u.reasons.items ++ r ∷ []
     → ((v : ℕ) → told u.places v ≡ cond (eqb a.var v) None (told t.places v))
     → ((v : ℕ) → told u.values v ≡ cond (eqb a.var v) None (told t.values v))
-    → u.level ≡ t.level - opened_by r → u.levels.items ≡ take (length u.literals.items) t.levels.items → IsOrderly u
+    → u.level ≡ t.level - opened_by r → u.levels.items ≡ take (length u.literals.items) t.levels.items → IsTabulated u
 popped t u a r orderly literals reasons places values deep levels =
     let beside : length u.reasons.items ≡ length u.literals.items = popped_beside t u a r orderly literals reasons in
     let parts = once_pop u.literals.items a (ap once (sym literals) ∙ orderly.apart) in
@@ -459,7 +459,7 @@ popped t u a r orderly literals reasons places values deep levels =
       depth = omega (arith, deep, orderly.depth, ap level steps, level_push (state_of u).steps (step a r));
     }
 
-pub popped_level : (t u : Inside) (a : Lit) (r : Option ℕ) → IsOrderly t
+pub popped_level : (t u : Inside) (a : Lit) (r : Option ℕ) → IsTabulated t
     → t.literals.items ≡ u.literals.items ++ a ∷ [] → t.reasons.items ≡ u.reasons.items ++ r ∷ [] → opened_by r ≤ t.level
 popped_level t u a r orderly literals reasons =
     omega (arith, orderly.depth, ap level (popped_steps t u a r orderly literals reasons), level_push (state_of u).steps (step a r))

@@ -2,7 +2,7 @@
 use Rattle.std.specs.Prelude.{◌≡◌, ℕ, ◌+◌, Bool, true, List, [], ◌∷◌, length, Option, None, Some, if◌then◌else◌, ◌==◌, slice_get}
 use Rattle.std.specs.Option.{option_map, option_flatten}
 use Rattle.proof_semantics.specs.declared.literals.Lit.{Lit}
-use Rattle.cdcl_trail.specs.Tables.{told}
+use Rattle.packed_literals.specs.Tables.{told}
 use Rattle.cdcl_trail.specs.Trails.{Step, Steps, step, opened_by, once, level, value_of}
 use Rattle.cdcl_trail.specs.declared.assignment.Assignment.TheInside.{Inside}
 
@@ -42,7 +42,7 @@ levels_from n (reason ∷ reasons) = (n + opened_by reason) ∷ levels_from (n +
 
 -- Each literal has a reason or none beside it, no variable comes twice, and levels, places, values and the level are told
 -- right.
-pub record IsOrderly (t : Inside) : Type 0 where
+pub record IsTabulated (t : Inside) : Type 0 where
   pub beside : length t.reasons.items ≡ length t.literals.items
   pub apart : once t.literals.items ≡ true
   pub levels : t.levels.items ≡ levels_from 0 t.reasons.items

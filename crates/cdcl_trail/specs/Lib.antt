@@ -1,7 +1,6 @@
 pub mod Trails
 pub mod Propagation
 pub mod Guards
-pub mod Tables
 pub mod AssignmentOf
 pub mod Lists
 pub mod Looking
@@ -9,4 +8,7 @@ pub mod Measure
 pub mod Storing
 pub mod Visiting
 pub mod Watched
+pub mod TracksOf
+pub mod Renaming
+pub mod Places
 pub mod TrailOf

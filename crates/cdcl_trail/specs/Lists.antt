@@ -1,12 +1,9 @@
 -- Scaffolding of inner functions. The lists of clauses that watch a literal.
-use Rattle.std.specs.Prelude.{◌≡◌, ℕ, suc, ◌<◌, ◌^◌, nat_lt, List, [], length, slice_get, Option, None, Some, if◌then◌else◌, ◌⊎◌}
-use Rattle.std.specs.Ordering.{nat_cmp}
-use Rattle.std.specs.BTreeMap as tree
-use Rattle.std.specs.BTreeMap.{BTreeMap}
+use Rattle.std.specs.Prelude.{◌≡◌, ℕ, suc, ◌<◌, List, [], length, slice_get, Option, None, Some, ◌⊎◌}
 use Rattle.std.specs.Global.{Vec}
 use Rattle.proof_semantics.specs.declared.literals.Lit.{Lit}
+use Rattle.packed_literals.specs.Packing.{code_of}
 use Rattle.cdcl_trail.specs.declared.lists.Lists.{Lists}
-use Rattle.cdcl_trail.specs.declared.lists.Side.{Side}
 
 -- the list has the number somewhere
 abbrev pub IsIn : List ℕ → ℕ → Type 0
@@ -23,17 +20,9 @@ items_of None = []
 items_of (Some list) = list.items
 
 -- the list at a place; an empty one past the end
-abbrev pub near_list : List (Vec ℕ) → ℕ → List ℕ
-near_list rows n = items_of (slice_get rows n)
-
--- the list of a variable in a map
-abbrev pub far_list : BTreeMap ℕ (Vec ℕ) → ℕ → List ℕ
-far_list far var = items_of (tree.get nat_cmp far var)
-
--- the list of a variable
-abbrev pub list_in : Side → ℕ → List ℕ
-list_in side var = if nat_lt var (2 ^ 20) then near_list side.near.items var else far_list side.far var
+abbrev pub list_at : List (Vec ℕ) → ℕ → List ℕ
+list_at rows n = items_of (slice_get rows n)
 
 -- the list of a literal
 abbrev pub list_for : Lists → Lit → List ℕ
-list_for lists a = if a.positive then list_in lists.positive a.var else list_in lists.negative a.var
+list_for lists a = list_at lists.rows.items (code_of a)

@@ -3,17 +3,16 @@ ghost use Rattle.std.specs.Prelude.{◌≡◌, ◌≤◌, ◌<◌, ℕ, [], ◌�
 ghost use Rattle.std.specs.Option.{unwrap_or};
 ghost use Rattle.cdcl_trail.specs.Trails.{Step, step, opened_by, assumed, literals_of, reasons_in, step_of, value_of, reason_of, level, level_of, up_to_level, once};
 ghost use Rattle.cdcl_trail.specs.AssignmentOf.{reason_at, place_in};
-ghost use Rattle.cdcl_trail.specs.Tables.{told};
+ghost use Rattle.packed_literals.specs.Tables.{told};
 
-use crate::table::Table;
-use cnf::{Lit, Var};
+use packed_literals::{Packed, Table};
 use std::alloc::{AllocError, Global};
 use std::marker::Model;
 
 /// The literals that are true, with their reasons and levels. Contracts see the steps.
 #[derive(Debug, Drop)]
 pub struct Assignment {
-    literals: Vec<Lit>,
+    literals: Vec<Packed>,
     reasons: Vec<Option<u64>>,
     levels: Vec<usize>,
     places: Table<usize>,
@@ -26,11 +25,11 @@ impl Model for Assignment {
 
     ghost Value = { Steps };
 
-    ghost use Rattle.cdcl_trail.specs.AssignmentOf.{state_of, IsOrderly};
+    ghost use Rattle.cdcl_trail.specs.AssignmentOf.{state_of, IsTabulated};
 
     ghost view = { state_of };
 
-    ghost invariant = { IsOrderly };
+    ghost invariant = { IsTabulated };
 }
 
 impl Assignment {
@@ -60,11 +59,11 @@ impl Assignment {
         }
     }
 
-    /// The value of a variable. `None` where it has none. Takes no memory.
-    pub fn value(&self, var: Var) -> Option<bool>
-        ensures { result ≡ value_of self.now.steps var }
+    /// The value of the variable with a number. `None` where it has none. Takes no memory.
+    pub fn value(&self, number: u32) -> Option<bool>
+        ensures { result ≡ value_of self.now.steps number }
     {
-        self.values.get(var)
+        self.values.get(number as u64)
     }
 
     /// The level: how many literals are assumed. Takes no memory.
@@ -75,7 +74,7 @@ impl Assignment {
     }
 
     /// The literals, in the order in which they came. No variable comes twice. Takes no memory.
-    pub fn literals(&self) -> &[Lit]
+    pub fn literals(&self) -> &[Packed]
         ensures value { result.now ≡ literals_of self.now.steps }
         ensures once { IsTrue (once result.now) }
     {
@@ -90,24 +89,24 @@ impl Assignment {
         self.reasons.as_slice()
     }
 
-    /// The level on which a variable got its value. The condition is that it has one. Takes no
+    /// The level on which the variable with a number got its value. The condition is that it has one. Takes no
     /// memory.
-    pub fn level_of(&self, var: Var) -> u64
-        requires { IsSome (value_of self.now.steps var) }
-        ensures { result ≡ level_of self.now.steps var }
+    pub fn level_of(&self, number: u32) -> u64
+        requires { IsSome (value_of self.now.steps number) }
+        ensures { result ≡ level_of self.now.steps number }
     {
-        match self.places.get(var) {
+        match self.places.get(number as u64) {
             Some(place) => level_at(self.levels.as_slice(), place),
             None => 0,
         }
     }
 
-    /// The number of the clause that forced a variable. `None` for an assumed one, and for one
+    /// The number of the clause that forced the variable with a number. `None` for an assumed one, and for one
     /// without a value. Takes no memory.
-    pub fn reason(&self, var: Var) -> Option<u64>
-        ensures { result ≡ reason_of self.now.steps var }
+    pub fn reason(&self, number: u32) -> Option<u64>
+        ensures { result ≡ reason_of self.now.steps number }
     {
-        reason_at(self.reasons.as_slice(), self.places.get(var))
+        reason_at(self.reasons.as_slice(), self.places.get(number as u64))
     }
 
     /// The place of each variable among the literals. Takes no memory.
@@ -117,19 +116,19 @@ impl Assignment {
         &self.places
     }
 
-    /// The place of a variable among the literals, and the end where it has no value. Takes no
+    /// The place of the variable with a number among the literals, and the end where it has no value. Takes no
     /// memory.
-    pub fn place(&self, var: Var) -> usize
-        ensures { value_of (take result self.now.steps) var ≡ None }
+    pub fn place(&self, number: u32) -> usize
+        ensures { value_of (take result self.now.steps) number ≡ None }
     {
-        match self.places.get(var) {
+        match self.places.get(number as u64) {
             Some(place) => place,
             None => self.literals.as_slice().len(),
         }
     }
 
     // Puts a literal at the end, with its reason. The error is want of memory, and changes nothing.
-    pub(crate) fn put(&mut self, literal: Lit, reason: Option<u64>) -> Result<(), AllocError>
+    pub(crate) fn put(&mut self, literal: Packed, reason: Option<u64>) -> Result<(), AllocError>
         requires { value_of self.old.steps literal.var ≡ None }
         ensures ok { OnOk result (self.new.steps ≡ self.old.steps ++ step literal reason ∷ []) }
         ensures err { OnErr result (self.new ≡ self.old) }
@@ -152,8 +151,7 @@ impl Assignment {
         ensures { (last : Step) × (self.old.steps ≡ self.new.steps ++ last ∷ []) }
     {
         if let (Some(literal), Some(reason)) = (self.literals.pop(), self.reasons.pop()) {
-            self.places.remove(literal.var);
-            self.values.remove(literal.var);
+            untell(&mut self.places, &mut self.values, literal);
             self.levels.truncate(self.literals.as_slice().len());
             self.level -= opened_by(reason);
         }
@@ -165,7 +163,7 @@ impl Assignment {
 fn tell(
     places: &mut Table<usize>,
     values: &mut Table<bool>,
-    literal: Lit,
+    literal: Packed,
     place: usize,
 ) -> Result<(), AllocError>
     requires { told values.old literal.var ≡ None }
@@ -174,12 +172,23 @@ fn tell(
     ensures same_places { OnErr result ((v : ℕ) → told places.new v ≡ told places.old v) }
     ensures same_values { OnErr result ((v : ℕ) → told values.new v ≡ told values.old v) }
 {
-    values.insert(literal.var, literal.positive)?;
-    let told = places.insert(literal.var, place);
+    let var = literal.number() as u64;
+    values.insert(var, literal.is_positive())?;
+    let told = places.insert(var, place);
     if told.is_err() {
-        values.remove(literal.var);
+        values.remove(var);
     }
     told
+}
+
+// Takes the place and the value of a variable away.
+fn untell(places: &mut Table<usize>, values: &mut Table<bool>, literal: Packed)
+    ensures places { (v : ℕ) → told places.new v ≡ (if literal.var == v then None else told places.old v) }
+    ensures values { (v : ℕ) → told values.new v ≡ (if literal.var == v then None else told values.old v) }
+{
+    let var = literal.number() as u64;
+    places.remove(var);
+    values.remove(var);
 }
 
 // The reason at a place.

@@ -9,11 +9,11 @@ ghost use Rattle.cdcl_trail.specs.Looking.{IsLate, IsLater, IsOpenTo};
 use crate::assignment::Assignment;
 use crate::looking::is_false;
 use crate::pairs::Pair;
-use cnf::Lit;
+use packed_literals::Packed;
 
 /// The two different literals of a clause that became false last, where those that are not false
 /// come before all others. `None` where no two differ.
-pub(crate) fn latest_pair(assignment: &Assignment, clause: &[Lit]) -> Option<Pair>
+pub(crate) fn latest_pair(assignment: &Assignment, clause: &[Packed]) -> Option<Pair>
     ensures some { IfSome result (IsPairOf clause.now) }
     ensures none { IfNone result (IsSingle clause.now) }
 {
@@ -28,7 +28,12 @@ pub(crate) fn latest_pair(assignment: &Assignment, clause: &[Lit]) -> Option<Pai
 
 // The literals where the first of a clause, or a later one in its place, and another one are
 // watched.
-fn latest_of(assignment: &Assignment, clause: &[Lit], start: Lit, other: Lit) -> Option<Pair>
+fn latest_of(
+    assignment: &Assignment,
+    clause: &[Packed],
+    start: Packed,
+    other: Packed,
+) -> Option<Pair>
     requires start { has_literal clause.now start ≡ true }
     requires other { has_literal clause.now other ≡ true }
     requires apart { lit_eq start other ≡ false }
@@ -54,11 +59,11 @@ fn latest_of(assignment: &Assignment, clause: &[Lit], start: Lit, other: Lit) ->
 }
 
 // The literal but `other` that became false last. `None` where every literal is that one.
-fn latest_but(assignment: &Assignment, clause: &[Lit], other: Lit) -> Option<Lit>
+fn latest_but(assignment: &Assignment, clause: &[Packed], other: Packed) -> Option<Packed>
     ensures none { IfNone result (list_all (lit_eq other) clause.now ≡ true) }
     ensures some { IfSome result (IsLate clause.now other) }
 {
-    let mut best: Option<Lit> = None;
+    let mut best: Option<Packed> = None;
     for literal in clause {
         best = later(assignment, best, *literal, other);
     }
@@ -67,7 +72,12 @@ fn latest_but(assignment: &Assignment, clause: &[Lit], other: Lit) -> Option<Lit
 
 // The one of two literals that became false last, or is not false, where the new one is not the
 // excepted one.
-fn later(assignment: &Assignment, best: Option<Lit>, literal: Lit, except: Lit) -> Option<Lit>
+fn later(
+    assignment: &Assignment,
+    best: Option<Packed>,
+    literal: Packed,
+    except: Packed,
+) -> Option<Packed>
     ensures { IsLater best literal except result }
 {
     if except.is(literal) {
@@ -84,20 +94,20 @@ fn later(assignment: &Assignment, best: Option<Lit>, literal: Lit, except: Lit) 
 
 /// A place such that the steps before it do not make a literal false: that of the literal where it
 /// is false, and a place past the end where it is not. Takes no memory.
-pub(crate) fn false_from(assignment: &Assignment, literal: Lit) -> usize
+pub(crate) fn false_from(assignment: &Assignment, literal: Packed) -> usize
     ensures { is_false (take result assignment.now.steps) literal ≡ false }
 {
     if is_false(assignment, literal) {
-        return assignment.place(literal.var);
+        return assignment.place(literal.number());
     }
     usize::MAX
 }
 
 /// A place such that the steps before it make no literal of a pair false. Takes no memory.
-pub(crate) fn pair_false_from(assignment: &Assignment, pair: Option<Pair>) -> usize
-    ensures { IfSome pair (IsOpenTo result assignment.now.steps) }
+pub(crate) fn pair_false_from(assignment: &Assignment, pair: &Option<Pair>) -> usize
+    ensures { IfSome pair.now (IsOpenTo result assignment.now.steps) }
 {
-    match pair {
+    match *pair {
         None => usize::MAX,
         Some(pair) => {
             let first = false_from(assignment, pair.first);

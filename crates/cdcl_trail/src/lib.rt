@@ -11,7 +11,7 @@
 //! | `Table::new`, `insert`, `remove`, `get` | what is told of variables, as numbers or values |
 //! | `Trail::value`, `level`, `level_of`, `reason` | the value of a variable; the level; the level and the reason of a variable |
 //! | `Trail::literals`, `Trail::reasons` | the literals in the order in which they came; beside each the clause that forced it |
-//! | `Trail::places` | where the literal of each variable stands among them |
+//! | `Trail::places`, `Places::get` | where the literal of each variable stands among them |
 #![tactic(auto)]
 
 mod assignment;
@@ -19,10 +19,12 @@ mod choosing;
 mod lists;
 mod looking;
 mod pairs;
+mod places;
 mod propagation;
-mod table;
+mod tracks;
 mod trail;
 mod watching;
 
-pub use table::Table;
+pub use packed_literals::Table;
+pub use places::Places;
 pub use trail::Trail;

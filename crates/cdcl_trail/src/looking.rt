@@ -7,25 +7,25 @@ ghost use Rattle.cdcl_trail.specs.Propagation.{is_false};
 ghost use Rattle.cdcl_trail.specs.Looking.{LookSays, IsReplacement};
 
 use crate::assignment::Assignment;
-use cnf::Lit;
+use packed_literals::Packed;
 
 /// The other watched literal is true; a further literal can be watched in place of the false one;
 /// the other one is forced; or the clause is false.
 #[derive(Clone, Copy, Debug)]
 pub(crate) enum Finding {
     Stays,
-    Moves(Lit),
+    Moves(Packed),
     Forces,
     Conflict,
 }
 
 /// What has to be done with a clause whose watched literal beside `other` is false.
-pub(crate) fn look(assignment: &Assignment, clause: &[Lit], other: Lit) -> Finding
+pub(crate) fn look(assignment: &Assignment, clause: &[Packed], other: Packed) -> Finding
     requires { has_literal clause.now other ≡ true }
     ensures { LookSays assignment.now.steps clause.now other result }
 {
-    let value = assignment.value(other.var);
-    if value == Some(other.positive) {
+    let value = assignment.value(other.number());
+    if value == Some(other.is_positive()) {
         return Finding::Stays;
     }
     match replacement(assignment, clause, other) {
@@ -38,7 +38,7 @@ pub(crate) fn look(assignment: &Assignment, clause: &[Lit], other: Lit) -> Findi
 }
 
 // The first literal but `other` that is not false.
-fn replacement(assignment: &Assignment, clause: &[Lit], other: Lit) -> Option<Lit>
+fn replacement(assignment: &Assignment, clause: &[Packed], other: Packed) -> Option<Packed>
     ensures none { IfNone result (list_all (λ b. lit_eq other b || is_false assignment.now.steps b) clause.now ≡ true) }
     ensures some { IfSome result (λ a. IsReplacement assignment.now.steps clause.now other a) }
 {
@@ -55,11 +55,11 @@ fn replacement(assignment: &Assignment, clause: &[Lit], other: Lit) -> Option<Li
 }
 
 /// Whether a literal is false.
-pub(crate) fn is_false(assignment: &Assignment, literal: Lit) -> bool
+pub(crate) fn is_false(assignment: &Assignment, literal: Packed) -> bool
     ensures { result ≡ is_false assignment.now.steps literal }
 {
-    match assignment.value(literal.var) {
+    match assignment.value(literal.number()) {
         None => false,
-        Some(value) => value != literal.positive,
+        Some(value) => value != literal.is_positive(),
     }
 }

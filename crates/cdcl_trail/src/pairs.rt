@@ -1,17 +1,17 @@
 //! Two watched literals of a clause. The main type is `Pair`.
 ghost use Rattle.cdcl_trail.specs.Looking.{StandsBeside};
 
-use cnf::Lit;
+use packed_literals::Packed;
 
 /// The two watched literals of a clause.
 #[derive(Clone, Copy, Debug)]
 pub struct Pair {
-    pub first: Lit,
-    pub second: Lit,
+    pub first: Packed,
+    pub second: Packed,
 }
 
 /// The literal that stands beside the given one. `None` where the given one is neither.
-pub(crate) fn beside(pair: Pair, literal: Lit) -> Option<Lit>
+pub(crate) fn beside(pair: Pair, literal: Packed) -> Option<Packed>
     ensures { StandsBeside pair literal result }
 {
     if pair.first.is(literal) {

@@ -12,7 +12,7 @@ use crate::assignment::Assignment;
 use crate::looking::{Finding, is_false, look};
 use crate::pairs::{Pair, beside};
 use crate::watching::Watching;
-use cnf::Lit;
+use packed_literals::Packed;
 use std::alloc::AllocError;
 
 /// What a look at a clause came to: it stands in the list as before, it was taken from the list, or
@@ -88,7 +88,7 @@ pub(crate) fn settle_steps(
 fn visit_all(
     assignment: &mut Assignment,
     watching: &mut Watching,
-    falsified: Lit,
+    falsified: Packed,
 ) -> Result<Option<u64>, AllocError>
     requires stored { IsStored watching.old }
     requires falsified { is_false assignment.old.steps falsified ≡ true }
@@ -115,7 +115,7 @@ fn visit_all(
 fn visit(
     assignment: &mut Assignment,
     watching: &mut Watching,
-    falsified: Lit,
+    falsified: Packed,
     place: usize,
     number: usize,
 ) -> Result<Visited, AllocError>
@@ -156,7 +156,7 @@ fn visit(
 // true. The error is want of memory, and changes nothing.
 fn settle_single(
     assignment: &mut Assignment,
-    clause: &[Lit],
+    clause: &[Packed],
     number: u64,
 ) -> Result<bool, AllocError>
     requires single { IsSingle clause.now }
@@ -169,7 +169,7 @@ fn settle_single(
     if is_false(assignment, *literal) {
         return Ok(false);
     }
-    if assignment.value(literal.var).is_some() {
+    if assignment.value(literal.number()).is_some() {
         return Ok(true);
     }
     assignment.put(*literal, Some(number))?;
@@ -184,7 +184,7 @@ fn single_at(watching: &Watching, place: usize) -> Option<usize>
 }
 
 // The literal of the step at a place.
-fn literal_at(assignment: &Assignment, place: usize) -> Option<Lit>
+fn literal_at(assignment: &Assignment, place: usize) -> Option<Packed>
     ensures value { result ≡ slice_get (literals_of assignment.now.steps) place }
     ensures once { IsTrue (once (literals_of assignment.now.steps)) }
     ensures small { IfSome result (λ _. place < usize.MAX) }

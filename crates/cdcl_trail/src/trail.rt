@@ -1,40 +1,30 @@
 //! The trail of a solver. The main type is `Trail`.
-ghost use Rattle.std.specs.Prelude.{◌≡◌, ◌≤◌, ◌<◌, ◌+◌, ◌-◌, ◌↔◌, ℕ, [], ◌∷◌, ◌++◌, IsTrue, IsSome, IfOk, IfSome, OnOk, OnErr, Option, Some, None, length, map, take, slice_get, option_copied};
+ghost use Rattle.std.specs.Prelude.{◌≡◌, ◌≤◌, ◌<◌, ◌+◌, ◌↔◌, ◌^◌, ℕ, [], ◌∷◌, ◌++◌, IsTrue, IsSome, IfOk, IfSome, OnOk, OnErr, None, length, take, slice_get, option_copied, vec_capacity};
 ghost use Rattle.cdcl_trail.specs.Trails.{assumed, literals_of, reasons_in, value_of, reason_of, level, level_of, up_to_level, once};
 ghost use Rattle.cdcl_trail.specs.AssignmentOf.{place_in};
-ghost use Rattle.cdcl_trail.specs.Tables.{told};
 ghost use Rattle.cdcl_trail.specs.Propagation.{is_complete, IsConflict, Propagates};
 ghost use Rattle.cdcl_trail.specs.Watched.{Extends, AreWatchedWell, KeepWatch, IsWatchable, IsWatchedAt};
-ghost use Rattle.cdcl_trail.specs.TrailOf.{AreLowered};
-ghost use Rattle.std.specs.Option.{unwrap_or};
+ghost use Rattle.packed_literals.specs.Naming.{named};
+ghost use Rattle.cdcl_trail.specs.Places.{told};
+ghost use Rattle.cdcl_trail.specs.Renaming.{Meets, AreBelow, named_clause};
 
-use crate::assignment::Assignment;
-use crate::choosing::{latest_pair, lesser, pair_false_from};
-use crate::propagation::{settle_singles, settle_steps};
-use crate::table::Table;
-use crate::watching::Watching;
+use crate::places::Places;
+use crate::tracks::Tracks;
 use cnf::{Clause, Db, Lit, Var};
+use packed_literals::{Names, Packed};
 use std::alloc::{AllocError, Global};
 use std::marker::Model;
-
-/// How far propagation has come: over how many steps, and over how many of the clauses without two
-/// different literals.
-#[derive(Clone, Copy, Debug)]
-pub struct Reached {
-    pub steps: usize,
-    pub singles: usize,
-}
 
 /// An assignment as a solver makes it, and the clauses that it took over. Contracts see the steps,
 /// each with its literal and, where it was not assumed, the number of the clause that forced it;
 /// the clauses; and the literals at which each is watched. Levels count from 0, on which nothing is
-/// assumed.
+/// assumed. Variables are numbered as they come, and all but `literals` is over their numbers.
 #[derive(Debug, Drop)]
 pub struct Trail {
-    assignment: Assignment,
-    watching: Watching,
-    reached: Reached,
-    saved: Vec<Reached>,
+    names: Names,
+    tracks: Tracks,
+    shown: Vec<Lit>,
+    numbered: Vec<Packed>,
 }
 
 impl Model for Trail {
@@ -42,11 +32,11 @@ impl Model for Trail {
 
     ghost Value = { TrailState };
 
-    ghost use Rattle.cdcl_trail.specs.TrailOf.{state_of, IsSound};
+    ghost use Rattle.cdcl_trail.specs.TrailOf.{state_of, IsNamed};
 
     ghost view = { state_of };
 
-    ghost invariant = { IsSound };
+    ghost invariant = { IsNamed };
 }
 
 impl Trail {
@@ -56,18 +46,15 @@ impl Trail {
         ensures taken { result.taken ≡ [] }
     {
         Trail {
-            assignment: Assignment::new(alloc),
-            watching: Watching::new(alloc),
-            reached: Reached {
-                steps: 0,
-                singles: 0,
-            },
-            saved: Vec::new(alloc),
+            names: Names::new(alloc),
+            tracks: Tracks::new(alloc),
+            shown: Vec::new(alloc),
+            numbered: Vec::new(alloc),
         }
     }
 
     /// Assumes a literal, which opens a level. The condition is that its variable has no value. The
-    /// error is want of memory, and changes nothing.
+    /// error is want of memory, or 2^31 variables that were met; it changes nothing.
     pub fn assume(&mut self, literal: Lit) -> Result<(), AllocError>
         requires { value_of self.old.steps literal.var ≡ None }
         ensures ok { OnOk result (self.new.steps ≡ self.old.steps ++ assumed literal ∷ []) }
@@ -75,9 +62,11 @@ impl Trail {
         ensures watch { KeepWatch self.old self.new }
         ensures err { OnErr result (self.new ≡ self.old) }
     {
-        self.saved.reserve(1)?;
-        self.assignment.put(literal, None)?;
-        self.saved.push_reserved(self.reached);
+        self.tracks.laws();
+        self.shown.reserve(1)?;
+        let number = self.names.meet(literal.var)?;
+        self.tracks.assume(Packed::of(number, literal.positive))?;
+        self.shown.push_reserved(literal);
         Ok(())
     }
 
@@ -89,16 +78,16 @@ impl Trail {
         ensures level { level self.new.steps ≡ target }
         ensures watch { KeepWatch self.old self.new }
     {
-        self.assignment.back_to(target);
-        self.reached = reached_at(self.saved.as_slice(), target as usize, self.reached);
-        self.saved.truncate(target as usize);
+        self.tracks.back_to(target);
+        self.shown.truncate(self.tracks.literals().len());
     }
 
     /// Takes over the clauses that the list has more than at the call before, and puts the literals
     /// that the clauses force on the trail, until no clause is unit or false, and answers `None`; or
     /// until a clause is false, and answers its number. The condition is that the list begins with
-    /// the clauses that were taken over. The error is want of memory: those that were taken over
-    /// stay, some more may have come, and some literals, each of them forced.
+    /// the clauses that were taken over. The error is want of memory, or more variables, clauses or
+    /// literals than four bytes can number: those that were taken over stay, some more may have
+    /// come, and some literals, each of them forced.
     pub fn propagate(&mut self, db: &Db) -> Result<Option<u64>, AllocError>
         requires { Extends self.old.taken db.now.clauses }
         ensures complete { IfOk result (λ conflict. (conflict ≡ None) ↔ IsTrue (is_complete db.now.clauses self.new.steps)) }
@@ -136,25 +125,21 @@ impl Trail {
     fn count_taken(&self) -> usize
         ensures { result ≡ length self.now.taken }
     {
-        self.watching.places.as_slice().len()
+        self.tracks.count_taken()
     }
 
-    // Takes over a clause. The places to which propagation has come go back where one of its
-    // watched literals is false already.
+    // Takes over a clause. The error changes no clause.
     fn take_one(&mut self, clause: &[Lit]) -> Result<(), AllocError>
         ensures steps { self.new.steps ≡ self.old.steps }
         ensures ok { OnOk result (self.new.taken ≡ self.old.taken ++ clause.now ∷ []) }
         ensures err { OnErr result (self.new.taken ≡ self.old.taken) }
     {
-        let pair = latest_pair(&self.assignment, clause);
-        let bound = pair_false_from(&self.assignment, pair);
-        self.watching.keep(clause, pair)?;
-        self.reached = lowered(self.reached, bound);
-        lower(&mut self.saved, bound);
+        number_all(&mut self.names, &mut self.numbered, clause)?;
+        self.tracks.take_one(self.numbered.as_slice())?;
         Ok(())
     }
 
-    // Puts the literals that the clauses force on the trail.
+    // Puts the literals that the clauses force on the trail, and shows them.
     fn settle(&mut self) -> Result<Option<u64>, AllocError>
         ensures complete { IfOk result (λ conflict. (conflict ≡ None) ↔ IsTrue (is_complete self.new.taken self.new.steps)) }
         ensures conflict { IfOk result (λ conflict. IfSome conflict (λ number. IsConflict self.new.taken self.new.steps number)) }
@@ -162,18 +147,14 @@ impl Trail {
         ensures taken { self.new.taken ≡ self.old.taken }
         ensures watched { IfOk result (λ conflict. conflict ≡ None → AreWatchedWell self.new) }
     {
-        if let Some(conflict) = settle_singles(
-            &mut self.assignment,
-            &self.watching,
-            &mut self.reached.singles,
-        )? {
-            return Ok(Some(conflict));
-        }
-        settle_steps(
-            &mut self.assignment,
-            &mut self.watching,
-            &mut self.reached.steps,
-        )
+        // there are never more literals than variables
+        let most = self.names.as_slice().len();
+        let known = self.shown.as_slice().len();
+        self.shown.reserve(most.saturating_sub(known))?;
+        let found = self.tracks.settle();
+        self.tracks.laws();
+        show(&self.names, &mut self.shown, self.tracks.literals());
+        found
     }
 
     /// The two watched literals of a clause, which are two different literals of it. The condition is
@@ -183,24 +164,26 @@ impl Trail {
         requires { IsWatchable self.now number }
         ensures { IsWatchedAt self.now number result.0 result.1 }
     {
-        match self.watching.pair(place_of(number)) {
-            Some(pair) => (pair.first, pair.second),
-            None => (Lit::default(), Lit::default()),
-        }
+        self.tracks.laws();
+        let (first, second) = self.tracks.watched(number);
+        (name(&self.names, first), name(&self.names, second))
     }
 
     /// The value of a variable. `None` where it has none. Takes no memory.
     pub fn value(&self, var: Var) -> Option<bool>
         ensures { result ≡ value_of self.now.steps var }
     {
-        self.assignment.value(var)
+        match self.names.get(var) {
+            None => None,
+            Some(number) => self.tracks.value(number),
+        }
     }
 
     /// The level: how many literals are assumed. Takes no memory.
     pub fn level(&self) -> u64
         ensures { result ≡ level self.now.steps }
     {
-        self.assignment.level()
+        self.tracks.level()
     }
 
     /// The literals, in the order in which they came. No variable comes twice. Takes no memory.
@@ -208,7 +191,8 @@ impl Trail {
         ensures value { result.now ≡ literals_of self.now.steps }
         ensures once { IsTrue (once result.now) }
     {
-        self.assignment.literals()
+        self.tracks.laws();
+        self.shown.as_slice()
     }
 
     /// The reasons of the literals, beside them: the number of the clause that forced each, and
@@ -216,14 +200,14 @@ impl Trail {
     pub fn reasons(&self) -> &[Option<u64>]
         ensures { result.now ≡ reasons_in self.now.steps }
     {
-        self.assignment.reasons()
+        self.tracks.reasons()
     }
 
     /// The place of each variable among the literals. Takes no memory.
-    pub fn places(&self) -> &Table<usize>
-        ensures { (var : ℕ) → told result.now var ≡ place_in (literals_of self.now.steps) var }
+    pub fn places(&self) -> Places<'_>
+        ensures { (var : ℕ) → told result var ≡ place_in (literals_of self.now.steps) var }
     {
-        self.assignment.places()
+        Places::new(&self.names, self.tracks.places())
     }
 
     /// The level on which a variable got its value. The condition is that it has one. Takes no
@@ -232,7 +216,10 @@ impl Trail {
         requires { IsSome (value_of self.now.steps var) }
         ensures { result ≡ level_of self.now.steps var }
     {
-        self.assignment.level_of(var)
+        match self.names.get(var) {
+            None => 0,
+            Some(number) => self.tracks.level_of(number),
+        }
     }
 
     /// The number of the clause that forced a variable. `None` for an assumed one, and for one
@@ -240,15 +227,11 @@ impl Trail {
     pub fn reason(&self, var: Var) -> Option<u64>
         ensures { result ≡ reason_of self.now.steps var }
     {
-        self.assignment.reason(var)
+        match self.names.get(var) {
+            None => None,
+            Some(number) => self.tracks.reason(number),
+        }
     }
-}
-
-// The place of the clause with a number.
-fn place_of(number: u64) -> usize
-    ensures { result ≡ number - 1 }
-{
-    number.saturating_sub(1) as usize
 }
 
 // The literals of the clause at a place.
@@ -262,44 +245,58 @@ fn literals_at(clauses: &[Clause], place: usize) -> Option<&[Lit]>
     }
 }
 
-// Brings each place down to the bound, where it is above.
-fn lower(saved: &mut Vec<Reached>, bound: usize)
-    ensures { AreLowered saved.old.items bound saved.new.items }
+// The literal over the variable of a number.
+fn name(names: &Names, literal: Packed) -> Lit
+    requires { literal.var < length names.now }
+    ensures { result ≡ named names.now literal }
 {
-    let mut place = 0;
-    'levels: loop {
-        let Some(old) = reached_in(saved.as_slice(), place) else {
+    Lit {
+        var: names.name(literal.number()),
+        positive: literal.is_positive(),
+    }
+}
+
+// Meets the variables of a clause, and leaves its literals over their numbers. The error is as of
+// `Names::meet`.
+fn number_all(
+    names: &mut Names,
+    numbered: &mut Vec<Packed>,
+    clause: &[Lit],
+) -> Result<(), AllocError>
+    ensures meets { Meets names.old names.new }
+    ensures below { OnOk result (AreBelow (length names.new) numbered.new.items) }
+    ensures same { OnOk result (named_clause names.new numbered.new.items ≡ clause.now) }
+{
+    numbered.clear();
+    for literal in clause {
+        let number = names.meet(literal.var)?;
+        numbered.push(Packed::of(number, literal.positive))?;
+    }
+    Ok(())
+}
+
+// Shows the literals that came, under their variables.
+fn show(names: &Names, shown: &mut Vec<Lit>, literals: &[Packed])
+    requires below { AreBelow (length names.now) literals.now }
+    requires front { take (length shown.old.items) (named_clause names.now literals.now) ≡ shown.old.items }
+    requires within { length shown.old.items ≤ length literals.now }
+    requires room { length literals.now ≤ vec_capacity shown.old }
+    ensures { shown.new.items ≡ named_clause names.now literals.now }
+{
+    let mut place = shown.as_slice().len();
+    'places: loop {
+        let Some(literal) = literal_at(literals, place) else {
             return;
         };
-        saved[place] = lowered(old, bound);
+        shown.push_reserved(name(names, literal));
         place += 1;
     }
 }
 
-// What is saved at a place.
-fn reached_in(saved: &[Reached], place: usize) -> Option<Reached>
-    ensures value { result ≡ slice_get saved.now place }
+// The literal at a place.
+fn literal_at(literals: &[Packed], place: usize) -> Option<Packed>
+    ensures value { result ≡ slice_get literals.now place }
     ensures small { IfSome result (λ _. place < usize.MAX) }
 {
-    saved.get(place).copied()
-}
-
-// The same, with its place of steps not above the bound.
-fn lowered(reached: Reached, bound: usize) -> Reached
-    ensures fewer { result.steps ≤ reached.steps }
-    ensures under { result.steps ≤ bound }
-    ensures same { result.singles ≡ reached.singles }
-{
-    Reached {
-        steps: lesser(reached.steps, bound),
-        singles: reached.singles,
-    }
-}
-
-// How far propagation had come when a level was left for the next, and how far it has come where it
-// was not.
-fn reached_at(saved: &[Reached], target: usize, present: Reached) -> Reached
-    ensures { result ≡ unwrap_or (slice_get saved.now target) present }
-{
-    saved.get(target).copied().unwrap_or(present)
+    literals.get(place).copied()
 }

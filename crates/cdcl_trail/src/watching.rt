@@ -11,7 +11,7 @@ ghost use Rattle.cdcl_trail.specs.Storing.{held, IsStored, IsRewatched, IsPairAt
 use crate::lists::Lists;
 use crate::pairs::Pair;
 use clause_arena::{Arena, Ref};
-use cnf::Lit;
+use packed_literals::Packed;
 use std::alloc::{AllocError, Global};
 
 /// The clauses that were taken over: where their literals stand in the arena, at which two literals
@@ -19,7 +19,7 @@ use std::alloc::{AllocError, Global};
 #[derive(Debug, Drop)]
 pub struct Watching {
     pub alloc: Global,
-    pub arena: Arena<Lit>,
+    pub arena: Arena<Packed>,
     pub places: Vec<Ref>,
     pub pairs: Vec<Option<Pair>>,
     pub singles: Vec<usize>,
@@ -45,7 +45,7 @@ impl Watching {
     }
 
     /// The literals of a clause. `None` where there is no such clause. Takes no memory.
-    pub fn clause(&self, number: usize) -> Option<&[Lit]>
+    pub fn clause(&self, number: usize) -> Option<&[Packed]>
         requires { IsStored self.now }
         ensures { option_copied result ≡ slice_get (held self.now) number }
     {
@@ -69,7 +69,7 @@ impl Watching {
 
     /// Keeps a clause with the literals at which it is to be watched. The error is want of memory,
     /// and leaves the clauses and their watched literals as they were.
-    pub fn keep(&mut self, clause: &[Lit], pair: Option<Pair>) -> Result<(), AllocError>
+    pub fn keep(&mut self, clause: &[Packed], pair: Option<Pair>) -> Result<(), AllocError>
         requires stored { IsStored self.old }
         requires some { IfSome pair (IsPairOf clause.now) }
         requires none { IfNone pair (IsSingle clause.now) }
@@ -81,11 +81,11 @@ impl Watching {
     {
         self.reserve_one()?;
         let number = self.places.as_slice().len();
-        add_pair(&mut self.lists, self.alloc, pair, number)?;
+        add_pair(&mut self.lists, self.alloc, &pair, number)?;
         let place = self.arena.push(clause)?;
         self.places.push_reserved(place);
+        push_single(&mut self.singles, &pair, number);
         self.pairs.push_reserved(pair);
-        push_single(&mut self.singles, pair, number);
         Ok(())
     }
 
@@ -108,7 +108,7 @@ impl Watching {
         &mut self,
         number: usize,
         pair: Pair,
-        falsified: Lit,
+        falsified: Packed,
         place: usize,
     ) -> Result<(), AllocError>
         requires stored { IsStored self.old }
@@ -134,13 +134,13 @@ impl Watching {
 fn add_pair(
     lists: &mut Lists,
     alloc: Global,
-    pair: Option<Pair>,
+    pair: &Option<Pair>,
     number: usize,
 ) -> Result<(), AllocError>
     ensures keeps { KeepsLists lists.old lists.new }
-    ensures ok { OnOk result (AreListed lists.new number pair) }
+    ensures ok { OnOk result (AreListed lists.new number pair.now) }
 {
-    let Some(pair) = pair else {
+    let Some(pair) = *pair else {
         return Ok(());
     };
     lists.add(alloc, pair.first, number)?;
@@ -148,9 +148,9 @@ fn add_pair(
 }
 
 // Puts a clause that is watched nowhere into the list of such clauses.
-fn push_single(singles: &mut Vec<usize>, pair: Option<Pair>, number: usize)
+fn push_single(singles: &mut Vec<usize>, pair: &Option<Pair>, number: usize)
     requires { vec_len singles.old < vec_capacity singles.old }
-    ensures { singles.new.items ≡ has_more_singles singles.old.items number pair }
+    ensures { singles.new.items ≡ has_more_singles singles.old.items number pair.now }
 {
     if pair.is_none() {
         singles.push_reserved(number);

@@ -31,9 +31,12 @@ impl<T> Model for Arena<T> {
 /// A list in an arena: the place of its first value, and the place behind its last.
 #[derive(Clone, Copy, Debug)]
 pub struct Ref {
-    start: usize,
-    end: usize,
+    start: u32,
+    end: u32,
 }
+
+/// An arena never has more values than this, so that each place is one of four bytes.
+const MOST: usize = u32::MAX as usize;
 
 impl<T: Copy> Arena<T> {
     /// Nothing. Takes no memory.
@@ -45,8 +48,8 @@ impl<T: Copy> Arena<T> {
         }
     }
 
-    /// Keeps a copy of the values, and answers a reference to them. The error is want of memory,
-    /// and changes nothing. What was pushed before stays the same.
+    /// Keeps a copy of the values, and answers a reference to them. The error is want of memory, or
+    /// more than 2^32 - 1 values in all; it changes nothing. What was pushed before stays the same.
     pub fn push(&mut self, values: &[T]) -> Result<Ref, AllocError>
         ensures ok { OnOk result (self.new ≡ self.old ++ values.now) }
         ensures place { IfOk result (λ place. IsRefOf self.new place) }
@@ -55,9 +58,15 @@ impl<T: Copy> Arena<T> {
         ensures err { OnErr result (self.new ≡ self.old) }
     {
         let start = self.values.as_slice().len();
+        let end = start.saturating_add(values.len());
+        if end > MOST {
+            return Err(AllocError);
+        }
         self.values.extend_from_slice(values)?;
-        let end = self.values.as_slice().len();
-        Ok(Ref { start, end })
+        Ok(Ref {
+            start: start as u32,
+            end: end as u32,
+        })
     }
 
     /// The values that a reference stands for. The condition is that this arena gave it. Takes no
@@ -66,7 +75,7 @@ impl<T: Copy> Arena<T> {
         requires { IsRefOf self.now place }
         ensures { result.now ≡ lent self.now place }
     {
-        &self.values.as_slice()[place.start..place.end]
+        &self.values.as_slice()[place.start as usize..place.end as usize]
     }
 }
 

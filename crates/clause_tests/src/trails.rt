@@ -216,6 +216,39 @@ fn watches_move(rt: HostRuntime) -> Result<(), Fail> {
     Ok(())
 }
 
+// Whether 2^62 stands at place 0 and 7 at place 1, and neither 9, which a clause has, nor 8.
+fn has_places(trail: &Trail) -> bool {
+    let places = trail.places();
+    places.get(1 << 62) == Some(0)
+        && places.get(7) == Some(1)
+        && places.get(9).is_none()
+        && places.get(8).is_none()
+}
+
+// What is told of variables far apart, with the clauses (-2^62 7) and (-7 2^40 9), once 2^62 is
+// assumed.
+fn far_apart(alloc: Global) -> Result<[bool; 3], AllocError> {
+    let mut session = Session::new(alloc);
+    session.add(clause(alloc, &[-(1 << 62), 7])?)?;
+    session.add(clause(alloc, &[-7, 1 << 40, 9])?)?;
+    session.assume(1 << 62)?;
+    let is_complete = session.propagate()?.is_none()
+        && has_literals(&session.trail, &[1 << 62, 7])
+        && session.level_of(7) == Some(1);
+    let has_two_places = has_places(&session.trail);
+    let Some((first, second)) = session.watched(2)? else {
+        return Ok([false; 3]);
+    };
+    let is_watched = first.var != 7 && second.var != 7 && first.var != second.var;
+    Ok([is_complete, has_two_places, is_watched])
+}
+
+#[test]
+fn variables_far_apart(rt: HostRuntime) -> Result<(), Fail> {
+    assert_eq!(rt; far_apart(rt.alloc())?, [true; 3]);
+    Ok(())
+}
+
 // How many literals the row gives, and whether it ends in a conflict with the negation of its last.
 fn follow_row(alloc: Global) -> Result<(usize, bool), AllocError> {
     let mut session = Session::new(alloc);

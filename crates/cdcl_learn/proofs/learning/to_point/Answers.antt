@@ -4,7 +4,7 @@ use Rattle.std.proofs.lemmas.Bool.{or_left}
 use Rattle.std.specs.List.{list_any}
 use Rattle.proof_semantics.specs.Clauses.{negation, has_literal}
 use Rattle.cdcl_trail.specs.Propagation.{is_false}
-use Rattle.cdcl_trail.specs.Tables.{told}
+use Rattle.cdcl_trail.specs.Places.{told}
 use Rattle.cdcl_trail.specs.Trails.{literals_of, reasons_in, once}
 use Rattle.cdcl_learn.specs.Walking.{is_at, is_marked, marked, count_from}
 use Rattle.cdcl_learn.proofs.FreshLaws.{fresh_trail}

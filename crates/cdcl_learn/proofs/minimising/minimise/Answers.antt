@@ -1,6 +1,6 @@
 use Rattle.std.proofs.Common.{◌≡◌, ◌<◌, None, length, get_or, refl, ap, sym, ◌∙◌, ◌-◌, ◌+◌, arith}
 use Rattle.std.proofs.lemmas.Bool.{or_left}
-use Rattle.cdcl_trail.specs.Tables.{told}
+use Rattle.cdcl_trail.specs.Places.{told}
 use Rattle.cdcl_trail.specs.Trails.{literals_of}
 use Rattle.cdcl_learn.specs.Walking.{is_at, marked}
 use Rattle.cdcl_learn.proofs.FreshLaws.{fresh_trail}

@@ -35,4 +35,4 @@ returns-clause-assumed c =
 
 pub trace_back-requires-clause-table : goal.trace_back-requires-clause-table
 trace_back-requires-clause-table c =
-    λ v q below. ap (λ o. is_at o q) (c.places.ensures v) ∙ ap (λ ls. is_at (place_in ls v) q) (sym c.literals.ensures.value)
+    λ v q below. ap (λ o. is_at o q) (c.places-table.ensures v) ∙ ap (λ ls. is_at (place_in ls v) q) (sym c.literals.ensures.value)

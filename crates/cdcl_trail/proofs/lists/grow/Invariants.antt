@@ -1,9 +1,9 @@
 use Rattle.std.proofs.Common.{◌≡◌, ℕ, ◌+◌, ◌-◌, length}
-use Rattle.cdcl_trail.specs.Lists.{near_list}
+use Rattle.cdcl_trail.specs.Lists.{list_at}
 use Rattle.cdcl_trail.proofs.lists.grow.Given as goal
 
 abbrev pub invariant-lists : goal.invariant-lists
-invariant-lists l = (v : ℕ) → near_list l.near.items v ≡ near_list l.initial.near.items v
+invariant-lists l = (v : ℕ) → list_at l.rows.items v ≡ list_at l.initial.rows.items v
 
 abbrev pub decreases-lists : goal.decreases-lists
-decreases-lists l = l.var + 1 - length l.near.items
+decreases-lists l = l.row + 1 - length l.rows.items

@@ -1,6 +1,7 @@
 use Rattle.std.proofs.Common.{Some, ap, sym, ◌∙◌, inr}
 use Rattle.std.specs.Prelude.{is_some}
 use Rattle.cdcl_trail.specs.Propagation.{is_true}
+use Rattle.cdcl_trail.specs.Trails.{value_of}
 use Rattle.cdcl_trail.proofs.PassLaws.{unit_unvalued}
 use Rattle.cdcl_trail.proofs.VisitLaws.{first_inside, single_false, single_unit, true_comes}
 use Rattle.cdcl_trail.proofs.ScanLaws.{any_has}
@@ -17,7 +18,7 @@ returns-clause-steps c =
       c.in-Some.literal.now,
       single_unit c.args.assignment.now.steps c.args.clause.now c.in-Some.literal.now c.requires.single
           (first_inside c.args.clause.now c.in-Some.literal.now (sym c.in-Some.ensures.value))
-          (sym (c.is_some.ensures ∙ ap is_some c.value.ensures) ∙ c.if-is_some.false),
+          (sym (c.is_some.ensures ∙ ap is_some (c.value.ensures ∙ ap (value_of c.args.assignment.now.steps) c.number.ensures.number)) ∙ c.if-is_some.false),
       c.in_ok-put.ensures.ok,
     )
 
@@ -29,4 +30,4 @@ returns-clause-settled c =
     (ap (λ xs. is_true xs c.in-Some.literal.now) c.in_ok-put.ensures.ok
     ∙ true_comes s c.in-Some.literal.now (Some c.args.number)
     (unit_unvalued s c.args.clause.now c.in-Some.literal.now
-    (single_unit s c.args.clause.now c.in-Some.literal.now c.requires.single has (sym (c.is_some.ensures ∙ ap is_some c.value.ensures) ∙ c.if-is_some.false))))
+    (single_unit s c.args.clause.now c.in-Some.literal.now c.requires.single has (sym (c.is_some.ensures ∙ ap is_some (c.value.ensures ∙ ap (value_of c.args.assignment.now.steps) c.number.ensures.number)) ∙ c.if-is_some.false))))

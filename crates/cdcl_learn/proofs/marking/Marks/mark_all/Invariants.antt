@@ -1,6 +1,6 @@
 use Rattle.std.proofs.Common.{◌≡◌, ◌<◌, ◌||◌, ℕ, length, take}
 use Rattle.std.specs.List.{list_any}
-use Rattle.cdcl_trail.specs.Tables.{told}
+use Rattle.cdcl_trail.specs.Places.{told}
 use Rattle.cdcl_learn.specs.Walking.{is_at, is_marked}
 use Rattle.cdcl_learn.proofs.marking.Marks.mark_all.Given as goal
 

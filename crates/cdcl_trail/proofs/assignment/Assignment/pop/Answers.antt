@@ -14,9 +14,9 @@ overflow_sub-self c =
 pub invariant_of-self : goal.invariant_of-self
 invariant_of-self c =
     let t = c.self.inside in
-    popped t (record { literals = c.pop.new.self; reasons = c.pop-2.new.self; places = c.remove.new.self; values = c.remove-in-Some-Some.new.self; levels = c.truncate.new.self; level = t.level - c.opened_by.result })
+    popped t (record { literals = c.pop.new.self; reasons = c.pop-2.new.self; places = c.untell.new.places; values = c.untell.new.values; levels = c.truncate.new.self; level = t.level - c.opened_by.result })
     c.in-Some-Some.literal c.in-Some-Some.reason c.self.invariant c.in-Some-Some.ensures.items c.in-Some-Some.ensures'.items
-    c.remove.ensures c.remove-in-Some-Some.ensures (ap (λ n. t.level - n) c.opened_by.ensures)
+    c.untell.ensures.places c.untell.ensures.values (ap (λ n. t.level - n) c.opened_by.ensures)
     (c.truncate.ensures.items ∙ ap (λ xs. take (length xs) t.levels.items) c.as_slice.ensures.value)
 
 pub returns-in-Some-Some : goal.returns-in-Some-Some

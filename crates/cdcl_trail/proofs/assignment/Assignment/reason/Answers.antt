@@ -6,6 +6,6 @@ use Rattle.cdcl_trail.proofs.assignment.Assignment.reason.Goals as goal
 pub returns : goal.returns
 returns c =
     let t = c.self.inside in
-    subst (λ (s : Steps). c.reason_at.result ≡ reason_of s.steps c.args.var) c.self.view_is
-    (reason_read c.reason_at.result t.literals.items _ t.reasons.items c.args.var _ _ c.reason_at.ensures c.as_slice.ensures.value c.get.ensures
-    c.self.invariant.beside (c.self.invariant.places c.args.var))
+    subst (λ (s : Steps). c.reason_at.result ≡ reason_of s.steps c.args.number) c.self.view_is
+    (reason_read c.reason_at.result t.literals.items _ t.reasons.items c.args.number _ _ c.reason_at.ensures c.as_slice.ensures.value c.get.ensures
+    c.self.invariant.beside (c.self.invariant.places c.args.number))

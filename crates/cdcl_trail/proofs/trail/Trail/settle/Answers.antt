@@ -1,89 +1,91 @@
-use Rattle.std.proofs.Common.{◌≤◌, length, sym, subst}
-use Rattle.std.specs.Option.{IfSome}
-use Rattle.cdcl_trail.specs.Propagation.{IsConflict, Propagates}
-use Rattle.cdcl_trail.specs.Storing.{held}
+use Rattle.std.proofs.Common.{◌≡◌, ◌≤◌, length, take, ap, sym, subst, ◌∙◌, arith}
+use Rattle.cdcl_trail.specs.Propagation.{Propagates}
+use Rattle.cdcl_trail.specs.Renaming.{AreBelow, named_clause, named_clauses, named_steps}
 use Rattle.cdcl_trail.specs.Watched.{TrailState}
-use Rattle.cdcl_trail.specs.declared.trail.Reached.{Reached}
-use Rattle.cdcl_trail.proofs.PassLaws.{answered_some, propagates_more}
-use Rattle.cdcl_trail.proofs.LoopLaws.{held_same}
-use Rattle.cdcl_trail.proofs.TakeLaws.{sound_singles, sound_walk, complete_told, conflict_along, watched_told}
+use Rattle.cdcl_trail.proofs.PassLaws.{propagates_none}
+use Rattle.cdcl_trail.proofs.NamedLaws.{named_same, named_settled, settled_complete, settled_conflict, settled_watched, settled_reasons, front_shown, few_literals}
 use Rattle.cdcl_trail.proofs.trail.Trail.settle.Goals as goal
 
 pub invariant_of-self : goal.invariant_of-self
 invariant_of-self c =
     let t = c.self.inside in
-    let e = c.settle_singles.ensures in
-    let mid = sound_singles t.assignment.steps c.settle_singles.new.assignment.steps t.watching t.reached c.settle_singles.new.count t.saved.items e.steps e.sure e.counted c.self.invariant in
-    mid
+    named_same t.names t.tracks t.shown.items c.reserve.new.self.items c.self.invariant c.reserve.ensures.items
 
-pub invariant_of-self-in-Some : goal.invariant_of-self-in-Some
-invariant_of-self-in-Some c =
+pub returns-in_err-reserve-clause-reasons : goal.returns-in_err-reserve-clause-reasons
+returns-in_err-reserve-clause-reasons c =
     let t = c.self.inside in
-    let e = c.settle_singles.ensures in
-    let mid = sound_singles t.assignment.steps c.settle_singles.new.assignment.steps t.watching t.reached c.settle_singles.new.count t.saved.items e.steps e.sure e.counted c.self.invariant in
-    mid
+    subst (λ (s : TrailState). Propagates (named_clauses t.names t.tracks.taken) s.steps (named_steps t.names t.tracks.steps)) c.self.view_is
+    (propagates_none (named_clauses t.names t.tracks.taken) (named_steps t.names t.tracks.steps))
 
-pub settle_steps-requires-clause-guarded : goal.settle_steps-requires-clause-guarded
-settle_steps-requires-clause-guarded c =
+pub show-requires-clause-below : goal.show-requires-clause-below
+show-requires-clause-below c =
     let t = c.self.inside in
-    let e = c.settle_singles.ensures in
-    let mid = sound_singles t.assignment.steps c.settle_singles.new.assignment.steps t.watching t.reached c.settle_singles.new.count t.saved.items e.steps e.sure e.counted c.self.invariant in
-    mid.present.guarded
+    subst (AreBelow (length t.names)) (sym c.literals.ensures.value)
+    (few_literals t.names t.tracks c.settle-found.new.self t.shown.items c.self.invariant c.settle-found.ensures.taken c.settle-found.ensures.reasons c.laws.ensures.once).0
 
-pub settle_steps-requires-clause-within : goal.settle_steps-requires-clause-within
-settle_steps-requires-clause-within c =
+pub show-requires-clause-front : goal.show-requires-clause-front
+show-requires-clause-front c =
     let t = c.self.inside in
-    let e = c.settle_singles.ensures in
-    let mid = sound_singles t.assignment.steps c.settle_singles.new.assignment.steps t.watching t.reached c.settle_singles.new.count t.saved.items e.steps e.sure e.counted c.self.invariant in
-    mid.present.within
+    subst (λ ls. take (length c.reserve.new.self.items) (named_clause t.names ls) ≡ c.reserve.new.self.items) (sym c.literals.ensures.value)
+    (front_shown t.names t.tracks c.settle-found.new.self c.reserve.new.self.items
+    (named_same t.names t.tracks t.shown.items c.reserve.new.self.items c.self.invariant c.reserve.ensures.items) c.settle-found.ensures.reasons).0
 
-pub returns-in-Some-clause-complete : goal.returns-in-Some-clause-complete
-returns-in-Some-clause-complete c =
+pub show-requires-clause-within : goal.show-requires-clause-within
+show-requires-clause-within c =
     let t = c.self.inside in
-    answered_some (held t.watching) c.settle_singles.new.assignment.steps c.in-Some.conflict
-    (subst (λ found. IfSome found (IsConflict (held t.watching) c.settle_singles.new.assignment.steps)) c.in-Some.is c.in_ok-conflict.ensures.conflict)
+    subst (λ ls. length c.reserve.new.self.items ≤ length ls) (sym c.literals.ensures.value)
+    (front_shown t.names t.tracks c.settle-found.new.self c.reserve.new.self.items
+    (named_same t.names t.tracks t.shown.items c.reserve.new.self.items c.self.invariant c.reserve.ensures.items) c.settle-found.ensures.reasons).1
+
+pub show-requires-clause-room : goal.show-requires-clause-room
+show-requires-clause-room c =
+    let t = c.self.inside in
+    let most = (few_literals t.names t.tracks c.settle-found.new.self t.shown.items c.self.invariant c.settle-found.ensures.taken c.settle-found.ensures.reasons c.laws.ensures.once).1 in
+    omega (
+      arith,
+      most,
+      ap length c.literals.ensures.value,
+      c.in_ok-reserve.ensures.ok,
+      c.reserve.ensures.len,
+      t.shown.ok.0,
+      ap length c.as_slice-known.ensures.value,
+      ap length c.as_slice-most.ensures.names,
+      c.saturating_sub.ensures,
+    )
 
 pub invariant_of-self-2 : goal.invariant_of-self-2
 invariant_of-self-2 c =
     let t = c.self.inside in
-    let e = c.settle_singles.ensures in
-    let mid = sound_singles t.assignment.steps c.settle_singles.new.assignment.steps t.watching t.reached c.settle_singles.new.count t.saved.items e.steps e.sure e.counted c.self.invariant in
-    let f = c.settle_steps.ensures in
-    let r : Reached = record { steps = t.reached.steps; singles = c.settle_singles.new.count } in
-    let walked = sound_walk c.settle_singles.new.assignment.steps c.settle_steps.new.assignment.steps t.watching c.settle_steps.new.watching r c.settle_steps.new.count t.saved.items
-    f.steps f.rewatched f.keeps f.within f.guarded mid in
-    walked
+    named_settled t.names t.tracks c.settle-found.new.self t.shown.items c.show.new.shown.items c.self.invariant c.settle-found.ensures.taken c.settle-found.ensures.reasons
+    (c.show.ensures ∙ ap (named_clause t.names) c.literals.ensures.value)
 
 pub returns-clause-complete : goal.returns-clause-complete
 returns-clause-complete c =
     let t = c.self.inside in
-    let e = c.settle_singles.ensures in
-    let mid = sound_singles t.assignment.steps c.settle_singles.new.assignment.steps t.watching t.reached c.settle_singles.new.count t.saved.items e.steps e.sure e.counted c.self.invariant in
-    let f = c.settle_steps.ensures in
-    let r : Reached = record { steps = t.reached.steps; singles = c.settle_singles.new.count } in
-    let walked = sound_walk c.settle_singles.new.assignment.steps c.settle_steps.new.assignment.steps t.watching c.settle_steps.new.watching r c.settle_steps.new.count t.saved.items
-    f.steps f.rewatched f.keeps f.within f.guarded mid in
-    let q : Reached = record { steps = c.settle_steps.new.count; singles = c.settle_singles.new.count } in
-    complete_told c.settle_steps.result c.settle_steps.new.assignment.steps c.settle_steps.new.watching q t.saved.items walked
-    (subst (λ v. length v.items ≤ c.settle_singles.new.count) (sym f.rewatched.singles) (c.in_ok-conflict.ensures.none c.in_default.is)) f.none
-    (conflict_along c.settle_steps.result c.settle_steps.new.assignment.steps t.watching c.settle_steps.new.watching f.rewatched f.conflict)
+    let h = named_settled t.names t.tracks c.settle-found.new.self t.shown.items c.show.new.shown.items c.self.invariant c.settle-found.ensures.taken c.settle-found.ensures.reasons
+    (c.show.ensures ∙ ap (named_clause t.names) c.literals.ensures.value) in
+    settled_complete c.settle-found.result t.names c.settle-found.new.self c.show.new.shown.items h c.settle-found.ensures.complete
+
+pub returns-clause-conflict : goal.returns-clause-conflict
+returns-clause-conflict c =
+    let t = c.self.inside in
+    let h = named_settled t.names t.tracks c.settle-found.new.self t.shown.items c.show.new.shown.items c.self.invariant c.settle-found.ensures.taken c.settle-found.ensures.reasons
+    (c.show.ensures ∙ ap (named_clause t.names) c.literals.ensures.value) in
+    settled_conflict c.settle-found.result t.names c.settle-found.new.self c.show.new.shown.items h c.settle-found.ensures.conflict
 
 pub returns-clause-watched : goal.returns-clause-watched
 returns-clause-watched c =
     let t = c.self.inside in
-    let e = c.settle_singles.ensures in
-    let mid = sound_singles t.assignment.steps c.settle_singles.new.assignment.steps t.watching t.reached c.settle_singles.new.count t.saved.items e.steps e.sure e.counted c.self.invariant in
-    let f = c.settle_steps.ensures in
-    let r : Reached = record { steps = t.reached.steps; singles = c.settle_singles.new.count } in
-    let walked = sound_walk c.settle_singles.new.assignment.steps c.settle_steps.new.assignment.steps t.watching c.settle_steps.new.watching r c.settle_steps.new.count t.saved.items
-    f.steps f.rewatched f.keeps f.within f.guarded mid in
-    let q : Reached = record { steps = c.settle_steps.new.count; singles = c.settle_singles.new.count } in
-    watched_told c.settle_steps.result c.settle_steps.new.assignment.steps c.settle_steps.new.watching q t.saved.items walked f.none
+    let h = named_settled t.names t.tracks c.settle-found.new.self t.shown.items c.show.new.shown.items c.self.invariant c.settle-found.ensures.taken c.settle-found.ensures.reasons
+    (c.show.ensures ∙ ap (named_clause t.names) c.literals.ensures.value) in
+    settled_watched c.settle-found.result t.names c.settle-found.new.self c.show.new.shown.items h c.laws.ensures.paired c.settle-found.ensures.watched
+
+pub returns-clause-taken : goal.returns-clause-taken
+returns-clause-taken c =
+    ap (named_clauses c.self.inside.names) c.settle-found.ensures.taken ∙ ap (λ (s : TrailState). s.taken) c.self.view_is
 
 pub returns-clause-reasons : goal.returns-clause-reasons
 returns-clause-reasons c =
     let t = c.self.inside in
-    let f = c.settle_steps.ensures in
-    subst (λ (s : TrailState). Propagates (held c.settle_steps.new.watching) s.steps c.settle_steps.new.assignment.steps) c.self.view_is
-    (subst (λ cs. Propagates cs t.assignment.steps c.settle_steps.new.assignment.steps) (sym (held_same t.watching c.settle_steps.new.watching f.rewatched))
-    (propagates_more (held t.watching) t.assignment.steps c.settle_singles.new.assignment.steps c.settle_steps.new.assignment.steps c.settle_singles.ensures.steps f.steps))
+    subst (λ (s : TrailState). Propagates (named_clauses t.names c.settle-found.new.self.taken) s.steps (named_steps t.names c.settle-found.new.self.steps)) c.self.view_is
+    (settled_reasons t.names t.tracks c.settle-found.new.self t.shown.items c.self.invariant c.settle-found.ensures.taken c.settle-found.ensures.reasons)

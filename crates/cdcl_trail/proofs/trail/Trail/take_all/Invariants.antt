@@ -1,5 +1,5 @@
 use Rattle.std.proofs.Common.{◌-◌, length}
-use Rattle.cdcl_trail.specs.TrailOf.{IsTaking}
+use Rattle.cdcl_trail.specs.TracksOf.{IsTaking}
 use Rattle.cdcl_trail.proofs.trail.Trail.take_all.Given as goal
 
 abbrev pub invariant-takes : goal.invariant-takes

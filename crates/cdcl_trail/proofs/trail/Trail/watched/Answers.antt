@@ -1,21 +1,31 @@
-use Rattle.std.proofs.Common.{◌-◌, sym, subst}
-use Rattle.cdcl_trail.specs.Storing.{held, IsPairAt}
+use Rattle.std.proofs.Common.{sym, subst}
+use Rattle.packed_literals.specs.Naming.{named}
+use Rattle.cdcl_trail.specs.Renaming.{named_state}
 use Rattle.cdcl_trail.specs.Watched.{TrailState, IsWatchable, IsWatchedAt}
-use Rattle.cdcl_trail.proofs.PassLaws.{held_at}
-use Rattle.cdcl_trail.proofs.TakeLaws.{two_paired, watched_at}
+use Rattle.cdcl_trail.proofs.BorderLaws.{watchable_unnamed}
+use Rattle.cdcl_trail.proofs.NamedLaws.{named_watched, watched_below}
 use Rattle.cdcl_trail.proofs.trail.Trail.watched.Goals as goal
 
-pub returns-in-Some : goal.returns-in-Some
-returns-in-Some c =
+pub watched-first-requires : goal.watched-first-requires
+watched-first-requires c =
     let t = c.self.inside in
-    subst (λ (s : TrailState). IsWatchedAt s c.args.number c.in-Some.pair.first c.in-Some.pair.second) c.self.view_is
-    (watched_at t.watching t.assignment.steps c.args.number c.in-Some.pair c.self.invariant.stored
-    (subst (λ n. IsPairAt t.watching n c.in-Some.pair) c.place_of.ensures c.in-Some.ensures.some))
+    watchable_unnamed t.names t.tracks c.args.number c.self.invariant.apart c.self.invariant.taken
+    (subst (λ (s : TrailState). IsWatchable s c.args.number) (sym c.self.view_is) c.requires)
 
-pub returns-in-None : goal.returns-in-None
-returns-in-None c =
+pub name-requires : goal.name-requires
+name-requires c =
     let t = c.self.inside in
-    let asked : IsWatchable (record { steps = t.assignment.steps; taken = held t.watching; watched = t.watching.pairs.items }) c.args.number =
-    subst (λ (s : TrailState). IsWatchable s c.args.number) (sym c.self.view_is) c.requires in
-    let found = two_paired t.watching (c.args.number - 1) asked.0 c.self.invariant.stored (held_at (held t.watching) c.args.number asked.0 asked.1) asked.2 in
-    absurd (c.in-None.ensures.none found.0 (subst (λ n. IsPairAt t.watching n found.0) (sym c.place_of.ensures) found.1))
+    (watched_below t.names t.tracks t.shown.items c.args.number c.watched-first.result.0 c.watched-first.result.1 c.self.invariant c.laws.ensures.paired c.watched-first.ensures).0
+
+pub name-requires-2 : goal.name-requires-2
+name-requires-2 c =
+    let t = c.self.inside in
+    (watched_below t.names t.tracks t.shown.items c.args.number c.watched-first.result.0 c.watched-first.result.1 c.self.invariant c.laws.ensures.paired c.watched-first.ensures).1
+
+pub returns : goal.returns
+returns c =
+    let t = c.self.inside in
+    subst (λ (s : TrailState). IsWatchedAt s c.args.number c.name.result c.name-2.result) c.self.view_is
+    (subst (λ a. IsWatchedAt (named_state t.names t.tracks) c.args.number a c.name-2.result) (sym c.name.ensures)
+    (subst (λ b. IsWatchedAt (named_state t.names t.tracks) c.args.number (named t.names c.watched-first.result.0) b) (sym c.name-2.ensures)
+    (named_watched t.names t.tracks t.shown.items c.args.number c.watched-first.result.0 c.watched-first.result.1 c.self.invariant c.watched-first.ensures)))

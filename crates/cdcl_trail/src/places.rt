@@ -1,0 +1,33 @@
+//! Where variables stand among the literals of a trail. The main type is `Places`.
+ghost use Rattle.std.specs.Prelude.{◌≡◌};
+ghost use Rattle.cdcl_trail.specs.Places.{told};
+
+use cnf::Var;
+use packed_literals::{Names, Table};
+
+/// Where variables stand among the literals of a trail, as a trail lends it.
+#[derive(Clone, Copy, Debug)]
+pub struct Places<'a> {
+    names: &'a Names,
+    numbered: &'a Table<usize>,
+}
+
+impl<'a> Places<'a> {
+    /// The places of variables, by those of their numbers.
+    pub(crate) fn new(names: &'a Names, numbered: &'a Table<usize>) -> Places<'a>
+        ensures names { result.names.now ≡ names.now }
+        ensures numbered { result.numbered.now ≡ numbered.now }
+    {
+        Places { names, numbered }
+    }
+
+    /// The place of a variable. `None` where it has no value. Takes no memory.
+    pub fn get(&self, var: Var) -> Option<usize>
+        ensures { result ≡ told self.now var }
+    {
+        match self.names.get(var) {
+            None => None,
+            Some(number) => self.numbered.get(number as u64),
+        }
+    }
+}

@@ -1,0 +1,4 @@
+pub mod Packing
+pub mod Naming
+pub mod Tables
+pub mod NamesOf
