@@ -1,7 +1,7 @@
 -- Laws of answers, by what a search found.
-use Rattle.std.proofs.Common.{◌≡◌, ℕ, zero, suc, ◌+◌, ◌<◌, Bool, true, false, eqb, cond, List, [], ◌∷◌, ◌++◌, length, get_or, take, arith, map, Option, Some, None, refl, ap, sym, subst, ◌∙◌, inl, inr}
+use Rattle.std.proofs.Common.{◌≡◌, ℕ, suc, ◌+◌, Bool, true, false, eqb, List, [], ◌∷◌, arith, map, Option, Some, None, refl, ap, sym, subst, ◌∙◌, inl, inr}
 use Rattle.std.specs.Option.{unwrap_or, option_map}
-use Rattle.std.proofs.lemmas.Bool.{false≢true, and_parts, and_from, cond-true, cond-false}
+use Rattle.std.proofs.lemmas.Bool.{false≢true, cond-true, cond-false}
 use Rattle.proof_semantics.specs.Clauses.{bool_eq, negation, literal_value, clause_value, cube_value, clauses_value, values_of, is_part}
 use Rattle.proof_semantics.specs.declared.literals.Lit.{Lit}
 use Rattle.proof_semantics.proofs.LiteralLaws.{bool_eq-true, bool_eq-same}
@@ -10,11 +10,8 @@ use Rattle.cnf.specs.Clauses.{clause_numbered}
 use Rattle.cdcl_trail.specs.Trails.{Step, literals_of, step_of, value_of}
 use Rattle.cdcl_trail.specs.Propagation.{is_value, is_true}
 use Rattle.cdcl_trail.specs.AssignmentOf.{place_in, positive_at}
-use Rattle.cdcl_trail.specs.Trails.{once}
-use Rattle.cdcl_trail.proofs.TrailLaws.{either, once_pop, place_push, or_both, or_neither, not-true, not-false}
-use Rattle.std.proofs.lemmas.List.{take_more, length-take-le}
+use Rattle.cdcl_trail.proofs.TrailLaws.{either}
 use Rattle.std.specs.Prelude.{slice_get}
-use Rattle.std.specs.List.{list_any}
 use Rattle.cdcl_trail.proofs.PrefixLaws.{all_from}
 use Rattle.cdcl_learn.specs.declared.learning.Learned.{Learned}
 use Rattle.cdcl.specs.Asking.{assigned, IsCore, IsAsked}
@@ -23,7 +20,7 @@ use Rattle.cdcl.specs.declared.asking.Asked.TheVariants.{Sat, Unsat}
 use Rattle.cdcl.specs.declared.finding.Found.{Found}
 use Rattle.cdcl.specs.declared.finding.Found.TheVariants.{Satisfied, Refused}
 use Rattle.cdcl.specs.Entries.{Entries, added_of, IsLog}
-use Rattle.cdcl.specs.Finding.{Satisfies, Refuses, IsFound, IsTold}
+use Rattle.cdcl.specs.Finding.{Satisfies, Refuses, IsSearchResult, IsAskedFrom}
 use Rattle.cdcl.specs.Searching.{AreTrue}
 use Rattle.cdcl.specs.Solving.{IsModel, HasNoModel}
 use Rattle.cdcl.proofs.EntryLaws.{numbered_true}
@@ -89,7 +86,7 @@ core_from entries added assumptions core traced same log r is =
 
 -- What is told of a search is true.
 pub asked_from : (entries : Entries) (added : List (List Lit)) (assumptions : List Lit) (steps : List Step) (found : Found) (asked : Asked) → added ≡ added_of entries → IsLog entries
-    → IsFound entries.clauses assumptions steps found → IsTold steps found asked → IsAsked added assumptions asked
+    → IsSearchResult entries.clauses assumptions steps found → IsAskedFrom steps found asked → IsAsked added assumptions asked
 asked_from entries added assumptions steps Satisfied (Sat assignment) same log is told =
     subst (λ ls. IsModel added assumptions (assigned ls)) (sym told) (assigned_model entries added assumptions steps same is)
 asked_from entries added assumptions steps Satisfied (Unsat core) same log is told = absurd told

@@ -6,8 +6,8 @@ use Rattle.std.proofs.lemmas.Bool.{false≢true, and_parts, and_from, or_cases, 
 use Rattle.std.proofs.lemmas.Option.{none-some}
 use Rattle.proof_semantics.specs.Clauses.{lit_eq, has_literal}
 use Rattle.proof_semantics.specs.declared.literals.Lit.{Lit}
-use Rattle.proof_semantics.proofs.LiteralLaws.{lit_eq-true, lit_eq-same}
-use Rattle.cdcl_trail.specs.Trails.{Step, opened_by, literals_of, step_of, value_of, level, level_of, up_to_level, up_to_variable}
+use Rattle.proof_semantics.proofs.LiteralLaws.{lit_eq-true}
+use Rattle.cdcl_trail.specs.Trails.{Step, opened_by, step_of, value_of, level, level_of, up_to_level, up_to_variable}
 use Rattle.cdcl_trail.specs.Propagation.{is_false, is_falsified, is_unit_for, is_unit, is_complete, IsForced, HaveReasons}
 use Rattle.cnf.specs.Clauses.{clause_numbered}
 use Rattle.cdcl_trail.proofs.TrailLaws.{either, not-false, or_both}

@@ -1,15 +1,13 @@
 -- Laws of the variables of clauses.
-use Rattle.std.proofs.Common.{◌≡◌, ℕ, zero, suc, Bool, true, false, not, ◌&&◌, ◌+◌, List, [], ◌∷◌, ◌++◌, length, take, get_or, Option, Some, None, refl, ap, sym, ◌∙◌, ◌⊎◌, inl, inr, ◌<◌, eq-eqb, eqb-true}
+use Rattle.std.proofs.Common.{◌≡◌, ℕ, zero, suc, Bool, true, false, not, ◌&&◌, ◌+◌, List, [], ◌∷◌, ◌++◌, length, take, get_or, Option, Some, None, refl, ap, sym, ◌∙◌, inl, inr, ◌<◌, eq-eqb, eqb-true}
 use Rattle.std.specs.Prelude.{is_some, slice_get, nat_eq}
 use Rattle.std.specs.List.{list_any, list_all}
 use Rattle.std.proofs.lemmas.List.{take_more}
 use Rattle.std.proofs.lemmas.Bool.{false≢true, and_parts, and_from, or_cases, or_left, or_right}
 use Rattle.std.proofs.lemmas.Option.{none-some, same_Some}
-use Rattle.proof_semantics.specs.Clauses.{bool_eq, lit_eq, has_literal}
 use Rattle.proof_semantics.specs.declared.literals.Lit.{Lit}
-use Rattle.proof_semantics.proofs.LiteralLaws.{bool_eq-same}
 use Rattle.cdcl_trail.specs.Trails.{Step, value_of}
-use Rattle.cdcl_trail.specs.Propagation.{is_value, is_true, is_false, is_falsified, is_unit, is_complete}
+use Rattle.cdcl_trail.specs.Propagation.{is_value, is_true, is_false, is_falsified, is_complete}
 use Rattle.cdcl_trail.proofs.TrailLaws.{either, not-true, or_neither}
 use Rattle.cdcl.specs.Variables.{is_over, are_over, HasAll}
 use Rattle.cdcl.specs.Searching.{is_satisfied}

@@ -2,8 +2,9 @@ pub mod EntryLaws
 pub mod RoomLaws
 pub mod ProgressLaws
 pub mod SpellingLaws
+pub mod IdLaws
 pub mod WritingLaws
-pub mod MarkingLaws
+pub mod PuttingLaws
 pub mod SearchLaws
 pub mod CoverLaws
 pub mod BackLaws
@@ -13,3 +14,4 @@ pub mod ConditionLaws
 pub mod AnswerLaws
 pub mod RetiringLaws
 pub mod UnitLaws
+pub mod CountingLaws

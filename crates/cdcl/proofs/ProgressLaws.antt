@@ -14,10 +14,10 @@ use Rattle.edge.specs.Units.{Spendings, SpentConflict}
 use Rattle.cdcl_learn.specs.declared.learning.Learned.{Learned}
 use Rattle.cdcl_trail.proofs.TrailLaws.{or_both, or_neither}
 use Rattle.cdcl.specs.Entries.{Entries, with_added, with_learned, added_in, learned_in, added_of, learned_of, IsLog}
-use Rattle.cdcl.specs.Room.{room, variables_of, variables_in}
+use Rattle.cdcl.specs.Room.{clause_room, literal_variables, variables_in}
 use Rattle.cdcl.specs.Searching.{is_over, are_over, IsNewClause}
-use Rattle.cdcl.specs.Solving.{Solving, IsLearned, AreLearned, Learns, IsBounded, more_conflicts}
-use Rattle.cdcl.specs.Progress.{growth, IsSearched, AreApart, IsKept}
+use Rattle.cdcl.specs.Solving.{Solving, IsNewImplicate, AreLearned, Learns, IsBounded, more_conflicts}
+use Rattle.cdcl.specs.Progress.{growth, IsSearched, AreIrredundant, IsSolverLog}
 use Rattle.cdcl.proofs.EntryLaws.{hinted_implied, learned-IsLog}
 use Rattle.cdcl.proofs.RoomLaws.{room_falls, room_small, over_append, all_over, own_over}
 
@@ -94,7 +94,7 @@ all_of_both f (s ∷ sources) (c ∷ clauses) same e g =
 
 -- Sizes.
 
-sized_of : (lits : List Lit) → AreSized lits → (n : ℕ) → list_any (nat_eq n) (variables_of lits) ≡ true → IsSize n
+sized_of : (lits : List Lit) → AreSized lits → (n : ℕ) → list_any (nat_eq n) (literal_variables lits) ≡ true → IsSize n
 sized_of [] sized n e = absurd (false≢true e)
 sized_of (a ∷ lits) sized n e =
     elim (or_cases _ _ e) [
@@ -105,7 +105,7 @@ sized_of (a ∷ lits) sized n e =
 sized_in : (clauses : List (List Lit)) → ((i : ℕ) → AreSized (get_or clauses i [])) → (n : ℕ) → list_any (nat_eq n) (variables_in clauses) ≡ true → IsSize n
 sized_in [] sized n e = absurd (false≢true e)
 sized_in (c ∷ clauses) sized n e =
-    elim (or_cases _ _ (sym (list_any-append (nat_eq n) (variables_of c) (variables_in clauses)) ∙ e)) [
+    elim (or_cases _ _ (sym (list_any-append (nat_eq n) (literal_variables c) (variables_in clauses)) ∙ e)) [
       | inl here ↦ sized_of c (sized zero) n here
       | inr later ↦ sized_in clauses (λ i. sized (suc i)) n later
     ]
@@ -120,30 +120,30 @@ over_has vars (b ∷ c) a all has =
 
 -- the variables of what a search begins with
 abbrev pub first_variables : List (List Lit) → List Lit → List ℕ
-first_variables clauses assumptions = variables_in clauses ++ variables_of assumptions
+first_variables clauses assumptions = variables_in clauses ++ literal_variables assumptions
 
 new_sized : (clauses : List (List Lit)) (assumptions : List Lit) (learned : Learned) → ((i : ℕ) → AreSized (get_or clauses i [])) → AreSized assumptions
     → IsNewClause clauses assumptions learned → AreSized learned.clause
 new_sized clauses assumptions learned sized sized_too new a has =
     let vars = first_variables clauses assumptions in
-    let over = new.over vars (all_over clauses (variables_of assumptions)) (own_over assumptions (variables_in clauses)) in
-    elim (or_cases _ _ (sym (list_any-append (nat_eq a.var) (variables_in clauses) (variables_of assumptions)) ∙ over_has vars learned.clause a over has)) [
+    let over = new.over vars (all_over clauses (literal_variables assumptions)) (own_over assumptions (variables_in clauses)) in
+    elim (or_cases _ _ (sym (list_any-append (nat_eq a.var) (variables_in clauses) (literal_variables assumptions)) ∙ over_has vars learned.clause a over has)) [
       | inl here ↦ sized_in clauses sized a.var here
       | inr there ↦ sized_of assumptions sized_too a.var there
     ]
 
 -- Learning.
 
-learned_append : (added before more : List (List Lit)) (c : List Lit) → AreLearned added before more → IsLearned added (before ++ more) c → AreLearned added before (more ++ c ∷ [])
-learned_append added before [] c all last = (subst (λ b. IsLearned added b c) (append-nil before) last, tt)
+learned_append : (added before more : List (List Lit)) (c : List Lit) → AreLearned added before more → IsNewImplicate added (before ++ more) c → AreLearned added before (more ++ c ∷ [])
+learned_append added before [] c all last = (subst (λ b. IsNewImplicate added b c) (append-nil before) last, tt)
 learned_append added before (d ∷ more) c all last =
-    (all.0, learned_append added (before ++ d ∷ []) more c all.1 (subst (λ b. IsLearned added b c) (sym (append_assoc before (d ∷ []) more)) last))
+    (all.0, learned_append added (before ++ d ∷ []) more c all.1 (subst (λ b. IsNewImplicate added b c) (sym (append_assoc before (d ∷ []) more)) last))
 
-learns_more : (added start now next : List (List Lit)) (c : List Lit) → Learns added start now → next ≡ now ++ c ∷ [] → IsLearned added now c → Learns added start next
+learns_more : (added start now next : List (List Lit)) (c : List Lit) → Learns added start now → next ≡ now ++ c ∷ [] → IsNewImplicate added now c → Learns added start next
 learns_more added start now next c learns same last = record {
   more = learns.more ++ c ∷ [];
   behind = same ∙ ap (λ xs. xs ++ c ∷ []) learns.behind ∙ append_assoc start learns.more (c ∷ []);
-  learned = learned_append added start learns.more c learns.learned (subst (λ b. IsLearned added b c) learns.behind last);
+  learned = learned_append added start learns.more c learns.learned (subst (λ b. IsNewImplicate added b c) learns.behind last);
 }
 
 learns_long : (added start now : List (List Lit)) → Learns added start now → length start ≤ length now
@@ -204,8 +204,8 @@ searched_more assumptions start now next earlier later latest learned log sized 
         less = λ vars over over_too.
             let before = searched.less vars over over_too in
             let own : is_over vars c ≡ true = new.over vars before.over over_too in
-            let falls : room vars next.clauses < room vars now.clauses =
-            subst (λ cs. room vars cs < room vars now.clauses) (sym same_clauses) (room_falls vars now.clauses c new.not_subsumed new.no_tautology own) in
+            let falls : clause_room vars next.clauses < clause_room vars now.clauses =
+            subst (λ cs. clause_room vars cs < clause_room vars now.clauses) (sym same_clauses) (room_falls vars now.clauses c new.not_subsumed new.no_tautology own) in
             record {
               over = ap (are_over vars) same_clauses ∙ over_append vars now.clauses c before.over own;
               less = omega (arith, falls, grows, before.less);
@@ -216,50 +216,50 @@ searched_more assumptions start now next earlier later latest learned log sized 
 -- Room falls over the variables of what a search begins with.
 pub first_room_falls : (assumptions : List Lit) (start now next : Entries) (earlier later : Spendings) (learned : Learned)
     → IsNewClause now.clauses assumptions learned → next.clauses ≡ now.clauses ++ learned.clause ∷ [] → IsSearched assumptions start now earlier later
-    → room (first_variables start.clauses assumptions) next.clauses < room (first_variables start.clauses assumptions) now.clauses
+    → clause_room (first_variables start.clauses assumptions) next.clauses < clause_room (first_variables start.clauses assumptions) now.clauses
 first_room_falls assumptions start now next earlier later learned new same_clauses searched =
     let vars = first_variables start.clauses assumptions in
     let over_too = own_over assumptions (variables_in start.clauses) in
-    let before = searched.less vars (all_over start.clauses (variables_of assumptions)) over_too in
-    subst (λ cs. room vars cs < room vars now.clauses) (sym same_clauses)
+    let before = searched.less vars (all_over start.clauses (literal_variables assumptions)) over_too in
+    subst (λ cs. clause_room vars cs < clause_room vars now.clauses) (sym same_clauses)
     (room_falls vars now.clauses learned.clause new.not_subsumed new.no_tautology (new.over vars before.over over_too))
 
 -- How many clauses stand apart over some variables.
 
-apart_append : (before xs ys : List (List Lit)) → AreApart before xs → AreApart (before ++ xs) ys → AreApart before (xs ++ ys)
-apart_append before [] ys first later = subst (λ b. AreApart b ys) (append-nil before) later
+apart_append : (before xs ys : List (List Lit)) → AreIrredundant before xs → AreIrredundant (before ++ xs) ys → AreIrredundant before (xs ++ ys)
+apart_append before [] ys first later = subst (λ b. AreIrredundant b ys) (append-nil before) later
 apart_append before (x ∷ xs) ys first later =
-    (first.0, first.1, apart_append (before ++ x ∷ []) xs ys first.2 (subst (λ b. AreApart b ys) (sym (append_assoc before (x ∷ []) xs)) later))
+    (first.0, first.1, apart_append (before ++ x ∷ []) xs ys first.2 (subst (λ b. AreIrredundant b ys) (sym (append_assoc before (x ∷ []) xs)) later))
 
-apart_learned : (added before more : List (List Lit)) → AreLearned added before more → AreApart before more
+apart_learned : (added before more : List (List Lit)) → AreLearned added before more → AreIrredundant before more
 apart_learned added before [] all = tt
 apart_learned added before (c ∷ more) all =
     let new = or_neither _ _ (sym (list_any-append _ added before) ∙ all.0.new) in
     (all.0.no_tautology, new.1, apart_learned added (before ++ c ∷ []) more all.1)
 
-apart_small : (vars : List ℕ) (before more : List (List Lit)) → AreApart before more → are_over vars more ≡ true → length more + room vars (before ++ more) ≤ room vars before
-apart_small vars before [] apart over = subst (λ b. 0 + room vars b ≤ room vars before) (sym (append-nil before)) (omega arith)
+apart_small : (vars : List ℕ) (before more : List (List Lit)) → AreIrredundant before more → are_over vars more ≡ true → length more + clause_room vars (before ++ more) ≤ clause_room vars before
+apart_small vars before [] apart over = subst (λ b. 0 + clause_room vars b ≤ clause_room vars before) (sym (append-nil before)) (omega arith)
 apart_small vars before (c ∷ more) apart over =
     let parts = and_parts _ _ over in
     let falls = room_falls vars before c apart.1 apart.0 parts.0 in
-    let rest : length more + room vars ((before ++ c ∷ []) ++ more) ≤ room vars (before ++ c ∷ []) = apart_small vars (before ++ c ∷ []) more apart.2 parts.1 in
-    omega (arith, falls, rest, ap (room vars) (append_assoc before (c ∷ []) more))
+    let rest : length more + clause_room vars ((before ++ c ∷ []) ++ more) ≤ clause_room vars (before ++ c ∷ []) = apart_small vars (before ++ c ∷ []) more apart.2 parts.1 in
+    omega (arith, falls, rest, ap (clause_room vars) (append_assoc before (c ∷ []) more))
 
 -- what a solver keeps stays through a search, and where a clause is added
-pub kept_searched : (assumptions : List Lit) (start now : Entries) (earlier later : Spendings) → IsKept start → IsLog now → IsSearched assumptions start now earlier later → IsKept now
+pub kept_searched : (assumptions : List Lit) (start now : Entries) (earlier later : Spendings) → IsSolverLog start → IsLog now → IsSearched assumptions start now earlier later → IsSolverLog now
 kept_searched assumptions start now earlier later kept log searched =
     let learns = searched.learned in
     record {
       log = log;
-      apart = subst (λ xs. AreApart [] xs) (sym learns.behind)
+      apart = subst (λ xs. AreIrredundant [] xs) (sym learns.behind)
           (apart_append [] (learned_of start) learns.more kept.apart (apart_learned (added_of start) (learned_of start) learns.more learns.learned));
     }
 
-pub kept_added : (start now : Entries) → IsKept start → IsLog now → learned_of now ≡ learned_of start → IsKept now
-kept_added start now kept log same = record { log = log; apart = subst (λ xs. AreApart [] xs) (sym same) kept.apart }
+pub kept_added : (start now : Entries) → IsSolverLog start → IsLog now → learned_of now ≡ learned_of start → IsSolverLog now
+kept_added start now kept log same = record { log = log; apart = subst (λ xs. AreIrredundant [] xs) (sym same) kept.apart }
 
 pub searched_bounded : (assumptions : List Lit) (solver : Solving) (start now : Entries) (earlier later : Spendings) → solver.added ≡ added_of start → solver.learned ≡ learned_of start
-    → IsKept start → IsKept now → IsSearched assumptions start now earlier later → IsBounded solver assumptions (learned_of now)
+    → IsSolverLog start → IsSolverLog now → IsSearched assumptions start now earlier later → IsBounded solver assumptions (learned_of now)
 searched_bounded assumptions solver start now earlier later same_added same_learned kept kept_now searched vars over_added over_learned over_too =
     let over = all_of_both (is_over vars) start.sources start.clauses kept.log.beside (ap (are_over vars) (sym same_added) ∙ over_added) (ap (are_over vars) (sym same_learned) ∙ over_learned) in
     let over_now = learned_all (is_over vars) now.sources now.clauses (searched.less vars over over_too).over in

@@ -10,7 +10,7 @@ use Rattle.proof_semantics.specs.declared.literals.Lit.{Lit}
 use Rattle.proof_semantics.proofs.LiteralLaws.{lit_eq-true, lit_eq-same, same_lit}
 use Rattle.cdcl_trail.proofs.TrailLaws.{either}
 use Rattle.cdcl_trail.proofs.PrefixLaws.{all_from}
-use Rattle.cdcl.specs.Room.{lit, room_from, room, variables_of, variables_in}
+use Rattle.cdcl.specs.Room.{lit, room_from, clause_room, literal_variables, variables_in}
 use Rattle.cdcl.specs.Searching.{is_over, are_over}
 
 abbrev Has : List Lit → Lit → Type 0
@@ -177,7 +177,7 @@ over_has vars (b ∷ c) a all has =
 
 -- A clause that is new leaves room for less.
 pub room_falls : (vars : List ℕ) (held : List (List Lit)) (c : List Lit) → is_subsumed held c ≡ false → has_opposites c ≡ false → is_over vars c ≡ true
-    → room vars (held ++ c ∷ []) < room vars held
+    → clause_room vars (held ++ c ∷ []) < clause_room vars held
 room_falls vars held c new apart over =
     falls_from held c vars [] new apart (record {
       inside = λ a is. absurd (false≢true is);
@@ -195,7 +195,7 @@ among_right xs ys n e = list_any-append (nat_eq n) xs ys ∙ or_right _ _ e
 eqb_same : (n : ℕ) → nat_eq n n ≡ true
 eqb_same n = search rules
 
-variables_has : (lits : List Lit) (a : Lit) → Has lits a → list_any (nat_eq a.var) (variables_of lits) ≡ true
+variables_has : (lits : List Lit) (a : Lit) → Has lits a → list_any (nat_eq a.var) (literal_variables lits) ≡ true
 variables_has [] a has = absurd (false≢true has)
 variables_has (b ∷ lits) a has =
     elim (or_cases _ _ has) [
@@ -206,14 +206,14 @@ variables_has (b ∷ lits) a has =
 pub over_from : (vars : List ℕ) (lits : List Lit) → ((a : Lit) → Has lits a → list_any (nat_eq a.var) vars ≡ true) → is_over vars lits ≡ true
 over_from vars lits each = all_from (λ a. list_any (nat_eq a.var) vars) lits each
 
-pub own_over : (lits : List Lit) (more : List ℕ) → is_over (more ++ variables_of lits) lits ≡ true
-own_over lits more = over_from (more ++ variables_of lits) lits (λ a has. among_right more (variables_of lits) a.var (variables_has lits a has))
+pub own_over : (lits : List Lit) (more : List ℕ) → is_over (more ++ literal_variables lits) lits ≡ true
+own_over lits more = over_from (more ++ literal_variables lits) lits (λ a has. among_right more (literal_variables lits) a.var (variables_has lits a has))
 
 pub clauses_over : (clauses : List (List Lit)) (vars : List ℕ) → ((n : ℕ) → list_any (nat_eq n) (variables_in clauses) ≡ true → list_any (nat_eq n) vars ≡ true) → are_over vars clauses ≡ true
 clauses_over [] vars each = refl
 clauses_over (c ∷ clauses) vars each =
-    and_from _ _ (over_from vars c (λ a has. each a.var (among_left (variables_of c) (variables_in clauses) a.var (variables_has c a has))))
-    (clauses_over clauses vars (λ n is. each n (among_right (variables_of c) (variables_in clauses) n is)))
+    and_from _ _ (over_from vars c (λ a has. each a.var (among_left (literal_variables c) (variables_in clauses) a.var (variables_has c a has))))
+    (clauses_over clauses vars (λ n is. each n (among_right (literal_variables c) (variables_in clauses) n is)))
 
 pub all_over : (clauses : List (List Lit)) (more : List ℕ) → are_over (variables_in clauses ++ more) clauses ≡ true
 all_over clauses more = clauses_over clauses (variables_in clauses ++ more) (λ n is. among_left (variables_in clauses) more n is)

@@ -1,5 +1,5 @@
 -- Laws of what a search decides and assumes.
-use Rattle.std.proofs.Common.{◌≡◌, ℕ, zero, suc, ◌+◌, ◌-◌, ◌<◌, ◌≤◌, Bool, true, false, not, cond, eqb, List, [], ◌∷◌, ◌++◌, length, get_or, take, Option, Some, None, refl, ap, sym, subst, ◌∙◌, ◌⊎◌, inl, inr, arith, eqb-true, eq-eqb}
+use Rattle.std.proofs.Common.{◌≡◌, ℕ, zero, suc, ◌+◌, ◌-◌, ◌<◌, ◌≤◌, Bool, true, false, not, cond, eqb, List, [], ◌∷◌, ◌++◌, length, get_or, take, Option, Some, None, refl, ap, sym, ◌∙◌, ◌⊎◌, inl, inr, arith, eqb-true, eq-eqb}
 use Rattle.std.specs.Prelude.{is_none, slice_get, IfNone, IfSome, nat_eq, ◌&&◌}
 use Rattle.std.specs.List.{list_any, list_all}
 use Rattle.std.specs.Option.{option_map}
@@ -8,15 +8,15 @@ use Rattle.std.proofs.lemmas.Bool.{false≢true, and_parts, and_from, or_cases, 
 use Rattle.std.proofs.lemmas.Option.{none-some, same_Some, slice_get_read}
 use Rattle.proof_semantics.specs.Clauses.{bool_eq, lit_eq, negation, has_literal, literal_value, clauses_value, cube_value, values_of, has_opposites}
 use Rattle.proof_semantics.specs.declared.literals.Lit.{Lit}
-use Rattle.proof_semantics.proofs.LiteralLaws.{lit_eq-true, lit_eq-same, bool_eq-true, bool_eq-same, same_lit, has_literal-push, clause_value-has}
-use Rattle.cdcl_trail.specs.Trails.{Step, assumed, literals_of, step_of, value_of, once}
+use Rattle.proof_semantics.proofs.LiteralLaws.{lit_eq-true, lit_eq-same, bool_eq-true, bool_eq-same, has_literal-push, clause_value-has}
+use Rattle.cdcl_trail.specs.Trails.{Step, assumed, literals_of, value_of, once}
 use Rattle.cdcl_trail.specs.Propagation.{is_value, is_true, is_false, is_falsified, is_complete, AreForced, Propagates}
-use Rattle.cdcl_trail.proofs.TrailLaws.{either, not-true, or_neither}
+use Rattle.cdcl_trail.proofs.TrailLaws.{not-true, or_neither}
 use Rattle.cdcl_trail.proofs.ScanLaws.{all_has, any_gives, any_has, untrue, one_value}
 use Rattle.cdcl_trail.proofs.PassLaws.{step_comes, no_step, complete_at, held_at}
 use Rattle.cdcl_trail.proofs.PrefixLaws.{all_from, true_more, none_before, reasoned_assumed}
-use Rattle.cdcl_learn.proofs.LiteralTraceLaws.{step_found, valued_step, true_stands, false_stands}
-use Rattle.cdcl.specs.Searching.{IsOpen, IsOpenIn, has_variable, open_by, count_open, is_satisfied, is_over, are_over, AreTrue, AssumesSome, AssumesAll, IsRefusedAt}
+use Rattle.cdcl_learn.proofs.LiteralTraceLaws.{false_stands}
+use Rattle.cdcl.specs.Searching.{IsUndecided, IsOpenIn, has_variable, open_by, count_open, is_satisfied, is_over, are_over, AreTrue, AssumesSome, AssumesAll, IsRefusedAt}
 use Rattle.cdcl_trail.specs.Trails.{opened_by, level}
 use Rattle.cdcl_trail.specs.Propagation.{HaveReasons}
 use Rattle.cdcl_learn.specs.Learning.{is_assumed}
@@ -137,7 +137,7 @@ has_variable-of (b ∷ clause) a has =
     ]
 
 pub open_at : (clauses : List (List Lit)) (steps : List Step) (i : ℕ) (clause : List Lit) (a : Lit) → i < length clauses → clause ≡ get_or clauses i clause → IsOpenIn steps clause a
-    → IsOpen clauses steps a
+    → IsUndecided clauses steps a
 open_at clauses steps i clause a below is o = record {
   unvalued = o.unvalued;
   place = i;
@@ -148,7 +148,7 @@ open_at clauses steps i clause a below is o = record {
 
 -- a variable without a value, of the clause at a place
 pub open_told : (clauses : List (List Lit)) (steps : List Step) (i : ℕ) (clause : List Lit) (a : Lit) → slice_get clauses i ≡ Some clause → value_of steps a.var ≡ None
-    → has_variable clause a.var ≡ true → IsOpen clauses steps a
+    → has_variable clause a.var ≡ true → IsUndecided clauses steps a
 open_told clauses steps i clause a at none inside = record {
   unvalued = none;
   place = i;

@@ -1,15 +1,15 @@
 -- Laws of unit clauses behind the clauses that a solver holds.
-use Rattle.std.proofs.Common.{◌≡◌, ℕ, zero, suc, ◌+◌, ◌-◌, ◌^◌, ◌<◌, ◌≤◌, Bool, true, false, not, take, List, [], ◌∷◌, ◌++◌, length, get_or, map, Option, Some, None, refl, ap, sym, subst, ◌∙◌, inl, inr, arith, append_assoc}
+use Rattle.std.proofs.Common.{◌≡◌, ℕ, zero, suc, ◌+◌, ◌-◌, ◌<◌, Bool, true, false, not, take, List, [], ◌∷◌, ◌++◌, length, get_or, map, Option, Some, None, refl, ap, sym, subst, ◌∙◌, inl, inr, arith, append_assoc}
 use Rattle.std.specs.Prelude.{slice_get, IsOkAnd}
 use Rattle.std.specs.List.{list_all}
 use Rattle.std.proofs.lemmas.Bool.{false≢true, and_parts, and_from, or_left, or_right, or_cases, cond-true, cond-false}
 use Rattle.std.proofs.lemmas.List.Folds.{list_any-append}
-use Rattle.std.proofs.lemmas.List.{append-nil, length-append}
-use Rattle.std.proofs.lemmas.Option.{none-some, same_Some}
+use Rattle.std.proofs.lemmas.List.{append-nil}
+use Rattle.std.proofs.lemmas.Option.{none-some}
 use Rattle.proof_semantics.specs.Clauses.{lit_eq, negation, has_literal, has_opposites, cube_value, clauses_value}
 use Rattle.proof_semantics.specs.Propagation.{open_literals, only_literal, with_clause, with_unit, conflict_fault, hints_fault}
 use Rattle.proof_semantics.specs.Proofs.{Refutes}
-use Rattle.proof_semantics.specs.Lines.{AreSized, text_of}
+use Rattle.proof_semantics.specs.Lines.{AreSized}
 use Rattle.proof_semantics.specs.declared.literals.Lit.{Lit}
 use Rattle.proof_semantics.proofs.LiteralLaws.{lit_eq-same, lit_eq-true, negation_twice}
 use Rattle.cdcl_trail.proofs.TrailLaws.{either, or_neither}
@@ -21,32 +21,22 @@ use Rattle.cdcl.specs.Finding.{Refuses}
 use Rattle.cdcl.specs.Solving.{IsModel}
 use Rattle.cdcl.specs.UnitClauses.{unit_clauses}
 use Rattle.cdcl.specs.WithUnits.{no_sources, with_units, place_of, unit_number}
-use Rattle.cdcl.specs.Writing.{Written, line_with, next_written, count_added, is_needed, IsClosed, IsWritten, Proves}
+use Rattle.cdcl.specs.Writing.{Proves}
 use Rattle.cdcl.proofs.EntryLaws.{added-IsLog, values_append}
-use Rattle.cdcl.proofs.WritingLaws.{written_none, written_added, counted_added, code_next, code_proves, added_small, number_put, hints_renamed, part_negations}
+use Rattle.cdcl.proofs.WritingLaws.{number_put, hints_renamed, part_negations}
 use Rattle.cdcl.proofs.BackLaws.{numbered_more}
 
-get_before : {X : Type 0} (xs ys : List X) (i : ℕ) (d : X) → i < length xs → get_or (xs ++ ys) i d ≡ get_or xs i d
-get_before [] ys i d e = absurd (omega (arith, e))
-get_before (x ∷ xs) ys zero d e = refl
-get_before (x ∷ xs) ys (suc i) d e = get_before xs ys i d (omega (arith, e))
-
-slice_behind : {X : Type 0} (xs ys : List X) (i n : ℕ) → n ≡ length xs + i → slice_get (xs ++ ys) n ≡ slice_get ys i
+pub slice_behind : {X : Type 0} (xs ys : List X) (i n : ℕ) → n ≡ length xs + i → slice_get (xs ++ ys) n ≡ slice_get ys i
 slice_behind [] ys i n e = ap (slice_get ys) (omega (arith, e))
 slice_behind (x ∷ xs) ys i zero e = absurd (omega (arith, e))
 slice_behind (x ∷ xs) ys i (suc n) e = slice_behind xs ys i n (omega (arith, e))
 
-none_at : (units : List Lit) (i : ℕ) → i < length units → slice_get (no_sources units) i ≡ Some None
+pub none_at : (units : List Lit) (i : ℕ) → i < length units → slice_get (no_sources units) i ≡ Some None
 none_at [] i e = absurd (omega (arith, e))
 none_at (a ∷ units) zero e = refl
 none_at (a ∷ units) (suc i) e = none_at units i (omega (arith, e))
 
-unit_at : (units : List Lit) (i : ℕ) → i < length units → (c : List Lit) × (slice_get (unit_clauses units) i ≡ Some c)
-unit_at [] i e = absurd (omega (arith, e))
-unit_at (a ∷ units) zero e = (a ∷ [], refl)
-unit_at (a ∷ units) (suc i) e = unit_at units i (omega (arith, e))
-
-long_sources : (units : List Lit) → length (no_sources units) ≡ length units
+pub long_sources : (units : List Lit) → length (no_sources units) ≡ length units
 long_sources [] = refl
 long_sources (a ∷ units) = ap suc (long_sources units)
 
@@ -80,87 +70,6 @@ units_log entries (a ∷ units) log sized =
       subst IsLog same rest.0,
       ap added_of (sym same) ∙ rest.1 ∙ ap (λ cs. cs ++ unit_clauses units) one.1 ∙ append_assoc (added_of entries) ((a ∷ []) ∷ []) (unit_clauses units),
     )
-
--- What a needed clause follows from is needed.
-
-no_hints : (units : List Lit) (i : ℕ) (hints : List ℕ) → slice_get (no_sources units) i ≡ Some (Some hints) → ⊥
-no_hints [] i hints e = none-some _ e
-no_hints (a ∷ units) zero hints e = none-some hints (same_Some None (Some hints) e)
-no_hints (a ∷ units) (suc i) hints e = no_hints units i hints e
-
-own_hints : (sources : List (Option (List ℕ))) (units : List Lit) (i : ℕ) (hints : List ℕ) → slice_get (sources ++ no_sources units) i ≡ Some (Some hints) → slice_get sources i ≡ Some (Some hints)
-own_hints [] units i hints e = absurd (no_hints units i hints e)
-own_hints (s ∷ sources) units zero hints e = e
-own_hints (s ∷ sources) units (suc i) hints e = own_hints sources units i hints e
-
-closed_units : (needed : List Bool) (sources : List (Option (List ℕ))) (units : List Lit) → IsClosed needed sources → IsClosed needed (sources ++ no_sources units)
-closed_units needed sources units closed i hints is needs = closed i hints (own_hints sources units i hints is) needs
-
--- The steps of writing.
-
-few_both : (xs : List (List Lit)) (units : List Lit) → length xs < 2 ^ 60 → length units < 2 ^ 60 → length (xs ++ unit_clauses units) < 2 ^ 61
-few_both xs units few few_units = omega (arith, length-append xs (unit_clauses units), long_units units, few, few_units)
-
-pub clause_next : (log : Entries) (units : List Lit) (needed : List Bool) (place : ℕ) (w next : Written) (seen : List (List Lit)) (seen_sources : List (Option (List ℕ)))
-    (item c : List Lit) (s : Option (List ℕ)) (b : Bool) → seen ≡ log.clauses → seen_sources ≡ log.sources → b ≡ is_needed needed (place + 1)
-    → IsLog log → AreSized units → IsClosed needed seen_sources → place < length seen → s ≡ get_or seen_sources place s → item ≡ get_or seen place item → c ≡ item
-    → length seen < 2 ^ 60 → length units < 2 ^ 60 → next ≡ next_written w s c b
-    → IsWritten (with_units log units) needed place w → IsWritten (with_units log units) needed (place + 1) next
-clause_next log units needed place w next seen seen_sources item c s b same same_sources is islog sized closed below source at reads few few_units writes written =
-    code_next (with_units log units) needed needed place w next (seen ++ unit_clauses units) (seen_sources ++ no_sources units) item c s b
-    (ap (λ cs. cs ++ unit_clauses units) same) (ap (λ ss. ss ++ no_sources units) same_sources) refl is (units_log log units islog sized).0
-    (closed_units needed seen_sources units closed) (omega (arith, below, length-append seen (unit_clauses units)))
-    (source ∙ sym (get_before seen_sources (no_sources units) place s (omega (arith, below, islog.beside, ap length same, ap length same_sources))))
-    (at ∙ sym (get_before seen (unit_clauses units) place item below)) reads (few_both seen units few few_units) writes written
-
-pub unit_next : (log : Entries) (units : List Lit) (needed : List Bool) (i : ℕ) (w next : Written) → IsLog log → i < length units
-    → next ≡ record w { ids = w.ids ++ (w.added + 1) ∷ []; added = w.added + 1 }
-    → IsWritten (with_units log units) needed (length log.clauses + i) w → IsWritten (with_units log units) needed (length log.clauses + (i + 1)) next
-unit_next log units needed i w next islog below is written =
-    let found = unit_at units i below in
-    let source : slice_get (log.sources ++ no_sources units) (length log.clauses + i) ≡ Some None =
-    slice_behind log.sources (no_sources units) i (length log.clauses + i) (omega (arith, islog.beside)) ∙ none_at units i below in
-    let one = written_added (length log.clauses + i) (with_units log units) needed w found.0
-    (omega (arith, length-append log.sources (no_sources units), long_sources units, islog.beside, below))
-    (omega (arith, length-append log.clauses (unit_clauses units), long_units units, below))
-    source (slice_behind log.clauses (unit_clauses units) i (length log.clauses + i) refl ∙ found.1) written in
-    subst (λ x. IsWritten (with_units log units) needed (length log.clauses + (i + 1)) x) (sym is)
-    (subst (λ n. IsWritten (with_units log units) needed n (record w { ids = w.ids ++ (w.added + 1) ∷ []; added = w.added + 1 })) (later (length log.clauses) i) one)
-  where
-    later : (m i : ℕ) → (m + i) + 1 ≡ m + (i + 1)
-    later m i = omega arith
-
-pub units_small : (place : ℕ) (log : Entries) (units : List Lit) (needed : List Bool) (w : Written) (seen : List (List Lit)) → seen ≡ log.clauses → place ≤ length seen + length units
-    → length seen < 2 ^ 60 → length units < 2 ^ 60 → IsWritten (with_units log units) needed place w → (w.added < 2 ^ 62) × (w.last < 2 ^ 62)
-units_small place log units needed w seen same below few few_units written =
-    added_small place (with_units log units) needed w (seen ++ unit_clauses units) (ap (λ cs. cs ++ unit_clauses units) same)
-    (omega (arith, below, length-append seen (unit_clauses units), long_units units)) (few_both seen units few few_units) written
-
-pub units_prove : (log : Entries) (units : List Lit) (needed : List Bool) (i : ℕ) (w last : Written) (seen : List (List Lit)) (c : List Lit) (hints : List ℕ) (lines : List (List ℕ))
-    → seen ≡ log.clauses → i ≤ length units → length units ≤ i → length seen < 2 ^ 60 → length units < 2 ^ 60 → IsLog log → AreSized units → AreSized c
-    → hints_fault (clause_numbered (log.clauses ++ unit_clauses units)) (map negation c) hints ≡ None → list_all (is_needed needed) hints ≡ true
-    → last ≡ record w {
-      ids = w.ids ++ (w.last + 1) ∷ [];
-      lines = w.lines ++ text_of (line_with w.ids (w.last + 1) c hints) ∷ [];
-      last = w.last + 1;
-    }
-    → lines ≡ last.lines → IsWritten (with_units log units) needed (length log.clauses + i) w → Proves (added_of log ++ unit_clauses units) lines c
-units_prove log units needed i w last seen c hints lines same below past few few_units islog sized_units sized follows all ends reads written =
-    subst (λ cs. Proves cs lines c) (units_log log units islog sized_units).1
-    (code_proves (with_units log units) needed (length log.clauses + i) w last (seen ++ unit_clauses units) c hints lines (ap (λ cs. cs ++ unit_clauses units) same)
-    (omega (arith, below, ap length same, length-append seen (unit_clauses units), long_units units))
-    (omega (arith, past, ap length same, length-append seen (unit_clauses units), long_units units))
-    (few_both seen units few few_units) sized follows all ends reads written)
-
-pub units_start : (log : Entries) (units : List Lit) (needed : List Bool) (w : Written) (n : ℕ) → IsLog log → AreSized units → n ≡ count_added log.sources + length units
-    → w ≡ record { ids = 0 ∷ []; lines = []; added = 0; last = n } → IsWritten (with_units log units) needed 0 w
-units_start log units needed w n islog sized counts is =
-    written_none (with_units log units) needed w n
-    (counted n (count_added log.sources) (length (added_of log)) (length units) _ counts (counted_added log.sources log.clauses islog.beside)
-    (ap length (units_log log units islog sized).1 ∙ length-append (added_of log) (unit_clauses units) ∙ ap (λ m. length (added_of log) + m) (long_units units))) is
-  where
-    counted : (n a b m k : ℕ) → n ≡ a + m → a ≡ b → k ≡ b + m → n ≡ k
-    counted n a b m k e f g = omega (arith, e, f, g)
 
 -- Hints of units.
 
@@ -240,11 +149,11 @@ opposite_units clauses units a one other =
     ∙ ap conflict_fault (cond-false (not (has_literal (a ∷ []) (negation (negation a)))) (negation a ∷ []) []
     (ap (λ b. not (has_literal (a ∷ []) b)) (negation_twice a) ∙ ap not (or_left _ _ (lit_eq-same a)))))
 
-same_hints : (hints : List ℕ) → map (λ n. n) hints ≡ hints
+pub same_hints : (hints : List ℕ) → map (λ n. n) hints ≡ hints
 same_hints [] = refl
 same_hints (n ∷ hints) = ap (λ ns. n ∷ ns) (same_hints hints)
 
-all_needed : (hints : List ℕ) → list_all (λ _. true) hints ≡ true
+pub all_needed : (hints : List ℕ) → list_all (λ _. true) hints ≡ true
 all_needed [] = refl
 all_needed (n ∷ hints) = all_needed hints
 

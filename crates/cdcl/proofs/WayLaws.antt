@@ -1,8 +1,6 @@
 -- Laws of what stands on the trail of a search.
 use Rattle.std.proofs.Common.{◌≡◌, ℕ, zero, suc, ◌+◌, ◌-◌, ◌<◌, ◌≤◌, Bool, true, false, List, [], ◌∷◌, ◌++◌, length, Option, Some, None, refl, ap, sym, subst, ◌∙◌, ◌⊎◌, inl, inr, arith, append_assoc}
-use Rattle.std.specs.Prelude.{nat_eq}
 use Rattle.std.proofs.Math.Dec.{leb}
-use Rattle.std.specs.List.{list_any}
 use Rattle.std.specs.Option.{option_map}
 use Rattle.std.proofs.lemmas.List.{append-nil}
 use Rattle.std.proofs.lemmas.Bool.{false≢true, and_parts, and_from, leb-true, leb-false}
@@ -14,10 +12,10 @@ use Rattle.cdcl_trail.specs.Propagation.{is_true, is_false, is_falsified, is_uni
 use Rattle.cdcl_trail.proofs.TrailLaws.{either, level_push}
 use Rattle.cdcl_trail.proofs.ScanLaws.{all_has, any_gives}
 use Rattle.cdcl_trail.proofs.PassLaws.{step_comes, no_step, unit_unvalued, propagates_none, propagates_level, level-append}
-use Rattle.cdcl_trail.proofs.PrefixLaws.{all_from, true_more, none_before, reasoned_assumed, reasoned_propagated, lower_assumed}
+use Rattle.cdcl_trail.proofs.PrefixLaws.{true_more, none_before, reasoned_assumed, reasoned_propagated, lower_assumed}
 use Rattle.cdcl_learn.specs.declared.learning.Learned.{Learned}
 use Rattle.cdcl_learn.specs.Learning.{is_assumed}
-use Rattle.cdcl.specs.Searching.{IsOpen, open_by, count_open, is_over, are_over, AssumesSome, AssumesAll, IsHeld, IsDeciding, IsBackLevel, IsHinted, IsNewClause, NegatesOnly}
+use Rattle.cdcl.specs.Searching.{IsUndecided, open_by, count_open, is_over, are_over, AssumesSome, AssumesAll, IsHeld, IsDeciding, IsBackLevel, IsHinted, IsNewClause, NegatesOnly}
 use Rattle.cdcl.proofs.SearchLaws.{count_open_more, count_open_falls, over_append, over_at, over_variable, over_propagated, falsified_no_tautology, falsified_over, over_reasoned}
 use Rattle.cdcl_learn.proofs.LiteralTraceLaws.{valued_step}
 use Rattle.cdcl_trail.specs.Watched.{Extends, TrailState}
@@ -67,7 +65,7 @@ last_or_below k n e = elim (either (leb n k)) [ inl same ↦ inr (omega (arith, 
 
 -- behind a decision
 pub way_decides : (clauses : List (List Lit)) (assumptions : List Lit) (base : ℕ) (now later : List Step) (a : Lit) → IsDeciding clauses assumptions base now
-    → is_complete clauses now ≡ true → IsOpen clauses now a → later ≡ now ++ assumed a ∷ [] → IsDeciding clauses assumptions base later
+    → is_complete clauses now ≡ true → IsUndecided clauses now a → later ≡ now ++ assumed a ∷ [] → IsDeciding clauses assumptions base later
 way_decides clauses assumptions base now later a w complete o is = record {
   opened = w.opened;
   assumes = w.assumes;
@@ -214,7 +212,7 @@ count_open_small [] steps = omega arith
 count_open_small (v ∷ vars) steps = omega (arith, open_small (value_of steps v), count_open_small vars steps)
 
 -- a decision leaves fewer variables without a value
-pub decision_counts : (vars : List ℕ) (clauses : List (List Lit)) (start now later : List Step) (a : Lit) → are_over vars clauses ≡ true → IsOpen clauses now a
+pub decision_counts : (vars : List ℕ) (clauses : List (List Lit)) (start now later : List Step) (a : Lit) → are_over vars clauses ≡ true → IsUndecided clauses now a
     → Propagates clauses start now → later ≡ now ++ assumed a ∷ [] → count_open vars later < count_open vars start
 decision_counts vars clauses start now later a all o p is =
     let less = count_open_falls vars now (assumed a ∷ []) a.var a.positive (over_variable vars o.clause a.var (over_at vars clauses o.place o.clause o.at all) o.inside) o.unvalued

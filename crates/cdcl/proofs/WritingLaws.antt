@@ -1,13 +1,11 @@
 -- Laws of how a proof is written.
-use Rattle.std.proofs.Common.{◌≡◌, ℕ, zero, suc, ◌+◌, ◌-◌, ◌^◌, ◌<◌, ◌≤◌, Bool, true, false, not, ◌&&◌, cond, eqb, List, [], ◌∷◌, ◌++◌, length, get_or, take, map, Option, Some, None, Result, Ok, Err, refl, ap, sym, subst, ◌∙◌, ◌⊎◌, inl, inr, arith, rules, eqb-true}
-use Rattle.std.specs.Prelude.{slice_get, is_some, nat_le, IsOkAnd}
+use Rattle.std.proofs.Common.{◌≡◌, ℕ, zero, suc, ◌+◌, ◌-◌, ◌^◌, ◌<◌, ◌≤◌, Bool, true, false, not, ◌&&◌, cond, eqb, List, [], ◌∷◌, ◌++◌, length, map, Option, Some, None, Result, Ok, Err, refl, ap, sym, subst, ◌∙◌, ◌⊎◌, inl, inr, arith, rules, eqb-true}
+use Rattle.std.specs.Prelude.{slice_get, is_some, nat_le, nat_lt, IsOkAnd}
 use Rattle.std.specs.List.{list_any, list_all, AllByRecursion}
-use Rattle.std.specs.Option.{unwrap_or}
 use Rattle.std.proofs.Math.Dec.{leb}
 use Rattle.std.proofs.lemmas.Bool.{false≢true, and_parts, and_from, or_left, or_right, cond-true, cond-false, lt-leb, leb-true, le-leb}
-use Rattle.std.proofs.lemmas.List.{take_more, take_all, length-append}
 use Rattle.std.proofs.lemmas.List.Elements.{All-from_recursion}
-use Rattle.std.proofs.lemmas.Option.{none-some, same_Some, slice_get_within, slice_get-get_or, get_or_from_slice_get}
+use Rattle.std.proofs.lemmas.Option.{none-some, same_Some}
 use Rattle.proof_semantics.specs.Clauses.{negation, has_literal, is_part, cube_value}
 use Rattle.proof_semantics.specs.Propagation.{open_literals, only_literal, with_clause, with_unit, conflict_fault, hints_fault}
 use Rattle.proof_semantics.specs.Lines.{IsSize, HasSizes, text_of, AreSized}
@@ -20,10 +18,11 @@ use Rattle.proof_semantics.proofs.LiteralLaws.{lit_eq-same, negation_twice, cube
 use Rattle.proof_semantics.proofs.Soundness.{hints_refute}
 use Rattle.cnf.specs.Clauses.{clause_numbered}
 use Rattle.cdcl_trail.proofs.TrailLaws.{either}
-use Rattle.cdcl.specs.Entries.{Entries, with_added, added_in, added_of, IsLog}
+use Rattle.cdcl.specs.Entries.{Entries, added_of, IsLog}
 use Rattle.cdcl.specs.Solving.{IsRefusal}
-use Rattle.cdcl.specs.Writing.{Written, id_of, hint_of, line_with, next_written, count_added, AreBefore, is_needed, IsClosed, IsWritten, Proves}
-use Rattle.cdcl.proofs.EntryLaws.{added_push, get_push, number_at-place, numbered_true}
+use Rattle.cdcl.specs.Ids.{count_added}
+use Rattle.cdcl.specs.Writing.{hint_by, line_by, IsPartialProof, Proves}
+use Rattle.cdcl.proofs.EntryLaws.{numbered_true}
 
 -- Hints under other names.
 
@@ -80,34 +79,9 @@ hints_named at assumed (n ∷ m ∷ hints) e =
     let goes = named_goes (at n) n (λ x. hints_fault at x (m ∷ hints)) assumed e in
     and_from _ _ (named_at (at n) n _ e) (hints_named at goes.0 (m ∷ hints) goes.1)
 
-some_has : {X : Type 0} (o : Option X) → is_some o ≡ true → (x : X) × (o ≡ Some x)
+pub some_has : {X : Type 0} (o : Option X) → is_some o ≡ true → (x : X) × (o ≡ Some x)
 some_has None e = absurd (false≢true e)
 some_has (Some x) e = (x, refl)
-
-number_below : (clauses : List (List Lit)) (n : ℕ) (c : List Lit) → clause_numbered clauses n ≡ Some c → n ≤ length clauses
-number_below clauses n c e = omega (arith, slice_get_within clauses (n - 1) c (number_at-place clauses n c e))
-
-below_all : (clauses : List (List Lit)) (bound : ℕ) (hints : List ℕ) → length clauses ≤ bound → list_all (λ n. is_some (clause_numbered clauses n)) hints ≡ true
-    → list_all (λ n. nat_le n bound) hints ≡ true
-below_all clauses bound [] long all = refl
-below_all clauses bound (n ∷ hints) long all =
-    let parts = and_parts _ _ all in
-    let found = some_has (clause_numbered clauses n) parts.0 in
-    and_from _ _ (le-leb n bound (omega (arith, long, number_below clauses n found.0 found.1))) (below_all clauses bound hints long parts.1)
-
--- Hints are numbers of clauses that came before.
-pub log-AreBefore : (entries : Entries) → IsLog entries → AreBefore entries.sources
-log-AreBefore entries log i hints is =
-    below_all (take i entries.clauses) i hints (short i entries.clauses) (hints_named _ _ hints (log.explained i hints is))
-  where
-    short : (i : ℕ) (xs : List (List Lit)) → length (take i xs) ≤ i
-    short zero xs = omega arith
-    short (suc i) [] = omega arith
-    short (suc i) (x ∷ xs) = omega (arith, short i xs)
-
-pub own_below : (clauses : List (List Lit)) (assumed : List Lit) (hints : List ℕ) (bound : ℕ) → length clauses ≤ bound → hints_fault (clause_numbered clauses) assumed hints ≡ None
-    → list_all (λ n. nat_le n bound) hints ≡ true
-own_below clauses assumed hints bound long e = below_all clauses bound hints long (hints_named _ _ hints e)
 
 -- What is held under an id.
 
@@ -176,96 +150,13 @@ numbered_within n (d ∷ given) x c e =
           (omega (arith, rest.0), omega (arith, rest.1))
     ]
 
--- Places of added clauses.
-
-with_at : (s : Option (List ℕ)) (d : List Lit) (xs ys : List (List Lit)) (c : List Lit) → slice_get xs (length ys) ≡ Some c → slice_get (with_added s d xs) (length (with_added s d ys)) ≡ Some c
-with_at None d xs ys c e = e
-with_at (Some hints) d xs ys c e = e
-
-added_at : (sources : List (Option (List ℕ))) (clauses : List (List Lit)) (i : ℕ) (c : List Lit) → slice_get sources i ≡ Some None → slice_get clauses i ≡ Some c
-    → slice_get (added_in sources clauses) (length (added_in (take i sources) (take i clauses))) ≡ Some c
-added_at [] clauses i c e f = absurd (none-some _ e)
-added_at (s ∷ sources) [] i c e f = absurd (none-some c f)
-added_at (s ∷ sources) (d ∷ clauses) zero c e f = ap (λ t. slice_get (with_added t d (added_in sources clauses)) 0) (same_Some s None e) ∙ f
-added_at (s ∷ sources) (d ∷ clauses) (suc i) c e f =
-    with_at s d (added_in sources clauses) (added_in (take i sources) (take i clauses)) c (added_at sources clauses i c e f)
-
-added_less : (sources : List (Option (List ℕ))) (clauses : List (List Lit)) → length (added_in sources clauses) ≤ length clauses
-added_less [] clauses = omega arith
-added_less (s ∷ sources) [] = omega arith
-added_less (s ∷ sources) (d ∷ clauses) = with_less s d (added_in sources clauses) (length clauses) (added_less sources clauses)
-  where
-    with_less : (s : Option (List ℕ)) (d : List Lit) (xs : List (List Lit)) (n : ℕ) → length xs ≤ n → length (with_added s d xs) ≤ suc n
-    with_less None d xs n e = omega (arith, e)
-    with_less (Some hints) d xs n e = omega (arith, e)
-
-length_take : {X : Type 0} (i : ℕ) (xs : List X) → i ≤ length xs → length (take i xs) ≡ i
-length_take zero xs e = refl
-length_take (suc i) [] e = absurd (omega (arith, e))
-length_take (suc i) (x ∷ xs) e = ap suc (length_take i xs (omega (arith, e)))
-
-added_next : (sources : List (Option (List ℕ))) (clauses : List (List Lit)) (i : ℕ) (s : Option (List ℕ)) (c : List Lit) → i < length sources → i < length clauses
-    → slice_get sources i ≡ Some s → slice_get clauses i ≡ Some c
-    → added_in (take (i + 1) sources) (take (i + 1) clauses) ≡ added_in (take i sources) (take i clauses) ++ with_added s c []
-added_next sources clauses i s c below below_too e f =
-    ap (λ ss. added_in ss (take (i + 1) clauses)) (take_more sources i s below ∙ ap (λ t. take i sources ++ t ∷ []) (get_or_from_slice_get sources i s s e))
-    ∙ ap (λ cs. added_in (take i sources ++ s ∷ []) cs) (take_more clauses i c below_too ∙ ap (λ d. take i clauses ++ d ∷ []) (get_or_from_slice_get clauses i c c f))
-    ∙ added_push (take i sources) (take i clauses) s c (length_take i sources (omega (arith, below)) ∙ sym (length_take i clauses (omega (arith, below_too))))
-
-pub counted_added : (sources : List (Option (List ℕ))) (clauses : List (List Lit)) → length sources ≡ length clauses → count_added sources ≡ length (added_in sources clauses)
-counted_added [] [] e = refl
-counted_added [] (c ∷ clauses) e = absurd (omega (arith, e))
-counted_added (s ∷ sources) [] e = absurd (omega (arith, e))
-counted_added (None ∷ sources) (c ∷ clauses) e = omega (arith, counted_added sources clauses (omega (arith, e)))
-counted_added (Some hints ∷ sources) (c ∷ clauses) e = counted_added sources clauses (omega (arith, e))
-
-pub count_push : (sources : List (Option (List ℕ))) (s : Option (List ℕ)) → count_added (sources ++ s ∷ []) ≡ count_added sources + count_added (s ∷ [])
-count_push [] s = omega arith
-count_push (None ∷ sources) s = omega (arith, count_push sources s)
-count_push (Some hints ∷ sources) s = count_push sources s
-
 -- Numbers of clauses.
-
-get_left : {X : Type 0} (xs : List X) (x : X) (n : ℕ) → n < length xs → slice_get (xs ++ x ∷ []) n ≡ slice_get xs n
-get_left [] x n e = absurd (omega (arith, e))
-get_left (y ∷ xs) x zero e = refl
-get_left (y ∷ xs) x (suc n) e = get_left xs x n (omega (arith, e))
-
-get_last : {X : Type 0} (xs : List X) (x : X) (n : ℕ) → n ≡ length xs → slice_get (xs ++ x ∷ []) n ≡ Some x
-get_last [] x zero e = refl
-get_last [] x (suc n) e = absurd (omega (arith, e))
-get_last (y ∷ xs) x zero e = absurd (omega (arith, e))
-get_last (y ∷ xs) x (suc n) e = get_last xs x n (omega (arith, e))
-
-id_left : (ids : List ℕ) (x n : ℕ) → n < length ids → id_of (ids ++ x ∷ []) n ≡ id_of ids n
-id_left ids x n e = ap (λ o. unwrap_or o 0) (get_left ids x n e)
-
-id_last : (ids : List ℕ) (x n : ℕ) → n ≡ length ids → id_of (ids ++ x ∷ []) n ≡ x
-id_last ids x n e = ap (λ o. unwrap_or o 0) (get_last ids x n e)
 
 pub number_put : (clauses : List (List Lit)) (n : ℕ) (c : List Lit) → (n ≡ 0 → ⊥) → slice_get clauses (n - 1) ≡ Some c → clause_numbered clauses n ≡ Some c
 number_put clauses n c above e = cond-false (eqb n 0) None (slice_get clauses (n - 1)) (eqb_apart n 0 above) ∙ e
 
-number_above : (clauses : List (List Lit)) (n : ℕ) (c : List Lit) → clause_numbered clauses n ≡ Some c → n ≡ 0 → ⊥
+pub number_above : (clauses : List (List Lit)) (n : ℕ) (c : List Lit) → clause_numbered clauses n ≡ Some c → n ≡ 0 → ⊥
 number_above clauses n c e is = none-some c (sym (cond-true (eqb n 0) None (slice_get clauses (n - 1)) (eqb_same n 0 is)) ∙ e)
-
--- one of the clauses before a place, or the one there
-number_more : (clauses : List (List Lit)) (place : ℕ) (c : List Lit) (n : ℕ) (d : List Lit) → place < length clauses → slice_get clauses place ≡ Some c
-    → clause_numbered (take (place + 1) clauses) n ≡ Some d → ((clause_numbered (take place clauses) n ≡ Some d) × (n < place + 1)) ⊎ ((n ≡ place + 1) × (c ≡ d))
-number_more clauses place c n d below at e =
-    let long = length_take place clauses (omega (arith, below)) in
-    let above = number_above (take (place + 1) clauses) n d e in
-    let got : slice_get (take place clauses ++ c ∷ []) (n - 1) ≡ Some d =
-    ap (λ cs. slice_get cs (n - 1)) (sym (take_more clauses place c below ∙ ap (λ x. take place clauses ++ x ∷ []) (get_or_from_slice_get clauses place c c at)))
-    ∙ number_at-place (take (place + 1) clauses) n d e in
-    elim (get_push (take place clauses) c (n - 1) d got) [
-      | inl before ↦ inl (number_put (take place clauses) n d above before.1, omega (arith, before.0, long))
-      | inr last ↦ inr (one_above n place above (last.0 ∙ long), last.1)
-    ]
-  where
-    one_above : (n place : ℕ) → (n ≡ 0 → ⊥) → n - 1 ≡ place → n ≡ place + 1
-    one_above zero place above e = absurd (above refl)
-    one_above (suc n) place above e = omega (arith, e)
 
 -- A line is accepted.
 
@@ -273,20 +164,20 @@ sizes_by : (lits : List Lit) → AreSized lits → AllByRecursion (λ a. IsSize 
 sizes_by [] sized = tt
 sizes_by (a ∷ lits) sized = (sized a (or_left _ _ (lit_eq-same a)), sizes_by lits (λ b has. sized b (or_right _ _ has)))
 
-hint_sizes : (ids hints : List ℕ) → list_all (λ n. nat_le 1 (id_of ids n) && nat_le (id_of ids n) (2 ^ 63 - 1)) hints ≡ true → AllByRecursion (λ a. IsSize a.var) (map (hint_of ids) hints)
+hint_sizes : (ids : ℕ → ℕ) (hints : List ℕ) → list_all (λ n. nat_le 1 (ids n) && nat_le (ids n) (2 ^ 63 - 1)) hints ≡ true → AllByRecursion (λ a. IsSize a.var) (map (hint_by ids) hints)
 hint_sizes ids [] all = tt
 hint_sizes ids (n ∷ hints) all =
     let parts = and_parts _ _ all in
     let both = and_parts _ _ parts.0 in
-    ((omega (arith, leb-true 1 (id_of ids n) both.0), omega (arith, leb-true (id_of ids n) (2 ^ 63 - 1) both.1)), hint_sizes ids hints parts.1)
+    ((omega (arith, leb-true 1 (ids n) both.0), omega (arith, leb-true (ids n) (2 ^ 63 - 1) both.1)), hint_sizes ids hints parts.1)
 
-no_negative : (ids hints : List ℕ) → list_any (λ (h : Lit). not h.positive) (map (hint_of ids) hints) ≡ false
+no_negative : (ids : ℕ → ℕ) (hints : List ℕ) → list_any (λ (h : Lit). not h.positive) (map (hint_by ids) hints) ≡ false
 no_negative ids [] = refl
 no_negative ids (n ∷ hints) = no_negative ids hints
 
-ids_are : (ids hints : List ℕ) → ids_of (map (hint_of ids) hints) ≡ map (id_of ids) hints
+ids_are : (ids : ℕ → ℕ) (hints : List ℕ) → ids_of (map (hint_by ids) hints) ≡ map ids hints
 ids_are ids [] = refl
-ids_are ids (n ∷ hints) = ap (λ xs. id_of ids n ∷ xs) (ids_are ids hints)
+ids_are ids (n ∷ hints) = ap (λ xs. ids n ∷ xs) (ids_are ids hints)
 
 judged_ok : (late rat : Bool) (fault : Option LratFault) (t : ProofState) → late ≡ false → rat ≡ false → fault ≡ None
     → cond late (Err IdOrder) (cond rat (Err RatRefused) (ok_without_fault fault t)) ≡ Ok t
@@ -295,16 +186,16 @@ judged_ok false true fault t e f g = absurd (false≢true (sym f))
 judged_ok false false None t e f g = refl
 judged_ok false false (Some fault) t e f g = absurd (none-some fault (sym g))
 
-line_accepted : (s : ProofState) (ids : List ℕ) (id : ℕ) (c : List Lit) (hints : List ℕ) → IsSize id → AreSized c
-    → list_all (λ n. nat_le 1 (id_of ids n) && nat_le (id_of ids n) (2 ^ 63 - 1)) hints ≡ true → s.last < id
-    → hints_fault (clause_at s.held) (map negation c) (map (id_of ids) hints) ≡ None
-    → judge s (text_of (line_with ids id c hints)) ≡ Ok (with_addition s id c)
+line_accepted : (s : ProofState) (ids : ℕ → ℕ) (id : ℕ) (c : List Lit) (hints : List ℕ) → IsSize id → AreSized c
+    → list_all (λ n. nat_le 1 (ids n) && nat_le (ids n) (2 ^ 63 - 1)) hints ≡ true → s.last < id
+    → hints_fault (clause_at s.held) (map negation c) (map ids hints) ≡ None
+    → judge s (text_of (line_by ids id c hints)) ≡ Ok (with_addition s id c)
 line_accepted s ids id c hints sized sized_clause sized_hints later follows =
-    let line = line_with ids id c hints in
+    let line = line_by ids id c hints in
     let sizes : HasSizes line =
-    (sized, All-from_recursion (λ a. IsSize a.var) c (sizes_by c sized_clause), All-from_recursion (λ a. IsSize a.var) (map (hint_of ids) hints) (hint_sizes ids hints sized_hints)) in
+    (sized, All-from_recursion (λ a. IsSize a.var) c (sizes_by c sized_clause), All-from_recursion (λ a. IsSize a.var) (map (hint_by ids) hints) (hint_sizes ids hints sized_hints)) in
     ap (judge_line s) ((reads_spelled (text_of line) line).1 (sizes, refl))
-    ∙ judged_ok (nat_le id s.last) (list_any (λ (h : Lit). not h.positive) (map (hint_of ids) hints)) _ (with_addition s id c)
+    ∙ judged_ok (nat_le id s.last) (list_any (λ (h : Lit). not h.positive) (map (hint_by ids) hints)) _ (with_addition s id c)
     (lt-leb id s.last later) (no_negative ids hints) (ap (hints_fault (clause_at s.held) (map negation c)) (ids_are ids hints) ∙ follows)
 
 next_judged : (r : Result ProofState LratFault) (first second : ProofState → Result ProofState LratFault) (t u : ProofState) → judge_next r first ≡ Ok t
@@ -319,216 +210,103 @@ judge_push s t u (first ∷ lines) line e f =
 
 -- The state after a line.
 
-all_sized : (place : ℕ) (entries : Entries) (needed : List Bool) (w : Written) (hints : List ℕ) → IsWritten entries needed place w → w.last < 2 ^ 62
-    → list_all (λ n. is_some (clause_numbered (take place entries.clauses) n)) hints ≡ true → list_all (is_needed needed) hints ≡ true
-    → list_all (λ n. nat_le 1 (id_of w.ids n) && nat_le (id_of w.ids n) (2 ^ 63 - 1)) hints ≡ true
-all_sized place entries needed w [] written small named all = refl
-all_sized place entries needed w (n ∷ hints) written small named all =
+all_sized : (clauses : List (List Lit)) (ids : ℕ → ℕ) (greatest : ℕ) (held : List (ℕ × List Lit)) (hints : List ℕ) → greatest < 2 ^ 62
+    → ((id : ℕ) (c : List Lit) → clause_at held id ≡ Some c → (0 < id) × (id ≤ greatest))
+    → ((n : ℕ) (c : List Lit) → clause_numbered clauses n ≡ Some c → nat_lt 0 (ids n) ≡ true → clause_at held (ids n) ≡ Some c)
+    → list_all (λ n. is_some (clause_numbered clauses n)) hints ≡ true → list_all (λ n. nat_lt 0 (ids n)) hints ≡ true
+    → list_all (λ n. nat_le 1 (ids n) && nat_le (ids n) (2 ^ 63 - 1)) hints ≡ true
+all_sized clauses ids greatest held [] small within finds named all = refl
+all_sized clauses ids greatest held (n ∷ hints) small within finds named all =
     let names = and_parts _ _ named in
     let parts = and_parts _ _ all in
-    let found = some_has (clause_numbered (take place entries.clauses) n) names.0 in
-    let bounds = written.within (id_of w.ids n) found.0 (written.finds n found.0 found.1 parts.0) in
-    and_from _ _ (and_from _ _ (le-leb 1 (id_of w.ids n) (omega (arith, bounds.0))) (le-leb (id_of w.ids n) (2 ^ 63 - 1) (omega (arith, bounds.1, small))))
-    (all_sized place entries needed w hints written small names.1 parts.1)
+    let found = some_has (clause_numbered clauses n) names.0 in
+    let bounds = within (ids n) found.0 (finds n found.0 found.1 parts.0) in
+    and_from _ _ (and_from _ _ (le-leb 1 (ids n) (omega (arith, bounds.0))) (le-leb (ids n) (2 ^ 63 - 1) (omega (arith, bounds.1, small))))
+    (all_sized clauses ids greatest held hints small within finds names.1 parts.1)
 
-written_accepts : (place : ℕ) (entries : Entries) (needed : List Bool) (w : Written) (c : List Lit) (hints : List ℕ) → (written : IsWritten entries needed place w) → w.last < 2 ^ 62
-    → AreSized c → hints_fault (clause_numbered (take place entries.clauses)) (map negation c) hints ≡ None → list_all (is_needed needed) hints ≡ true
-    → judge written.state (text_of (line_with w.ids (w.last + 1) c hints)) ≡ Ok (with_addition written.state (w.last + 1) c)
-written_accepts place entries needed w c hints written small sized follows all =
-    line_accepted written.state w.ids (w.last + 1) c hints (omega arith, omega (arith, small)) sized
-    (all_sized place entries needed w hints written small (hints_named _ _ hints follows) all)
+written_accepts : (entries : Entries) (ids : ℕ → ℕ) (lines : List (List ℕ)) (greatest : ℕ) (c : List Lit) (hints : List ℕ)
+    → (written : IsPartialProof entries ids lines greatest) → greatest < 2 ^ 62
+    → AreSized c → hints_fault (clause_numbered entries.clauses) (map negation c) hints ≡ None → list_all (λ n. nat_lt 0 (ids n)) hints ≡ true
+    → judge written.state (text_of (line_by ids (greatest + 1) c hints)) ≡ Ok (with_addition written.state (greatest + 1) c)
+written_accepts entries ids lines greatest c hints written small sized follows all =
+    line_accepted written.state ids (greatest + 1) c hints (omega arith, omega (arith, small)) sized
+    (all_sized entries.clauses ids greatest written.state.held hints small written.within written.finds (hints_named _ _ hints follows) all)
     (omega (arith, written.last))
-    (hints_renamed (clause_numbered (take place entries.clauses)) (clause_at written.state.held) (id_of w.ids) (is_needed needed) (map negation c) hints written.finds all follows)
+    (hints_renamed (clause_numbered entries.clauses) (clause_at written.state.held) ids (λ n. nat_lt 0 (ids n)) (map negation c) hints written.finds all follows)
 
-above_free : (place : ℕ) (entries : Entries) (needed : List Bool) (w : Written) → (written : IsWritten entries needed place w) → (d : List Lit)
-    → clause_at written.state.held (w.last + 1) ≡ Some d → ⊥
-above_free place entries needed w written d e = omega (arith, (written.within (w.last + 1) d e).1)
+above_free : (entries : Entries) (ids : ℕ → ℕ) (lines : List (List ℕ)) (greatest : ℕ) → (written : IsPartialProof entries ids lines greatest) → (d : List Lit)
+    → clause_at written.state.held (greatest + 1) ≡ Some d → ⊥
+above_free entries ids lines greatest written d e = omega (arith, (written.within (greatest + 1) d e).1)
 
 -- The whole proof.
-pub written_proves : (place : ℕ) (entries : Entries) (needed : List Bool) (w : Written) (c : List Lit) (hints : List ℕ) → place ≡ length entries.clauses
-    → IsWritten entries needed place w → w.last < 2 ^ 62 → AreSized c → hints_fault (clause_numbered entries.clauses) (map negation c) hints ≡ None
-    → list_all (is_needed needed) hints ≡ true
-    → Proves (added_of entries) (w.lines ++ text_of (line_with w.ids (w.last + 1) c hints) ∷ []) c
-written_proves place entries needed w c hints whole written small sized follows all =
-    let same : take place entries.clauses ≡ entries.clauses = take_all place entries.clauses (omega (arith, whole)) in
-    record {
-      state = with_addition written.state (w.last + 1) c;
-      judged = judge_push (start (added_of entries)) written.state (with_addition written.state (w.last + 1) c) w.lines (text_of (line_with w.ids (w.last + 1) c hints)) written.judged
-          (written_accepts place entries needed w c hints written small sized (ap (λ cs. hints_fault (clause_numbered cs) (map negation c) hints) same ∙ follows) all);
-      gives = held_last written.state.held (w.last + 1) c (above_free place entries needed w written);
-      finishes = λ empty. or_right written.state.finished (is_empty c) (ap is_empty empty);
-    }
-
-pub written_none : (entries : Entries) (needed : List Bool) (w : Written) (n : ℕ) → n ≡ length (added_of entries) → w ≡ record { ids = 0 ∷ []; lines = []; added = 0; last = n } → IsWritten entries needed 0 w
-written_none entries needed w n is e =
-    subst (IsWritten entries needed 0) (sym (e ∙ ap (λ k. record { ids = 0 ∷ []; lines = []; added = 0; last = k }) is)) (record {
-      count = refl;
-      added = refl;
-      small = omega arith;
-      state = start (added_of entries);
-      judged = refl;
-      last = refl;
-      within = λ id c f. let bounds = numbered_within 1 (added_of entries) id c f in (omega (arith, bounds.0), omega (arith, bounds.1));
-      given = λ i c f. numbered_at 1 (added_of entries) i (i + 1) c (omega arith) f;
-      finds = λ n c f _. absurd (none-some c (number_at-place [] n c f));
-    })
-
-pub written_added : (place : ℕ) (entries : Entries) (needed : List Bool) (w : Written) (c : List Lit) → place < length entries.sources → place < length entries.clauses
-    → slice_get entries.sources place ≡ Some None → slice_get entries.clauses place ≡ Some c → IsWritten entries needed place w
-    → IsWritten entries needed (place + 1) (record w { ids = w.ids ++ (w.added + 1) ∷ []; added = w.added + 1 })
-written_added place entries needed w c below below_too source at written = record {
-  count = length-append w.ids ((w.added + 1) ∷ []) ∙ ap (λ n. n + 1) written.count;
-  added =
-      ap (λ n. n + 1) written.added
-      ∙ sym (length-append (added_in (take place entries.sources) (take place entries.clauses)) (c ∷ []))
-      ∙ sym (ap length (added_next entries.sources entries.clauses place None c below below_too source at));
-  small = omega (arith, written.small);
-  state = written.state;
-  judged = written.judged;
-  last = written.last;
-  within = written.within;
-  given = written.given;
-  finds = λ n d e needs. elim (number_more entries.clauses place c n d below_too at e) [
-    | inl before ↦ ap (clause_at written.state.held) (id_left w.ids (w.added + 1) n (omega (arith, before.1, written.count))) ∙ written.finds n d before.0 needs
-    | inr here ↦
-        ap (clause_at written.state.held) (id_last w.ids (w.added + 1) n (here.0 ∙ sym written.count))
-        ∙ written.given w.added d (ap (slice_get (added_of entries)) written.added ∙ added_at entries.sources entries.clauses place d source (at ∙ ap (λ x. Some x) here.1))
-  ];
+pub written_proves : (entries : Entries) (ids : ℕ → ℕ) (lines : List (List ℕ)) (greatest : ℕ) (c : List Lit) (hints : List ℕ)
+    → IsPartialProof entries ids lines greatest → greatest < 2 ^ 62 → AreSized c → hints_fault (clause_numbered entries.clauses) (map negation c) hints ≡ None
+    → list_all (λ n. nat_lt 0 (ids n)) hints ≡ true
+    → Proves (added_of entries) (lines ++ text_of (line_by ids (greatest + 1) c hints) ∷ []) c
+written_proves entries ids lines greatest c hints written small sized follows all = record {
+  state = with_addition written.state (greatest + 1) c;
+  judged = judge_push (start (added_of entries)) written.state (with_addition written.state (greatest + 1) c) lines (text_of (line_by ids (greatest + 1) c hints)) written.judged
+      (written_accepts entries ids lines greatest c hints written small sized follows all);
+  gives = held_last written.state.held (greatest + 1) c (above_free entries ids lines greatest written);
+  finishes = λ empty. or_right written.state.finished (is_empty c) (ap is_empty empty);
 }
 
-nothing_more : (a b n : ℕ) → a ≡ b → n ≡ b + 0 → a ≡ n
-nothing_more a b n e f = omega (arith, e, f)
+-- What is found where one more line is held.
+found_more : (held : List (ℕ × List Lit)) (greatest old id : ℕ) (b : Bool) (c d : List Lit) → ((e : List Lit) → clause_at held (greatest + 1) ≡ Some e → ⊥)
+    → (b ≡ true → c ≡ d) → (nat_lt 0 old ≡ true → clause_at held old ≡ Some d) → id ≡ cond b (greatest + 1) old → nat_lt 0 id ≡ true
+    → clause_at (held ++ (greatest + 1, c) ∷ []) id ≡ Some d
+found_more held greatest old id true c d free same before is has =
+    ap (clause_at (held ++ (greatest + 1, c) ∷ [])) is ∙ held_last held (greatest + 1) c free ∙ ap (λ x. Some x) (same refl)
+found_more held greatest old id false c d free same before is has =
+    ap (clause_at (held ++ (greatest + 1, c) ∷ [])) is ∙ held_more held ((greatest + 1, c) ∷ []) old d (before (ap (nat_lt 0) (sym is) ∙ has))
 
-pub written_skip : (place : ℕ) (entries : Entries) (needed : List Bool) (w : Written) (c : List Lit) (hints : List ℕ) → place < length entries.sources → place < length entries.clauses
-    → slice_get entries.sources place ≡ Some (Some hints) → slice_get entries.clauses place ≡ Some c → is_needed needed (place + 1) ≡ false → IsWritten entries needed place w
-    → IsWritten entries needed (place + 1) (record w { ids = w.ids ++ 0 ∷ [] })
-written_skip place entries needed w c hints below below_too source at unneeded written = record {
-  count = length-append w.ids (0 ∷ []) ∙ ap (λ n. n + 1) written.count;
-  added = nothing_more w.added _ _ written.added (ap length (added_next entries.sources entries.clauses place (Some hints) c below below_too source at) ∙ length-append (added_in (take place entries.sources) (take place entries.clauses)) []);
-  small = omega (arith, written.small);
-  state = written.state;
-  judged = written.judged;
-  last = written.last;
-  within = written.within;
-  given = written.given;
-  finds = λ n d e needs. elim (number_more entries.clauses place c n d below_too at e) [
-    | inl before ↦ ap (clause_at written.state.held) (id_left w.ids 0 n (omega (arith, before.1, written.count))) ∙ written.finds n d before.0 needs
-    | inr here ↦ absurd (false≢true (sym unneeded ∙ ap (is_needed needed) (sym here.0) ∙ needs))
+has_more : (greatest old id : ℕ) (b : Bool) → id ≡ cond b (greatest + 1) old → nat_lt 0 old ≡ true → nat_lt 0 id ≡ true
+has_more greatest old id true is has = le-leb 1 id (omega (arith, is))
+has_more greatest old id false is has = ap (nat_lt 0) is ∙ has
+
+-- One more line, whose id a clause has from now on.
+pub written_put : (entries : Entries) (ids later : ℕ → ℕ) (lines after : List (List ℕ)) (greatest last number : ℕ) (c : List Lit) (hints : List ℕ)
+    → clause_numbered entries.clauses number ≡ Some c → greatest < 2 ^ 62 → AreSized c
+    → hints_fault (clause_numbered entries.clauses) (map negation c) hints ≡ None → list_all (λ n. nat_lt 0 (ids n)) hints ≡ true
+    → ((n : ℕ) → later n ≡ cond (eqb number n) (greatest + 1) (ids n)) → after ≡ lines ++ text_of (line_by ids (greatest + 1) c hints) ∷ [] → last ≡ greatest + 1
+    → IsPartialProof entries ids lines greatest → IsPartialProof entries later after last
+written_put entries ids later lines after greatest last number c hints at small sized follows all puts adds next written = record {
+  state = with_addition written.state (greatest + 1) c;
+  judged = ap (judge_all (start (added_of entries))) adds
+      ∙ judge_push (start (added_of entries)) written.state (with_addition written.state (greatest + 1) c) lines (text_of (line_by ids (greatest + 1) c hints)) written.judged
+      (written_accepts entries ids lines greatest c hints written small sized follows all);
+  last = sym next;
+  within = λ id d e. elim (held_back written.state.held (greatest + 1) c id d e) [
+    | inl before ↦ let bounds = written.within id d before in (bounds.0, omega (arith, bounds.1, next))
+    | inr here ↦ (omega (arith, here), omega (arith, here, next))
   ];
+  given = λ i source. has_more greatest (ids (i + 1)) (later (i + 1)) (eqb number (i + 1)) (puts (i + 1)) (written.given i source);
+  finds = λ n d e has. found_more written.state.held greatest (ids n) (later n) (eqb number n) c d (above_free entries ids lines greatest written)
+      (λ same. same_Some c d (sym at ∙ ap (clause_numbered entries.clauses) (eqb-true number n same) ∙ e)) (written.finds n d e) (puts n) has;
 }
 
-pub written_learned : (place : ℕ) (entries : Entries) (needed : List Bool) (w : Written) (c : List Lit) (hints : List ℕ) → place < length entries.sources → place < length entries.clauses
-    → slice_get entries.sources place ≡ Some (Some hints) → slice_get entries.clauses place ≡ Some c → w.last < 2 ^ 62 → AreSized c
-    → hints_fault (clause_numbered (take place entries.clauses)) (map negation c) hints ≡ None → list_all (is_needed needed) hints ≡ true → IsWritten entries needed place w
-    → IsWritten entries needed (place + 1) (record w {
-      ids = w.ids ++ (w.last + 1) ∷ [];
-      lines = w.lines ++ text_of (line_with w.ids (w.last + 1) c hints) ∷ [];
-      last = w.last + 1;
-    })
-written_learned place entries needed w c hints below below_too source at small sized follows all written =
-    let free = above_free place entries needed w written in
-    record {
-      count = length-append w.ids ((w.last + 1) ∷ []) ∙ ap (λ n. n + 1) written.count;
-      added = nothing_more w.added _ _ written.added (ap length (added_next entries.sources entries.clauses place (Some hints) c below below_too source at) ∙ length-append (added_in (take place entries.sources) (take place entries.clauses)) []);
-      small = omega (arith, written.small);
-      state = with_addition written.state (w.last + 1) c;
-      judged = judge_push (start (added_of entries)) written.state (with_addition written.state (w.last + 1) c) w.lines (text_of (line_with w.ids (w.last + 1) c hints)) written.judged
-          (written_accepts place entries needed w c hints written small sized follows all);
-      last = refl;
-      within = λ id d e. elim (held_back written.state.held (w.last + 1) c id d e) [
-        | inl before ↦ let bounds = written.within id d before in (bounds.0, omega (arith, bounds.1))
-        | inr last ↦ (omega (arith, last), omega (arith, last))
-      ];
-      given = λ i d e. held_more written.state.held ((w.last + 1, c) ∷ []) (i + 1) d (written.given i d e);
-      finds = λ n d e needs. elim (number_more entries.clauses place c n d below_too at e) [
-        | inl before ↦
-            ap (clause_at (written.state.held ++ (w.last + 1, c) ∷ [])) (id_left w.ids (w.last + 1) n (omega (arith, before.1, written.count)))
-            ∙ held_more written.state.held ((w.last + 1, c) ∷ []) (id_of w.ids n) d (written.finds n d before.0 needs)
-        | inr here ↦
-            ap (clause_at (written.state.held ++ (w.last + 1, c) ∷ [])) (id_last w.ids (w.last + 1) n (here.0 ∙ sym written.count))
-            ∙ held_last written.state.held (w.last + 1) c free ∙ ap (λ x. Some x) here.1
-      ];
-    }
+pub written_kept : (ids later : ℕ → ℕ) (number greatest n : ℕ) → ((m : ℕ) → later m ≡ cond (eqb number m) (greatest + 1) (ids m))
+    → nat_lt 0 (ids n) ≡ true → nat_lt 0 (later n) ≡ true
+written_kept ids later number greatest n puts has = has_more greatest (ids n) (later n) (eqb number n) (puts n) has
 
-next_by : (place : ℕ) (entries : Entries) (needed : List Bool) (w : Written) (c : List Lit) (s : Option (List ℕ)) (b : Bool) → is_needed needed (place + 1) ≡ b
-    → IsLog entries → IsClosed needed entries.sources → place < length entries.clauses → slice_get entries.sources place ≡ Some s → slice_get entries.clauses place ≡ Some c → w.last < 2 ^ 62
-    → IsWritten entries needed place w → IsWritten entries needed (place + 1) (next_written w s c b)
-next_by place entries needed w c None b needs log closed below source at small written =
-    written_added place entries needed w c (omega (arith, below, log.beside)) below source at written
-next_by place entries needed w c (Some hints) false needs log closed below source at small written =
-    written_skip place entries needed w c hints (omega (arith, below, log.beside)) below source at needs written
-next_by place entries needed w c (Some hints) true needs log closed below source at small written =
-    let is : get_or entries.clauses place [] ≡ c = get_or_from_slice_get entries.clauses place c [] at in
-    written_learned place entries needed w c hints (omega (arith, below, log.beside)) below source at small (subst AreSized is (log.sized place))
-    (ap (λ x. hints_fault (clause_numbered (take place entries.clauses)) (map negation x) hints) (sym is) ∙ log.explained place hints source)
-    (closed place hints source needs) written
-
--- One more clause.
-pub written_next : (place : ℕ) (entries : Entries) (needed : List Bool) (w next : Written) (c : List Lit) (s : Option (List ℕ)) (b : Bool) → b ≡ is_needed needed (place + 1)
-    → IsLog entries → IsClosed needed entries.sources → place < length entries.clauses → s ≡ get_or entries.sources place s → c ≡ get_or entries.clauses place c → length entries.clauses < 2 ^ 61
-    → next ≡ next_written w s c b → IsWritten entries needed place w → IsWritten entries needed (place + 1) next
-written_next place entries needed w next c s b is log closed below source at few same written =
-    subst (IsWritten entries needed (place + 1)) (sym same)
-    (next_by place entries needed w c s b (sym is) log closed below
-    (slice_get-get_or entries.sources place s (omega (arith, below, log.beside)) ∙ ap (λ x. Some x) (sym source))
-    (slice_get-get_or entries.clauses place c below ∙ ap (λ x. Some x) (sym at))
-    (omega (arith, written.small, below, few, added_less entries.sources entries.clauses)) written)
-
-pub last_small : (place : ℕ) (entries : Entries) (needed : List Bool) (w : Written) → place ≤ length entries.clauses → length entries.clauses < 2 ^ 61 → IsWritten entries needed place w → w.last < 2 ^ 62
-last_small place entries needed w below few written = omega (arith, written.small, below, few, added_less entries.sources entries.clauses)
+-- Nothing is written.
+pub written_none : (entries : Entries) (ids : ℕ → ℕ) (lines : List (List ℕ)) (greatest : ℕ) → greatest ≡ length (added_of entries) → lines ≡ []
+    → ((i : ℕ) → slice_get entries.sources i ≡ Some None → nat_lt 0 (ids (i + 1)) ≡ true)
+    → ((n : ℕ) (c : List Lit) → clause_numbered entries.clauses n ≡ Some c → nat_lt 0 (ids n) ≡ true → (j : ℕ) × (ids n ≡ 1 + j) × (slice_get (added_of entries) j ≡ Some c))
+    → IsPartialProof entries ids lines greatest
+written_none entries ids lines greatest counts none given found = record {
+  state = start (added_of entries);
+  judged = ap (judge_all (start (added_of entries))) none;
+  last = sym counts;
+  within = λ id c f. let bounds = numbered_within 1 (added_of entries) id c f in (omega (arith, bounds.0), omega (arith, bounds.1, counts));
+  given = given;
+  finds = λ n c e has. let r = found n c e has in numbered_at 1 (added_of entries) r.0 (ids n) c r.1 r.2;
+}
 
 pub count_less : (sources : List (Option (List ℕ))) → count_added sources ≤ length sources
 count_less [] = omega arith
 count_less (None ∷ sources) = omega (arith, count_less sources)
 count_less (Some hints ∷ sources) = omega (arith, count_less sources)
-
-pub count_more : (sources : List (Option (List ℕ))) (i n m : ℕ) (s : Option (List ℕ)) → i < length sources → s ≡ get_or sources i s → n ≡ count_added (take i sources)
-    → m ≡ count_added (s ∷ []) → n + m ≡ count_added (take (i + 1) sources)
-count_more sources i n m s below is counts more =
-    omega (
-      arith,
-      counts,
-      more,
-      count_push (take i sources) s,
-      ap count_added (take_more sources i s below ∙ ap (λ t. take i sources ++ t ∷ []) (sym is)),
-    )
-
-pub count_below : (sources : List (Option (List ℕ))) (i n : ℕ) → i < length sources → n ≡ count_added (take i sources) → n < length sources
-count_below sources i n below counts = omega (arith, counts, count_less (take i sources), length_take i sources (omega (arith, below)), below)
-
--- The same, by what the code reads.
-
-pub code_next : (entries : Entries) (needed marks : List Bool) (place : ℕ) (w next : Written) (seen : List (List Lit)) (seen_sources : List (Option (List ℕ))) (item c : List Lit)
-    (s : Option (List ℕ)) (b : Bool) → seen ≡ entries.clauses → seen_sources ≡ entries.sources → marks ≡ needed → b ≡ is_needed marks (place + 1)
-    → IsLog entries → IsClosed needed seen_sources → place < length seen → s ≡ get_or seen_sources place s → item ≡ get_or seen place item → c ≡ item → length seen < 2 ^ 61
-    → next ≡ next_written w s c b → IsWritten entries needed place w → IsWritten entries needed (place + 1) next
-code_next entries needed marks place w next seen seen_sources item c s b same same_sources same_marks is log closed below source at reads few writes written =
-    written_next place entries needed w next c s b (is ∙ ap (λ m. is_needed m (place + 1)) same_marks) log (subst (IsClosed needed) same_sources closed)
-    (omega (arith, below, ap length same)) (source ∙ ap (λ ss. get_or ss place s) same_sources)
-    (subst (λ d. d ≡ get_or entries.clauses place d) (sym reads) (at ∙ ap (λ cs. get_or cs place item) same))
-    (omega (arith, few, ap length same)) writes written
-
-pub added_small : (place : ℕ) (entries : Entries) (needed : List Bool) (w : Written) (seen : List (List Lit)) → seen ≡ entries.clauses → place ≤ length seen → length seen < 2 ^ 61
-    → IsWritten entries needed place w → (w.added < 2 ^ 62) × (w.last < 2 ^ 62)
-added_small place entries needed w seen same below few written =
-    let long = length_take place entries.clauses (omega (arith, below, ap length same)) in (
-      omega (arith, written.added, added_less (take place entries.sources) (take place entries.clauses), long, below, few),
-      last_small place entries needed w (omega (arith, below, ap length same)) (omega (arith, few, ap length same)) written,
-    )
-
-pub code_proves : (entries : Entries) (needed : List Bool) (place : ℕ) (w last : Written) (seen : List (List Lit)) (c : List Lit) (hints : List ℕ) (lines : List (List ℕ))
-    → seen ≡ entries.clauses → place ≤ length seen → length seen ≤ place → length seen < 2 ^ 61 → AreSized c → hints_fault (clause_numbered entries.clauses) (map negation c) hints ≡ None
-    → list_all (is_needed needed) hints ≡ true
-    → last ≡ record w {
-      ids = w.ids ++ (w.last + 1) ∷ [];
-      lines = w.lines ++ text_of (line_with w.ids (w.last + 1) c hints) ∷ [];
-      last = w.last + 1;
-    }
-    → lines ≡ last.lines → IsWritten entries needed place w → Proves (added_of entries) lines c
-code_proves entries needed place w last seen c hints lines same below past few sized follows all ends reads written =
-    subst (λ ls. Proves (added_of entries) ls c) (sym (reads ∙ ap (λ (x : Written). x.lines) ends))
-    (written_proves place entries needed w c hints (omega (arith, below, past, ap length same)) written
-    (added_small place entries needed w seen same below few written).1 sized follows all)
 
 -- The refusal.
 

@@ -21,13 +21,13 @@ pub record Refuses (clauses : List (List Lit)) (assumptions : List Lit) (traced 
   pub among : NegatesOnly assumptions traced.clause
   pub hinted : IsHinted clauses traced
 
-abbrev pub IsFound : List (List Lit) → List Lit → List Step → Found → Type 0
-IsFound clauses assumptions steps Satisfied = Satisfies clauses assumptions steps
-IsFound clauses assumptions steps (Refused traced) = Refuses clauses assumptions traced
+abbrev pub IsSearchResult : List (List Lit) → List Lit → List Step → Found → Type 0
+IsSearchResult clauses assumptions steps Satisfied = Satisfies clauses assumptions steps
+IsSearchResult clauses assumptions steps (Refused traced) = Refuses clauses assumptions traced
 
 -- The answer has the literals of the trail, or the negations of the clause's.
-abbrev pub IsTold : List Step → Found → Asked → Type 0
-IsTold steps Satisfied (Sat assignment) = assignment ≡ literals_of steps
-IsTold steps Satisfied (Unsat core) = ⊥
-IsTold steps (Refused traced) (Sat assignment) = ⊥
-IsTold steps (Refused traced) (Unsat core) = core.items ≡ map negation traced.clause
+abbrev pub IsAskedFrom : List Step → Found → Asked → Type 0
+IsAskedFrom steps Satisfied (Sat assignment) = assignment ≡ literals_of steps
+IsAskedFrom steps Satisfied (Unsat core) = ⊥
+IsAskedFrom steps (Refused traced) (Sat assignment) = ⊥
+IsAskedFrom steps (Refused traced) (Unsat core) = core.items ≡ map negation traced.clause

@@ -5,9 +5,14 @@ pub mod Retiring
 pub mod UnitClauses
 pub mod Refuting
 pub mod Entries
+pub mod Counting
+pub mod Resting
 pub mod WithUnits
 pub mod Searching
 pub mod Finding
 pub mod Room
 pub mod Progress
+pub mod Ids
+pub mod IdsOf
 pub mod Writing
+pub mod WritingOf

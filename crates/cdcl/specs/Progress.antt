@@ -4,7 +4,7 @@ use Rattle.edge.specs.Units.{Spendings}
 use Rattle.proof_semantics.specs.Clauses.{is_subsumed, has_opposites}
 use Rattle.proof_semantics.specs.declared.literals.Lit.{Lit}
 use Rattle.cdcl.specs.Entries.{Entries, IsLog, added_of, learned_of}
-use Rattle.cdcl.specs.Room.{room}
+use Rattle.cdcl.specs.Room.{clause_room}
 use Rattle.cdcl_trail.specs.Watched.{TrailState}
 use Rattle.cdcl.specs.Searching.{is_over, are_over, IsHeld}
 use Rattle.cdcl.specs.Solving.{Learns, with_conflicts}
@@ -17,7 +17,7 @@ growth start now = length (learned_of now) - length (learned_of start)
 -- more than at first.
 pub record LearnsFewer (vars : List ℕ) (start now : Entries) : Type 0 where
   pub over : are_over vars now.clauses ≡ true
-  pub less : growth start now + room vars now.clauses ≤ room vars start.clauses
+  pub less : growth start now + clause_room vars now.clauses ≤ clause_room vars start.clauses
 
 pub record IsSearched (assumptions : List Lit) (start now : Entries) (earlier later : Spendings) : Type 0 where
   pub added : added_of now ≡ added_of start
@@ -26,17 +26,17 @@ pub record IsSearched (assumptions : List Lit) (start now : Entries) (earlier la
   pub less : (vars : List ℕ) → are_over vars start.clauses ≡ true → is_over vars assumptions ≡ true → LearnsFewer vars start now
 
 -- None of the clauses has opposite literals, and none contains one that was before it.
-abbrev pub AreApart : List (List Lit) → List (List Lit) → Type 0
-AreApart before [] = Unit {0}
-AreApart before (clause ∷ more) =
-    (has_opposites clause ≡ false) × (is_subsumed before clause ≡ false) × AreApart (before ++ clause ∷ []) more
+abbrev pub AreIrredundant : List (List Lit) → List (List Lit) → Type 0
+AreIrredundant before [] = Unit {0}
+AreIrredundant before (clause ∷ more) =
+    (has_opposites clause ≡ false) × (is_subsumed before clause ≡ false) × AreIrredundant (before ++ clause ∷ []) more
 
 -- What a solver keeps.
-pub record IsKept (entries : Entries) : Type 0 where
+pub record IsSolverLog (entries : Entries) : Type 0 where
   pub log : IsLog entries
-  pub apart : AreApart [] (learned_of entries)
+  pub apart : AreIrredundant [] (learned_of entries)
 
 -- with its trail
 pub record IsStanding (entries : Entries) (t : TrailState) : Type 0 where
-  pub kept : IsKept entries
+  pub kept : IsSolverLog entries
   pub trail : IsHeld entries.clauses t

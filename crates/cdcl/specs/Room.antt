@@ -12,13 +12,13 @@ abbrev pub room_from : List (List Lit) → List ℕ → List Lit → ℕ
 room_from held [] part = if is_subsumed held part then 0 else 1
 room_from held (v ∷ vars) part = room_from held vars part + (room_from held vars (lit v true ∷ part) + room_from held vars (lit v false ∷ part))
 
-abbrev pub room : List ℕ → List (List Lit) → ℕ
-room vars held = room_from held vars []
+abbrev pub clause_room : List ℕ → List (List Lit) → ℕ
+clause_room vars held = room_from held vars []
 
 -- the variables of literals, and of clauses
-abbrev pub variables_of : List Lit → List ℕ
-variables_of lits = map (λ a. a.var) lits
+abbrev pub literal_variables : List Lit → List ℕ
+literal_variables lits = map (λ a. a.var) lits
 
 abbrev pub variables_in : List (List Lit) → List ℕ
 variables_in [] = []
-variables_in (clause ∷ clauses) = variables_of clause ++ variables_in clauses
+variables_in (clause ∷ clauses) = literal_variables clause ++ variables_in clauses

@@ -17,7 +17,7 @@ abbrev pub has_variable : List Lit → ℕ → Bool
 has_variable clause v = list_any (λ a. nat_eq v a.var) clause
 
 -- A literal whose variable has no value, and stands in a clause.
-pub record IsOpen (clauses : List (List Lit)) (steps : List Step) (a : Lit) : Type 0 where
+pub record IsUndecided (clauses : List (List Lit)) (steps : List Step) (a : Lit) : Type 0 where
   pub unvalued : value_of steps a.var ≡ None
   pub place : ℕ
   pub clause : List Lit

@@ -46,7 +46,7 @@ IsAnswer added assumptions (Unsat core lines) = IsRefusal added assumptions core
 
 -- A learned clause follows from the added ones, has a literal and none beside its negation, and no clause that was added
 -- or learned before is a part of it. So the empty clause, which propagation alone gives, is never learned.
-pub record IsLearned (added before : List (List Lit)) (clause : List Lit) : Type 0 where
+pub record IsNewImplicate (added before : List (List Lit)) (clause : List Lit) : Type 0 where
   pub implied : IsImplied added clause
   pub no_tautology : has_opposites clause ≡ false
   pub not_empty : clause ≢ []
@@ -55,7 +55,7 @@ pub record IsLearned (added before : List (List Lit)) (clause : List Lit) : Type
 -- each clause after those before it
 abbrev pub AreLearned : List (List Lit) → List (List Lit) → List (List Lit) → Type 0
 AreLearned added before [] = Unit {0}
-AreLearned added before (clause ∷ more) = IsLearned added before clause × AreLearned added (before ++ clause ∷ []) more
+AreLearned added before (clause ∷ more) = IsNewImplicate added before clause × AreLearned added (before ++ clause ∷ []) more
 
 -- The later list is the earlier one, and then clauses that were learned one after another.
 pub record Learns (added earlier later : List (List Lit)) : Type 0 where

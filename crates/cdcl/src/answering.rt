@@ -3,8 +3,9 @@ ghost use Rattle.std.specs.Prelude.{◌≡◌, IfOk, IfErr, false};
 ghost use Rattle.proof_semantics.specs.Clauses.{has_opposites};
 ghost use Rattle.proof_semantics.specs.Lines.{AreSized};
 ghost use Rattle.cdcl.specs.Asking.{IsAsked};
+ghost use Rattle.cdcl.specs.Resting.{IsLimitedAtRest, IsRested};
 ghost use Rattle.cdcl.specs.Entries.{IsLog, added_of};
-ghost use Rattle.cdcl.specs.Finding.{IsFound, IsTold};
+ghost use Rattle.cdcl.specs.Finding.{IsSearchResult, IsAskedFrom};
 ghost use Rattle.cdcl.specs.Progress.{IsSearched};
 ghost use Rattle.cdcl.specs.Searching.{IsHeld};
 ghost use Rattle.cdcl.specs.Solving.{IsAnswer, IsEnd};
@@ -40,6 +41,8 @@ pub(crate) fn search_answer(
     ensures answer { IfOk result (IsAnswer (added_of log.old) assumptions.now) }
     ensures end { IfErr result (IsEnd meter.new) }
     ensures searched { IsSearched assumptions.now log.old log.new meter.old meter.new }
+    ensures rest { IsRested assumptions.now log.old log.new }
+    ensures limited { IfErr result (IsLimitedAtRest assumptions.now log.old) }
 {
     let found = search(alloc, log, order, trail, assumptions, meter)?;
     Ok(answer_of(alloc, log, trail, assumptions, found)?)
@@ -63,6 +66,8 @@ pub(crate) fn search_asked(
     ensures answer { IfOk result (IsAsked (added_of log.old) assumptions.now) }
     ensures end { IfErr result (IsEnd meter.new) }
     ensures searched { IsSearched assumptions.now log.old log.new meter.old meter.new }
+    ensures rest { IsRested assumptions.now log.old log.new }
+    ensures limited { IfErr result (IsLimitedAtRest assumptions.now log.old) }
 {
     let found = search(alloc, log, order, trail, assumptions, meter)?;
     Ok(asked_of(alloc, trail, found)?)
@@ -78,7 +83,7 @@ fn answer_of(
 ) -> Result<Answer, AllocError>
     requires log { IsLog log.now }
     requires sizes { AreSized assumptions.now }
-    requires found { IsFound log.now.clauses assumptions.now trail.now.steps found }
+    requires found { IsSearchResult log.now.clauses assumptions.now trail.now.steps found }
     ensures { IfOk result (IsAnswer (added_of log.now) assumptions.now) }
 {
     match found {
@@ -92,7 +97,7 @@ fn answer_of(
 
 // The values of the trail, each to be read for itself, or the core.
 fn asked_of(alloc: Global, trail: &Trail, found: Found) -> Result<Asked, AllocError>
-    ensures { IfOk result (IsTold trail.now.steps found) }
+    ensures { IfOk result (IsAskedFrom trail.now.steps found) }
 {
     match found {
         Found::Satisfied => Ok(Asked::Sat(Assignment::of_trail(alloc, trail)?)),

@@ -41,7 +41,7 @@ impl Model for Assignment {
     ghost use Rattle.std.specs.Prelude.{◌≡◌, ℕ, List};
     ghost use Rattle.proof_semantics.specs.declared.literals.Lit.{Lit};
     ghost use Rattle.cdcl_trail.specs.AssignmentOf.{place_in};
-    ghost use Rattle.cdcl_trail.specs.Tables.{told};
+    ghost use Rattle.packed_literals.specs.Tables.{told};
 
     ghost Value = { List Lit };
 

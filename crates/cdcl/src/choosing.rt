@@ -3,7 +3,7 @@ ghost use Rattle.std.specs.Prelude.{◌≡◌, IfNone, IfSome, IsTrue, true, fal
 ghost use Rattle.std.specs.List.{list_any, list_all};
 ghost use Rattle.cdcl_trail.specs.Propagation.{is_complete, is_true, is_falsified};
 ghost use Rattle.cdcl_trail.specs.Trails.{value_of};
-ghost use Rattle.cdcl.specs.Searching.{IsOpen, IsOpenIn, has_variable, is_satisfied};
+ghost use Rattle.cdcl.specs.Searching.{IsUndecided, IsOpenIn, has_variable, is_satisfied};
 
 use crate::log::Log;
 use crate::order::{Candidate, Order};
@@ -15,7 +15,7 @@ use cnf::{Clause, Lit, Var};
 pub(crate) fn choose(order: &mut Order, trail: &Trail, log: &Log) -> Option<Lit>
     requires { is_complete log.now.clauses trail.now.steps ≡ true }
     ensures none { IfNone result (is_satisfied log.now.clauses trail.now.steps ≡ true) }
-    ensures open { IfSome result (λ a. IsOpen log.now.clauses trail.now.steps a) }
+    ensures open { IfSome result (λ a. IsUndecided log.now.clauses trail.now.steps a) }
 {
     if is_full(trail, log.variables()) {
         return None;
@@ -45,7 +45,7 @@ fn have_values(trail: &Trail, variables: &[Var]) -> bool
 fn choose_open(order: &mut Order, trail: &Trail, clauses: &[Clause]) -> Option<Lit>
     requires { is_complete clauses.now trail.now.steps ≡ true }
     ensures none { IfNone result (is_satisfied clauses.now trail.now.steps ≡ true) }
-    ensures open { IfSome result (λ a. IsOpen clauses.now trail.now.steps a) }
+    ensures open { IfSome result (λ a. IsUndecided clauses.now trail.now.steps a) }
 {
     match most_active(order, trail, clauses) {
         Some(literal) => Some(literal),
@@ -55,7 +55,7 @@ fn choose_open(order: &mut Order, trail: &Trail, clauses: &[Clause]) -> Option<L
 
 // The most active variable without a value that the order has.
 fn most_active(order: &mut Order, trail: &Trail, clauses: &[Clause]) -> Option<Lit>
-    ensures { IfSome result (λ a. IsOpen clauses.now trail.now.steps a) }
+    ensures { IfSome result (λ a. IsUndecided clauses.now trail.now.steps a) }
 {
     for _turn in 0..order.count() {
         let candidate = order.take()?;
@@ -68,7 +68,7 @@ fn most_active(order: &mut Order, trail: &Trail, clauses: &[Clause]) -> Option<L
 
 // Whether a variable has no value, and stands in the clause that is told.
 fn is_open(trail: &Trail, clauses: &[Clause], candidate: Candidate) -> bool
-    ensures { IsTrue result → IsOpen clauses.now trail.now.steps candidate.literal }
+    ensures { IsTrue result → IsUndecided clauses.now trail.now.steps candidate.literal }
 {
     let var = candidate.literal.var;
     if trail.value(var).is_some() {
@@ -102,7 +102,7 @@ fn has_variable(clause: &[Lit], var: Var) -> bool
 fn first_open(trail: &Trail, clauses: &[Clause]) -> Option<Lit>
     requires { is_complete clauses.now trail.now.steps ≡ true }
     ensures none { IfNone result (is_satisfied clauses.now trail.now.steps ≡ true) }
-    ensures open { IfSome result (λ a. IsOpen clauses.now trail.now.steps a) }
+    ensures open { IfSome result (λ a. IsUndecided clauses.now trail.now.steps a) }
 {
     for clause in clauses {
         if let Some(literal) = open_literal(trail, clause.as_slice()) {

@@ -18,6 +18,7 @@ mod choosing;
 mod conditions;
 mod cover;
 mod finding;
+mod ids;
 mod log;
 mod marking;
 mod order;

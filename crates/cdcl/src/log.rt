@@ -3,9 +3,11 @@ ghost use Rattle.std.specs.Prelude.{◌≡◌, ◌+◌, ◌↔◌, [], ◌∷◌
 ghost use Rattle.edge.specs.Units.{SpentConflict};
 ghost use Rattle.edge.specs.Faults.{one_more};
 ghost use Rattle.cdcl.specs.Solving.{IsEnd};
+ghost use Rattle.cdcl.specs.Ids.{ids_from, count_added};
 ghost use Rattle.cdcl.specs.Variables.{are_over};
 
 use crate::cover::Cover;
+use crate::ids::MOST_GIVEN;
 use cdcl_learn::Learned;
 use cnf::{Clause, Db, Var};
 use edge::{Meter, SolveEnd};
@@ -14,24 +16,28 @@ use std::alloc::{AllocError, Global};
 use std::marker::Model;
 
 /// The clauses that were added and learned, in the order in which they came, and beside each the
-/// hints that it was learned by; `None` where it was added. And their variables.
+/// hints that it was learned by; `None` where it was added. Beside each, how many were added up to
+/// it, and 0 where it was learned. And their variables.
 #[derive(Debug, Drop)]
 pub(crate) struct Log {
     db: Db,
     sources: Vec<Option<Items<u64>>>,
+    ids: Vec<u64>,
+    added: u64,
     cover: Cover,
 }
 
 impl Model for Log {
     ghost use Rattle.std.specs.Prelude.{◌≡◌, true};
     ghost use Rattle.cdcl.specs.Entries.{Entries};
+    ghost use Rattle.cdcl.specs.Ids.{AreCounted};
     ghost use Rattle.cdcl.specs.Variables.{are_over};
 
     ghost Value = { Entries };
 
     ghost view = { λ l. record { clauses = l.db.clauses; sources = l.sources.items } };
 
-    ghost invariant = { λ l. are_over l.cover l.db.clauses ≡ true };
+    ghost invariant = { λ l. (are_over l.cover l.db.clauses ≡ true) × AreCounted l.sources.items l.ids.items l.added };
 }
 
 impl Log {
@@ -43,6 +49,8 @@ impl Log {
         Log {
             db: Db::new(alloc),
             sources: Vec::new(alloc),
+            ids: Vec::new(alloc),
+            added: 0,
             cover: Cover::new(alloc),
         }
     }
@@ -61,6 +69,20 @@ impl Log {
         self.sources.as_slice()
     }
 
+    /// The id of each clause that was added, and 0 for the others. Takes no memory.
+    pub(crate) fn ids(&self) -> &[u64]
+        ensures { result.now ≡ ids_from 0 self.now.sources }
+    {
+        self.ids.as_slice()
+    }
+
+    /// How many clauses were added. Takes no memory.
+    pub(crate) fn added(&self) -> u64
+        ensures { result ≡ count_added self.now.sources }
+    {
+        self.added
+    }
+
     /// The variables of the clauses, and maybe others. Takes no memory.
     pub(crate) fn variables(&self) -> &[Var]
         ensures { are_over result.now self.now.clauses ≡ true }
@@ -74,10 +96,16 @@ impl Log {
         ensures sources { OnOk result (self.new.sources ≡ self.old.sources ++ None ∷ []) }
         ensures err { OnErr result (self.new ≡ self.old) }
     {
+        if self.added >= MOST_GIVEN {
+            return Err(AllocError);
+        }
         self.sources.reserve(1)?;
+        self.ids.reserve(1)?;
         self.cover.meet(clause.as_slice())?;
         self.db.push(clause)?;
         self.sources.push_reserved(None);
+        self.added += 1;
+        self.ids.push_reserved(self.added);
         Ok(())
     }
 
@@ -94,11 +122,13 @@ impl Log {
     {
         self.db.reserve(1)?;
         self.sources.reserve(1)?;
+        self.ids.reserve(1)?;
         self.cover.meet(learned.clause.as_slice())?;
         meter.conflict(&self.db, &learned.clause)?;
         let Learned { clause, hints } = learned;
         self.db.push_reserved(clause);
         self.sources.push_reserved(Some(hints));
+        self.ids.push_reserved(0);
         Ok(())
     }
 }

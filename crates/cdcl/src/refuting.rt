@@ -6,8 +6,9 @@ ghost use Rattle.proof_semantics.specs.Lines.{AreSized};
 ghost use Rattle.proof_semantics.specs.Propagation.{hints_fault};
 ghost use Rattle.proof_semantics.specs.Proofs.{Refutes};
 ghost use Rattle.cnf.specs.Clauses.{clause_numbered};
+ghost use Rattle.cdcl.specs.Resting.{IsLimitedAtRest, IsRested};
 ghost use Rattle.cdcl.specs.Entries.{IsLog, added_of};
-ghost use Rattle.cdcl.specs.Finding.{IsFound};
+ghost use Rattle.cdcl.specs.Finding.{IsSearchResult};
 ghost use Rattle.cdcl.specs.Progress.{IsSearched};
 ghost use Rattle.cdcl.specs.Refuting.{IsRefuted};
 ghost use Rattle.cdcl.specs.Searching.{IsHeld};
@@ -46,6 +47,8 @@ pub(crate) fn search_refuted(
     ensures answer { IfOk result (IsRefuted (added_of log.old) units.now) }
     ensures end { IfErr result (IsEnd meter.new) }
     ensures searched { IsSearched units.now log.old log.new meter.old meter.new }
+    ensures rest { IsRested units.now log.old log.new }
+    ensures limited { IfErr result (IsLimitedAtRest units.now log.old) }
 {
     if let Some(literal) = opposite(units) {
         let proof = opposites_refuted(alloc, log, units, literal)?;
@@ -66,7 +69,7 @@ fn refuted_of(
     requires log { IsLog log.now }
     requires sizes { AreSized units.now }
     requires apart { has_opposites units.now ≡ false }
-    requires found { IsFound log.now.clauses units.now trail.now.steps found }
+    requires found { IsSearchResult log.now.clauses units.now trail.now.steps found }
     ensures { IfOk result (IsRefuted (added_of log.now) units.now) }
 {
     match found {

@@ -3,8 +3,9 @@ ghost use Rattle.std.specs.Prelude.{◌≡◌, IfOk, IfErr, IfNone, IfSome, fals
 ghost use Rattle.proof_semantics.specs.Clauses.{has_opposites};
 ghost use Rattle.cdcl_trail.specs.Trails.{level};
 ghost use Rattle.cdcl_trail.specs.Watched.{Extends};
+ghost use Rattle.cdcl.specs.Resting.{IsLimitedAtRest, IsRested};
 ghost use Rattle.cdcl.specs.Entries.{IsLog};
-ghost use Rattle.cdcl.specs.Finding.{IsFound};
+ghost use Rattle.cdcl.specs.Finding.{IsSearchResult};
 ghost use Rattle.proof_semantics.specs.Lines.{AreSized};
 ghost use Rattle.cdcl.specs.Progress.{IsSearched};
 ghost use Rattle.cdcl.specs.Searching.{AssumesAll, AssumesSome, IsHeld, IsDeciding, IsRefusedAt, IsSettledBase};
@@ -39,9 +40,11 @@ pub(crate) fn search(
     requires sizes { AreSized assumptions.now }
     ensures log { IsLog log.new }
     ensures trail { IsHeld log.new.clauses trail.new }
-    ensures found { IfOk result (IsFound log.new.clauses assumptions.now trail.new.steps) }
+    ensures found { IfOk result (IsSearchResult log.new.clauses assumptions.now trail.new.steps) }
     ensures end { IfErr result (IsEnd meter.new) }
     ensures searched { IsSearched assumptions.now log.old log.new meter.old meter.new }
+    ensures rest { IsRested assumptions.now log.old log.new }
+    ensures limited { IfErr result (IsLimitedAtRest assumptions.now log.old) }
 {
     if let Some(conflict) = settle_base(log, order, trail)? {
         let traced = trace(alloc, log.clauses(), trail, conflict)?;
@@ -102,9 +105,11 @@ fn decide(
     requires sizes { AreSized assumptions.now }
     ensures log { IsLog log.new }
     ensures trail { IsHeld log.new.clauses trail.new }
-    ensures found { IfOk result (IsFound log.new.clauses assumptions.now trail.new.steps) }
+    ensures found { IfOk result (IsSearchResult log.new.clauses assumptions.now trail.new.steps) }
     ensures end { IfErr result (IsEnd meter.new) }
     ensures searched { IsSearched assumptions.now log.old log.new meter.old meter.new }
+    ensures rest { IsRested assumptions.now log.old log.new }
+    ensures limited { IfErr result (IsLimitedAtRest assumptions.now log.old) }
 {
     let base = trail.level();
     let mut restarts = Restarts::new();

@@ -2,7 +2,9 @@
 ghost use Rattle.std.specs.Prelude.{◌≡◌, ◌-◌, [], ◌∷◌, ◌++◌, IfOk, IfErr, OnOk, OnErr, length, false};
 ghost use Rattle.proof_semantics.specs.Lines.{AreSized};
 ghost use Rattle.cdcl.specs.Asking.{IsAsked};
+ghost use Rattle.cdcl.specs.Counting.{IsNoLimit, IsRefutedAtOnce};
 ghost use Rattle.cdcl.specs.Refuting.{IsRefuted};
+ghost use Rattle.cdcl.specs.UnitClauses.{unit_clauses};
 ghost use Rattle.cdcl.specs.Solving.{IsAnswer, IsBounded, IsEnd, Learns, with_conflicts};
 ghost use Rattle.proof_semantics.specs.Clauses.{has_opposites};
 
@@ -77,8 +79,9 @@ impl Solver {
 
     /// Whether the added clauses have a model under the assumptions, none of which is the negation
     /// of another; their variables are from 1 to 2^63 - 1. Each learned clause is counted by the
-    /// meter. `Spent` comes where the count of conflicts is at its limit. After an error the solver
-    /// can be asked again.
+    /// meter. `Spent` comes where the count of conflicts is at its limit; but what unit propagation
+    /// alone refutes is answered without a conflict, at any limit. After an error the solver can be
+    /// asked again.
     pub fn solve(&mut self, assumptions: &[Lit], meter: &mut Meter) -> Result<Answer, SolveEnd>
         requires apart { has_opposites assumptions.now ≡ false }
         requires sizes { AreSized assumptions.now }
@@ -88,6 +91,8 @@ impl Solver {
         ensures learned { Learns self.old.added self.old.learned self.new.learned }
         ensures bounded { IsBounded self.old assumptions.now self.new.learned }
         ensures counted { meter.new ≡ with_conflicts meter.old (length self.new.learned - length self.old.learned) }
+        ensures uncounted { IsRefutedAtOnce self.old.added assumptions.now → self.new.learned ≡ self.old.learned }
+        ensures unlimited { IsRefutedAtOnce self.old.added assumptions.now → IfErr result IsNoLimit }
     {
         search_answer(
             self.alloc,
@@ -114,6 +119,8 @@ impl Solver {
         ensures learned { Learns self.old.added self.old.learned self.new.learned }
         ensures bounded { IsBounded self.old assumptions.now self.new.learned }
         ensures counted { meter.new ≡ with_conflicts meter.old (length self.new.learned - length self.old.learned) }
+        ensures uncounted { IsRefutedAtOnce self.old.added assumptions.now → self.new.learned ≡ self.old.learned }
+        ensures unlimited { IsRefutedAtOnce self.old.added assumptions.now → IfErr result IsNoLimit }
     {
         search_asked(
             alloc,
@@ -141,6 +148,8 @@ impl Solver {
         ensures learned { Learns self.old.added self.old.learned self.new.learned }
         ensures bounded { IsBounded self.old units.now self.new.learned }
         ensures counted { meter.new ≡ with_conflicts meter.old (length self.new.learned - length self.old.learned) }
+        ensures uncounted { IsRefutedAtOnce (self.old.added ++ unit_clauses units.now) [] → self.new.learned ≡ self.old.learned }
+        ensures unlimited { IsRefutedAtOnce (self.old.added ++ unit_clauses units.now) [] → IfErr result IsNoLimit }
     {
         search_refuted(
             alloc,

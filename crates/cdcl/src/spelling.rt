@@ -1,22 +1,24 @@
 //! The text of a proof line. The main call is `line_of`.
 ghost use Rattle.std.specs.Prelude.{◌≡◌, ◌∷◌, [], ◌++◌, IfOk, OnOk, map};
 ghost use Rattle.proof_semantics.specs.Lines.{signed_text, text_of};
-ghost use Rattle.cdcl.specs.Writing.{hint_of, id_of, line_with, spaced};
+ghost use Rattle.cdcl.specs.IdsOf.{id_in};
+ghost use Rattle.cdcl.specs.Writing.{hint_by, line_by, spaced_fields};
 
+use crate::ids::Ids;
 use cnf::{Lit, ProofLine};
 use items::Items;
 use std::alloc::{AllocError, Global};
 use text_grammar::push_number;
 
-/// The line that adds a clause. Hints are numbers of clauses, and `ids` has the id of each number.
+/// The line that adds a clause. Hints are numbers of clauses, and `ids` has the id of each.
 pub(crate) fn line_of(
     alloc: Global,
     id: u64,
     clause: &[Lit],
     hints: &[u64],
-    ids: &[u64],
+    ids: &Ids<'_>,
 ) -> Result<ProofLine, AllocError>
-    ensures { IfOk result (λ line. line ≡ text_of (line_with ids.now id clause.now hints.now)) }
+    ensures { IfOk result (λ line. line ≡ text_of (line_by (id_in ids.now) id clause.now hints.now)) }
 {
     let mut out = Vec::new(alloc);
     push_number(&mut out, id)?;
@@ -31,7 +33,7 @@ pub(crate) fn line_of(
 
 // Writes literals, and a space behind each.
 fn push_literals(out: &mut Vec<u8>, literals: &[Lit]) -> Result<(), AllocError>
-    ensures { OnOk result (out.new.items ≡ out.old.items ++ spaced (map signed_text literals.now)) }
+    ensures { OnOk result (out.new.items ≡ out.old.items ++ spaced_fields (map signed_text literals.now)) }
 {
     for literal in literals {
         push_literal(out, *literal)?;
@@ -52,8 +54,8 @@ fn push_literal(out: &mut Vec<u8>, literal: Lit) -> Result<(), AllocError>
 }
 
 // Writes the ids of the clauses with these numbers, and a space behind each.
-fn push_hints(out: &mut Vec<u8>, hints: &[u64], ids: &[u64]) -> Result<(), AllocError>
-    ensures { OnOk result (out.new.items ≡ out.old.items ++ spaced (map signed_text (map (hint_of ids.now) hints.now))) }
+fn push_hints(out: &mut Vec<u8>, hints: &[u64], ids: &Ids<'_>) -> Result<(), AllocError>
+    ensures { OnOk result (out.new.items ≡ out.old.items ++ spaced_fields (map signed_text (map (hint_by (id_in ids.now)) hints.now))) }
 {
     for hint in hints {
         push_literal(out, hint_of(ids, *hint))?;
@@ -62,11 +64,11 @@ fn push_hints(out: &mut Vec<u8>, hints: &[u64], ids: &[u64]) -> Result<(), Alloc
 }
 
 // The hint that names the clause with a number.
-fn hint_of(ids: &[u64], number: u64) -> Lit
-    ensures { result ≡ hint_of ids.now number }
+fn hint_of(ids: &Ids<'_>, number: u64) -> Lit
+    ensures { result ≡ hint_by (id_in ids.now) number }
 {
     Lit {
-        var: ids.get(number as usize).copied().unwrap_or(0),
+        var: ids.get(number),
         positive: true,
     }
 }

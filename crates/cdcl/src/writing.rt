@@ -1,24 +1,29 @@
 //! The proof of a clause that the clauses of a log imply. The main call is `proof_of`.
-ghost use Rattle.std.specs.Prelude.{◌≡◌, ◌+◌, ◌<◌, ◌≤◌, ◌^◌, ℕ, IfOk, OnOk, None, Some, IsTrue, true, [], ◌∷◌, ◌++◌, length, take, map, slice_get};
+ghost use Rattle.std.specs.Prelude.{◌≡◌, IfOk, OnOk, None, true, ◌++◌, length, map, is_some};
 ghost use Rattle.std.specs.List.{list_all};
 ghost use Rattle.proof_semantics.specs.Clauses.{negation};
-ghost use Rattle.proof_semantics.specs.Lines.{text_of, AreSized};
+ghost use Rattle.proof_semantics.specs.Lines.{AreSized};
 ghost use Rattle.proof_semantics.specs.Propagation.{hints_fault};
 ghost use Rattle.cnf.specs.Clauses.{clause_numbered};
-ghost use Rattle.cdcl.specs.Entries.{Entries, AreExplained, IsLog, added_of};
+ghost use Rattle.cdcl.specs.Entries.{IsLog, added_of};
 ghost use Rattle.cdcl.specs.UnitClauses.{unit_clauses};
-ghost use Rattle.cdcl.specs.Writing.{count_added, is_needed, line_with, next_written, Proves};
+ghost use Rattle.cdcl.specs.WithUnits.{with_units};
+ghost use Rattle.cdcl.specs.Writing.{Proves};
+ghost use Rattle.cdcl.specs.WritingOf.{HasAllIds, HasLine, HasPut, HasVisited, HasVisitedLearned, HaveIds, IsPartialProofIn};
 
+use crate::ids::{Ids, MOST_GIVEN};
 use crate::log::Log;
 use crate::marking::needed_by;
 use crate::spelling::line_of;
 use cnf::{Lit, Proof, ProofLine};
 use items::Items;
 use std::alloc::{AllocError, Global};
-use std::marker::Model;
 
 /// Proofs number their clauses below 2^63. So many clauses, or units, fit into no memory.
 pub(crate) const MOST_CLAUSES: usize = 1 << 60;
+
+/// Nor do so many lines.
+const MOST_IDS: u64 = 1 << 62;
 
 /// The proof of a clause that follows along the clauses with the numbers `hints`, over the added
 /// clauses and units, which have the numbers behind the held clauses. It has a line for each learned
@@ -36,161 +41,169 @@ pub(crate) fn proof_of(
     requires hints { hints_fault (clause_numbered (log.now.clauses ++ unit_clauses units.now)) (map negation clause.now) hints.now ≡ None }
     ensures { IfOk result (λ proof. Proves (added_of log.now ++ unit_clauses units.now) proof clause.now) }
 {
-    let clauses = log.clauses().as_slice();
-    let sources = log.sources();
-    if clauses.len() >= MOST_CLAUSES {
-        return Err(AllocError);
-    }
-    if units.len() >= MOST_CLAUSES {
-        return Err(AllocError);
-    }
-    let needed = needed_by(alloc, sources, units.len(), hints)?;
-    let mut writing = Writing::new(alloc, count_added(sources) + units.len() as u64)?;
-    let marks = needed.as_slice();
-    for (place, held) in clauses.iter().enumerate() {
-        let needed = is_needed(marks, place + 1);
-        writing.put(alloc, &sources[place], held.as_slice(), needed)?;
-    }
-    for _unit in units {
-        writing.put_added()?;
-    }
-    writing.put_learned(alloc, clause, hints)?;
-    Ok(writing.into_lines())
+    let mut writing = Writing::begin(alloc, log, units)?;
+    writing.put_needed(alloc, log, units, hints)?;
+    writing.complete(alloc, log, units, hints)?;
+    writing.push_line(alloc, clause, hints)?;
+    Ok(Items::from_vec(writing.lines))
 }
 
-// Whether the clause with a number is needed.
-fn is_needed(marks: &[bool], number: usize) -> bool
-    ensures { result ≡ is_needed marks.now number }
-{
-    marks.get(number).copied().unwrap_or(false)
-}
-
-// How many of the clauses were added.
-fn count_added(sources: &[Option<Items<u64>>]) -> u64
-    ensures { result ≡ count_added sources.now }
-{
-    let mut count: u64 = 0;
-    for source in sources {
-        count += added_one(source);
-    }
-    count
-}
-
-// 1 for a clause that was added, and 0 for a learned one.
-fn added_one(source: &Option<Items<u64>>) -> u64
-    ensures count { result ≡ count_added (source.now ∷ []) }
-    ensures small { result ≤ 1 }
-{
-    match source {
-        None => 1,
-        Some(_) => 0,
-    }
-}
-
-// A proof as far as it is written.
+// A proof as far as it is written: the ids of clauses, the lines, and the greatest id of a line,
+// which is at first how many clauses are added.
 #[derive(Debug, Drop)]
-struct Writing {
-    ids: Vec<u64>,
+struct Writing<'a> {
+    ids: Ids<'a>,
     lines: Vec<ProofLine>,
-    added: u64,
     last: u64,
 }
 
-impl Model for Writing {
-    ghost use Rattle.cdcl.specs.Writing.{Written};
-
-    ghost Value = { Written };
-
-    ghost view = { λ w. record {
-      ids = w.ids.items;
-      lines = w.lines.items;
-      added = w.added;
-      last = w.last;
-    } };
-}
-
-impl Writing {
-    // No line. The ids of the added clauses are 1 to `added`.
-    fn new(alloc: Global, added: u64) -> Result<Writing, AllocError>
-        ensures { IfOk result (λ w. w ≡ record { ids = 0 ∷ []; lines = []; added = 0; last = added }) }
+impl<'a> Writing<'a> {
+    // No line.
+    fn begin(alloc: Global, log: &'a Log, units: &[Lit]) -> Result<Writing<'a>, AllocError>
+        requires log { IsLog log.now }
+        requires units { AreSized units.now }
+        ensures { IfOk result (IsPartialProofIn (with_units log.now units.now)) }
     {
-        let mut ids = Vec::new(alloc);
-        ids.push(0)?;
+        let added = log.added();
+        if added >= MOST_GIVEN {
+            return Err(AllocError);
+        }
+        if units.len() >= MOST_CLAUSES {
+            return Err(AllocError);
+        }
+        let more = units.len() as u64;
         Ok(Writing {
-            ids,
+            ids: Ids::new(alloc, log.ids(), added, more),
             lines: Vec::new(alloc),
-            added: 0,
-            last: added,
+            last: added + more,
         })
     }
 
-    // The lines.
-    fn into_lines(self) -> Proof
-        ensures { result ≡ self.lines }
-    {
-        Items::from_vec(self.lines)
-    }
-
-    // The next clause: one that was added, or a learned one with its hints, if it is needed.
-    fn put(
+    // The lines of the learned clauses that hints lead to.
+    fn put_needed(
         &mut self,
         alloc: Global,
+        log: &Log,
+        units: &[Lit],
+        hints: &[u64],
+    ) -> Result<(), AllocError>
+        requires log { IsLog log.now }
+        requires units { AreSized units.now }
+        requires written { IsPartialProofIn (with_units log.now units.now) self.old }
+        ensures { OnOk result (IsPartialProofIn (with_units log.now units.now) self.new) }
+    {
+        let clauses = log.clauses().as_slice();
+        let sources = log.sources();
+        let places = needed_by(alloc, sources, hints)?;
+        for place in places.as_slice() {
+            if *place >= clauses.len() {
+                continue;
+            }
+            let held = clauses[*place].as_slice();
+            self.visit(alloc, *place as u64 + 1, &sources[*place], held)?;
+        }
+        Ok(())
+    }
+
+    // The lines of all learned clauses, where one of the hints has no id.
+    fn complete(
+        &mut self,
+        alloc: Global,
+        log: &Log,
+        units: &[Lit],
+        hints: &[u64],
+    ) -> Result<(), AllocError>
+        requires log { IsLog log.now }
+        requires units { AreSized units.now }
+        requires written { IsPartialProofIn (with_units log.now units.now) self.old }
+        requires named { list_all (λ n. is_some (clause_numbered (log.now.clauses ++ unit_clauses units.now) n)) hints.now ≡ true }
+        ensures written { OnOk result (IsPartialProofIn (with_units log.now units.now) self.new) }
+        ensures ready { OnOk result (HaveIds self.new hints.now) }
+    {
+        if self.ids.have(hints) {
+            return Ok(());
+        }
+        self.put_all(alloc, log, units)?;
+        Ok(())
+    }
+
+    // The lines of all learned clauses.
+    fn put_all(&mut self, alloc: Global, log: &Log, units: &[Lit]) -> Result<(), AllocError>
+        requires log { IsLog log.now }
+        requires units { AreSized units.now }
+        requires written { IsPartialProofIn (with_units log.now units.now) self.old }
+        ensures written { OnOk result (IsPartialProofIn (with_units log.now units.now) self.new) }
+        ensures all { OnOk result (HasAllIds (length (log.now.clauses ++ unit_clauses units.now)) self.new) }
+    {
+        let clauses = log.clauses().as_slice();
+        let sources = log.sources();
+        for (place, held) in clauses.iter().enumerate() {
+            self.visit(alloc, place as u64 + 1, &sources[place], held.as_slice())?;
+        }
+        Ok(())
+    }
+
+    // The line of the clause with a number, if it is learned, has no id, and each of its hints has one.
+    fn visit(
+        &mut self,
+        alloc: Global,
+        number: u64,
         source: &Option<Items<u64>>,
         clause: &[Lit],
-        needed: bool,
     ) -> Result<(), AllocError>
-        requires added { self.old.added < 2 ^ 62 }
-        requires last { self.old.last < 2 ^ 62 }
-        ensures { OnOk result (self.new ≡ next_written self.old source.now clause.now needed) }
+        ensures { OnOk result (HasVisited self.old self.new number source.now clause.now) }
     {
         match source {
-            None => self.put_added(),
-            Some(hints) => {
-                if needed {
-                    self.put_learned(alloc, clause, hints.as_slice())
-                } else {
-                    self.skip()
-                }
-            }
+            None => Ok(()),
+            Some(hints) => self.visit_learned(alloc, number, clause, hints.as_slice()),
         }
     }
 
-    // An added clause, which has the next of the first ids.
-    fn put_added(&mut self) -> Result<(), AllocError>
-        requires { self.old.added < 2 ^ 62 }
-        ensures { OnOk result (self.new ≡ record self.old { ids = self.old.ids ++ (self.old.added + 1) ∷ []; added = self.old.added + 1 }) }
-    {
-        self.added += 1;
-        self.ids.push(self.added)?;
-        Ok(())
-    }
-
-    // A clause that is not needed, which gets no id.
-    fn skip(&mut self) -> Result<(), AllocError>
-        ensures { OnOk result (self.new ≡ record self.old { ids = self.old.ids ++ 0 ∷ [] }) }
-    {
-        self.ids.push(0)?;
-        Ok(())
-    }
-
-    // A learned clause, with the next id and a line.
-    fn put_learned(
+    // The same of a learned clause.
+    fn visit_learned(
         &mut self,
         alloc: Global,
+        number: u64,
         clause: &[Lit],
         hints: &[u64],
     ) -> Result<(), AllocError>
-        requires { self.old.last < 2 ^ 62 }
-        ensures { OnOk result (self.new ≡ record self.old {
-          ids = self.old.ids ++ (self.old.last + 1) ∷ [];
-          lines = self.old.lines ++ text_of (line_with self.old.ids (self.old.last + 1) clause.now hints.now) ∷ [];
-          last = self.old.last + 1;
-        }) }
+        ensures { OnOk result (HasVisitedLearned self.old self.new number clause.now hints.now) }
     {
-        self.last += 1;
-        let line = line_of(alloc, self.last, clause, hints, self.ids.as_slice())?;
+        if 0 < self.ids.get(number) {
+            return Ok(());
+        }
+        if !self.ids.have(hints) {
+            return Ok(());
+        }
+        self.put(alloc, number, clause, hints)?;
+        Ok(())
+    }
+
+    // A line, whose id the clause with a number has from now on.
+    fn put(
+        &mut self,
+        alloc: Global,
+        number: u64,
+        clause: &[Lit],
+        hints: &[u64],
+    ) -> Result<(), AllocError>
+        ensures { OnOk result (HasPut self.old self.new number clause.now hints.now) }
+    {
+        self.push_line(alloc, clause, hints)?;
+        self.ids.put(number, self.last)?;
+        Ok(())
+    }
+
+    // A line with the next id.
+    fn push_line(&mut self, alloc: Global, clause: &[Lit], hints: &[u64]) -> Result<(), AllocError>
+        ensures { OnOk result (HasLine self.old self.new clause.now hints.now) }
+    {
+        if self.last >= MOST_IDS {
+            return Err(AllocError);
+        }
+        let line = line_of(alloc, self.last + 1, clause, hints, &self.ids)?;
         self.lines.push(line)?;
-        self.ids.push(self.last)?;
+        self.last += 1;
         Ok(())
     }
 }

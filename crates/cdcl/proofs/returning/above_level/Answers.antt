@@ -1,4 +1,4 @@
-use Rattle.std.proofs.Common.{◌≡◌, ◌+◌, ◌-◌, ◌<◌, ◌≤◌, None, get_or, ap, ◌∙◌, arith}
+use Rattle.std.proofs.Common.{◌≡◌, ◌+◌, ◌-◌, ◌<◌, None, get_or, ap, ◌∙◌, arith}
 use Rattle.cdcl_trail.specs.Trails.{opened_by, reasons_in}
 use Rattle.cdcl.proofs.AboveLaws.{above_more, above_ends, below_place, opens_part}
 use Rattle.cdcl.proofs.returning.above_level.Goals as goal

@@ -1,11 +1,12 @@
-use Rattle.std.proofs.Common.{◌≡◌, ◌≤◌, ◌<◌, ℕ, List, [], ◌∷◌, length, true, false, sym, subst, ◌∙◌, arith}
+use Rattle.std.proofs.Common.{◌≡◌, ◌≤◌, ◌<◌, ℕ, List, [], ◌∷◌, length, true, false, refl, sym, subst, ◌∙◌, inl, inr, arith}
+use Rattle.cdcl.proofs.CountingLaws.{limited_rested, rest_above}
 use Rattle.proof_semantics.specs.Clauses.{is_subsumed}
 use Rattle.cdcl_trail.specs.Trails.{level, lower_steps}
 use Rattle.cdcl_trail.specs.Propagation.{is_complete, Propagates, IsReasonedTrail}
 use Rattle.cdcl_trail.specs.Watched.{Extends, TrailState}
 use Rattle.cdcl.specs.Entries.{Entries}
-use Rattle.cdcl.specs.Room.{room, variables_of, variables_in}
-use Rattle.cdcl.specs.Searching.{IsDeciding, IsHeld, IsOpen, is_satisfied, IsHinted, IsBackLevel, count_open}
+use Rattle.cdcl.specs.Room.{clause_room, literal_variables, variables_in}
+use Rattle.cdcl.specs.Searching.{IsDeciding, IsHeld, IsHinted, IsBackLevel, count_open}
 use Rattle.cdcl.proofs.RoomLaws.{all_over, own_over}
 use Rattle.cdcl.proofs.WayLaws.{way_propagates, way_decides, way_lower, way_learns, way_back, way_core, way_assumed, held_propagated, work_learned, work_decided, count_open_small, decision_counts}
 use Rattle.cdcl.proofs.ProgressLaws.{first_variables, searched_none, searched_more, first_room_falls, new_spent}
@@ -18,6 +19,7 @@ decisions-init c = record {
   searched = searched_none c.args.assumptions.now c.args.log.now c.args.meter.now;
   on_way = subst (λ b. IsDeciding c.args.log.now.clauses c.args.assumptions.now b c.args.trail.now.steps) (sym c.level-base.ensures) c.requires.way;
   extends = c.requires.extends;
+  rest = inl refl;
 }
 
 pub propagate-requires : goal.propagate-requires
@@ -37,9 +39,9 @@ pub decisions-smaller-in_default : goal.decisions-smaller-in_default
 decisions-smaller-in_default c =
     let open_one = c.in-Some-choose.ensures.open in
     let vars : List ℕ = first_variables c.args.log.now.clauses c.args.assumptions.now in
-    let over = (c.decisions.invariant.searched.less vars (all_over c.args.log.now.clauses (variables_of c.args.assumptions.now))
+    let over = (c.decisions.invariant.searched.less vars (all_over c.args.log.now.clauses (literal_variables c.args.assumptions.now))
     (own_over c.args.assumptions.now (variables_in c.args.log.now.clauses))).over in
-    work_decided (room vars c.decisions.log.clauses) (length vars) (count_open vars c.assume.new.self.steps) (count_open vars c.decisions.trail.steps)
+    work_decided (clause_room vars c.decisions.log.clauses) (length vars) (count_open vars c.assume.new.self.steps) (count_open vars c.decisions.trail.steps)
     (decision_counts vars c.decisions.log.clauses c.decisions.trail.steps c.propagate.new.self.steps c.assume.new.self.steps c.in-Some-choose.literal over open_one
     (subst (λ cs. Propagates cs c.decisions.trail.steps c.propagate.new.self.steps) c.clauses.ensures c.propagate.ensures.reasons) c.in_ok-assume.ensures.ok)
 
@@ -55,6 +57,7 @@ decisions-preserved-in_default c =
       on_way = way_decides c.decisions.log.clauses c.args.assumptions.now c.level-base.result c.propagate.new.self.steps c.assume.new.self.steps c.in-Some-choose.literal
           way complete open_one c.in_ok-assume.ensures.ok;
       extends = extends_same c.assume.new.self.taken c.decisions.log.clauses (c.assume.ensures.watch.taken ∙ c.in_ok-conflict.ensures.taken ∙ c.clauses.ensures);
+      rest = c.decisions.invariant.rest;
     }
 
 pub trace-requires-clause-reasons : goal.trace-requires-clause-reasons
@@ -104,7 +107,7 @@ decisions-smaller c =
     (subst (λ cs. IsHinted cs c.in_ok-learned.learned) c.clauses-in-decisions.ensures c.in_ok-learned.ensures.hints)
     (subst (λ cs. is_subsumed cs c.in_ok-learned.learned.clause ≡ false) c.clauses-in-decisions.ensures c.in_ok-learned.ensures.new) c.in_ok-learned.ensures.last_level in
     let vars : List ℕ = first_variables c.args.log.now.clauses c.args.assumptions.now in
-    work_learned (room vars c.learn-in-decisions.new.self.clauses) (room vars c.decisions.log.clauses) (length vars) (count_open vars c.back_to.new.self.steps)
+    work_learned (clause_room vars c.learn-in-decisions.new.self.clauses) (clause_room vars c.decisions.log.clauses) (length vars) (count_open vars c.back_to.new.self.steps)
     (count_open vars c.decisions.trail.steps)
     (first_room_falls c.args.assumptions.now c.args.log.now c.decisions.log c.learn-in-decisions.new.self c.args.meter.now c.decisions.meter c.in_ok-learned.learned
     says c.in_ok-learn.ensures.clauses c.decisions.invariant.searched)
@@ -129,6 +132,8 @@ decisions-preserved c =
           c.back_to.ensures.steps c.back_to.ensures.level;
       extends = extends_all c.back_to.new.self.taken c.decisions.log.clauses c.learn-in-decisions.new.self.clauses (c.in_ok-learned.learned.clause ∷ [])
           (c.back_to.ensures.watch.taken ∙ c.in_ok-conflict.ensures.taken ∙ c.clauses.ensures) c.in_ok-learn.ensures.clauses;
+      rest = inr (rest_above c.args.log.now c.decisions.log c.args.assumptions.now c.level-base.result c.propagate.new.self.steps c.decisions.invariant.rest way
+          (omega (arith, c.level.ensures, c.if-level-base.false)));
     }
 
 pub returns-in_err-conflict-clause-trail : goal.returns-in_err-conflict-clause-trail
@@ -172,3 +177,18 @@ returns-in_err-assume-clause-trail c =
     subst (λ (t : TrailState). IsHeld c.decisions.log.clauses t) (sym c.in_err-assume.ensures.err)
     (held_propagated c.decisions.log.clauses c.clauses.result.now.clauses c.args.assumptions.now c.level-base.result c.decisions.trail.steps c.propagate.new.self
     c.decisions.invariant.on_way c.clauses.ensures c.propagate.ensures.reasons c.propagate.ensures.extends)
+
+pub returns-in_err-learn-clause-limited : goal.returns-in_err-learn-clause-limited
+returns-in_err-learn-clause-limited c =
+    let way = way_propagates c.decisions.log.clauses c.args.assumptions.now c.level-base.result c.decisions.trail.steps c.propagate.new.self.steps c.decisions.invariant.on_way
+    (subst (λ cs. Propagates cs c.decisions.trail.steps c.propagate.new.self.steps) c.clauses.ensures c.propagate.ensures.reasons) in
+    limited_rested c.from_residual-in_err-learn.result c.args.log.now c.args.assumptions.now
+    (rest_above c.args.log.now c.decisions.log c.args.assumptions.now c.level-base.result c.propagate.new.self.steps c.decisions.invariant.rest way
+    (omega (arith, c.level.ensures, c.if-level-base.false)))
+
+pub returns-in_err-learn-clause-rest : goal.returns-in_err-learn-clause-rest
+returns-in_err-learn-clause-rest c =
+    let way = way_propagates c.decisions.log.clauses c.args.assumptions.now c.level-base.result c.decisions.trail.steps c.propagate.new.self.steps c.decisions.invariant.on_way
+    (subst (λ cs. Propagates cs c.decisions.trail.steps c.propagate.new.self.steps) c.clauses.ensures c.propagate.ensures.reasons) in
+    inr (rest_above c.args.log.now c.decisions.log c.args.assumptions.now c.level-base.result c.propagate.new.self.steps c.decisions.invariant.rest way
+    (omega (arith, c.level.ensures, c.if-level-base.false)))

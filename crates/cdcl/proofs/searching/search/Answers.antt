@@ -1,4 +1,4 @@
-use Rattle.std.proofs.Common.{◌≡◌, None, List, subst, sym}
+use Rattle.std.proofs.Common.{subst}
 use Rattle.std.specs.Prelude.{IfSome, IfNone}
 use Rattle.cdcl.specs.Searching.{AssumesAll, IsRefusedAt, IsHinted}
 use Rattle.cdcl.proofs.SearchLaws.{not_assumed}

@@ -1,6 +1,7 @@
 use Rattle.std.proofs.Common.{ap, sym}
 use Rattle.cdcl.specs.Solving.{Solving}
 use Rattle.cdcl.proofs.solver.Solver.refute.Goals as goal
+use Rattle.cdcl.proofs.CountingLaws.{uncounted_units, unlimited_units}
 use Rattle.cdcl.proofs.ProgressLaws.{kept_searched, searched_bounded}
 
 pub invariant_of-self : goal.invariant_of-self
@@ -15,3 +16,12 @@ returns-clause-bounded c =
     (sym (ap (λ (s : Solving). s.added) c.self.view_is)) (sym (ap (λ (s : Solving). s.learned) c.self.view_is)) c.self.invariant.kept
     (kept_searched c.args.units.now c.self.inside.log c.search_refuted.new.log c.args.meter.now c.search_refuted.new.meter c.self.invariant.kept c.search_refuted.ensures.log c.search_refuted.ensures.searched)
     c.search_refuted.ensures.searched
+
+pub returns-clause-uncounted : goal.returns-clause-uncounted
+returns-clause-uncounted c =
+    uncounted_units c.args.units.now c.self.inside.log c.args.self.now.added (ap (λ (s : Solving). s.added) c.self.view_is) c.search_refuted.new.log c.args.self.now.learned
+    c.search_refuted.ensures.rest (ap (λ (s : Solving). s.learned) c.self.view_is)
+
+pub returns-clause-unlimited : goal.returns-clause-unlimited
+returns-clause-unlimited c =
+    unlimited_units c.args.units.now c.self.inside.log c.args.self.now.added (ap (λ (s : Solving). s.added) c.self.view_is) c.search_refuted.result c.search_refuted.ensures.limited

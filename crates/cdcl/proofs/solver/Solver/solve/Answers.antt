@@ -1,6 +1,7 @@
 use Rattle.std.proofs.Common.{ap, sym}
 use Rattle.cdcl.specs.Solving.{Solving}
 use Rattle.cdcl.proofs.solver.Solver.solve.Goals as goal
+use Rattle.cdcl.proofs.CountingLaws.{uncounted, unlimited}
 use Rattle.cdcl.proofs.ProgressLaws.{kept_searched, searched_bounded}
 
 pub invariant_of-self : goal.invariant_of-self
@@ -15,3 +16,12 @@ returns-clause-bounded c =
     (sym (ap (λ (s : Solving). s.added) c.self.view_is)) (sym (ap (λ (s : Solving). s.learned) c.self.view_is)) c.self.invariant.kept
     (kept_searched c.args.assumptions.now c.self.inside.log c.search_answer.new.log c.args.meter.now c.search_answer.new.meter c.self.invariant.kept c.search_answer.ensures.log c.search_answer.ensures.searched)
     c.search_answer.ensures.searched
+
+pub returns-clause-uncounted : goal.returns-clause-uncounted
+returns-clause-uncounted c =
+    uncounted c.args.assumptions.now c.self.inside.log c.args.self.now.added (ap (λ (s : Solving). s.added) c.self.view_is) c.search_answer.new.log c.args.self.now.learned
+    c.search_answer.ensures.rest (ap (λ (s : Solving). s.learned) c.self.view_is)
+
+pub returns-clause-unlimited : goal.returns-clause-unlimited
+returns-clause-unlimited c =
+    unlimited c.args.assumptions.now c.self.inside.log c.args.self.now.added (ap (λ (s : Solving). s.added) c.self.view_is) c.search_answer.result c.search_answer.ensures.limited
