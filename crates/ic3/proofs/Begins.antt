@@ -46,7 +46,7 @@ begun-first q cube front levels is none =
         omega (arith, first, second)
 
 -- a literal of the cube is one of its unit clause
-one_of : (cube : List Lit) (i : ℕ) (d : Lit) → i < length cube → has_one_of cube (get_or cube i d ∷ []) ≡ true
+pub one_of : (cube : List Lit) (i : ℕ) (d : Lit) → i < length cube → has_one_of cube (get_or cube i d ∷ []) ≡ true
 one_of [] i d below = absurd (omega arith)
 one_of (a ∷ cube) zero d below =
     or_left (lit_eq a a || false) (has_one_of cube (a ∷ [])) (or_left (lit_eq a a) false (lit_eq-same a))

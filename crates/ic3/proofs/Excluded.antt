@@ -18,7 +18,7 @@ use Rattle.ic3_questions.specs.Stepping.{Stepping, IsMissing, IsOver}
 use Rattle.ic3.specs.Starting.{value_literals}
 use Rattle.ic3.specs.Searches.{CountsUpTo}
 use Rattle.ic3.specs.Pushing.{Narrows}
-use Rattle.ic3.specs.Blocking.{misses_starts}
+use Rattle.ic3.specs.Starting.{misses_starts}
 use Rattle.ic3.specs.Strengthening.{IsExcluded, IsOpposed, IsBased, IsAsked}
 use Rattle.ic3.specs.Strengthening.{with_literal as with_kept}
 use Rattle.ic3.proofs.Ended.{up_to_on, up_to_conflicts}

@@ -10,18 +10,16 @@ use Rattle.ic3_frames.specs.Frames.{frame_at, with_lemma}
 use Rattle.ic3_frames.specs.Room.{room, allowed_by}
 use Rattle.ic3_frames.proofs.Rooms.{lemmas-take}
 use Rattle.ic3_frames.proofs.Meaning.{with-above}
-use Rattle.aig_semantics.specs.declared.traces.Position.{Position}
-use Rattle.aig_semantics.specs.Runs.{literal_at, successor}
-use Rattle.std.proofs.lemmas.List.{length-map}
-use Rattle.ic3.specs.Starting.{value_literals}
-use Rattle.ic3_questions.specs.Stepping.{Stepping, IsPredecessor, IsOver}
+use Rattle.aig_semantics.specs.Runs.{successor}
+use Rattle.ic3.specs.Starting.{value_literals, misses_starts}
+use Rattle.ic3_questions.specs.Stepping.{Stepping, IsOver}
 use Rattle.edge.specs.Units.{Spendings}
 use Rattle.edge.specs.Ends.{CountsConflicts}
 use Rattle.ic3.specs.Sound.{IsRelative, Agree, has_one_of}
 use Rattle.ic3.specs.Searches.{CountsUpTo}
-use Rattle.ic3.specs.Blocking.{NoneEnters, IsStronger, IsBefore, misses_starts}
+use Rattle.ic3.specs.Blocking.{NoneEnters, IsStronger}
 use Rattle.ic3.proofs.Ended.{up_to_on, up_to_conflicts, one_step_of}
-use Rattle.ic3.proofs.Starts.{Has, Has-first, Has-later, state_has, own_true, same_values}
+use Rattle.ic3.proofs.Starts.{Has, Has-first, Has-later, state_has, own_true}
 
 abbrev Levels : Type 0
 Levels = List (List (List Lit))
@@ -146,20 +144,6 @@ pub stronger-is : (n : ℕ) (levels : Levels) (k : ℕ) (lemma : List Lit) (s : 
 stronger-is n levels k lemma s inside size allowed excluded = record {
   above = λ j more. with-above levels k lemma j more;
   room = lemmas-take n levels k lemma s inside size allowed excluded;
-}
-
--- a step before a state
-pub before-is : (st : Stepping) (levels : Levels) (below : ℕ) (s : List Bool) (p : Position) (cube : List Lit) → cube ≡ value_literals 0 s
-    → length s ≡ length st.question.circuit.latches → Agree st.lemmas levels → IsPredecessor st below cube p
-    → IsBefore st.question levels below s p
-before-is st levels below s p cube is size agree enters = record {
-  arena = enters.step;
-  next =
-      let next : List Bool = successor st.question.circuit p in
-      same_values (values_of next) 0 next s (state_has next)
-      (length-map st.question.circuit.latches (λ latch. literal_at st.question.circuit p latch.next) ∙ sym size)
-      (ap (cube_value (values_of next)) (sym is) ∙ enters.inside);
-  frame = sym (agree below p.latches) ∙ enters.frame;
 }
 
 -- a lemma was counted behind a question

@@ -18,7 +18,7 @@ use Rattle.cnf_unroll.proofs.BlockWriting.{Shows}
 use Rattle.cnf_unroll.proofs.ObligationLaws.{state_length, successor_length}
 use Rattle.ic3_questions.specs.Stepping.{Stepping, meets_from, IsArenaStep, EntersFrom, IsPredecessor, IsMissing, IsOver}
 use Rattle.ic3_questions.specs.SteppingClauses.{base_clauses, level_guard, question_guard, guarded, denied_at, lemma_clause, avoid_clause, held_clauses, AreBelow, IsOn, AreAssumed, part_at}
-use Rattle.ic3.specs.SteppingInside.{IsHeldBy, ModelInto, CoreInto, question_clause}
+use Rattle.ic3.specs.SteppingInside.{IsHeldBy, IsWhole, ModelInto, CoreInto, question_clause}
 use Rattle.ic3_questions.specs.declared.lemmas.Lemma.{Lemma}
 use Rattle.ic3.specs.declared.stepping_questions.Questions.{Questions}
 use Rattle.ic3_questions.proofs.BaseLaws.{base_read, base_written}
@@ -209,14 +209,16 @@ pub record Reads (st : Stepping) (free level : ℕ) (v : ℕ → Bool) : Type 0 
   pub block : clauses_value v (step_clauses st.question.circuit) ≡ true
   pub avoided : clauses_value v (map (avoid_clause (state_place st.question.circuit 0) free) st.avoid) ≡ true
 
-pub step_read : (st : Stepping) (s : Questions) (level : ℕ) (v : ℕ → Bool) → IsHeldBy st s → clauses_value v s.solver.added ≡ true
+pub step_read : (st : Stepping) (s : Questions) (level : ℕ) (v : ℕ → Bool) → IsHeldBy st s
+    → IsWhole (base_clauses st.question) s.solver.added → clauses_value v s.solver.added ≡ true
     → ((k : ℕ) → level ≤ k → k < s.levels → v (level_guard s.free k) ≡ true) → Reads st s.free level v
-step_read st s level v by h guard =
+step_read st s level v by whole h guard =
     let c = st.question.circuit in
     let place = state_place st.question.circuit 0 in
     let avoids = map (avoid_clause (state_place st.question.circuit 0) s.free) st.avoid in
     let lemmas = map (lemma_clause (state_place st.question.circuit 0) s.free) st.lemmas in
-    let parts = both v (base_clauses st.question ++ avoids) lemmas (by.retires.fewer v h) in
+    let held = by.retires.fewer v (together v (base_clauses st.question) s.solver.added (whole v h) h) in
+    let parts = both v (base_clauses st.question ++ avoids) lemmas held in
     let front = both v (base_clauses st.question) avoids parts.0 in
     let read = base_read c by.checked by.law st.question.view by.good st.question.start v front.0 in
     record {
@@ -265,7 +267,9 @@ step_written st s level number p by step frame other avoids =
     in
     record {
       value = v;
-      clauses = by.retires.more v held (λ t low high. questions t ∙ ne_eqb t number (other t low high));
+      clauses =
+          (both v (base_clauses st.question) s.solver.added
+          (by.retires.more v held (λ t low high. questions t ∙ ne_eqb t number (other t low high)))).1;
       here = w.here;
       next = w.next;
       shows = w.shows;
@@ -278,9 +282,9 @@ step_written st s level number p by step frame other avoids =
 -- ---- steps into a cube
 
 pub found_step : (st : Stepping) (s : Questions) (level : ℕ) (cube : List Lit) (v : ℕ → Bool) → IsHeldBy st s
-    → IsOver (length st.question.circuit.latches) cube → ModelInto s level cube v
+    → IsWhole (base_clauses st.question) s.solver.added → IsOver (length st.question.circuit.latches) cube → ModelInto s level cube v
     → IsPredecessor st level cube (situation_in st.question.circuit 0 v).position
-found_step st s level cube v by over answers =
+found_step st s level cube v by whole over answers =
     let c = st.question.circuit in
     let model = answers.model in
     let guarded_by : List Lit = answers.assumed.guards in
@@ -289,7 +293,7 @@ found_step st s level cube v by over answers =
     let assumed = and_parts (cube_value v guarded_by) (cube_value v there)
     (sym (list_all-append (literal_value v) guarded_by there) ∙ (ap (cube_value v) (sym answers.assumed.all) ∙ model.assumed)) in
     let on = (answers.assumed.on v).0 assumed.0 in
-    let read = step_read st s level v by parts.0 on.each in
+    let read = step_read st s level v by whole parts.0 on.each in
     let denied : clause_value v (denied_at s.here cube) ≡ true =
     guarded_on v (question_guard s.free (s.asked + 1)) (denied_at s.here cube) on.question
     (and_parts (clause_value v (question_clause s cube)) true parts.1).0

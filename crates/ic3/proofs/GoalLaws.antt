@@ -18,8 +18,8 @@ use Rattle.cnf_unroll.proofs.ObligationLaws.{state_length}
 use Rattle.cnf_unroll.proofs.BlockReading.{IsRead, literal_is, block_read}
 use Rattle.cnf_unroll.proofs.BlockWriting.{Shows, literal_shown}
 use Rattle.ic3_questions.specs.Stepping.{Stepping, IsArenaStep, MeetsFrom, IsOver}
-use Rattle.ic3_questions.specs.SteppingClauses.{question_guard, denied_at, avoid_clause}
-use Rattle.ic3.specs.SteppingInside.{HasOneValuation, IsHeldBy, ModelGoal, NoModelGoal, is_read}
+use Rattle.ic3_questions.specs.SteppingClauses.{base_clauses, question_guard, denied_at, avoid_clause}
+use Rattle.ic3.specs.SteppingInside.{HasOneValuation, IsHeldBy, IsWhole, ModelGoal, NoModelGoal, is_read}
 use Rattle.ic3.specs.declared.stepping_questions.Questions.{Questions}
 use Rattle.ic3.proofs.Guards.{guarded_on, guarded_held}
 use Rattle.ic3.proofs.FoundLaws.{denied_there, over_place, not_true, step_read, step_written}
@@ -152,14 +152,14 @@ avoided_written v place n free (cube ∷ cubes) size over h =
 -- ---- answers
 
 pub goal_found : (st : Stepping) (s : Questions) (level literal : ℕ) (literals : List Lit) (v : ℕ → Bool) → IsHeldBy st s
-    → Says st.question.circuit literal literals → ModelGoal s level literals v
+    → IsWhole (base_clauses st.question) s.solver.added → Says st.question.circuit literal literals → ModelGoal s level literals v
     → MeetsFrom st level literal (situation_in st.question.circuit 0 v).position
-goal_found st s level literal literals v by says answers =
+goal_found st s level literal literals v by whole says answers =
     let c = st.question.circuit in
     let assumed = and_parts (cube_value v answers.assumed.guards) (cube_value v literals)
     (sym (list_all-append (literal_value v) answers.assumed.guards literals) ∙ (ap (cube_value v) (sym answers.assumed.all) ∙ answers.model.assumed)) in
     let on = (answers.assumed.on v).0 assumed.0 in
-    let read = step_read st s level v by answers.model.clauses on.each in
+    let read = step_read st s level v by whole answers.model.clauses on.each in
     record {
       meets = record {
         possible = read.step.possible;

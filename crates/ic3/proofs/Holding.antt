@@ -12,41 +12,82 @@ use Rattle.entry.specs.Laws.{IsGoodList}
 use Rattle.ic3_questions.specs.Searching.{Question}
 use Rattle.ic3_questions.specs.Stepping.{Stepping, no_lemmas, with_lemma, IsOver, IsPredecessor, IsMissing, IsFound, MeetsFrom, IsGoalFound}
 use Rattle.ic3_questions.specs.SteppingClauses.{base_clauses, first_guard, level_guard, guarded, avoid_clause, lemma_clause, held_clauses, Retires, AreBelow}
-use Rattle.ic3.specs.SteppingInside.{HasOneValuation, IsHeldBy, Keeps, Holds, MayHold, TellsInto, TellsGoal, TellsLiteral}
+use Rattle.ic3.specs.SteppingInside.{HasOneValuation, IsHeldBy, IsHeldWith, KeepsNumbers, Keeps, Grows, IsWhole, Holds, MayHold, TellsInto, TellsGoal, TellsLiteral}
 use Rattle.ic3_questions.specs.declared.lemmas.Lemma.{Lemma}
 use Rattle.ic3_questions.specs.declared.found.Found.{Found}
 use Rattle.ic3_questions.specs.declared.found.Found.TheVariants.{Step, Missing}
 use Rattle.ic3.specs.declared.stepping_questions.Questions.{Questions}
-use Rattle.ic3.proofs.Guards.{retires_more}
+use Rattle.cnf_unroll.proofs.Truth.{both, together}
+use Rattle.ic3.proofs.Guards.{retires_more, behind}
 use Rattle.ic3.proofs.FoundLaws.{found_step, found_missing}
 use Rattle.ic3.proofs.GoalLaws.{Says, says_read, says_negated, goal_found, goal_none, never_met}
 
 -- ---- at the beginning
 
-retires_itself : (added held : List (List Lit)) (free asked : ℕ) → added ≡ held → Retires added held free asked
-retires_itself added held free asked e = record {
-  fewer = λ v h. ap (clauses_value v) (sym e) ∙ h;
-  more = λ v h offs. ap (clauses_value v) e ∙ h;
+retires_begun : (base front avoids : List (List Lit)) (free asked : ℕ) → Grows base [] front
+    → Retires (base ++ (front ++ avoids)) (base ++ avoids) free asked
+retires_begun base front avoids free asked grows = record {
+  fewer =
+      λ v h.
+      let parts = both v base (front ++ avoids) h in
+      together v base avoids parts.0 (both v front avoids parts.1).1;
+  more =
+      λ v h offs.
+      let parts = both v base avoids h in
+      together v base (front ++ avoids) parts.0 (together v front avoids (grows.more v parts.0 refl) parts.1);
 }
 
-pub begun_held : (q : Question) (avoid : List (List Lit)) (s : Questions) → IsChecked q.circuit → HasOneValuation q.circuit
+pub begun_held : (q : Question) (avoid front : List (List Lit)) (s : Questions) → IsChecked q.circuit → HasOneValuation q.circuit
     → IsGoodList q.circuit q.view → AreOver (length q.circuit.latches) avoid
     → s.here ≡ state_place q.circuit 0 → s.next ≡ successor_place q.circuit 0 → s.free ≡ first_guard q
-    → s.solver.added ≡ base_clauses q ++ map (avoid_clause (state_place q.circuit 0) s.free) avoid
+    → Grows (base_clauses q) [] front → s.solver.added ≡ front ++ map (avoid_clause (state_place q.circuit 0) s.free) avoid
     → IsHeldBy (no_lemmas q avoid) s
-begun_held q avoid s checked law good over here next free added = record {
-  checked = checked;
-  law = law;
-  good = good;
-  here = here;
-  next = next;
-  free = free;
-  levels = tt;
-  lemmas = tt;
-  avoid = over;
+begun_held q avoid front s checked law good over here next free grows added =
+    let avoids : List (List Lit) = map (avoid_clause (state_place q.circuit 0) s.free) avoid in
+    record {
+      checked = checked;
+      law = law;
+      good = good;
+      here = here;
+      next = next;
+      free = free;
+      levels = tt;
+      lemmas = tt;
+      avoid = over;
+      retires =
+          subst (λ cs. Retires (base_clauses q ++ cs) (held_clauses (no_lemmas q avoid) s.free) s.free s.asked) (sym added)
+          (subst (λ held. Retires (base_clauses q ++ (front ++ avoids)) held s.free s.asked) (sym (append-nil (base_clauses q ++ avoids)))
+          (retires_begun (base_clauses q) front avoids s.free s.asked grows));
+    }
+
+-- ---- after clauses of the base
+
+retires_grown : (base old new held : List (List Lit)) (free asked : ℕ) → Grows base old new → Retires (base ++ old) held free asked
+    → Retires (base ++ new) held free asked
+retires_grown base old new held free asked grows r = record {
+  fewer = λ v h. let parts = both v base new h in r.fewer v (together v base old parts.0 (grows.fewer v parts.1));
+  more =
+      λ v h offs.
+      let parts = both v base old (r.more v h offs) in
+      together v base new parts.0 (grows.more v parts.0 parts.1);
+}
+
+pub grown_held : (st : Stepping) (old new : Questions) → IsHeldBy st old → KeepsNumbers old new → new.asked ≡ old.asked
+    → Grows (base_clauses st.question) old.solver.added new.solver.added → IsHeldBy st new
+grown_held st old new by numbers asked grows = record {
+  checked = by.checked;
+  law = by.law;
+  good = by.good;
+  here = numbers.here ∙ by.here;
+  next = numbers.next ∙ by.next;
+  free = numbers.free ∙ by.free;
+  levels = subst (λ n. AreBelow n st.lemmas) (sym numbers.levels) by.levels;
+  lemmas = by.lemmas;
+  avoid = by.avoid;
   retires =
-      retires_itself s.solver.added (held_clauses (no_lemmas q avoid) s.free) s.free s.asked
-      (added ∙ sym (append-nil (base_clauses q ++ map (avoid_clause (state_place q.circuit 0) s.free) avoid)));
+      subst (λ f. Retires (base_clauses st.question ++ new.solver.added) (held_clauses st f) f new.asked) (sym numbers.free)
+      (subst (λ n. Retires (base_clauses st.question ++ new.solver.added) (held_clauses st old.free) old.free n) (sym asked)
+      (retires_grown (base_clauses st.question) old.solver.added new.solver.added (held_clauses st old.free) old.free old.asked grows by.retires));
 }
 
 -- ---- after a question
@@ -63,9 +104,25 @@ still_held st old new by keeps = record {
   lemmas = by.lemmas;
   avoid = by.avoid;
   retires =
-      keeps.retires (held_clauses st new.free)
-      (subst (λ f. Retires old.solver.added (held_clauses st f) old.free old.asked) (sym keeps.numbers.free) by.retires);
+      keeps.retires (base_clauses st.question) (held_clauses st new.free)
+      (subst (λ f. Retires (base_clauses st.question ++ old.solver.added) (held_clauses st f) old.free old.asked) (sym keeps.numbers.free)
+      by.retires);
 }
+
+-- ---- with the base beside it
+
+pub after_growth : (st : Stepping) (base : List (List Lit)) (old new : Questions) → IsHeldWith st base old → KeepsNumbers old new
+    → new.asked ≡ old.asked → Grows base old.solver.added new.solver.added → IsHeldWith st base new
+after_growth st base old new held numbers asked grows = record {
+  whole = held.whole;
+  by =
+      grown_held st old new held.by numbers asked
+      (subst (λ all. Grows all old.solver.added new.solver.added) held.whole grows);
+}
+
+pub after_question : (st : Stepping) (base : List (List Lit)) (old new : Questions) → IsHeldWith st base old → Keeps old new
+    → IsHeldWith st base new
+after_question st base old new held keeps = record { whole = held.whole; by = still_held st old new held.by keeps }
 
 -- ---- after a lemma
 
@@ -100,12 +157,13 @@ more_held st old new level clause by over h =
     let added : new.solver.added ≡ old.solver.added ++ guarded (level_guard old.free level) (clause_at_place (state_place st.question.circuit 0) clause) ∷ [] =
     h.added ∙ ap (λ here. old.solver.added ++ guarded (level_guard old.free level) (clause_at_place here clause) ∷ []) by.here
     in
-    let more : Retires new.solver.added (held_clauses (with_lemma st level clause) old.free) old.free old.asked =
-    subst (λ cs. Retires cs (held_clauses (with_lemma st level clause) old.free) old.free old.asked) (sym added)
-    (subst (λ held. Retires (old.solver.added ++ guarded (level_guard old.free level) (clause_at_place (state_place st.question.circuit 0) clause) ∷ []) held old.free old.asked)
-    (sym (held_more st old.free level clause))
-    (retires_more old.solver.added (held_clauses st old.free)
-    (guarded (level_guard old.free level) (clause_at_place (state_place st.question.circuit 0) clause) ∷ []) old.free old.asked by.retires))
+    let held : List Lit = guarded (level_guard old.free level) (clause_at_place (state_place st.question.circuit 0) clause) in
+    let base : List (List Lit) = base_clauses st.question in
+    let more : Retires (base_clauses st.question ++ new.solver.added) (held_clauses (with_lemma st level clause) old.free) old.free old.asked =
+    subst (λ cs. Retires (base ++ cs) (held_clauses (with_lemma st level clause) old.free) old.free old.asked) (sym added)
+    (behind base old.solver.added (held ∷ []) (held_clauses (with_lemma st level clause) old.free) old.free old.asked
+    (subst (λ all. Retires ((base ++ old.solver.added) ++ held ∷ []) all old.free old.asked) (sym (held_more st old.free level clause))
+    (retires_more (base ++ old.solver.added) (held_clauses st old.free) (held ∷ []) old.free old.asked by.retires)))
     in
     record {
       checked = by.checked;
@@ -118,8 +176,8 @@ more_held st old new level clause by over h =
       lemmas = all_push (λ x. IsOver (length st.question.circuit.latches) x.clause) st.lemmas lemma by.lemmas over;
       avoid = by.avoid;
       retires =
-          subst (λ n. Retires new.solver.added (held_clauses (with_lemma st level clause) new.free) new.free n) (sym h.asked)
-          (subst (λ f. Retires new.solver.added (held_clauses (with_lemma st level clause) f) f old.asked) (sym h.free) more);
+          subst (λ n. Retires (base_clauses st.question ++ new.solver.added) (held_clauses (with_lemma st level clause) new.free) new.free n) (sym h.asked)
+          (subst (λ f. Retires (base_clauses st.question ++ new.solver.added) (held_clauses (with_lemma st level clause) f) f old.asked) (sym h.free) more);
     }
 
 pub may_held : (st : Stepping) (old new : Questions) (level : ℕ) (clause : List Lit) (lemmas : List Lemma) → IsHeldBy st old
@@ -134,31 +192,35 @@ may_held st old new level clause lemmas by over (inr h) =
 
 -- ---- what calls tell
 
-pub tells_found : (st : Stepping) (s : Questions) (level : ℕ) (cube : List Lit) (r : Result Found SolveEnd) → IsHeldBy st s
-    → IsOver (length st.question.circuit.latches) cube → IfOk r (TellsInto s st.question.circuit level cube) → IfOk r (IsFound st level cube)
-tells_found st s level cube (Ok (Step p)) by over tells =
-    subst (IsPredecessor st level cube) (sym tells.2) (found_step st s level cube tells.0 by over tells.1)
-tells_found st s level cube (Ok (Missing part)) by over tells =
-    subst (IsMissing st level cube) (sym tells.2) (found_missing st s level cube tells.0 by over tells.1)
-tells_found st s level cube (Err e) by over tells = tt
+pub tells_found : (st : Stepping) (base : List (List Lit)) (s : Questions) (level : ℕ) (cube : List Lit) (r : Result Found SolveEnd)
+    → IsHeldWith st base s → IsWhole base s.solver.added → IsOver (length st.question.circuit.latches) cube
+    → IfOk r (TellsInto s st.question.circuit level cube) → IfOk r (IsFound st level cube)
+tells_found st base s level cube (Ok (Step p)) held whole over tells =
+    subst (IsPredecessor st level cube) (sym tells.2)
+    (found_step st s level cube tells.0 held.by (subst (λ all. IsWhole all s.solver.added) held.whole whole) over tells.1)
+tells_found st base s level cube (Ok (Missing part)) held whole over tells =
+    subst (IsMissing st level cube) (sym tells.2) (found_missing st s level cube tells.0 held.by over tells.1)
+tells_found st base s level cube (Err e) held whole over tells = tt
 
 says_found : (st : Stepping) (s : Questions) (level literal : ℕ) (literals : List Lit) (found : Option Position) → IsHeldBy st s
-    → Says st.question.circuit literal literals → TellsGoal s st.question.circuit level literals found → IsGoalFound st level literal found
-says_found st s level literal literals (Some p) by says tells =
-    subst (MeetsFrom st level literal) (sym tells.2) (goal_found st s level literal literals tells.0 by says tells.1)
-says_found st s level literal literals None by says tells = goal_none st s level literal literals by says tells
+    → IsWhole (base_clauses st.question) s.solver.added → Says st.question.circuit literal literals → TellsGoal s st.question.circuit level literals found → IsGoalFound st level literal found
+says_found st s level literal literals (Some p) by whole says tells =
+    subst (MeetsFrom st level literal) (sym tells.2) (goal_found st s level literal literals tells.0 by whole says tells.1)
+says_found st s level literal literals None by whole says tells = goal_none st s level literal literals by says tells
 
 tells_literal : (st : Stepping) (s : Questions) (level literal : ℕ) (found : Option Position) → IsHeldBy st s
-    → TellsLiteral s st.question.circuit level literal found → IsGoalFound st level literal found
-tells_literal st s level literal found by (inl h) =
-    says_found st s level literal (literal_in_block 0 literal ∷ []) found by
+    → IsWhole (base_clauses st.question) s.solver.added → TellsLiteral s st.question.circuit level literal found → IsGoalFound st level literal found
+tells_literal st s level literal found by whole (inl h) =
+    says_found st s level literal (literal_in_block 0 literal ∷ []) found by whole
     (says_read st.question.circuit by.checked by.law literal h.0) h.1
-tells_literal st s level literal found by (inr (inl h)) =
-    says_found st s level literal [] found by (says_negated st.question.circuit by.checked by.law literal h.0 h.1.0) h.1.1
-tells_literal st s level literal found by (inr (inr h)) =
+tells_literal st s level literal found by whole (inr (inl h)) =
+    says_found st s level literal [] found by whole (says_negated st.question.circuit by.checked by.law literal h.0 h.1.0) h.1.1
+tells_literal st s level literal found by whole (inr (inr h)) =
     subst (IsGoalFound st level literal) (sym h.1.1) (never_met st s level literal by h.0 h.1.0)
 
-pub tells_goal : (st : Stepping) (s : Questions) (level literal : ℕ) (r : Result (Option Position) SolveEnd) → IsHeldBy st s
-    → IfOk r (TellsLiteral s st.question.circuit level literal) → IfOk r (IsGoalFound st level literal)
-tells_goal st s level literal (Ok found) by tells = tells_literal st s level literal found by tells
-tells_goal st s level literal (Err e) by tells = tt
+pub tells_goal : (st : Stepping) (base : List (List Lit)) (s : Questions) (level literal : ℕ) (r : Result (Option Position) SolveEnd)
+    → IsHeldWith st base s → IsWhole base s.solver.added → IfOk r (TellsLiteral s st.question.circuit level literal)
+    → IfOk r (IsGoalFound st level literal)
+tells_goal st base s level literal (Ok found) held whole tells =
+    tells_literal st s level literal found held.by (subst (λ all. IsWhole all s.solver.added) held.whole whole) tells
+tells_goal st base s level literal (Err e) held whole tells = tt

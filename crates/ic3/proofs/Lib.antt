@@ -15,3 +15,9 @@ pub mod Excluding
 pub mod Excluded
 pub mod Obliging
 pub mod GoingOn
+pub mod Broken
+pub mod Ways
+pub mod Lifted
+pub mod Growing
+pub mod TriedLaws
+pub mod Singles

@@ -1,59 +1,43 @@
 -- Obligations of a search: their nodes, their queue, and what becomes of one.
-use Rattle.std.proofs.Common.{◌≡◌, ℕ, zero, suc, ◌+◌, ◌-◌, ◌<◌, ◌≤◌, Bool, true, false, List, [], ◌∷◌, ◌++◌, length, get_or, take, drop, refl, sym, ap, subst, ◌∙◌, inl, inr, arith, append_assoc}
+use Rattle.std.proofs.Common.{◌≡◌, ℕ, zero, suc, ◌+◌, ◌-◌, ◌<◌, ◌≤◌, Bool, true, false, ◌||◌, nat_lt, List, [], ◌∷◌, ◌++◌, length, get_or, take, drop, refl, sym, ap, subst, ◌∙◌, inl, inr, arith}
 use Rattle.std.proofs.lemmas.List.{length-append, get_or_append_left, get_or_default}
 use Rattle.std.proofs.Math.Seq.{get_or-append_seam}
-use Rattle.std.proofs.lemmas.Option.{none-some}
 use Rattle.std.proofs.lemmas.List.Elements.{All-cons, All-append, All-take, All-drop, All-weaker}
 use Rattle.std.specs.List.{All, insert}
 use Rattle.std.specs.Prelude.{Option, None, Some}
-use Rattle.std.proofs.lemmas.Bool.{false≢true, cases_Bool, cases_lt}
+use Rattle.std.proofs.lemmas.Bool.{false≢true, cases_Bool, cases_lt, and_parts, and_from, or_left, or_right, or_cases, ltb-true, lt-ltb}
 use Rattle.aig_semantics.specs.declared.traces.Position.{Position}
+use Rattle.aig_semantics.specs.Circuits.{Circuit}
 use Rattle.aig_semantics.specs.Runs.{successor}
 use Rattle.proof_semantics.specs.declared.literals.Lit.{Lit}
-use Rattle.proof_semantics.specs.Clauses.{cube_value, values_of}
+use Rattle.proof_semantics.specs.Clauses.{clause_value, cube_value, values_of, is_part}
 use Rattle.ic3_frames.specs.Frames.{frame_at}
 use Rattle.ic3_frames.specs.Room.{room, allowed_by}
 use Rattle.ic3_questions.specs.declared.questions.Goal.{Goal}
 use Rattle.ic3_questions.specs.declared.questions.Goal.TheVariants as goals
 use Rattle.ic3_questions.specs.Arenas.{MayStart}
-use Rattle.ic3_questions.specs.Searching.{Question, Leads, MeetsLiteral, IsPath}
-use Rattle.ic3_questions.specs.Stepping.{Stepping, IsArenaStep}
-use Rattle.ic3_questions.proofs.Arenas.{steps_keep}
+use Rattle.ic3_questions.specs.Searching.{Question, MeetsLiteral, IsPath}
+use Rattle.ic3_questions.specs.declared.lemmas.Lemma.{Lemma}
+use Rattle.ic3_questions.specs.Stepping.{Stepping, IsArenaStep, IsPredecessor, MeetsFrom, meets_from}
+use Rattle.ic3_generalise.proofs.Parts.{part_same}
 use Rattle.ic3.specs.declared.obligations.Node.{Node}
-use Rattle.ic3.specs.declared.obligations.Node.TheVariants as nodes
+use Rattle.ic3.specs.declared.obligations.Way.{Way}
+use Rattle.ic3.specs.declared.obligations.Way.TheVariants as ways
+use Rattle.ic3.specs.declared.obligations.Lifted.{Lifted}
 use Rattle.ic3.specs.declared.obligations.Obligation.{Obligation}
 use Rattle.ic3.specs.declared.obligations.Obligations.{Obligations}
 use Rattle.ic3.specs.declared.blocking.Handled.{Handled}
 use Rattle.ic3.specs.Sound.{IsSound, IsStartCube, IsGoalOf, Agree}
-use Rattle.ic3.specs.Blocking.{LeadsOn, node_state, state_at, own_way, next_node, IsNode, AreNodes, IsDue, IsOpen, AreObligations, IsPutIn, IsStateFirst, IsLiteralFirst, IsFirst, IsHandled, IsKeptWith, IsGoneOn}
+use Rattle.ic3.specs.Starting.{value_literals}
+use Rattle.ic3.specs.Lifting.{IsLifted, IsGoalLifted}
+use Rattle.ic3.proofs.Excluding.{part_true}
+use Rattle.ic3.proofs.Sounds.{grow_on}
+use Rattle.ic3.specs.Blocking.{LeadsOn, way_state, node_state, node_at, state_at, cube_at, IsNode, IsWayTo, AreNodes, IsDue, IsOpen, AreObligations, IsPutIn, IsStateFirst, IsLastFirst, IsLiteralFirst, IsFirst, IsBefore, IsHandled, IsKeptWith, IsGoneOn}
 
 abbrev Levels : Type 0
 Levels = List (List (List Lit))
 
 -- ---- ways
-
-leads-append : (q : Question) (s : List Bool) (way : List Position) (t : List Bool) (rest : List Position) (u : List Bool)
-    → Leads q s way t → Leads q t rest u → Leads q s (way ++ rest) u
-leads-append q s [] t rest u at later = subst (λ x. Leads q x rest u) (sym at) later
-leads-append q s (p ∷ way) t rest u (at, possible, allows, first) later =
-    (at, possible, allows, leads-append q (successor q.circuit p) way t rest u first later)
-
--- a step of the arena
-leads-step : (q : Question) (p : Position) → IsArenaStep q p → Leads q p.latches (p ∷ []) (successor q.circuit p)
-leads-step q p arena =
-    (refl, arena.possible, steps_keep q.view q.start p.latches (successor q.circuit p) arena.state ∙ arena.next, refl)
-
--- a way on from where another one leads
-leads-then : (q : Question) (goal : Goal) (s : List Bool) (way : List Position) (t : List Bool) (rest : List Position)
-    → Leads q s way t → LeadsOn q goal t rest → LeadsOn q goal s (way ++ rest)
-leads-then q (goals.State to) s way t rest first on = leads-append q s way t rest to.now first on
-leads-then q (goals.Literal literal avoid) s way t rest first (before, last, is, meets, leads) = (
-  way ++ before,
-  last,
-  ap (λ w. way ++ w) is ∙ sym (append_assoc way before (last ∷ [])),
-  meets,
-  leads-append q s way t rest (successor q.circuit last) first leads,
-)
 
 -- from a start a way is a path
 start-path : (q : Question) (goal : Goal) (s : List Bool) (way : List Position) → MayStart q.circuit q.start s → LeadsOn q goal s way → IsPath q goal way
@@ -63,80 +47,47 @@ start-path q (goals.Literal literal avoid) s way starts (before, last, is, meets
 
 -- ---- nodes
 
-pub state-is : (ns : List Node) (k : ℕ) (n : Node) → k < length ns → n ≡ get_or ns k n → node_state n ≡ state_at ns k
-state-is ns k n below is = ap node_state (is ∙ get_or_default ns k n (nodes.Goal []) below)
+node-grows : (ns more : List Node) (k : ℕ) → k < length ns → node_at (ns ++ more) k ≡ node_at ns k
+node-grows ns more k below = get_or_append_left ns more (record { cube = []; way = ways.Goal [] }) k below
 
-state-grows : (ns more : List Node) (k : ℕ) → k < length ns → state_at (ns ++ more) k ≡ state_at ns k
-state-grows ns more k below = ap node_state (get_or_append_left ns more (nodes.Goal []) k below)
+pub node-is : (ns : List Node) (k : ℕ) (n : Node) → k < length ns → n ≡ get_or ns k n → n ≡ node_at ns k
+node-is ns k n below is = is ∙ get_or_default ns k n (record { cube = []; way = ways.Goal [] }) below
 
 module _ (q : Question) (goal : Goal) where
-  node-grows : (k : ℕ) (ns more : List Node) (n : Node) → k ≤ length ns → IsNode q goal k ns n → IsNode q goal k (ns ++ more) n
-  node-grows k ns more (nodes.Goal s) within is = is
-  node-grows k ns more (nodes.Last p) within is = is
-  node-grows k ns more (nodes.Step p next) within (below, arena, steps) =
-      (below, arena, steps ∙ sym (state-grows ns more next (omega (arith, below, within))))
+  way-grows : (k : ℕ) (ns more : List Node) (cube : List Lit) (way : Way) → k ≤ length ns → IsWayTo q goal k ns cube way
+      → IsWayTo q goal k (ns ++ more) cube way
+  way-grows k ns more cube (ways.Goal s) within is = is
+  way-grows k ns more cube (ways.Last p) within is = is
+  way-grows k ns more cube (ways.Step p next) within is =
+      let into : cube_at ns next ≡ cube_at (ns ++ more) next = ap (λ (n : Node). n.cube) (sym (node-grows ns more next (omega (arith, is.0, within)))) in (
+        is.0,
+        is.1,
+        subst (λ x. cube_value (values_of (successor q.circuit p)) x ≡ true) into is.2,
+        subst (λ x. IsLifted q.circuit p x [] cube) into is.3,
+      )
+
+  is-grown : (k : ℕ) (ns more : List Node) (n : Node) → k ≤ length ns → IsNode q goal k ns n → IsNode q goal k (ns ++ more) n
+  is-grown k ns more n within is = record { size = is.size; part = is.part; way = way-grows k ns more n.cube n.way within is.way }
 
   pub nodes-push : (ns : List Node) (n : Node) → AreNodes q goal ns → IsNode q goal (length ns) ns n → AreNodes q goal (ns ++ n ∷ [])
   nodes-push ns n are is k d below =
       elim (cases_lt k (length ns)) [
         | inl earlier ↦
             subst (IsNode q goal k (ns ++ n ∷ [])) (sym (get_or_append_left ns (n ∷ []) d k earlier))
-            (node-grows k ns (n ∷ []) (get_or ns k d) (omega arith) (are k d earlier))
+            (is-grown k ns (n ∷ []) (get_or ns k d) (omega arith) (are k d earlier))
         | inr last ↦
             let size : length (ns ++ n ∷ []) ≡ length ns + 1 = length-append ns (n ∷ []) in
             let e : length ns ≡ k = omega (arith, below, size, last) in
             subst (λ j. IsNode q goal j (ns ++ n ∷ []) (get_or (ns ++ n ∷ []) j d)) e
             (subst (IsNode q goal (length ns) (ns ++ n ∷ [])) (sym (get_or-append_seam ns n [] d))
-            (node-grows (length ns) ns (n ∷ []) n (omega arith) is))
+            (is-grown (length ns) ns (n ∷ []) n (omega arith) is))
       ]
 
-  node-size : (k : ℕ) (ns : List Node) (n : Node) → IsNode q goal k ns n → length (node_state n) ≡ length q.circuit.latches
-  node-size k ns (nodes.Goal s) is = is.0
-  node-size k ns (nodes.Last p) is = is.0
-  node-size k ns (nodes.Step p next) is = is.1.possible.position.latches
+  pub node-at-is : (ns : List Node) (k : ℕ) → AreNodes q goal ns → k < length ns → IsNode q goal k ns (node_at ns k)
+  node-at-is ns k are below = are k (record { cube = []; way = ways.Goal [] }) below
 
   pub state-size : (ns : List Node) (k : ℕ) → AreNodes q goal ns → k < length ns → length (state_at ns k) ≡ length q.circuit.latches
-  state-size ns k are below = node-size k ns (get_or ns k (nodes.Goal [])) (are k (nodes.Goal []) below)
-
-abbrev or_zero : Option ℕ → ℕ
-or_zero None = 0
-or_zero (Some k) = k
-
--- One node further on the way from a state.
-pub way-step : (q : Question) (goal : Goal) (s : List Bool) (way longer : List Position) (k : ℕ) (ns : List Node) (n : Node) (next : ℕ) → IsNode q goal k ns n
-    → Leads q s way (node_state n) → Some next ≡ next_node n → longer ≡ way ++ own_way n
-    → (next < k) × Leads q s longer (state_at ns next)
-way-step q goal s way longer k ns (nodes.Goal t) next is leads e made = absurd (none-some next (sym e))
-way-step q goal s way longer k ns (nodes.Last p) next is leads e made = absurd (none-some next (sym e))
-way-step q goal s way longer k ns (nodes.Step p m) next (below, arena, steps) leads e made =
-    let same : m ≡ next = sym (ap or_zero e) in
-    let on : Leads q s (way ++ p ∷ []) (state_at ns m) =
-    subst (λ t. Leads q s (way ++ p ∷ []) t) steps (leads-append q s way p.latches (p ∷ []) (successor q.circuit p) leads (leads-step q p arena)) in
-    (subst (λ j. j < k) same below, subst (λ w. Leads q s w (state_at ns next)) (sym made) (subst (λ j. Leads q s (way ++ p ∷ []) (state_at ns j)) same on))
-
--- The last node of a way.
-pub way-end : (q : Question) (goal : Goal) (s : List Bool) (way longer : List Position) (k : ℕ) (ns : List Node) (n : Node) → IsNode q goal k ns n
-    → Leads q s way (node_state n) → None ≡ next_node n → longer ≡ way ++ own_way n → LeadsOn q goal s longer
-way-end q goal s way longer k ns (nodes.Goal t) is leads e made =
-    subst (LeadsOn q goal s) (sym made) (leads-then q goal s way t [] leads is.1)
-way-end q goal s way longer k ns (nodes.Last p) is leads e made =
-    subst (LeadsOn q goal s) (sym made) (leads-then q goal s way p.latches (p ∷ []) leads is.1)
-way-end q goal s way longer k ns (nodes.Step p m) is leads e made = absurd (none-some m e)
-
--- The same of the node with this number.
-pub way-on : (q : Question) (goal : Goal) (s : List Bool) (way longer : List Position) (k : ℕ) (ns : List Node) (n : Node) (found : Option ℕ) (next : ℕ)
-    → AreNodes q goal ns → k < length ns → n ≡ get_or ns k n → Leads q s way (state_at ns k) → found ≡ Some next → found ≡ next_node n
-    → longer ≡ way ++ own_way n → (next < k) × Leads q s longer (state_at ns next)
-way-on q goal s way longer k ns n found next are below is leads some e made =
-    way-step q goal s way longer k ns n next (subst (IsNode q goal k ns) (sym is) (are k n below))
-    (subst (Leads q s way) (sym (state-is ns k n below is)) leads) (sym some ∙ e) made
-
-pub way-last : (q : Question) (goal : Goal) (s : List Bool) (way longer : List Position) (k : ℕ) (ns : List Node) (n : Node) (found : Option ℕ)
-    → AreNodes q goal ns → k < length ns → n ≡ get_or ns k n → Leads q s way (state_at ns k) → found ≡ None → found ≡ next_node n
-    → longer ≡ way ++ own_way n → LeadsOn q goal s longer
-way-last q goal s way longer k ns n found are below is leads none e made =
-    way-end q goal s way longer k ns n (subst (IsNode q goal k ns) (sym is) (are k n below))
-    (subst (Leads q s way) (sym (state-is ns k n below is)) leads) (sym none ∙ e) made
+  state-size ns k are below = (node-at-is ns k are below).size
 
 -- A way from a node whose state is a start is a path.
 pub path-is : (q : Question) (goal : Goal) (cube : List Lit) (ns : List Node) (k : ℕ) (way : List Position) → IsStartCube q cube → AreNodes q goal ns
@@ -177,18 +128,25 @@ FirstOf st levels top (goals.Literal literal avoid) found = IsLiteralFirst st to
 pub first-is : (st : Stepping) (levels : Levels) (top : ℕ) (goal : Goal) (found : Option Node) → Agree st.lemmas levels → IsGoalOf st goal
     → FirstOf st levels top goal found → IsFirst st.question goal levels top found
 first-is st levels top (goals.State to) (Some n) agree of (is, allowed) = (
-  λ k ns. subst (IsNode st.question (goals.State to) k ns) (sym is) (of.of, refl),
+  λ k ns. subst (IsNode st.question (goals.State to) k ns) (sym is) (record {
+    size = of.of;
+    part = part_same (value_literals 0 to.now);
+    way = (refl, refl);
+  }),
   ap (allowed_by (frame_at levels top)) (ap node_state is) ∙ allowed,
 )
 first-is st levels top (goals.State to) None agree of none = none
-first-is st levels top (goals.Literal literal avoid) (Some n) agree of (p, is, m) =
+first-is st levels top (goals.Literal literal avoid) (Some n) agree of (p, is, m, lifted) =
     let q : Question = st.question in
+    let state : node_state n ≡ p.latches = ap way_state is in
     let meets : MeetsLiteral q literal avoid.now p = subst (λ a. MeetsLiteral q literal a p) of.avoids m.meets in
-    let on : LeadsOn q (goals.Literal literal avoid) p.latches (p ∷ []) =
-    ([], p, refl, meets, (refl, meets.possible, steps_keep q.view q.start p.latches (successor q.circuit p) meets.state ∙ meets.next, refl))
-    in (
-      λ k ns. subst (IsNode q (goals.Literal literal avoid) k ns) (sym is) (m.meets.possible.position.latches, on),
-      ap (allowed_by (frame_at levels top)) (ap node_state is) ∙ (sym (agree top p.latches) ∙ m.frame),
+    let same : IsGoalLifted q.circuit q.view q.start avoid.now literal p n.cube = subst (λ a. IsGoalLifted q.circuit q.view q.start a literal p n.cube) of.avoids lifted in (
+      λ k ns. record {
+        size = ap length state ∙ m.meets.possible.position.latches;
+        part = subst (λ s. is_part n.cube (value_literals 0 s) ≡ true) (sym state) lifted.part;
+        way = subst (IsWayTo q (goals.Literal literal avoid) k ns n.cube) (sym is) (meets, same);
+      },
+      ap (allowed_by (frame_at levels top)) state ∙ (sym (agree top p.latches) ∙ m.frame),
     )
 first-is st levels top (goals.Literal literal avoid) None agree of none = λ p meets.
     elim (cases_Bool (allowed_by (frame_at levels top) p.latches)) [
@@ -200,8 +158,45 @@ first-is st levels top (goals.Literal literal avoid) None agree of none = λ p m
       | inr excluded ↦ excluded
     ]
 
+-- what is met from a level on is met from each level above
+meets-up : (lemmas : List Lemma) (k level : ℕ) (s : List Bool) → k ≤ level → meets_from lemmas k s ≡ true → meets_from lemmas level s ≡ true
+meets-up [] k level s under h = refl
+meets-up (lemma ∷ lemmas) k level s under h =
+    let value : Bool = clause_value (values_of s) lemma.clause in
+    let parts = and_parts (nat_lt lemma.level k || value) (meets_from lemmas k s) h in
+    and_from (nat_lt lemma.level level || value) (meets_from lemmas level s)
+    (elim (or_cases (nat_lt lemma.level k) value parts.0) [
+      | inl less ↦
+          let below : lemma.level < k = ltb-true lemma.level k less in
+          or_left (nat_lt lemma.level level) value (lt-ltb lemma.level level (omega (arith, below, under)))
+      | inr holds ↦ or_right (nat_lt lemma.level level) value holds
+    ])
+    (meets-up lemmas k level s under parts.1)
+
+-- A position that meets the literal from a level on does from each level above.
+pub last-first : (st : Stepping) (k top literal : ℕ) (p : Position) (n : Node) → k ≤ top → MeetsFrom st k literal p → n.way ≡ ways.Last p
+    → IsGoalLifted st.question.circuit st.question.view st.question.start st.avoid literal p n.cube → IsLastFirst st top literal n
+last-first st k top literal p n under meets is lifted =
+    (p, is, record { meets = meets.meets; frame = meets-up st.lemmas k top p.latches under meets.frame }, lifted)
+
+-- A step from a level up to this one into a part of the cube that was asked about.
+pub before-is : (st : Stepping) (levels : Levels) (k below : ℕ) (into asked : List Lit) (p : Position) (l : Lifted) → k ≤ below
+    → is_part into asked ≡ true → Agree st.lemmas levels → IsPredecessor st k asked p → l.position ≡ p
+    → IsLifted st.question.circuit p into [] l.cube → IsBefore st.question levels below into l
+before-is st levels k below into asked p l under part agree found is lifted =
+    let c : Circuit = st.question.circuit in
+    let frame : allowed_by (frame_at levels k) p.latches ≡ true = sym (agree k p.latches) ∙ found.frame in
+    record {
+      arena = subst (IsArenaStep st.question) (sym is) found.step;
+      inside =
+          ap (λ x. cube_value (values_of (successor c x)) into) is
+          ∙ part_true (values_of (successor c p)) into asked part found.inside;
+      frame = ap (λ (x : Position). allowed_by (frame_at levels below) x.latches) is ∙ grow_on levels below k p.latches under frame;
+      lifted = subst (λ x. IsLifted c x into [] l.cube) (sym is) lifted;
+    }
+
 state-last : (ns : List Node) (n : Node) → state_at (ns ++ n ∷ []) (length ns) ≡ node_state n
-state-last ns n = ap node_state (get_or-append_seam ns n [] (nodes.Goal []))
+state-last ns n = ap node_state (get_or-append_seam ns n [] (record { cube = []; way = ways.Goal [] }))
 
 -- the obligation of a node that was put in
 open-new : (top : ℕ) (levels : Levels) (ns new : List Node) (n : Node) (level : ℕ) → new ≡ ns ++ n ∷ [] → level ≤ top
@@ -239,9 +234,9 @@ above-lowest q goal cube levels top ns o starts sound are is none = by o.level r
     by (suc k) e = omega (arith, e)
 
 -- what is kept of one level
-pub kept-are : (q : Question) (goal : Goal) (top below : ℕ) (before after : Levels) (old new : Obligations) (at : Obligation) (found : Option Position)
+pub kept-are : (q : Question) (goal : Goal) (top below : ℕ) (before after : Levels) (old new : Obligations) (at : Obligation) (found : Option Lifted)
     (handled : Handled) → AreObligations q goal top old → IsDue (length old.nodes.items) top at → IsPutIn at old.queue.items new.queue.items
-    → IsHandled q before after below (state_at old.nodes.items at.node) found
+    → IsHandled q before after below (cube_at old.nodes.items at.node) found
     → IsKeptWith old.nodes.items new.nodes.items at below found handled → AreObligations q goal top new
 kept-are q goal top below before after old new at None handled are due put is (same, e) = record {
   nodes = subst (AreNodes q goal) (sym same) are.nodes;
@@ -249,24 +244,28 @@ kept-are q goal top below before after old new at None handled are due put is (s
       subst (λ ns. All (IsDue (length ns) top) new.queue.items) (sym same)
       (due-put (length old.nodes.items) top at old.queue.items new.queue.items put are.due due);
 }
-kept-are q goal top below before after old new at (Some p) handled are due put (found, stay) (made, e) = record {
+kept-are q goal top below before after old new at (Some l) handled are due put (found, stay) (made, e) = record {
   nodes =
       subst (AreNodes q goal) (sym made)
-      (nodes-push q goal old.nodes.items (nodes.Step p at.node) are.nodes (due.node, found.arena, found.next));
+      (nodes-push q goal old.nodes.items (record { cube = l.cube; way = ways.Step l.position at.node }) are.nodes (record {
+        size = found.arena.possible.position.latches;
+        part = found.lifted.part;
+        way = (due.node, found.arena, found.inside, found.lifted);
+      }));
   due =
       due-more (length old.nodes.items) (length new.nodes.items) top new.queue.items
-      (more-nodes old.nodes.items new.nodes.items (nodes.Step p at.node) made)
+      (more-nodes old.nodes.items new.nodes.items (record { cube = l.cube; way = ways.Step l.position at.node }) made)
       (due-put (length old.nodes.items) top at old.queue.items new.queue.items put are.due due);
 }
 
-pub gone-on : (q : Question) (top below : ℕ) (cube : List Lit) (before after : Levels) (old new : List Node) (at : Obligation) (found : Option Position)
-    (handled : Handled) → IsDue (length old) top at → below < at.level → IsHandled q before after below (state_at old at.node) found
+pub gone-on : (q : Question) (top below : ℕ) (cube : List Lit) (before after : Levels) (old new : List Node) (at : Obligation) (found : Option Lifted)
+    (handled : Handled) → IsDue (length old) top at → below < at.level → IsHandled q before after below (cube_at old at.node) found
     → IsKeptWith old new at below found handled → IsGoneOn (length q.circuit.latches) top cube before after new at handled
 gone-on q top below cube before after old new at None handled due under is (same, e) =
     subst (IsGoneOn (length q.circuit.latches) top cube before after new at) (sym e) is
-gone-on q top below cube before after old new at (Some p) handled due under (found, stay) (made, e) =
+gone-on q top below cube before after old new at (Some l) handled due under (found, stay) (made, e) =
     subst (IsGoneOn (length q.circuit.latches) top cube before after new at) (sym e) (
-      open-new top after old new (nodes.Step p at.node) below made (omega (arith, due.level, under)) found.frame,
+      open-new top after old new (record { cube = l.cube; way = ways.Step l.position at.node }) below made (omega (arith, due.level, under)) found.frame,
       under,
       stay,
     )

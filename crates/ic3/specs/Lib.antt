@@ -1,5 +1,6 @@
 pub mod SteppingInside
 pub mod Sound
+pub mod Lifting
 pub mod Blocking
 pub mod Strengthening
 pub mod Starting
@@ -7,3 +8,4 @@ pub mod Pushing
 pub mod Turning
 pub mod Searches
 pub mod SearchesInside
+pub mod Single

@@ -1,7 +1,9 @@
 -- The cube of the starts of a search (scaffolding).
 use Rattle.std.specs.Prelude.{ℕ, ◌+◌, Bool, List, [], ◌∷◌}
+use Rattle.std.specs.List.{list_any}
 use Rattle.aig_semantics.specs.Circuits.{Circuit}
 use Rattle.proof_semantics.specs.declared.literals.Lit.{Lit}
+use Rattle.proof_semantics.specs.Clauses.{negation, has_literal}
 use Rattle.fair_semantics.specs.States.{initial_cube}
 use Rattle.ic3_questions.specs.declared.questions.Start.{Start}
 use Rattle.ic3_questions.specs.declared.questions.Start.TheVariants.{Initial, State}
@@ -15,3 +17,7 @@ value_literals n (value ∷ values) = record { var = n; positive = value } ∷ v
 abbrev pub start_cube : Circuit → Start → List Lit
 start_cube c Initial = initial_cube c
 start_cube c (State from) = value_literals 0 from
+
+-- the cube misses the starts by one literal
+abbrev pub misses_starts : List Lit → List Lit → Bool
+misses_starts starts cube = list_any (λ l. has_literal cube (negation l)) starts

@@ -1,11 +1,12 @@
 -- Scaffolding of inner functions. What the solver of a search keeps.
-use Rattle.std.specs.Prelude.{◌≡◌, ◌↔◌, ℕ, ◌+◌, ◌<◌, ◌≤◌, ◌==◌, ◌||◌, ◌⊎◌, Bool, true, false, List, [], ◌∷◌, ◌++◌, length, Option, Some, None}
-use Rattle.std.specs.List.{AllByRecursion, list_any}
+use Rattle.std.specs.Prelude.{◌≡◌, ◌↔◌, ℕ, ◌+◌, ◌<◌, ◌≤◌, ◌==◌, ◌||◌, ◌⊎◌, Bool, true, false, List, [], ◌∷◌, ◌++◌, length, map, Option, Some, None}
+use Rattle.std.specs.List.{All, AllByRecursion, list_any}
 use Rattle.aig_semantics.specs.declared.traces.Position.{Position}
 use Rattle.aig_semantics.specs.Circuits.{Circuit, IsChecked}
 use Rattle.aig_semantics.specs.Literals.{variable_of, is_negated}
 use Rattle.aig_semantics.specs.Valuations.{valuation, IsValuation}
 use Rattle.proof_semantics.specs.declared.literals.Lit.{Lit}
+use Rattle.proof_semantics.specs.Clauses.{literal_value, clauses_value, cube_value, values_of}
 use Rattle.cdcl.specs.Solving.{IsModel, HasNoModel}
 use Rattle.cdcl.specs.Asking.{IsCore, assigned}
 use Rattle.cdcl.specs.declared.asking.Asked.{Asked}
@@ -14,8 +15,8 @@ use Rattle.cnf_unroll.specs.Situations.{situation_in}
 use Rattle.cnf_unroll.specs.Numbers.{state_place, successor_place, clause_at_place, literal_in_block}
 use Rattle.cnf_unroll.specs.Laws.{AreOver}
 use Rattle.entry.specs.Laws.{IsGoodList}
-use Rattle.ic3_questions.specs.Stepping.{Stepping, IsOver}
-use Rattle.ic3_questions.specs.SteppingClauses.{first_guard, held_clauses, guarded, denied_at, level_guard, question_guard, Retires, AreBelow, AreAssumed, part_at}
+use Rattle.ic3_questions.specs.Stepping.{Stepping, meets_from, IsOver}
+use Rattle.ic3_questions.specs.SteppingClauses.{base_clauses, first_guard, held_clauses, guarded, denied_at, level_guard, question_guard, Retires, AreBelow, AreAssumed, part_at}
 use Rattle.ic3_questions.specs.declared.found.Found.{Found}
 use Rattle.ic3_questions.specs.declared.found.Found.TheVariants.{Step, Missing}
 use Rattle.ic3_questions.specs.declared.lemmas.Lemma.{Lemma}
@@ -27,7 +28,8 @@ HasOneValuation c =
     (latches inputs values : List Bool) → length latches ≡ length c.latches → length inputs ≡ length c.inputs
     → (IsValuation c latches inputs values ↔ (values ≡ valuation c latches inputs))
 
--- The clauses and numbers are those of this solver of a search.
+-- The numbers are those of this solver of a search, and so are the clauses, together with those of the base, of which the
+-- solver has a part.
 pub record IsHeldBy (st : Stepping) (s : Questions) : Type 0 where
   pub checked : IsChecked st.question.circuit
   pub law : HasOneValuation st.question.circuit
@@ -38,7 +40,12 @@ pub record IsHeldBy (st : Stepping) (s : Questions) : Type 0 where
   pub levels : AreBelow s.levels st.lemmas
   pub lemmas : AllByRecursion (λ lemma. IsOver (length st.question.circuit.latches) lemma.clause) st.lemmas
   pub avoid : AreOver (length st.question.circuit.latches) st.avoid
-  pub retires : Retires s.solver.added (held_clauses st s.free) s.free s.asked
+  pub retires : Retires (base_clauses st.question ++ s.solver.added) (held_clauses st s.free) s.free s.asked
+
+-- These are all clauses of the base, and those of the solver.
+pub record IsHeldWith (st : Stepping) (base : List (List Lit)) (s : Questions) : Type 0 where
+  pub whole : base ≡ base_clauses st.question
+  pub by : IsHeldBy st s
 
 -- the numbers are as before
 pub record KeepsNumbers (old new : Questions) : Type 0 where
@@ -61,11 +68,24 @@ pub record Begins (cube : List Lit) (old new : Questions) : Type 0 where
   pub added : new.solver.added ≡ old.solver.added ++ question_clause old cube ∷ []
   pub asked : new.asked ≡ old.asked + 1
 
--- What was held beside clauses of questions is held so still.
+-- What was held beside clauses of questions, with other clauses in front, is held so still.
 pub record Keeps (old new : Questions) : Type 0 where
   pub numbers : KeepsNumbers old new
-  pub retires : (held : List (List Lit)) → Retires old.solver.added held old.free old.asked
-      → Retires new.solver.added held new.free new.asked
+  pub retires : (front held : List (List Lit)) → Retires (front ++ old.solver.added) held old.free old.asked
+      → Retires (front ++ new.solver.added) held new.free new.asked
+
+-- ---- clauses of the base that come
+
+-- Clauses came that hold where those of the base do.
+pub record Grows (base old new : List (List Lit)) : Type 0 where
+  pub fewer : (v : ℕ → Bool) → clauses_value v new ≡ true → clauses_value v old ≡ true
+  pub more : (v : ℕ → Bool) → clauses_value v base ≡ true → clauses_value v old ≡ true → clauses_value v new ≡ true
+
+-- the clauses hold only where those of the base do
+abbrev pub IsWhole : List (List Lit) → List (List Lit) → Type 0
+IsWhole base added = (v : ℕ → Bool) → clauses_value v added ≡ true → clauses_value v base ≡ true
+
+-- ---- questions
 
 -- A model of the question for a step from this level, outside the cube, into it.
 pub record ModelInto (s : Questions) (level : ℕ) (cube : List Lit) (v : ℕ → Bool) : Type 0 where
@@ -124,6 +144,46 @@ TellsLiteral s c level literal found =
     ((is_read c (variable_of literal) ≡ true) × TellsGoal s c level (literal_in_block 0 literal ∷ []) found)
     ⊎ (((is_read c (variable_of literal) ≡ false) × ((is_negated literal ≡ true) × TellsGoal s c level [] found))
     ⊎ ((is_read c (variable_of literal) ≡ false) × ((is_negated literal ≡ false) × (found ≡ None))))
+
+-- ---- what is tried
+
+-- The position of an assignment of the base; its state meets the lemmas from this level on and is not in the cube, which
+-- its successor is in.
+pub record TriedInto (base : List (List Lit)) (c : Circuit) (lemmas : List Lemma) (level : ℕ) (cube : List Lit) (p : Position) :
+    Type 0 where
+  pub value : ℕ → Bool
+  pub holds : clauses_value value base ≡ true
+  pub is : p ≡ (situation_in c 0 value).position
+  pub frame : meets_from lemmas level p.latches ≡ true
+  pub outside : cube_value (values_of p.latches) cube ≡ false
+  pub inside : cube_value (values_of (map value (successor_place c 0))) cube ≡ true
+
+-- what is told of a question for a step, where it was told by a trial
+abbrev pub TellsTried : Questions → List (List Lit) → Circuit → List Lemma → ℕ → List Lit → Option Found → Type 0
+TellsTried s base c lemmas level cube None = Unit {0}
+TellsTried s base c lemmas level cube (Some (Step p)) = TriedInto base c lemmas level cube p
+TellsTried s base c lemmas level cube (Some (Missing part)) =
+    (core : List Lit) × CoreInto s level cube core × (part ≡ part_at s.next core cube)
+
+-- The position of an assignment of the base, which makes the literal true; its state meets the lemmas from this level on,
+-- and is in none of the cubes.
+pub record TriedGoal (base : List (List Lit)) (c : Circuit) (lemmas : List Lemma) (avoid : List (List Lit)) (level literal : ℕ)
+    (p : Position) : Type 0 where
+  pub value : ℕ → Bool
+  pub holds : clauses_value value base ≡ true
+  pub is : p ≡ (situation_in c 0 value).position
+  pub frame : meets_from lemmas level p.latches ≡ true
+  pub met : literal_value value (literal_in_block 0 literal) ≡ true
+  pub avoids : All (λ cube. cube_value (values_of p.latches) cube ≡ false) avoid
+
+-- the same of a question for a goal
+abbrev pub TellsTriedGoal : Questions → List (List Lit) → Circuit → List Lemma → List (List Lit) → ℕ → ℕ → Option (Option Position)
+    → Type 0
+TellsTriedGoal s base c lemmas avoid level literal None = Unit {0}
+TellsTriedGoal s base c lemmas avoid level literal (Some (Some p)) = TriedGoal base c lemmas avoid level literal p
+TellsTriedGoal s base c lemmas avoid level literal (Some None) = NoModelGoal s level (literal_in_block 0 literal ∷ [])
+
+-- ---- lemmas
 
 -- one lemma more
 pub record Holds (level : ℕ) (clause : List Lit) (old new : Questions) : Type 0 where

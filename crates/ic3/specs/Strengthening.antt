@@ -4,7 +4,8 @@ use Rattle.std.specs.Prelude.{◌≡◌, ℕ, ◌+◌, ◌<◌, ◌≤◌, true,
 use Rattle.proof_semantics.specs.declared.literals.Lit.{Lit}
 use Rattle.proof_semantics.specs.Clauses.{lit_eq, negation, has_literal, is_part}
 use Rattle.ic3_questions.specs.Stepping.{Stepping, IsOver}
-use Rattle.ic3.specs.Blocking.{NoneEnters, misses_starts}
+use Rattle.ic3.specs.Starting.{misses_starts}
+use Rattle.ic3.specs.Blocking.{NoneEnters}
 
 -- A cube over the latches that misses the starts, and that no step from the frame of the level enters.
 pub record IsExcluded (starts : List Lit) (st : Stepping) (level : ℕ) (cube : List Lit) : Type 0 where

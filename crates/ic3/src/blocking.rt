@@ -1,23 +1,31 @@
 //! Bad states of the last frame are excluded, one after another, or one of them ends a path. The main call is `block`: it
 //! takes the obligation of the lowest level and goes down from it, through a state before it in the frame below, and one
 //! before that. The last one is a start, and then they are a path; or it has no state before it, and a lemma excludes it.
+//! Each state that is found stands for a cube of states that take the same way.
 //! An obligation whose state is excluded goes back at the next level whose frame allows it.
-ghost use Rattle.std.specs.Prelude.{◌≡◌, ◌+◌, ◌<◌, ◌≤◌, true, false, ◌++◌, length, IfOk, IfErr, OnOk};
-ghost use Rattle.proof_semantics.specs.Clauses.{cube_value, values_of};
+ghost use Rattle.std.specs.Prelude.{◌≡◌, ◌+◌, ◌<◌, ◌≤◌, true, false, length, IfOk, IfErr, OnOk};
+ghost use Rattle.proof_semantics.specs.Clauses.{cube_value, values_of, is_part};
+ghost use Rattle.edge.specs.Ends.{CountsConflicts, IsEnd};
 ghost use Rattle.ic3_frames.specs.Frames.{frame_at};
 ghost use Rattle.ic3_frames.specs.Room.{room, allowed_by};
 ghost use Rattle.ic3_questions.specs.Searching.{IsReachEnd};
-ghost use Rattle.ic3.specs.Sound.{IsSearch, IsGoalOf, IsBlocked, KeepsQuestion};
+ghost use Rattle.ic3_questions.specs.Stepping.{IsOver, IsPredecessor};
+ghost use Rattle.ic3.specs.Starting.{value_literals};
+ghost use Rattle.ic3.specs.Sound.{IsSearch, IsGoalOf, IsBlocked, KeepsQuestion, Agree};
 ghost use Rattle.ic3.specs.Searches.{CountsUpTo};
-ghost use Rattle.ic3.specs.Blocking.{AreNodes, AreObligations, IsOpen, IsHandled, IsPutIn, IsKeptWith, IsGoneOn, IsDescended, IsTurnedTo, LeadsOn, state_at, next_node, own_way};
+ghost use Rattle.ic3.specs.Blocking.{AreObligations, IsOpen, IsBefore, IsHandled, IsPutIn, IsKeptWith, IsGoneOn, IsDescended, IsTurnedTo};
 
-use crate::obligations::{Node, Obligation, Obligations, put_due, put_node, state_at, take_next};
+use crate::lifting::lift_step;
+use crate::obligations::{
+    Lifted, Node, Obligation, Obligations, Way, cube_at, put_due, put_node, state_at, take_next,
+};
+use crate::replaying::way_of;
 use crate::starting::state_cube;
 use crate::steps::Steps;
-use crate::strengthening::{holds_in, strengthen};
+use crate::strengthening::{based, holds_in, misses_starts, strengthen};
 use circuit::Position;
 use cnf::Cube;
-use edge::Meter;
+use edge::{Meter, SolveEnd};
 use ic3_frames::Frames;
 use ic3_questions::{Found, Goal, ReachEnd};
 use items::Items;
@@ -256,7 +264,8 @@ fn go_on(
         return Ok(Handled::Start);
     }
     let below = at.level - 1;
-    let found = handle(alloc, starts, below, state, steps, frames, meter)?;
+    let cube = cube_at(&obligations.nodes, at.node);
+    let found = handle(alloc, starts, below, state, cube, steps, frames, meter)?;
     Ok(keep(obligations, at, below, found)?)
 }
 
@@ -265,38 +274,42 @@ fn keep(
     obligations: &mut Obligations,
     at: Obligation,
     below: u64,
-    found: Option<Position>,
+    found: Option<Lifted>,
 ) -> Result<Handled, AllocError>
     ensures due { OnOk result (IsPutIn at obligations.old.queue.items obligations.new.queue.items) }
     ensures kept { IfOk result (IsKeptWith obligations.old.nodes.items obligations.new.nodes.items at below found) }
 {
     put_due(&mut obligations.queue, at)?;
     match found {
-        Some(position) => {
-            let node = put_node(&mut obligations.nodes, Node::Step(position, at.node))?;
+        Some(Lifted { cube, position }) => {
+            let way = Way::Step(position, at.node);
+            let node = put_node(&mut obligations.nodes, Node { cube, way })?;
             Ok(Handled::Before(Obligation { node, level: below }))
         }
         None => Ok(Handled::Excluded),
     }
 }
 
-// A step before a state that is no start, from the frame below its own; or a lemma that excludes the state.
+// A step before a node whose state is no start, from the frame below its own, lifted; or a lemma that excludes the state.
+// A literal by which the state differs from the starts is put into the cube, if that has none.
 fn handle(
     alloc: Global,
     starts: &Cube,
     below: u64,
     state: &[bool],
+    cube: &Cube,
     steps: &mut Steps<'_>,
     frames: &mut Frames,
     meter: &mut Meter,
-) -> Result<Option<Position>, ReachEnd>
+) -> Result<Option<Lifted>, ReachEnd>
     requires search { IsSearch starts.now steps.old frames.old }
     requires level { below + 1 < length frames.old }
     requires size { length state.now ≡ length steps.old.question.circuit.latches }
     requires frame { allowed_by (frame_at frames.old (below + 1)) state.now ≡ true }
     requires outside { cube_value (values_of state.now) starts.now ≡ false }
+    requires part { is_part cube.now (value_literals 0 state.now) ≡ true }
     ensures search { OnOk result (IsSearch starts.now steps.new frames.new) }
-    ensures handled { IfOk result (IsHandled steps.old.question frames.old frames.new below state.now) }
+    ensures handled { IfOk result (IsHandled steps.old.question frames.old frames.new below cube.now) }
     ensures number { OnOk result (length frames.new ≡ length frames.old) }
     ensures question { KeepsQuestion steps.old steps.new }
     ensures room { let n = length steps.old.question.circuit.latches in
@@ -304,64 +317,75 @@ fn handle(
     ensures counted { CountsUpTo (room (length steps.old.question.circuit.latches) frames.old) meter.old meter.new }
     ensures end { IfErr result (IsReachEnd meter.new) }
 {
-    let cube = state_cube(alloc, state)?;
-    match steps.predecessor(alloc, below, &cube, meter)? {
-        Found::Step(position) => Ok(Some(position)),
+    let whole = state_cube(alloc, state)?;
+    let copy = cube.clone()?;
+    let asked = based(alloc, starts, &whole, copy)?;
+    match steps.predecessor(alloc, below, &asked, meter)? {
+        Found::Step(position) => {
+            let found = lifted(alloc, cube, &asked, below, below, position, steps, frames)?;
+            Ok(Some(from_start(
+                alloc, starts, below, cube, &asked, found, steps, frames, meter,
+            )?))
+        }
         Found::Missing(part) => {
-            strengthen(alloc, starts, below, state, part, steps, frames, meter)?;
+            strengthen(
+                alloc, starts, below, state, &asked, part, steps, frames, meter,
+            )?;
             Ok(None)
         }
     }
 }
 
-// The positions of the way from a node to the goal.
-fn way_of(
+// A step that was found. Where the cube of states that take it meets the starts, a step from a start, if the solver finds
+// one.
+fn from_start(
     alloc: Global,
-    _goal: &Goal<'_>,
-    nodes: &Vec<Node>,
-    first: u64,
-    _steps: &Steps<'_>,
-) -> Result<Items<Position>, AllocError>
-    requires nodes { AreNodes _steps.now.question _goal.now nodes.now.items }
-    requires first { first < length nodes.now.items }
-    ensures { IfOk result (LeadsOn _steps.now.question _goal.now (state_at nodes.now.items first)) }
+    starts: &Cube,
+    below: u64,
+    into: &Cube,
+    asked: &Cube,
+    found: Lifted,
+    steps: &mut Steps<'_>,
+    frames: &Frames,
+    meter: &mut Meter,
+) -> Result<Lifted, SolveEnd>
+    requires agree { Agree steps.old.lemmas frames.now }
+    requires over { IsOver (length steps.old.question.circuit.latches) asked.now }
+    requires part { is_part into.now asked.now ≡ true }
+    requires before { IsBefore steps.old.question frames.now below into.now found }
+    ensures before { IfOk result (IsBefore steps.old.question frames.now below into.now) }
+    ensures same { steps.new ≡ steps.old }
+    ensures counted { CountsConflicts meter.old meter.new }
+    ensures end { IfErr result (IsEnd meter.new) }
 {
-    let mut way = Items::new(alloc);
-    let mut at = first;
-    'nodes: loop {
-        match push_way(alloc, &mut way, &nodes[at as usize])? {
-            Some(next) => at = next,
-            None => return Ok(way),
-        }
+    if misses_starts(starts, &found.cube) {
+        return Ok(found);
+    }
+    match steps.predecessor(alloc, 0, asked, meter)? {
+        Found::Step(position) => Ok(lifted(alloc, into, asked, 0, below, position, steps, frames)?),
+        Found::Missing(_) => Ok(found),
     }
 }
 
-// Puts a copy of the position of a node, if it has one, at the end, and answers the number of the next node.
-fn push_way(
+// The position of a step into a cube, from a level up to `_below`, with a cube of states that its inputs lead into the
+// part `into` of that cube.
+fn lifted(
     alloc: Global,
-    way: &mut Items<Position>,
-    node: &Node,
-) -> Result<Option<u64>, AllocError>
-    ensures { IfOk result (λ next. (next ≡ next_node node.now) × (way.new ≡ way.old ++ own_way node.now)) }
+    into: &Cube,
+    _asked: &Cube,
+    _level: u64,
+    _below: u64,
+    position: Position,
+    steps: &Steps<'_>,
+    _frames: &Frames,
+) -> Result<Lifted, AllocError>
+    requires agree { Agree steps.now.lemmas _frames.now }
+    requires over { IsOver (length steps.now.question.circuit.latches) _asked.now }
+    requires part { is_part into.now _asked.now ≡ true }
+    requires level { _level ≤ _below }
+    requires found { IsPredecessor steps.now _level _asked.now position }
+    ensures { IfOk result (IsBefore steps.now.question _frames.now _below into.now) }
 {
-    match node {
-        Node::Goal(_) => Ok(None),
-        Node::Last(position) => {
-            way.push(copy_of(alloc, position)?)?;
-            Ok(None)
-        }
-        Node::Step(position, next) => {
-            way.push(copy_of(alloc, position)?)?;
-            Ok(Some(*next))
-        }
-    }
-}
-
-fn copy_of(alloc: Global, position: &Position) -> Result<Position, AllocError>
-    ensures { IfOk result (λ copy. copy ≡ position.now) }
-{
-    Ok(Position {
-        latches: position.latches.try_copy(alloc)?,
-        inputs: position.inputs.try_copy(alloc)?,
-    })
+    let cube = lift_step(alloc, steps.circuit(), &position, into, &[])?;
+    Ok(Lifted { cube, position })
 }

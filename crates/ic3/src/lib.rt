@@ -9,21 +9,27 @@
 //! | `Steps` | the solver that a search asks: steps into cubes, goals that are met; public for its tests |
 //!
 //! What is asked and answered is defined in `ic3_questions`, and in `Searches` of `specs/`; the rest of `specs/` is
-//! scaffolding. The loops: `turning` (block, push, open a frame), `blocking` (with `obligations`, `strengthening`,
-//! `shortening` and `ordering`), `pushing`, `closing`, `starting`, over `steps` (the solver of one step) and `putting` (a
-//! lemma for solver and frames). `asking_again` keeps frames, and `going_on` puts their lemmas into a new solver.
+//! scaffolding. The loops: `turning` (block, push, open a frame), `blocking` (with `obligations`, `lifting`, `ending`,
+//! `replaying`, `strengthening`, `shortening` and `ordering`), `pushing`, `closing`, `starting`, `single` (a set of one literal, before frames), over `steps` (the solver of
+//! one step) and `putting` (a lemma for solver and frames). `asking_again` keeps frames, and `going_on` puts their lemmas
+//! into a new solver.
 #![tactic(auto)]
 
 mod asking_again;
 mod blocking;
 mod closing;
+mod cone;
+mod ending;
 mod going_on;
+mod lifting;
 mod obligations;
 mod ordering;
 mod pushing;
 mod putting;
+mod replaying;
 mod searching;
 mod shortening;
+mod single;
 mod starting;
 mod stepping_clauses;
 mod stepping_lemmas;
@@ -31,6 +37,7 @@ mod stepping_questions;
 mod stepping_start;
 mod steps;
 mod strengthening;
+mod trying;
 mod turning;
 
 pub use asking_again::Search;

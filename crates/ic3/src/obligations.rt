@@ -1,14 +1,19 @@
-//! Obligations of a search: states that lead to the goal, each with a level, in a queue. The main type is `Obligations`.
+//! Obligations of a search: cubes that lead to the goal, each with a level, in a queue. The main type is `Obligations`.
 ghost use Rattle.std.specs.Prelude.{◌≡◌, ℕ, ◌+◌, ◌<◌, ◌≤◌, true, false, [], ◌∷◌, ◌++◌, length, IfOk, IfErr, IfSome, IfNone, OnOk};
 ghost use Rattle.std.specs.List.{All};
 ghost use Rattle.edge.specs.Ends.{CountsConflicts, IsEnd};
 ghost use Rattle.ic3_frames.specs.Frames.{frame_at};
 ghost use Rattle.ic3_frames.specs.Room.{allowed_by};
-ghost use Rattle.ic3_questions.specs.Searching.{IsReachEnd};
+ghost use Rattle.ic3_questions.specs.Searching.{IsReachEnd, MeetsLiteral};
+ghost use Rattle.ic3_questions.specs.Stepping.{MeetsFrom};
 ghost use Rattle.ic3.specs.Sound.{IsSearch, IsGoalOf};
-ghost use Rattle.ic3.specs.Blocking.{node_state, state_at, AreNodes, IsDue, IsOpen, IsPutIn, IsFirst, IsStateFirst, IsLiteralFirst, IsNext, AreObligations, levels_left, left_above};
+ghost use Rattle.ic3.specs.Lifting.{IsGoalLifted};
+ghost use Rattle.ic3.specs.Blocking.{way_state, state_at, cube_at, AreNodes, IsDue, IsOpen, IsPutIn, IsFirst, IsStateFirst, IsLastFirst, IsLiteralFirst, IsNext, AreObligations, levels_left, left_above};
 
+use crate::lifting::lift_goal;
+use crate::starting::state_cube;
 use crate::steps::Steps;
+use crate::strengthening::misses_starts;
 use circuit::Position;
 use cnf::Cube;
 use edge::{Held, Meter, SolveEnd};
@@ -17,30 +22,44 @@ use ic3_questions::{Goal, ReachEnd};
 use items::Items;
 use std::alloc::{AllocError, Global};
 
-/// A state that leads to the goal, and how.
+/// How a state leads to the goal. The other states of its cube do by the same inputs.
 #[derive(Debug, Drop)]
-pub(crate) enum Node {
-    /// The state that is the goal.
+pub(crate) enum Way {
+    /// It is the goal.
     Goal(Items<bool>),
-    /// The state of a position that meets the literal as goal.
+    /// It is that of a position that meets the literal as goal.
     Last(Position),
-    /// The state of a position whose successor is the state of the node with this number.
+    /// It is that of a position whose successor lies in the cube of the node with this number.
     Step(Position, u64),
 }
 
-impl Node {
-    pub(crate) fn state(&self) -> &[bool]
-        ensures { result.now ≡ node_state self.now }
+impl Way {
+    fn state(&self) -> &[bool]
+        ensures { result.now ≡ way_state self.now }
     {
         match self {
-            Node::Goal(state) => state.as_slice(),
-            Node::Last(position) => position.latches.as_slice(),
-            Node::Step(position, _) => position.latches.as_slice(),
+            Way::Goal(state) => state.as_slice(),
+            Way::Last(position) => position.latches.as_slice(),
+            Way::Step(position, _) => position.latches.as_slice(),
         }
     }
 }
 
-/// What is to be shown: that the frame of a level need not have the state of the node with this number.
+/// A cube of states that lead to the goal, and how one of them does, which was found.
+#[derive(Debug, Drop)]
+pub(crate) struct Node {
+    pub(crate) cube: Cube,
+    pub(crate) way: Way,
+}
+
+/// A position that was found before a cube, and a cube of states that step there by its inputs.
+#[derive(Debug, Drop)]
+pub(crate) struct Lifted {
+    pub(crate) cube: Cube,
+    pub(crate) position: Position,
+}
+
+/// What is to be shown: that the frame of a level need not have the cube of the node with this number.
 #[derive(Clone, Copy, Debug, Drop)]
 pub(crate) struct Obligation {
     pub(crate) node: u64,
@@ -60,7 +79,15 @@ pub(crate) fn state_at(nodes: &Vec<Node>, node: u64) -> &[bool]
     requires { node < length nodes.now.items }
     ensures { result.now ≡ state_at nodes.now.items node }
 {
-    nodes[node as usize].state()
+    nodes[node as usize].way.state()
+}
+
+/// The cube of the node with this number.
+pub(crate) fn cube_at(nodes: &Vec<Node>, node: u64) -> &Cube
+    requires { node < length nodes.now.items }
+    ensures { result.now ≡ cube_at nodes.now.items node }
+{
+    &nodes[node as usize].cube
 }
 
 /// Puts a node behind the others, and answers its number.
@@ -174,12 +201,81 @@ fn state_node(
     if !frames.at(level).allows(to) {
         return Ok(None);
     }
-    Ok(Some(Node::Goal(Items::from_slice(alloc, to)?)))
+    let cube = state_cube(alloc, to)?;
+    let way = Way::Goal(Items::from_slice(alloc, to)?);
+    Ok(Some(Node { cube, way }))
 }
 
-// A position that meets the literal as goal, if the frame of a level allows one.
+// The cube of a position that meets the literal as goal.
+fn goal_cube(
+    alloc: Global,
+    literal: u64,
+    position: &Position,
+    steps: &Steps<'_>,
+) -> Result<Cube, AllocError>
+    requires { MeetsLiteral steps.now.question literal steps.now.avoid position.now }
+    ensures { let q = steps.now.question in
+        IfOk result (IsGoalLifted q.circuit q.view q.start steps.now.avoid literal position.now) }
+{
+    lift_goal(
+        alloc,
+        steps.circuit(),
+        steps.view(),
+        steps.start(),
+        steps.avoid(),
+        literal,
+        position,
+    )
+}
+
+// The node of a position that meets the literal as goal, from a state of the frame of a level up to `_top`.
+fn last_node(
+    alloc: Global,
+    literal: u64,
+    _level: u64,
+    _top: u64,
+    position: Position,
+    steps: &Steps<'_>,
+) -> Result<Node, AllocError>
+    requires level { _level ≤ _top }
+    requires found { MeetsFrom steps.now _level literal position }
+    ensures { IfOk result (IsLastFirst steps.now _top literal) }
+{
+    let cube = goal_cube(alloc, literal, &position, steps)?;
+    let way = Way::Last(position);
+    Ok(Node { cube, way })
+}
+
+// A node of a position that meets the literal as goal. Where its cube meets the starts, that of a position from a start,
+// if the solver finds one.
+fn last_from_start(
+    alloc: Global,
+    starts: &Cube,
+    literal: u64,
+    top: u64,
+    node: Node,
+    steps: &mut Steps<'_>,
+    meter: &mut Meter,
+) -> Result<Node, SolveEnd>
+    requires { IsLastFirst steps.old top literal node }
+    ensures first { IfOk result (IsLastFirst steps.old top literal) }
+    ensures same { steps.new ≡ steps.old }
+    ensures end { IfErr result (IsEnd meter.new) }
+    ensures counted { CountsConflicts meter.old meter.new }
+{
+    if misses_starts(starts, &node.cube) {
+        return Ok(node);
+    }
+    match steps.meets_goal(alloc, 0, literal, meter)? {
+        Some(position) => Ok(last_node(alloc, literal, 0, top, position, steps)?),
+        None => Ok(node),
+    }
+}
+
+// A position that meets the literal as goal, with its cube, if the frame of a level allows one.
 fn literal_node(
     alloc: Global,
+    starts: &Cube,
     literal: u64,
     level: u64,
     steps: &mut Steps<'_>,
@@ -191,7 +287,10 @@ fn literal_node(
     ensures counted { CountsConflicts meter.old meter.new }
 {
     match steps.meets_goal(alloc, level, literal, meter)? {
-        Some(position) => Ok(Some(Node::Last(position))),
+        Some(position) => {
+            let node = last_node(alloc, literal, level, level, position, steps)?;
+            Ok(Some(last_from_start(alloc, starts, literal, level, node, steps, meter)?))
+        }
         None => Ok(None),
     }
 }
@@ -199,14 +298,14 @@ fn literal_node(
 // A node of the goal that the last frame allows, if there is one. `top` is the number of the last frame.
 fn first_node(
     alloc: Global,
-    _starts: &Cube,
+    starts: &Cube,
     goal: &Goal<'_>,
     top: u64,
     steps: &mut Steps<'_>,
     frames: &Frames,
     meter: &mut Meter,
 ) -> Result<Option<Node>, ReachEnd>
-    requires search { IsSearch _starts.now steps.old frames.now }
+    requires search { IsSearch starts.now steps.old frames.now }
     requires goal { IsGoalOf steps.old goal.now }
     ensures first { IfOk result (IsFirst steps.old.question goal.now frames.now top) }
     ensures same { steps.new ≡ steps.old }
@@ -215,7 +314,9 @@ fn first_node(
 {
     match goal {
         Goal::State(to) => Ok(state_node(alloc, to, frames, top)?),
-        Goal::Literal { literal, .. } => Ok(literal_node(alloc, *literal, top, steps, meter)?),
+        Goal::Literal { literal, .. } => Ok(literal_node(
+            alloc, starts, *literal, top, steps, meter,
+        )?),
     }
 }
 

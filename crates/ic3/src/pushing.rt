@@ -1,11 +1,11 @@
 //! Lemmas that hold after each step from their frame go into the next one too. The main call is `push_all`.
-ghost use Rattle.std.specs.Prelude.{◌≡◌, ◌↔◌, ◌+◌, ◌<◌, ◌≤◌, [], map, length, slice_index_or, IsTrue, IfOk, IfErr, OnOk};
+ghost use Rattle.std.specs.Prelude.{◌≡◌, ◌↔◌, ◌+◌, ◌<◌, ◌≤◌, [], map, length, slice_index_or, IsTrue, IfOk, IfErr, OnOk, false, true, ◌⊎◌};
 ghost use Rattle.proof_semantics.specs.Clauses.{negation};
 ghost use Rattle.edge.specs.Ends.{CountsConflicts, IsEnd};
 ghost use Rattle.ic3_frames.specs.Frames.{own_lemmas};
 ghost use Rattle.ic3_frames.specs.Room.{room};
-ghost use Rattle.ic3.specs.Sound.{IsSearch, IsRelative, KeepsQuestion, AreStuck};
-ghost use Rattle.ic3.specs.Pushing.{IsPushed, IsTried, Narrows, StayStuck, AllStuck, place_after};
+ghost use Rattle.ic3.specs.Sound.{IsSearch, IsRelative, KeepsQuestion};
+ghost use Rattle.ic3.specs.Pushing.{IsPushed, IsTried, Narrows, AreTriedStuck, StayStuck, AllStuck, place_after};
 
 use crate::steps::Steps;
 use cnf::{Clause, Cube};
@@ -15,10 +15,12 @@ use ic3_questions::Found;
 use std::alloc::{AllocError, Global};
 
 /// Puts each lemma of a frame that holds after each step from it into the next frame too, from the lowest frame up.
-/// `starts` is the cube of the starts.
+/// `starts` is the cube of the starts. The literals of the starts, which are the lemmas of the lowest frame, are tried in
+/// the first turn of a search (`anew`): which of them hold after a step stays so, and later turns try the first alone.
 pub(crate) fn push_all(
     alloc: Global,
     starts: &Cube,
+    anew: bool,
     steps: &mut Steps<'_>,
     frames: &mut Frames,
     meter: &mut Meter,
@@ -35,16 +37,18 @@ pub(crate) fn push_all(
     ensures counted { CountsConflicts meter.old meter.new }
 {
     for level in 1..frames.len() {
-        push_level(alloc, starts, level - 1, steps, frames, meter)?;
+        let all = tries_all(anew, level - 1);
+        push_level(alloc, starts, level - 1, all, steps, frames, meter)?;
     }
     Ok(())
 }
 
-// The same of one level.
+// The same of one level: of all its lemmas, or up to the first that does not.
 fn push_level(
     alloc: Global,
     starts: &Cube,
     level: u64,
+    all: bool,
     steps: &mut Steps<'_>,
     frames: &mut Frames,
     meter: &mut Meter,
@@ -52,7 +56,7 @@ fn push_level(
     requires search { IsSearch starts.now steps.old frames.old }
     requires next { level + 1 < length frames.old }
     ensures search { OnOk result (IsSearch starts.now steps.new frames.new) }
-    ensures stuck { OnOk result (AreStuck steps.old.question frames.new level) }
+    ensures stuck { OnOk result (AreTriedStuck steps.old.question all frames.new level) }
     ensures stay { OnOk result (StayStuck steps.old.question frames.old frames.new level) }
     ensures number { OnOk result (length frames.new ≡ length frames.old) }
     ensures narrows { OnOk result (Narrows frames.old frames.new) }
@@ -63,11 +67,29 @@ fn push_level(
     ensures counted { CountsConflicts meter.old meter.new }
 {
     let mut place: u64 = 0;
-    'places: while has_lemma(frames, level, place) {
+    'places: while is_due(frames, level, all, place) {
         let pushed = try_push(alloc, starts, level, place, steps, frames, meter)?;
         place = place_after(place, pushed)?;
     }
     Ok(())
+}
+
+// Whether all lemmas of a level are tried.
+fn tries_all(anew: bool, level: u64) -> bool
+    ensures { result ≡ false → level ≡ 0 }
+{
+    anew || level > 0
+}
+
+// Whether a level has a lemma at this place, and it is tried.
+fn is_due(frames: &Frames, level: u64, all: bool, place: u64) -> bool
+    ensures yes { result ≡ true → place < length (own_lemmas frames.now level) }
+    ensures no { result ≡ false → (length (own_lemmas frames.now level) ≤ place) ⊎ ((all ≡ false) × (0 < place)) }
+{
+    if !all && place > 0 {
+        return false;
+    }
+    has_lemma(frames, level, place)
 }
 
 // Where the next lemma is looked for.

@@ -1,5 +1,5 @@
 //! The search. The main call is `reach`.
-ghost use Rattle.std.specs.Prelude.{◌≡◌, ◌+◌, ◌≤◌, length, IfOk, IfErr, OnOk};
+ghost use Rattle.std.specs.Prelude.{◌≡◌, ◌+◌, ◌≤◌, [], ◌∷◌, length, IfOk, IfErr, OnOk};
 ghost use Rattle.entry.specs.CheckedEntries.{viewed};
 ghost use Rattle.entry.specs.Laws.{IsGoodList};
 ghost use Rattle.ic3_frames.specs.Frames.{frame_at};
@@ -9,19 +9,22 @@ ghost use Rattle.ic3.specs.Searches.{CountsUpTo};
 ghost use Rattle.ic3.specs.SearchesInside.{MayGoOn};
 ghost use Rattle.ic3.specs.Starting.{start_cube};
 ghost use Rattle.ic3_questions.specs.SteppingClauses.{own_uses};
+ghost use Rattle.ic3_questions.specs.Stepping.{no_lemmas};
 ghost use Rattle.ic3_questions.specs.Searching.{IsStart, IsGoal, IsReached, IsReachEnd, CountsSearch};
 
 use crate::closing::lemmas_from;
 use crate::going_on::make_ready;
+use crate::single::single;
 use crate::starting::start_cube;
 use crate::steps::Steps;
 use crate::turning::{Turned, turn_on};
 use circuit::Circuit;
-use cnf::Cube;
+use cnf::{Clause, Cube};
 use edge::Meter;
 use entry::Checked;
 use ic3_frames::Frames;
 use ic3_questions::{Goal, ReachEnd, Reached, Start, own_uses};
+use items::Items;
 use std::alloc::{AllocError, Global};
 use std::sync::Arc;
 
@@ -89,8 +92,58 @@ pub(crate) fn reach_on(
         OnOk result (meter.new.steps + room n frames.new ≤ meter.old.steps + room n frames.old) }
 {
     let mut steps = Steps::new(alloc, c, view, start, avoided(goal))?;
-    make_ready(alloc, starts, &mut steps, frames)?;
-    match turn_on(alloc, starts, goal, &mut steps, frames, meter)? {
+    match single(alloc, start, starts, goal, &mut steps, meter)? {
+        Some(clause) => Ok(close_one(alloc, view, start, clause)?),
+        None => turns(
+            alloc, c, view, start, starts, goal, &mut steps, frames, meter,
+        ),
+    }
+}
+
+// The same by frames, with a solver that has no lemmas.
+fn turns(
+    alloc: Global,
+    _c: &Circuit,
+    view: &[Arc<Checked>],
+    start: &Start,
+    starts: &Cube,
+    goal: &Goal<'_>,
+    steps: &mut Steps<'_>,
+    frames: &mut Frames,
+    meter: &mut Meter,
+) -> Result<Reached, ReachEnd>
+    requires view { IsGoodList _c.now (viewed view.now) }
+    requires start { IsStart _c.now start.now }
+    requires starts { starts.now ≡ start_cube _c.now start.now }
+    requires goal { IsGoal _c.now goal.now }
+    requires avoids { AvoidsAsked steps.old.avoid goal.now }
+    requires steps { steps.old ≡ no_lemmas (record {
+      circuit = _c.now;
+      view = viewed view.now;
+      start = start.now;
+    }) steps.old.avoid }
+    requires open { MayGoOn (record {
+      circuit = _c.now;
+      view = viewed view.now;
+      start = start.now;
+    }) starts.now frames.old }
+    ensures reached { IfOk result (IsReached (record {
+      circuit = _c.now;
+      view = viewed view.now;
+      start = start.now;
+    }) goal.now) }
+    ensures open { OnOk result (MayGoOn (record {
+      circuit = _c.now;
+      view = viewed view.now;
+      start = start.now;
+    }) starts.now frames.new) }
+    ensures end { IfErr result (IsReachEnd meter.new) }
+    ensures counted { CountsUpTo (room (length _c.now.latches) frames.old) meter.old meter.new }
+    ensures paid { let n = length _c.now.latches in
+        OnOk result (meter.new.steps + room n frames.new ≤ meter.old.steps + room n frames.old) }
+{
+    make_ready(alloc, starts, steps, frames)?;
+    match turn_on(alloc, starts, goal, steps, frames, meter)? {
         Turned::Path(positions) => Ok(Reached::Path(positions)),
         Turned::Closed(level) => Ok(close(alloc, view, start, frames, level)?),
         Turned::More => Err(ReachEnd::Memory),
@@ -119,6 +172,22 @@ fn close(
         reached ≡ Reached.Closed (frame_at frames.now level) (own_uses (viewed view.now) start.now)) }
 {
     let clauses = lemmas_from(alloc, frames, level)?;
+    let uses = own_uses(alloc, view, start)?;
+    Ok(Reached::Closed { clauses, uses })
+}
+
+// The closed set of one clause, with the same uses.
+fn close_one(
+    alloc: Global,
+    view: &[Arc<Checked>],
+    start: &Start,
+    clause: Clause,
+) -> Result<Reached, AllocError>
+    ensures { IfOk result (λ reached.
+        reached ≡ Reached.Closed (clause ∷ []) (own_uses (viewed view.now) start.now)) }
+{
+    let mut clauses = Items::new(alloc);
+    clauses.push(clause)?;
     let uses = own_uses(alloc, view, start)?;
     Ok(Reached::Closed { clauses, uses })
 }

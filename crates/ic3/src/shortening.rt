@@ -4,7 +4,8 @@ ghost use Rattle.std.proofs.Common.{◌∙◌};
 ghost use Rattle.proof_semantics.specs.Clauses.{is_part};
 ghost use Rattle.edge.specs.Ends.{CountsConflicts, IsEnd};
 ghost use Rattle.ic3_questions.specs.Stepping.{IsOver};
-ghost use Rattle.ic3.specs.Blocking.{NoneEnters, misses_starts};
+ghost use Rattle.ic3.specs.Blocking.{NoneEnters};
+ghost use Rattle.ic3.specs.Starting.{misses_starts};
 ghost use Rattle.ic3.specs.Strengthening.{IsExcluded, IsAsked, IsHeldFrom};
 
 use crate::ordering::by_activity;
@@ -63,9 +64,9 @@ fn may_be_asked(starts: &Cube, cube: &Cube, latches: usize) -> bool
     is_over(cube, latches) && misses_starts(starts, cube)
 }
 
-// A part of a cube that misses the starts, and that no step from the frame of the level enters; exactly where the cube
-// is such a one.
-fn ask(
+/// A part of a cube that misses the starts, and that no step from the frame of the level enters; exactly where the cube
+/// is such a one.
+pub(crate) fn ask(
     alloc: Global,
     starts: &Cube,
     level: u64,

@@ -1,6 +1,7 @@
 //! How guarded clauses come into a solver.
 ghost use Rattle.std.specs.Prelude.{◌≡◌, ◌∷◌, [], ◌++◌, map, OnOk, OnErr};
 ghost use Rattle.ic3_questions.specs.SteppingClauses.{guarded, denied_at};
+ghost use Rattle.ic3.specs.SteppingInside.{Grows, IsWhole};
 
 use cdcl::{Solver, are_sized};
 use cnf::{Clause, Cube, Db};
@@ -18,9 +19,10 @@ pub(crate) fn add(solver: &mut Solver, clause: Clause) -> Result<(), AllocError>
     solver.add(clause)
 }
 
-/// Adds clauses in their order.
+/// Adds all clauses of the base.
 pub(crate) fn add_all(solver: &mut Solver, clauses: &Db) -> Result<(), AllocError>
-    ensures { OnOk result (solver.new.added ≡ solver.old.added ++ clauses.now.clauses) }
+    ensures grows { Grows clauses.now.clauses solver.old.added solver.new.added }
+    ensures whole { OnOk result (IsWhole clauses.now.clauses solver.new.added) }
 {
     for clause in clauses.as_slice() {
         add(solver, clause.clone()?)?;

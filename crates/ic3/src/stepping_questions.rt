@@ -227,7 +227,7 @@ fn assume(
 }
 
 /// Asks for a step into the cube from a state outside it.
-fn ask_into(
+pub(crate) fn ask_into(
     alloc: Global,
     s: &mut Questions,
     level: u64,
@@ -244,8 +244,8 @@ fn ask_into(
     ask(&mut s.solver, alloc, s.free, assumptions.as_slice(), meter)
 }
 
-// The guard of the last question is false for good, so that its clause is true and is not looked at again.
-fn retire(alloc: Global, s: &mut Questions) -> Result<(), AllocError>
+/// The guard of the last question is false for good, so that its clause is true and is not looked at again.
+pub(crate) fn retire(alloc: Global, s: &mut Questions) -> Result<(), AllocError>
     ensures { Keeps s.old s.new }
 {
     if s.asked == 0 {
@@ -319,7 +319,7 @@ fn assume_true(
 }
 
 /// Asks for a position from a level at which these literals are true.
-fn ask_goal(
+pub(crate) fn ask_goal(
     alloc: Global,
     s: &mut Questions,
     level: u64,
@@ -375,13 +375,13 @@ fn is_gate(c: &Circuit, variable: u64) -> bool
 }
 
 /// Whether a clause of the block may hold the variable's number: it is 0, an input, a latch or a gate.
-fn is_read(c: &Circuit, variable: u64) -> bool
+pub(crate) fn is_read(c: &Circuit, variable: u64) -> bool
     ensures { result ≡ is_read c.now variable }
 {
     variable == 0 || is_input(c, variable) || is_latch(c, variable) || is_gate(c, variable)
 }
 
-fn literal_in_block(literal: u64) -> Lit
+pub(crate) fn literal_in_block(literal: u64) -> Lit
     ensures { result ≡ literal_in_block 0 literal }
 {
     Lit {

@@ -7,7 +7,8 @@ ghost use Rattle.ic3_questions.specs.Stepping.{no_lemmas};
 ghost use Rattle.ic3_questions.specs.SteppingClauses.{base_clauses, first_guard};
 ghost use Rattle.ic3.specs.SteppingInside.{IsHeldBy};
 
-use crate::stepping_clauses::{add_all, add_denials};
+use crate::cone::{Cone, meet_entries};
+use crate::stepping_clauses::add_denials;
 use crate::stepping_questions::{Questions, question_guard};
 use cdcl::Solver;
 use circuit::{Circuit, one_valuation};
@@ -20,7 +21,7 @@ use std::alloc::{AllocError, Global};
 use std::sync::Arc;
 
 /// The clauses of the block under the entries that restrict the steps, on the start's sides.
-fn base(
+pub(crate) fn base(
     alloc: Global,
     c: &Circuit,
     view: &[Arc<Checked>],
@@ -50,9 +51,21 @@ pub(crate) fn questions_of(
     view: &[Arc<Checked>],
     start: &Start,
     avoid: &[Cube],
+    begun: &Begun,
+    cone: &mut Cone,
 ) -> Result<Questions, AllocError>
     requires view { IsGoodList c.now (viewed view.now) }
     requires avoid { AreOver (length c.now.latches) avoid.now }
+    requires base { begun.now.clauses.clauses ≡ base_clauses (record {
+      circuit = c.now;
+      view = viewed view.now;
+      start = start.now;
+    }) }
+    requires free { begun.now.free ≡ first_guard (record {
+      circuit = c.now;
+      view = viewed view.now;
+      start = start.now;
+    }) }
     ensures { IfOk result (IsHeldBy (no_lemmas (record {
       circuit = c.now;
       view = viewed view.now;
@@ -63,9 +76,9 @@ pub(crate) fn questions_of(
     one_valuation(c);
     let here = state_place(alloc, c)?;
     let next = successor_place(alloc, c)?;
-    let begun = base(alloc, c, view, start)?;
+    let used = used(alloc, view, start)?;
     let mut solver = Solver::new(alloc)?;
-    add_all(&mut solver, &begun.clauses)?;
+    meet_entries(c, &begun.clauses, cone, &mut solver, used.as_slice())?;
     let guard = question_guard(begun.free, 0)?;
     add_denials(alloc, &mut solver, guard, here.as_slice(), avoid)?;
     Ok(Questions {

@@ -1,17 +1,22 @@
 //! The solver of one search: which steps of the arena lead from a frame into a cube. The main type is `Steps`.
-ghost use Rattle.std.specs.Prelude.{◌≡◌, length, IfOk, IfErr, OnOk, OnErr};
+ghost use Rattle.std.specs.Prelude.{◌≡◌, length, IfOk, IfErr, IfSome, OnOk, OnErr};
+ghost use Rattle.std.specs.List.{All};
 ghost use Rattle.cnf_unroll.specs.Laws.{AreOver};
 ghost use Rattle.edge.specs.Ends.{CountsConflicts, IsEnd};
 ghost use Rattle.entry.specs.CheckedEntries.{viewed};
 ghost use Rattle.entry.specs.Laws.{IsGoodList};
+ghost use Rattle.fair_semantics.specs.Validity.{AreValid};
 ghost use Rattle.ic3_questions.specs.Searching.{IsStart};
 ghost use Rattle.ic3_questions.specs.Stepping.{IsOver, IsFound, IsGoalFound, no_lemmas, with_lemma};
 
+use crate::cone::{Cone, meet, meet_nexts};
+use crate::stepping_clauses::add_all;
 use crate::stepping_lemmas::hold_lemma;
-use crate::stepping_questions::{Questions, goal_at, predecessor};
-use crate::stepping_start::questions_of;
+use crate::stepping_questions::{Questions, goal_at, is_read, predecessor};
+use crate::stepping_start::{base, questions_of};
+use crate::trying::{try_goal, try_predecessor};
 use circuit::{Circuit, Position};
-use cnf::{Clause, Cube};
+use cnf::{Clause, Cube, Db};
 use edge::{Meter, SolveEnd};
 use entry::Checked;
 use ic3_questions::{Found, Lemma, Start};
@@ -29,6 +34,9 @@ pub struct Steps<'a> {
     avoid: &'a [Cube],
     lemmas: Vec<Lemma>,
     questions: Questions,
+    // All clauses of the block under the entries, of which the solver has those of the cone.
+    base: Db,
+    cone: Cone,
     alloc: Global,
 }
 
@@ -44,13 +52,13 @@ impl<'a> Model for Steps<'a> {
       lemmas = s.lemmas.items;
     } };
 
-    ghost use Rattle.ic3.specs.SteppingInside.{IsHeldBy};
+    ghost use Rattle.ic3.specs.SteppingInside.{IsHeldWith};
 
-    ghost invariant = { λ s. IsHeldBy (record {
+    ghost invariant = { λ s. IsHeldWith (record {
       question = record { circuit = s.c.now; view = viewed s.view.now; start = s.start.now };
       avoid = s.avoid.now;
       lemmas = s.lemmas.items;
-    }) s.questions };
+    }) s.base.clauses s.questions };
 }
 
 impl<'a> Steps<'a> {
@@ -71,7 +79,9 @@ impl<'a> Steps<'a> {
           start = start.now;
         }) avoid.now) }
     {
-        let questions = questions_of(alloc, c, view, start, avoid)?;
+        let begun = base(alloc, c, view, start)?;
+        let mut cone = Cone::new(alloc, c)?;
+        let questions = questions_of(alloc, c, view, start, avoid, &begun, &mut cone)?;
         Ok(Steps {
             c,
             view,
@@ -79,6 +89,8 @@ impl<'a> Steps<'a> {
             avoid,
             lemmas: Vec::new(alloc),
             questions,
+            base: begun.clauses,
+            cone,
             alloc,
         })
     }
@@ -88,6 +100,37 @@ impl<'a> Steps<'a> {
         ensures { result ≡ length self.now.question.circuit.latches }
     {
         self.c.latches().len()
+    }
+
+    /// The circuit. Takes no memory.
+    pub(crate) fn circuit(&self) -> &Circuit
+        ensures circuit { result.now ≡ self.now.question.circuit }
+        ensures valid { AreValid self.now.question.circuit self.now.question.view }
+    {
+        self.c
+    }
+
+    /// The entries that are known. Takes no memory.
+    pub(crate) fn view(&self) -> &[Arc<Checked>]
+        ensures view { viewed result.now ≡ self.now.question.view }
+        ensures over { All (λ e. AreOver (length self.now.question.circuit.latches) e.clauses) self.now.question.view }
+    {
+        self.view
+    }
+
+    /// Where the search starts. Takes no memory.
+    pub(crate) fn start(&self) -> &Start
+        ensures { result.now ≡ self.now.question.start }
+    {
+        self.start
+    }
+
+    /// The cubes that a goal avoids. Takes no memory.
+    pub(crate) fn avoid(&self) -> &[Cube]
+        ensures avoid { result.now ≡ self.now.avoid }
+        ensures over { AreOver (length self.now.question.circuit.latches) self.now.avoid }
+    {
+        self.avoid
     }
 
     /// Puts a lemma over the latches behind the others. The error is want of memory, and changes nothing.
@@ -121,6 +164,60 @@ impl<'a> Steps<'a> {
         ensures end { IfErr result (IsEnd meter.new) }
         ensures counted { CountsConflicts meter.old meter.new }
     {
+        match self.try_predecessor(alloc, level, cube, meter)? {
+            Some(found) => Ok(found),
+            None => self.predecessor_in_all(alloc, level, cube, meter),
+        }
+    }
+
+    // What the clauses of the cone tell, where it stands up to a trial.
+    fn try_predecessor(
+        &mut self,
+        alloc: Global,
+        level: u64,
+        cube: &Cube,
+        meter: &mut Meter,
+    ) -> Result<Option<Found>, SolveEnd>
+        requires { IsOver (length self.old.question.circuit.latches) cube.now }
+        ensures found { IfOk result (λ found. IfSome found (IsFound self.old level cube.now)) }
+        ensures same { self.new ≡ self.old }
+        ensures end { IfErr result (IsEnd meter.new) }
+        ensures counted { CountsConflicts meter.old meter.new }
+    {
+        meet_nexts(
+            self.c,
+            &self.base,
+            &mut self.cone,
+            &mut self.questions.solver,
+            cube.as_slice(),
+        )?;
+        try_predecessor(
+            alloc,
+            self.c,
+            &mut self.questions,
+            &self.base,
+            &self.lemmas,
+            level,
+            cube,
+            meter,
+        )
+    }
+
+    // What all clauses tell.
+    fn predecessor_in_all(
+        &mut self,
+        alloc: Global,
+        level: u64,
+        cube: &Cube,
+        meter: &mut Meter,
+    ) -> Result<Found, SolveEnd>
+        requires { IsOver (length self.old.question.circuit.latches) cube.now }
+        ensures found { IfOk result (IsFound self.old level cube.now) }
+        ensures same { self.new ≡ self.old }
+        ensures end { IfErr result (IsEnd meter.new) }
+        ensures counted { CountsConflicts meter.old meter.new }
+    {
+        add_all(&mut self.questions.solver, &self.base)?;
         predecessor(alloc, self.c, &mut self.questions, level, cube, meter)
     }
 
@@ -139,6 +236,62 @@ impl<'a> Steps<'a> {
         ensures end { IfErr result (IsEnd meter.new) }
         ensures counted { CountsConflicts meter.old meter.new }
     {
+        match self.try_goal(alloc, level, literal, meter)? {
+            Some(found) => Ok(found),
+            None => self.goal_in_all(alloc, level, literal, meter),
+        }
+    }
+
+    // What the clauses of the cone tell, where it stands up to a trial.
+    fn try_goal(
+        &mut self,
+        alloc: Global,
+        level: u64,
+        literal: u64,
+        meter: &mut Meter,
+    ) -> Result<Option<Option<Position>>, SolveEnd>
+        ensures found { IfOk result (λ found. IfSome found (IsGoalFound self.old level literal)) }
+        ensures same { self.new ≡ self.old }
+        ensures end { IfErr result (IsEnd meter.new) }
+        ensures counted { CountsConflicts meter.old meter.new }
+    {
+        if !is_read(self.c, literal / 2) {
+            return Ok(None);
+        }
+        meet(
+            self.c,
+            &self.base,
+            &mut self.cone,
+            &mut self.questions.solver,
+            &[literal],
+        )?;
+        try_goal(
+            alloc,
+            self.c,
+            &mut self.questions,
+            &self.base,
+            &self.lemmas,
+            level,
+            self.avoid,
+            literal,
+            meter,
+        )
+    }
+
+    // What all clauses tell.
+    fn goal_in_all(
+        &mut self,
+        alloc: Global,
+        level: u64,
+        literal: u64,
+        meter: &mut Meter,
+    ) -> Result<Option<Position>, SolveEnd>
+        ensures found { IfOk result (IsGoalFound self.old level literal) }
+        ensures same { self.new ≡ self.old }
+        ensures end { IfErr result (IsEnd meter.new) }
+        ensures counted { CountsConflicts meter.old meter.new }
+    {
+        add_all(&mut self.questions.solver, &self.base)?;
         goal_at(alloc, self.c, &mut self.questions, level, literal, meter)
     }
 }

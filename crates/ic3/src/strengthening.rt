@@ -5,17 +5,16 @@ ghost use Rattle.ic3_frames.specs.Frames.{frame_at};
 ghost use Rattle.ic3_frames.specs.Room.{allowed_by};
 ghost use Rattle.ic3_questions.specs.Searching.{IsReachEnd};
 ghost use Rattle.ic3_questions.specs.Stepping.{IsMissing, IsOver};
-ghost use Rattle.ic3.specs.Starting.{value_literals};
+ghost use Rattle.ic3.specs.Starting.{value_literals, misses_starts};
 ghost use Rattle.ic3.specs.Sound.{IsSearch, IsRelative, KeepsQuestion, has_one_of};
 ghost use Rattle.ic3.specs.Searches.{CountsUpTo};
 ghost use Rattle.ic3.specs.Pushing.{Narrows};
-ghost use Rattle.ic3.specs.Blocking.{IsStronger, misses_starts};
+ghost use Rattle.ic3.specs.Blocking.{IsStronger};
 ghost use Rattle.ic3.specs.Strengthening.{IsOpposed, IsBased, with_literal};
 
 use crate::pushing::one_more;
 use crate::putting::put_lemma;
 use crate::shortening::{highest, shorten};
-use crate::starting::state_cube;
 use crate::steps::Steps;
 use crate::turning::steps_of;
 use cnf::{Clause, Cube, Lit};
@@ -110,13 +109,14 @@ pub(crate) fn based(
 }
 
 /// Puts a lemma against the state of an obligation into the frame of a level, from the one above `below` on, as high as
-/// it is seen to hold, and counts it; answers the level. No step leads from the frame `below` into `part`, a part of the
-/// state's cube, of which literals are dropped while that stays so.
+/// it is seen to hold, and counts it; answers the level. The state lies in the cube, which misses the starts. No step
+/// leads from the frame `below` into `part`, a part of the cube, of which literals are dropped while that stays so.
 pub(crate) fn strengthen(
     alloc: Global,
     starts: &Cube,
     below: u64,
     state: &[bool],
+    cube: &Cube,
     part: Cube,
     steps: &mut Steps<'_>,
     frames: &mut Frames,
@@ -126,8 +126,9 @@ pub(crate) fn strengthen(
     requires level { below + 1 < length frames.old }
     requires size { length state.now ≡ length steps.old.question.circuit.latches }
     requires frame { allowed_by (frame_at frames.old (below + 1)) state.now ≡ true }
-    requires outside { cube_value (values_of state.now) starts.now ≡ false }
-    requires missing { IsMissing steps.old below (value_literals 0 state.now) part }
+    requires among { is_part cube.now (value_literals 0 state.now) ≡ true }
+    requires misses { misses_starts starts.now cube.now ≡ true }
+    requires missing { IsMissing steps.old below cube.now part }
     ensures search { OnOk result (IsSearch starts.now steps.new frames.new) }
     ensures level { IfOk result (λ level. (below + 1 ≤ level) × (level < length frames.old)) }
     ensures excluded { IfOk result (λ level. allowed_by (frame_at frames.new level) state.now ≡ false) }
@@ -139,11 +140,10 @@ pub(crate) fn strengthen(
     ensures counted { CountsUpTo 1 meter.old meter.new }
     ensures end { IfErr result (IsReachEnd meter.new) }
 {
-    let whole = state_cube(alloc, state)?;
-    let first = based(alloc, starts, &whole, part)?;
-    let cube = shorten(alloc, starts, below, first, steps, frames, meter)?;
-    let from = highest(alloc, starts, below, &cube, steps, frames, meter)?;
-    let lemma = cube.negation()?;
+    let first = based(alloc, starts, cube, part)?;
+    let shorter = shorten(alloc, starts, below, first, steps, frames, meter)?;
+    let from = highest(alloc, starts, below, &shorter, steps, frames, meter)?;
+    let lemma = shorter.negation()?;
     put_counted(starts, from, state, lemma, steps, frames, meter)
 }
 

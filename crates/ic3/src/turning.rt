@@ -52,19 +52,21 @@ pub(crate) fn turn_on(
     ensures counted { CountsUpTo (room (length steps.old.question.circuit.latches) frames.old) meter.old meter.new }
     ensures end { IfErr result (IsReachEnd meter.new) }
 {
+    let mut anew = true;
     'turns: loop {
-        match turn(alloc, starts, goal, steps, frames, meter)? {
-            Turned::More => {}
+        match turn(alloc, starts, goal, anew, steps, frames, meter)? {
+            Turned::More => anew = false,
             ended => return Ok(ended),
         }
     }
 }
 
-// One turn.
+// One turn; the first of a search is told.
 fn turn(
     alloc: Global,
     starts: &Cube,
     goal: &Goal<'_>,
+    anew: bool,
     steps: &mut Steps<'_>,
     frames: &mut Frames,
     meter: &mut Meter,
@@ -85,7 +87,7 @@ fn turn(
 {
     match block(alloc, starts, goal, steps, frames, meter)? {
         Some(positions) => Ok(Turned::Path(positions)),
-        None => push_and_open(alloc, starts, goal, steps, frames, meter),
+        None => push_and_open(alloc, starts, goal, anew, steps, frames, meter),
     }
 }
 
@@ -94,6 +96,7 @@ fn push_and_open(
     alloc: Global,
     starts: &Cube,
     _goal: &Goal<'_>,
+    anew: bool,
     steps: &mut Steps<'_>,
     frames: &mut Frames,
     meter: &mut Meter,
@@ -112,7 +115,7 @@ fn push_and_open(
     ensures counted { CountsUpTo (room (length steps.old.question.circuit.latches) frames.old) meter.old meter.new }
     ensures end { IfErr result (IsReachEnd meter.new) }
 {
-    push_all(alloc, starts, steps, frames, meter)?;
+    push_all(alloc, starts, anew, steps, frames, meter)?;
     match frames.equal_pair() {
         Some(level) => Ok(Turned::Closed(level)),
         None => {

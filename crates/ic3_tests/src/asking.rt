@@ -32,7 +32,8 @@ pub(crate) enum Wanted {
     End(ReachEnd),
 }
 
-fn state_of(alloc: Global, text: &str) -> Result<Items<bool>, AllocError> {
+/// The state of digits.
+pub(crate) fn state_of(alloc: Global, text: &str) -> Result<Items<bool>, AllocError> {
     let mut state = Items::new(alloc);
     for digit in text.as_bytes() {
         state.push(*digit == b'1')?;

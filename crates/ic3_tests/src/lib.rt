@@ -12,3 +12,5 @@ mod drawing;
 mod stepping;
 #[cfg(test)]
 mod tests;
+#[cfg(test)]
+mod walled;

@@ -3,6 +3,7 @@
 use crate::again::agrees_again;
 use crate::asking::{To, Wanted, answer, is};
 use crate::drawing::{agrees, ends_within};
+use crate::walled::keeps_sides;
 use circuit::Circuit;
 use edge::Meter;
 use ic3::ReachEnd;
@@ -31,7 +32,7 @@ type Row = (&'static str, &'static str, To<'static>, u64, u64, Wanted);
 
 const NO_LIMIT: u64 = 4_294_967_295;
 
-// The row with a number; the last one is for all from 20 on.
+// The row with a number; the last one is for all from 21 on.
 fn row(number: u8) -> Row {
     match number {
         0 => (TURNS, "", To::State("1"), 99, 99, Wanted::Path(&["0"])),
@@ -89,6 +90,7 @@ fn row(number: u8) -> Row {
         17 => (SHIFTS, "01", To::State("01"), 99, 99, Wanted::Path(&[])),
         18 => (STAY, "", To::State("100"), 99, 99, Wanted::ClosedOf(1)),
         19 => (STAY, "101", To::State("011"), 99, 99, Wanted::ClosedOf(1)),
+        20 => (STAY, "101", To::State("111"), 99, 0, Wanted::ClosedOf(1)),
         _ => (STAY, "", To::Literal(6), 99, 99, Wanted::ClosedOf(1)),
     }
 }
@@ -110,8 +112,16 @@ fn row_is(alloc: Global, number: u8) -> bool {
 
 #[test]
 fn searches(rt: HostRuntime) -> Result<(), Fail> {
-    for number in 0..21 {
+    for number in 0..22 {
         assert!(rt; row_is(rt.alloc(), number));
+    }
+    Ok(())
+}
+
+#[test]
+fn sides_of_a_wall_are_kept(rt: HostRuntime) -> Result<(), Fail> {
+    for number in 0..3 {
+        assert!(rt; keeps_sides(rt.alloc(), number));
     }
     Ok(())
 }

@@ -1,7 +1,16 @@
-use Rattle.std.proofs.Common.{◌-◌, subst}
-use Rattle.ic3.specs.Blocking.{IsHandled}
-use Rattle.ic3.proofs.Obliging.{kept-are}
+use Rattle.std.proofs.Common.{◌≡◌, true, ◌-◌, sym, subst}
+use Rattle.proof_semantics.specs.Clauses.{is_part}
+use Rattle.ic3.specs.Starting.{value_literals}
+use Rattle.ic3.specs.Blocking.{IsHandled, state_at}
+use Rattle.ic3.proofs.Obliging.{node-at-is, kept-are}
 use Rattle.ic3.proofs.blocking.go_on.Goals as goal
+
+pub handle-requires-clause-part : goal.handle-requires-clause-part
+handle-requires-clause-part c =
+    let ns = c.args.obligations.now.nodes.items in
+    let node = node-at-is c.args.steps.now.question c.args.goal.now ns c.args.at.node c.requires.obligations.nodes c.requires.due.due.node in
+    subst (λ s. is_part c.cube_at-cube.result.now (value_literals 0 s) ≡ true) (sym c.state_at-state.ensures)
+    (subst (λ x. is_part x (value_literals 0 (state_at ns c.args.at.node)) ≡ true) (sym c.cube_at-cube.ensures) node.part)
 
 pub returns-clause-obligations : goal.returns-clause-obligations
 returns-clause-obligations c =
@@ -9,6 +18,6 @@ returns-clause-obligations c =
     c.args.obligations.now c.keep.new.obligations c.args.at c.in_ok-found.found c.in_ok-keep.field-0 c.requires.obligations
     c.requires.due.due c.in_ok-keep.ensures.due
     (subst
-    (λ s. IsHandled c.args.steps.now.question c.args.frames.now c.handle.new.frames (c.args.at.level - 1) s c.in_ok-found.found)
-    c.state_at-state.ensures c.in_ok-found.ensures.handled)
+    (λ x. IsHandled c.args.steps.now.question c.args.frames.now c.handle.new.frames (c.args.at.level - 1) x c.in_ok-found.found)
+    c.cube_at-cube.ensures c.in_ok-found.ensures.handled)
     c.in_ok-keep.ensures.kept

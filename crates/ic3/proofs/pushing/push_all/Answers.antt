@@ -1,8 +1,7 @@
 use Rattle.std.proofs.Common.{◌-◌, ◌≤◌, length, subst, ◌∙◌, arith}
 use Rattle.ic3_frames.specs.Room.{room}
-use Rattle.ic3.specs.Sound.{AreStuck}
-use Rattle.ic3.specs.Pushing.{StayStuck}
-use Rattle.ic3.proofs.Stuck.{stuck_more, narrow_on}
+use Rattle.ic3.specs.Pushing.{AreTriedStuck, StayStuck}
+use Rattle.ic3.proofs.Stuck.{settled, stuck_more, narrow_on}
 use Rattle.ic3.proofs.Ended.{counts_on, keeps_on}
 use Rattle.ic3.proofs.pushing.push_all.Goals as goal
 
@@ -22,7 +21,8 @@ loop-level-preserved c =
       stuck =
           stuck_more q c.loop-level.frames c.push_level.new.frames c.loop-level.level (omega arith) before.stuck
           (subst (λ x. StayStuck x c.loop-level.frames c.push_level.new.frames (c.loop-level.level - 1)) is says.stay)
-          (subst (λ x. AreStuck x c.push_level.new.frames (c.loop-level.level - 1)) is says.stuck);
+          (settled q c.push_level.new.frames (c.loop-level.level - 1) c.tries_all-all.result c.tries_all-all.ensures
+          (subst (λ x. AreTriedStuck x c.tries_all-all.result c.push_level.new.frames (c.loop-level.level - 1)) is says.stuck));
       room = omega (arith, less, before.room);
       question = keeps_on c.args.steps.now c.loop-level.steps c.push_level.new.steps before.question says.question;
       counted = counts_on c.args.meter.now c.loop-level.meter c.push_level.new.meter before.counted says.counted;

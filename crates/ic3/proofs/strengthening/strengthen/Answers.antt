@@ -1,50 +1,40 @@
-use Rattle.std.proofs.Common.{◌≡◌, ◌+◌, ◌<◌, ◌≤◌, true, false, length, sym, subst, ◌∙◌, arith}
+use Rattle.std.proofs.Common.{◌≡◌, ◌+◌, ◌<◌, ◌≤◌, false, length, sym, subst, ◌∙◌, arith}
 use Rattle.std.specs.Result.{OnOk}
 use Rattle.std.proofs.lemmas.Result.{IfOk-weaker}
-use Rattle.proof_semantics.specs.Clauses.{is_part}
 use Rattle.ic3_frames.specs.Frames.{frame_at}
 use Rattle.ic3_frames.specs.Room.{allowed_by}
 use Rattle.ic3_generalise.proofs.Parts.{part_on}
 use Rattle.ic3_questions.specs.Stepping.{Stepping, IsOver}
 use Rattle.ic3.specs.Starting.{value_literals}
 use Rattle.ic3.specs.Sound.{IsSearch, IsRelative, KeepsQuestion}
-use Rattle.ic3.specs.Blocking.{IsStronger, NoneEnters, misses_starts}
-use Rattle.ic3.specs.Strengthening.{IsBased, IsExcluded}
+use Rattle.ic3.specs.Blocking.{IsStronger, NoneEnters}
+use Rattle.ic3.specs.Strengthening.{IsExcluded}
 use Rattle.ic3.proofs.Starts.{value_over}
 use Rattle.ic3.proofs.Sounds.{grow_on}
 use Rattle.ic3.proofs.Stuck.{negation_over}
-use Rattle.ic3.proofs.Excluding.{excluded-is, based-is, relative-is}
-use Rattle.ic3.proofs.Excluded.{state-misses, excluded-based, counted-questions, at_level}
+use Rattle.ic3.proofs.Excluding.{part_over, excluded-is, based-is, relative-is}
+use Rattle.ic3.proofs.Excluded.{excluded-based, counted-questions, at_level}
 use Rattle.ic3.proofs.strengthening.strengthen.Goals as goal
-
-pub based-requires-clause-misses : goal.based-requires-clause-misses
-based-requires-clause-misses c =
-    subst (λ cube. misses_starts c.args.starts.now cube ≡ true) (sym c.in_ok-whole.ensures)
-    (state-misses c.args.starts.now c.args.state.now (subst (λ n. IsOver n c.args.starts.now) (sym c.requires.size) c.requires.search.starts.over)
-    c.requires.outside)
-
-pub based-requires-clause-among : goal.based-requires-clause-among
-based-requires-clause-among c = subst (λ cube. is_part c.args.part cube ≡ true) (sym c.in_ok-whole.ensures) c.requires.missing.among
 
 pub shorten-requires : goal.shorten-requires
 shorten-requires c =
     let n = length c.args.steps.now.question.circuit.latches in
-    excluded-based c.args.starts.now c.args.steps.now c.args.below (value_literals 0 c.args.state.now) c.args.part c.in_ok-first.first
-    (value_over n 0 c.args.state.now (omega (arith, c.requires.size))) c.requires.missing
-    (subst (λ cube. IsBased c.args.starts.now cube c.args.part c.in_ok-first.first) c.in_ok-whole.ensures c.in_ok-first.ensures)
+    excluded-based c.args.starts.now c.args.steps.now c.args.below c.args.cube.now c.args.part c.in_ok-first.first
+    (part_over n c.args.cube.now (value_literals 0 c.args.state.now) c.requires.among
+    (value_over n 0 c.args.state.now (omega (arith, c.requires.size)))) c.requires.missing c.in_ok-first.ensures
 
 pub highest-requires-clause-excluded : goal.highest-requires-clause-excluded
 highest-requires-clause-excluded c =
-    subst (λ st. IsExcluded c.args.starts.now st c.args.below c.in_ok-cube.cube) (sym c.in_ok-cube.ensures.same) c.in_ok-cube.ensures.excluded
+    subst (λ st. IsExcluded c.args.starts.now st c.args.below c.in_ok-shorter.shorter) (sym c.in_ok-shorter.ensures.same) c.in_ok-shorter.ensures.excluded
 
 pub put_counted-requires-clause-search : goal.put_counted-requires-clause-search
 put_counted-requires-clause-search c =
-    let same : c.highest.new.steps ≡ c.args.steps.now = c.in_ok-from.ensures.same ∙ c.in_ok-cube.ensures.same in
+    let same : c.highest.new.steps ≡ c.args.steps.now = c.in_ok-from.ensures.same ∙ c.in_ok-shorter.ensures.same in
     subst (λ st. IsSearch c.args.starts.now st c.args.frames.now) (sym same) c.requires.search
 
 pub put_counted-requires-clause-size : goal.put_counted-requires-clause-size
 put_counted-requires-clause-size c =
-    let same : c.highest.new.steps ≡ c.args.steps.now = c.in_ok-from.ensures.same ∙ c.in_ok-cube.ensures.same in
+    let same : c.highest.new.steps ≡ c.args.steps.now = c.in_ok-from.ensures.same ∙ c.in_ok-shorter.ensures.same in
     subst (λ (st : Stepping). length c.args.state.now ≡ length st.question.circuit.latches) (sym same) c.requires.size
 
 pub put_counted-requires-clause-frame : goal.put_counted-requires-clause-frame
@@ -55,29 +45,29 @@ put_counted-requires-clause-frame c =
 pub put_counted-requires-clause-excluded : goal.put_counted-requires-clause-excluded
 put_counted-requires-clause-excluded c =
     rw c.in_ok-lemma.ensures
-    (excluded-is c.args.state.now c.in_ok-cube.cube
-    (part_on c.in_ok-cube.cube c.in_ok-first.first (value_literals 0 c.args.state.now) c.in_ok-cube.ensures.part
-    (subst (λ cube. is_part c.in_ok-first.first cube ≡ true) c.in_ok-whole.ensures c.in_ok-first.ensures.among)))
+    (excluded-is c.args.state.now c.in_ok-shorter.shorter
+    (part_on c.in_ok-shorter.shorter c.in_ok-first.first (value_literals 0 c.args.state.now) c.in_ok-shorter.ensures.part
+    (part_on c.in_ok-first.first c.args.cube.now (value_literals 0 c.args.state.now) c.in_ok-first.ensures.among c.requires.among)))
 
 pub put_counted-requires-clause-over : goal.put_counted-requires-clause-over
 put_counted-requires-clause-over c =
     let n = length c.shorten.new.steps.question.circuit.latches in
     subst (λ (st : Stepping). IsOver (length st.question.circuit.latches) c.in_ok-lemma.lemma) (sym c.in_ok-from.ensures.same)
-    (subst (IsOver n) (sym c.in_ok-lemma.ensures) (negation_over n c.in_ok-cube.cube c.in_ok-from.ensures.held.excluded.over))
+    (subst (IsOver n) (sym c.in_ok-lemma.ensures) (negation_over n c.in_ok-shorter.shorter c.in_ok-from.ensures.held.excluded.over))
 
 pub put_counted-requires-clause-based : goal.put_counted-requires-clause-based
 put_counted-requires-clause-based c =
-    rw c.in_ok-lemma.ensures (based-is c.args.starts.now c.in_ok-cube.cube c.in_ok-from.ensures.held.excluded.misses)
+    rw c.in_ok-lemma.ensures (based-is c.args.starts.now c.in_ok-shorter.shorter c.in_ok-from.ensures.held.excluded.misses)
 
 pub put_counted-requires-clause-relative : goal.put_counted-requires-clause-relative
 put_counted-requires-clause-relative c =
-    let same : c.highest.new.steps ≡ c.args.steps.now = c.in_ok-from.ensures.same ∙ c.in_ok-cube.ensures.same in
-    let none : NoneEnters c.args.steps.now c.in_ok-from.from c.in_ok-cube.cube =
-    subst (λ st. NoneEnters st c.in_ok-from.from c.in_ok-cube.cube) c.in_ok-cube.ensures.same c.in_ok-from.ensures.held.excluded.none
+    let same : c.highest.new.steps ≡ c.args.steps.now = c.in_ok-from.ensures.same ∙ c.in_ok-shorter.ensures.same in
+    let none : NoneEnters c.args.steps.now c.in_ok-from.from c.in_ok-shorter.shorter =
+    subst (λ st. NoneEnters st c.in_ok-from.from c.in_ok-shorter.shorter) c.in_ok-shorter.ensures.same c.in_ok-from.ensures.held.excluded.none
     in
     subst (λ (st : Stepping). IsRelative st.question c.args.frames.now (c.in_ok-from.from + 1) c.in_ok-lemma.lemma) (sym same)
     (subst (IsRelative c.args.steps.now.question c.args.frames.now (c.in_ok-from.from + 1)) (sym c.in_ok-lemma.ensures)
-    (relative-is c.args.steps.now c.args.frames.now c.in_ok-from.from c.in_ok-cube.cube none c.requires.search.agree))
+    (relative-is c.args.steps.now c.args.frames.now c.in_ok-from.from c.in_ok-shorter.shorter none c.requires.search.agree))
 
 pub returns-clause-level : goal.returns-clause-level
 returns-clause-level c =
@@ -94,7 +84,7 @@ returns-clause-excluded c =
 
 pub returns-clause-stronger : goal.returns-clause-stronger
 returns-clause-stronger c =
-    let same : c.highest.new.steps ≡ c.args.steps.now = c.in_ok-from.ensures.same ∙ c.in_ok-cube.ensures.same in
+    let same : c.highest.new.steps ≡ c.args.steps.now = c.in_ok-from.ensures.same ∙ c.in_ok-shorter.ensures.same in
     let n = length c.args.steps.now.question.circuit.latches in
     at_level c.put_counted.result (λ level. IsStronger n level c.args.frames.now c.put_counted.new.frames) (c.in_ok-from.from + 1)
     c.put_counted.ensures.level
@@ -104,10 +94,10 @@ returns-clause-stronger c =
 
 pub returns-clause-question : goal.returns-clause-question
 returns-clause-question c =
-    let same : c.highest.new.steps ≡ c.args.steps.now = c.in_ok-from.ensures.same ∙ c.in_ok-cube.ensures.same in
+    let same : c.highest.new.steps ≡ c.args.steps.now = c.in_ok-from.ensures.same ∙ c.in_ok-shorter.ensures.same in
     subst (λ st. KeepsQuestion st c.put_counted.new.steps) same c.put_counted.ensures.question
 
 pub returns-clause-counted : goal.returns-clause-counted
 returns-clause-counted c =
-    counted-questions c.args.meter.now c.shorten.new.meter c.highest.new.meter c.put_counted.new.meter c.in_ok-cube.ensures.counted
+    counted-questions c.args.meter.now c.shorten.new.meter c.highest.new.meter c.put_counted.new.meter c.in_ok-shorter.ensures.counted
     c.in_ok-from.ensures.counted c.put_counted.ensures.counted

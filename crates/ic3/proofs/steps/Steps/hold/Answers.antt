@@ -12,5 +12,9 @@ invariant_of-self c =
       lemmas = c.self.inside.lemmas.items;
     }
     in
-    may_held st c.self.inside.questions c.hold_lemma.new.s c.args.level c.args.clause.now c.hold_lemma.new.lemmas.items c.self.invariant
-    (subst (λ (x : Stepping). IsOver (length x.question.circuit.latches) c.args.clause.now) (sym c.self.view_is) c.requires) c.hold_lemma.ensures.kept
+    record {
+      whole = c.self.invariant.whole;
+      by =
+          may_held st c.self.inside.questions c.hold_lemma.new.s c.args.level c.args.clause.now c.hold_lemma.new.lemmas.items c.self.invariant.by
+          (subst (λ (x : Stepping). IsOver (length x.question.circuit.latches) c.args.clause.now) (sym c.self.view_is) c.requires) c.hold_lemma.ensures.kept;
+    }
