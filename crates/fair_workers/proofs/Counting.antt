@@ -46,8 +46,12 @@ pub steps-behind : (u v w k m n r : ℕ) → v ≤ w + k * r → u + (m + k) * r
 steps-behind u v w k m n r first second = omega (arith, first, second)
 
 -- a turn keeps within what a worker takes at most
-pub steps-kept : (u w m n r most : ℕ) → u + (m + 0) * r ≤ w + n * r → w + n * r ≤ most → u + m * r ≤ most
+pub steps-kept : (u w m n r most : ℕ) → u + m * r ≤ w + n * r → w + n * r ≤ most → u + m * r ≤ most
 steps-kept u w m n r most turn before = omega (arith, turn, before)
+
+-- behind the last search of a turn
+pub steps-over : (u m r most : ℕ) → u + (m + 0) * r ≤ most → u + m * r ≤ most
+steps-over u m r most h = subst (λ (n : ℕ). u + n * r ≤ most) (let e : m + 0 ≡ m = omega arith in e) h
 
 -- at first
 pub steps-first : (s n k r : ℕ) → s ≡ 0 → n ≤ k + 1 → s + n * r ≤ (k + 1) * r

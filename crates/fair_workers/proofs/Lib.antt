@@ -3,6 +3,7 @@ pub mod Walks
 pub mod Steps
 pub mod Counting
 pub mod Turned
+pub mod Seated
 pub mod Together
 pub mod Skeletons
 pub mod Pools

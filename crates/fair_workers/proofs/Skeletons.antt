@@ -24,7 +24,7 @@ use Rattle.wall_store.specs.Boards.{BoardState, plain, Allow, EachBehind, FromWo
 use Rattle.fair_workers.specs.declared.limits.Report.{Report}
 use Rattle.fair_workers.specs.Runs.{Task, AreLimits, IsSpent, IsFull, IsReport}
 use Rattle.fair_workers.specs.Laws.{NoReportWithoutLimits}
-use Rattle.fair_workers.proofs.Turned.{not-excluded}
+use Rattle.fair_workers.proofs.Seated.{not-excluded}
 
 -- ---- counting lists of values
 

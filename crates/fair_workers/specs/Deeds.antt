@@ -13,23 +13,24 @@ use Rattle.wall_store.specs.Boards.{FromWorker}
 use Rattle.fair_workers.specs.declared.deciding.Deed.{Deed}
 use Rattle.fair_workers.specs.declared.deciding.Deed.TheVariants as deeds
 
--- a worker's work whose skeleton these entries allow
-pub record IsWorkOf (c : Circuit) (view : List Entry) (j w : ℕ) (work : Work) : Type 0 where
+-- a worker's work of this turn, whose skeleton these entries allow
+pub record IsWorkOf (c : Circuit) (view : List Entry) (j w t : ℕ) (work : Work) : Type 0 where
   pub author : work.author ≡ w
+  pub turn : work.turn ≡ t
   pub allowed : IsAllowed c j view work.skeleton
 
 -- an entry of the worker that was checked behind these
-pub record IsPosting (c : Circuit) (view : List Entry) (j w : ℕ) (e : CheckedEntry) : Type 0 where
+pub record IsPosting (c : Circuit) (view : List Entry) (j w t : ℕ) (e : CheckedEntry) : Type 0 where
   pub circuit : e.circuit ≡ c
   pub closed : AreClosed view e.entry.uses
   pub used : e.used ≡ used_entries view e.entry.uses
-  pub work : FromWorker e.origin (IsWorkOf c view j w)
+  pub work : FromWorker e.origin (IsWorkOf c view j w t)
 
 -- an outcome that is true over these entries
 abbrev pub IsTrueBehind : Circuit → List Entry → ℕ → Outcome → Type 0
 IsTrueBehind c view j (Lasso lasso) = IsFairLassoOf c j lasso
 IsTrueBehind c view j (Holds r) = IsGoodRefutation c view j r.uses r.proof
 
-abbrev pub IsDeed : Circuit → List Entry → ℕ → ℕ → Deed → Type 0
-IsDeed c view j w (deeds.Post e) = IsPosting c view j w e
-IsDeed c view j w (deeds.Finish o) = IsTrueBehind c view j o
+abbrev pub IsDeed : Circuit → List Entry → ℕ → ℕ → ℕ → Deed → Type 0
+IsDeed c view j w t (deeds.Post e) = IsPosting c view j w t e
+IsDeed c view j w t (deeds.Finish o) = IsTrueBehind c view j o

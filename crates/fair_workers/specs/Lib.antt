@@ -1,7 +1,9 @@
 pub mod Runs
 pub mod Walks
 pub mod Deeds
+pub mod Knowing
 pub mod Working
+pub mod Crews
 pub mod Laws
 pub mod Pools
 pub mod Scouts

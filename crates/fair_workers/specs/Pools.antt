@@ -6,7 +6,7 @@ use Rattle.fair_semantics.specs.declared.skeletons.Skeleton.{Skeleton}
 use Rattle.fair_semantics.specs.Entries.{Entry}
 use Rattle.lasso_join.specs.Fitting.{IsStemTo}
 use Rattle.skeleton.specs.Finding.{IsAllowed, first_state}
-use Rattle.fair_workers.specs.declared.pool.Trail.{Trail}
+use Rattle.fair_workers.specs.declared.pool.Run.{Run}
 use Rattle.fair_workers.specs.declared.pool.Hit.{Hit}
 use Rattle.fair_workers.specs.declared.pool.Begun.{Begun}
 use Rattle.fair_workers.specs.declared.seeking.Start.{Start}
@@ -18,9 +18,9 @@ abbrev pub IsReachedRun : Circuit → List Position → Type 0
 IsReachedRun c positions = (t : List Bool) × IsStemTo c t positions
 
 -- an initial run, of which no more positions are left than it has
-pub record IsTrail (c : Circuit) (trail : Trail) : Type 0 where
-  pub run : IsReachedRun c trail.positions
-  pub within : trail.left ≤ length trail.positions
+pub record IsRun (c : Circuit) (r : Run) : Type 0 where
+  pub run : IsReachedRun c r.positions
+  pub within : r.left ≤ length r.positions
 
 -- an allowed skeleton whose first state is this one
 abbrev pub IsBegunIn : Circuit → ℕ → List Entry → List Bool → Skeleton → Type 0

@@ -1,14 +1,14 @@
 -- What workers leave that search over one board: an answer for each property, or a report that shows what was spent.
 -- The search is FAIR (Bradley, Somenzi, Hassan, Zhang, An incremental approach to model checking progress properties,
 -- 2011); that several workers share its list is this program's.
-use Rattle.std.specs.Prelude.{◌≡◌, ℕ, ◌+◌, ◌*◌, ◌^◌, ◌≤◌, ◌⊎◌, min, max, List, [], ◌∷◌, ◌++◌, length, Some}
+use Rattle.std.specs.Prelude.{◌≡◌, ℕ, ◌+◌, ◌*◌, ◌^◌, ◌<◌, ◌≤◌, ◌⊎◌, min, max, List, [], ◌∷◌, ◌++◌, length, Some}
 use Rattle.std.specs.List.{All}
 use Rattle.aig_semantics.specs.Circuits.{Circuit, fair_literals}
 use Rattle.fair_semantics.specs.declared.skeletons.Skeleton.{Skeleton}
 use Rattle.edge.specs.Units.{Spendings, limit_of}
 use Rattle.entry.specs.CheckedEntries.{CheckedEntry}
 use Rattle.skeleton.specs.Finding.{IsAllowed}
-use Rattle.wall_store.specs.Boards.{BoardState, IsBoard, plain, most_entries, properties_of}
+use Rattle.wall_store.specs.Boards.{BoardState, IsBoard, FromWorker, plain, most_entries, properties_of}
 use Rattle.wall_store.specs.Events.{IsOpen, IsSettled}
 use Rattle.fair_workers.specs.declared.limits.Limits.{Limits}
 use Rattle.fair_workers.specs.declared.limits.Report.{Report}
@@ -28,8 +28,17 @@ pub record AreLimits (limits : Limits) : Type 0 where
   pub few : limits.workers ≤ 64
   pub skeletons : limits.skeletons ≤ most_entries
 
--- A board of the task: its circuit, properties, workers and limit are those of the task, its list begins with the given
--- entries, and it is what a board is at any time.
+-- How many turns a worker takes at most: three (it asks whether a property is open, looks, and searches) for each entry by
+-- which the list may grow, three in which it finds the list full, and then three for each property.
+abbrev pub most_turns : Task → ℕ
+most_turns task = 3 * (task.limits.skeletons + 1 + length task.properties)
+
+-- a worker found the entry, within so many turns
+abbrev pub IsFoundWithin : ℕ → CheckedEntry → Type 0
+IsFoundWithin turns e = FromWorker e.origin (λ work. work.turn < turns)
+
+-- A board of the task: its circuit, properties, workers and limit are those of the task; its list is the given entries, and
+-- then those that workers found, within the turns that a worker takes at most; and it is what a board is at any time.
 pub record IsBoardOf (task : Task) (b : BoardState) : Type 0 where
   pub board : IsBoard b
   pub circuit : b.circuit ≡ task.circuit
@@ -37,7 +46,7 @@ pub record IsBoardOf (task : Task) (b : BoardState) : Type 0 where
   pub workers : b.workers ≡ task.limits.workers
   pub limit : b.limit ≡ min (length task.given + task.limits.skeletons) most_entries
   pub given : b.given ≡ length task.given
-  pub front : (more : List CheckedEntry) × (b.entries ≡ task.given ++ more)
+  pub entries : (found : List CheckedEntry) × (b.entries ≡ task.given ++ found) × All (IsFoundWithin (most_turns task)) found
 
 -- an answer: each served property has an outcome
 pub record IsAnswered (task : Task) (b : BoardState) : Type 0 where

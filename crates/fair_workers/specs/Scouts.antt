@@ -5,7 +5,7 @@ use Rattle.std.specs.Arc.{arc_value}
 use Rattle.entry.specs.CheckedEntries.{viewed}
 use Rattle.skeleton.specs.Finding.{Asking, GoesOnFrom, BeginsNone}
 use Rattle.fair_workers.specs.declared.scouting.Scout.TheInside.{Inside}
-use Rattle.fair_workers.specs.Pools.{IsTrail}
+use Rattle.fair_workers.specs.Pools.{IsRun}
 use Rattle.fair_workers.specs.Stems.{IsFit}
 
 abbrev pub asking_of : Inside → Asking
@@ -16,6 +16,6 @@ asking_of s = record { circuit = s.query.circuit; property = s.query.property; s
 pub record IsKept (s : Inside) : Type 0 where
   pub circuit : arc_value s.circuit ≡ s.query.circuit
   pub on : GoesOnFrom s.query.seen (viewed s.seen)
-  pub trails : All (IsTrail s.query.circuit) s.trails.items
+  pub runs : All (IsRun s.query.circuit) s.runs.items
   pub avoid : All (BeginsNone s.query.circuit s.query.property (viewed s.seen)) s.avoid
   pub search : IfSome s.search (IsFit s.query.circuit (viewed s.seen))

@@ -5,10 +5,12 @@ ghost use Rattle.std.specs.Arc.{arc_value};
 ghost use Rattle.edge.specs.Units.{limit_of};
 ghost use Rattle.wall_store.specs.Boards.{properties_of};
 ghost use Rattle.wall_store.specs.Events.{seen_by};
-ghost use Rattle.fair_workers.specs.Working.{Follows, AreWorkers, IsOver, any_refused, runs_at, left_of};
+ghost use Rattle.fair_workers.specs.Working.{is_running};
+ghost use Rattle.fair_workers.specs.Crews.{IsMember, TakesTurn, Follows, AreWorkers, IsOver, any_refused, runs_at, left_of};
 
 use crate::limits::Limits;
 use crate::scouting::Scout;
+use crate::seats::Seat;
 use crate::working::{Phase, Worker, turn};
 use circuit::Circuit;
 use edge::{Meter, Spending};
@@ -17,37 +19,51 @@ use std::alloc::{AllocError, Global};
 use std::sync::Arc;
 use wall_store::Board;
 
-// A worker that has seen so many entries, and has spent nothing.
-fn new_worker(
+/// A worker of a board, its number, and what its seat tells from turn to turn: how many entries it has seen, and how
+/// many turns it has taken.
+#[derive(Drop)]
+pub(crate) struct Member {
+    pub(crate) number: u32,
+    pub(crate) seen: usize,
+    pub(crate) turns: u32,
+    pub(crate) worker: Worker,
+}
+
+// A member that has seen so many entries, and has spent nothing.
+fn new_member(
     alloc: Global,
     c: &Arc<Circuit>,
     j: u32,
     limits: Limits,
     number: u32,
     seen: usize,
-) -> Result<Worker, AllocError>
+) -> Result<Member, AllocError>
     requires { j < length (arc_value c.now).justice }
-    ensures { IfOk result (λ w. w ≡ record {
+    ensures { IfOk result (λ m. m ≡ record {
       number = number;
       seen = seen;
       turns = 0;
-      scout = record { circuit = arc_value c.now; property = j; seen = [] };
-      meter = record {
-        conflicts = 0;
-        conflict_limit = limit_of limits.conflicts;
-        steps = 0;
-        step_limit = limit_of limits.steps;
+      worker = record {
+        scout = record { circuit = arc_value c.now; property = j; seen = [] };
+        meter = record {
+          conflicts = 0;
+          conflict_limit = limit_of limits.conflicts;
+          steps = 0;
+          step_limit = limit_of limits.steps;
+        };
+        phase = Phase.Asks;
       };
-      phase = Phase.Asks;
     }) }
 {
-    Ok(Worker {
+    Ok(Member {
         number,
         seen,
         turns: 0,
-        scout: Scout::new(alloc, c, j, number)?,
-        meter: Meter::new(limits.conflicts, limits.steps),
-        phase: Phase::Asks,
+        worker: Worker {
+            scout: Scout::new(alloc, c, j, number)?,
+            meter: Meter::new(limits.conflicts, limits.steps),
+            phase: Phase::Asks,
+        },
     })
 }
 
@@ -58,21 +74,55 @@ pub(crate) fn crew_of(
     j: u32,
     limits: Limits,
     board: &Board,
-) -> Result<Vec<Worker>, AllocError>
+) -> Result<Vec<Member>, AllocError>
     requires property { j < length (arc_value c.now).justice }
     requires circuit { arc_value c.now ≡ board.now.circuit }
+    requires served { properties_of board.now.served ≡ j ∷ [] }
     requires workers { limits.workers ≡ board.now.workers }
     requires seen { (n : ℕ) → n < board.now.workers → seen_by board.now n ≡ length board.now.entries }
     requires grows { board.now.limit ≤ length board.now.entries + limits.skeletons }
     ensures count { IfOk result (λ crew. length crew.items ≡ limits.workers) }
     ensures workers { IfOk result (λ crew. AreWorkers limits j board.now crew.items) }
 {
+    board.holds();
     let seen = board.entries().len();
     let mut crew = Vec::new(alloc);
     for number in 0..limits.workers {
-        crew.push(new_worker(alloc, c, j, limits, number, seen)?)?;
+        crew.push(new_member(alloc, c, j, limits, number, seen)?)?;
     }
     Ok(crew)
+}
+
+/// A turn of a member that has not ended, at its seat of the board.
+pub(crate) fn sit(
+    alloc: Global,
+    c: &Arc<Circuit>,
+    j: u32,
+    member: &mut Member,
+    board: Board,
+) -> Board
+    requires circuit { arc_value c.now ≡ board.circuit }
+    requires member { IsMember j board member.old }
+    requires running { is_running member.old.worker.phase ≡ true }
+    ensures { TakesTurn j board member.old result member.new }
+{
+    board.holds();
+    let mut seat = Seat {
+        board,
+        number: member.number,
+        seen: member.seen,
+        turns: member.turns,
+    };
+    turn(alloc, c, j, &mut member.worker, &mut seat);
+    let Seat {
+        board,
+        seen,
+        turns,
+        ..
+    } = seat;
+    member.seen = seen;
+    member.turns = turns;
+    board
 }
 
 /// A turn of worker `k`, which has not ended.
@@ -81,37 +131,37 @@ pub(crate) fn take_turn(
     c: &Arc<Circuit>,
     j: u32,
     _limits: Limits,
-    crew: &mut [Worker],
+    crew: &mut [Member],
     k: usize,
-    board: &mut Board,
-)
-    requires circuit { arc_value c.now ≡ board.old.circuit }
-    requires served { properties_of board.old.served ≡ j ∷ [] }
-    requires crew { AreWorkers _limits j board.old crew.old }
+    board: Board,
+) -> Board
+    requires circuit { arc_value c.now ≡ board.circuit }
+    requires crew { AreWorkers _limits j board crew.old }
     requires inside { k < length crew.old }
     requires running { runs_at crew.old k ≡ true }
-    ensures crew { AreWorkers _limits j board.new crew.new }
-    ensures follows { Follows board.old board.new }
-    ensures less { left_of board.old.limit crew.new < left_of board.old.limit crew.old }
+    ensures crew { AreWorkers _limits j result crew.new }
+    ensures follows { Follows board result }
+    ensures less { left_of board.limit crew.new < left_of board.limit crew.old }
 {
     board.holds();
-    turn(alloc, c, j, &mut crew[k], board);
-    board.holds();
+    let after = sit(alloc, c, j, &mut crew[k], board);
+    after.holds();
+    after
 }
 
 // Whether this is the number of a worker that has not ended.
-fn is_due(crew: &[Worker], number: u32) -> bool
+fn is_due(crew: &[Member], number: u32) -> bool
     ensures { result ≡ runs_at crew.now number }
 {
     let k = number as usize;
     if k >= crew.len() {
         return false;
     }
-    crew[k].phase.is_running()
+    crew[k].worker.phase.is_running()
 }
 
 /// The first place of the schedule from `from` on with the number of a worker that has not ended, or its end.
-pub(crate) fn due(schedule: &[u32], from: usize, crew: &[Worker]) -> usize
+pub(crate) fn due(schedule: &[u32], from: usize, crew: &[Member]) -> usize
     requires { from ≤ length schedule.now }
     ensures low { from ≤ result }
     ensures high { result ≤ length schedule.now }
@@ -127,7 +177,7 @@ pub(crate) fn due(schedule: &[u32], from: usize, crew: &[Worker]) -> usize
 }
 
 // The first worker from `from` on that has not ended, or the number of workers.
-fn running_from(crew: &[Worker], from: usize) -> usize
+fn running_from(crew: &[Member], from: usize) -> usize
     requires { from ≤ length crew.now }
     ensures high { result ≤ length crew.now }
     ensures found { result < length crew.now → runs_at crew.now result ≡ true }
@@ -141,16 +191,16 @@ fn running_from(crew: &[Worker], from: usize) -> usize
     crew.len()
 }
 
-fn is_running_at(crew: &[Worker], k: usize) -> bool
+fn is_running_at(crew: &[Member], k: usize) -> bool
     requires { k < length crew.now }
     ensures { result ≡ runs_at crew.now k }
 {
-    crew[k].phase.is_running()
+    crew[k].worker.phase.is_running()
 }
 
 /// The next worker from `from` on that has not ended, and then from worker 0 on; or the number of workers, exactly
 /// where all have ended.
-pub(crate) fn next_running(crew: &[Worker], from: usize) -> usize
+pub(crate) fn next_running(crew: &[Member], from: usize) -> usize
     requires { from ≤ length crew.now }
     ensures high { result ≤ length crew.now }
     ensures found { result < length crew.now → runs_at crew.now result ≡ true }
@@ -164,19 +214,19 @@ pub(crate) fn next_running(crew: &[Worker], from: usize) -> usize
 }
 
 /// Whether a worker was refused memory.
-pub(crate) fn any_refused(crew: &[Worker]) -> bool
+pub(crate) fn any_refused(crew: &[Member]) -> bool
     ensures { result ≡ any_refused crew.now }
 {
-    crew.iter().any(|worker| worker.phase.is_refused())
+    crew.iter().any(|member| member.worker.phase.is_refused())
 }
 
 /// What each worker has spent, from worker 0 on.
-pub(crate) fn spendings(alloc: Global, crew: &[Worker]) -> Result<Items<Spending>, AllocError>
-    ensures { IfOk result (λ spent. spent ≡ map (λ w. w.meter) crew.now) }
+pub(crate) fn spendings(alloc: Global, crew: &[Member]) -> Result<Items<Spending>, AllocError>
+    ensures { IfOk result (λ spent. spent ≡ map (λ m. m.worker.meter) crew.now) }
 {
     let mut spent = Items::new(alloc);
-    for worker in crew {
-        spent.push(worker.meter.spending())?;
+    for member in crew {
+        spent.push(member.worker.meter.spending())?;
     }
     Ok(spent)
 }

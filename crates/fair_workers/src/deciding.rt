@@ -52,7 +52,7 @@ fn certified(
     requires view { IsGoodList (arc_value c.now) (viewed view.now) }
     requires allowed { IsAllowed (arc_value c.now) _j (viewed view.now) skeleton }
     requires excludes { Excludes (arc_value c.now) (viewed view.now) (entry_of_bar bar) skeleton }
-    ensures posting { IfOk result (IsPosting (arc_value c.now) (viewed view.now) _j author.number) }
+    ensures posting { IfOk result (IsPosting (arc_value c.now) (viewed view.now) _j author.number author.turn) }
     ensures stop { IfErr result (IsStop meter.new) }
     ensures limits { KeepsLimits meter.old meter.new }
     ensures steps { meter.new.steps ≡ meter.old.steps }
@@ -88,7 +88,7 @@ pub(crate) fn decide(
     requires on { GoesOnFrom scout.old.seen (viewed view.now) }
     requires good { IsGoodList (arc_value c.now) (viewed view.now) }
     requires few { length view.now < 2 ^ 32 }
-    ensures deed { IfOk result (IsDeed (arc_value c.now) (viewed view.now) j author.number) }
+    ensures deed { IfOk result (IsDeed (arc_value c.now) (viewed view.now) j author.number author.turn) }
     ensures stop { IfErr result (IsStop meter.new) }
     ensures limits { KeepsLimits meter.old meter.new }
     ensures steps { Asks (length (arc_value c.now).latches) (max 1 (length (fair_literals (arc_value c.now) j)) + 1) meter.old
@@ -120,7 +120,7 @@ fn go_on(
     requires view { IsGoodList (arc_value c.now) (viewed view.now) }
     requires few { length view.now < 2 ^ 32 }
     requires allowed { IsAllowed (arc_value c.now) j (viewed view.now) skeleton }
-    ensures deed { IfOk result (IsDeed (arc_value c.now) (viewed view.now) j author.number) }
+    ensures deed { IfOk result (IsDeed (arc_value c.now) (viewed view.now) j author.number author.turn) }
     ensures stop { IfErr result (IsStop meter.new) }
     ensures limits { KeepsLimits meter.old meter.new }
     ensures steps { Asks (length (arc_value c.now).latches) (max 1 (length (fair_literals (arc_value c.now) j)) + 1) meter.old

@@ -15,9 +15,11 @@ mod laws;
 mod limits;
 mod pool;
 mod scouting;
+mod seats;
 mod seeking;
 mod turns;
 mod walking;
+mod walls;
 mod ways;
 mod working;
 

@@ -5,7 +5,7 @@ ghost use Rattle.entry.specs.CheckedEntries.{viewed};
 ghost use Rattle.entry.specs.Laws.{IsGoodList};
 ghost use Rattle.skeleton.specs.Finding.{GoesOnFrom, BeginsNone, IsFirst};
 ghost use Rattle.fair_workers.specs.Walks.{IsStop, KeepsLimits};
-ghost use Rattle.fair_workers.specs.Pools.{IsTrail, IsHit, IsBegun, IsReachedRun, IsBegunIn};
+ghost use Rattle.fair_workers.specs.Pools.{IsRun, IsHit, IsBegun, IsReachedRun, IsBegunIn};
 
 use crate::ways::Stop;
 use circuit::{Circuit, Position};
@@ -19,11 +19,11 @@ use std::alloc::{AllocError, Global};
 use std::sync::Arc;
 
 /// How many runs are kept.
-const MOST_TRAILS: usize = 64;
+const MOST_RUNS: usize = 64;
 
 /// An initial run; a skeleton may begin in the states of its first `left` positions.
 #[derive(Debug, Drop)]
-pub(crate) struct Trail {
+pub(crate) struct Run {
     pub(crate) positions: Items<Position>,
     pub(crate) left: usize,
 }
@@ -231,27 +231,27 @@ fn newest(
 // Puts a run behind the others.
 fn put(
     _c: &Circuit,
-    trails: &mut Vec<Trail>,
+    runs: &mut Vec<Run>,
     positions: Items<Position>,
     left: usize,
 ) -> Result<(), AllocError>
-    requires trails { All (IsTrail _c.now) trails.old.items }
+    requires runs { All (IsRun _c.now) runs.old.items }
     requires run { IsReachedRun _c.now positions }
     requires left { left ≤ length positions }
-    ensures { All (IsTrail _c.now) trails.new.items }
+    ensures { All (IsRun _c.now) runs.new.items }
 {
-    trails.push(Trail { positions, left })?;
+    runs.push(Run { positions, left })?;
     Ok(())
 }
 
 // Takes the newest run out, where there is one.
-fn take_newest(_c: &Circuit, trails: &mut Vec<Trail>) -> Option<Trail>
-    requires { All (IsTrail _c.now) trails.old.items }
-    ensures trail { IfSome result (IsTrail _c.now) }
-    ensures trails { All (IsTrail _c.now) trails.new.items }
-    ensures fewer { IfSome result (λ trail. length trails.new.items < length trails.old.items) }
+fn take_newest(_c: &Circuit, runs: &mut Vec<Run>) -> Option<Run>
+    requires { All (IsRun _c.now) runs.old.items }
+    ensures run { IfSome result (IsRun _c.now) }
+    ensures runs { All (IsRun _c.now) runs.new.items }
+    ensures fewer { IfSome result (λ run. length runs.new.items < length runs.old.items) }
 {
-    trails.pop()
+    runs.pop()
 }
 
 /// A skeleton that begins in a state of the runs, the newest first, and the way to it. Runs in which none begins go.
@@ -261,7 +261,7 @@ pub(crate) fn pooled(
     j: u32,
     query: &mut Query,
     view: &[Arc<Checked>],
-    trails: &mut Vec<Trail>,
+    runs: &mut Vec<Run>,
     avoid: &mut Items<Cube>,
     meter: &mut Meter,
 ) -> Result<Option<Begun>, Stop>
@@ -270,10 +270,10 @@ pub(crate) fn pooled(
     requires on { GoesOnFrom query.old.seen (viewed view.now) }
     requires good { IsGoodList c.now (viewed view.now) }
     requires few { length view.now < 2 ^ 32 }
-    requires trails { All (IsTrail c.now) trails.old.items }
+    requires runs { All (IsRun c.now) runs.old.items }
     requires avoid { All (BeginsNone c.now j (viewed view.now)) avoid.old }
     ensures begun { IfOk result (λ found. IfSome found (IsBegun c.now j (viewed view.now))) }
-    ensures trails { All (IsTrail c.now) trails.new.items }
+    ensures runs { All (IsRun c.now) runs.new.items }
     ensures avoid { All (BeginsNone c.now j (viewed view.now)) avoid.new }
     ensures stop { IfErr result (IsStop meter.new) }
     ensures limits { KeepsLimits meter.old meter.new }
@@ -282,12 +282,12 @@ pub(crate) fn pooled(
     ensures property { query.new.property ≡ j }
     ensures seen { GoesOnFrom query.new.seen (viewed view.now) }
 {
-    'trails: while let Some(trail) = take_newest(c, trails) {
-        let Trail { positions, left } = trail;
-        let run = positions.as_slice();
-        if let Some(hit) = newest(alloc, c, j, query, view, run, left, avoid, meter)? {
-            let way = front(alloc, run, hit.at)?;
-            put(c, trails, positions, hit.at + 1)?;
+    'runs: while let Some(run) = take_newest(c, runs) {
+        let Run { positions, left } = run;
+        let walked = positions.as_slice();
+        if let Some(hit) = newest(alloc, c, j, query, view, walked, left, avoid, meter)? {
+            let way = front(alloc, walked, hit.at)?;
+            put(c, runs, positions, hit.at + 1)?;
             let skeleton = hit.skeleton;
             return Ok(Some(Begun { way, skeleton }));
         }
@@ -296,26 +296,26 @@ pub(crate) fn pooled(
 }
 
 // Where there is no room for one more, the oldest run goes.
-fn drop_oldest(_c: &Circuit, trails: &mut Vec<Trail>)
-    requires { All (IsTrail _c.now) trails.old.items }
-    ensures { All (IsTrail _c.now) trails.new.items }
+fn drop_oldest(_c: &Circuit, runs: &mut Vec<Run>)
+    requires { All (IsRun _c.now) runs.old.items }
+    ensures { All (IsRun _c.now) runs.new.items }
 {
-    if trails.len() >= MOST_TRAILS {
-        trails.remove(0);
+    if runs.len() >= MOST_RUNS {
+        runs.remove(0);
     }
 }
 
 /// Keeps a run whose states were reached. Where there is no room, the oldest goes.
 pub(crate) fn keep(
     c: &Circuit,
-    trails: &mut Vec<Trail>,
+    runs: &mut Vec<Run>,
     positions: Items<Position>,
 ) -> Result<(), AllocError>
     requires run { IsReachedRun c.now positions }
-    requires trails { All (IsTrail c.now) trails.old.items }
-    ensures trails { All (IsTrail c.now) trails.new.items }
+    requires runs { All (IsRun c.now) runs.old.items }
+    ensures runs { All (IsRun c.now) runs.new.items }
 {
-    drop_oldest(c, trails);
+    drop_oldest(c, runs);
     let left = positions.len();
-    put(c, trails, positions, left)
+    put(c, runs, positions, left)
 }

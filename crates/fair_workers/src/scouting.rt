@@ -10,7 +10,7 @@ ghost use Rattle.fair_workers.specs.Walks.{IsStop, KeepsLimits};
 ghost use Rattle.fair_workers.specs.Pools.{IsBegun, IsReachedRun};
 ghost use Rattle.fair_workers.specs.Stems.{IsFit};
 
-use crate::pool::{Begun, Trail, keep, pooled};
+use crate::pool::{Begun, Run, keep, pooled};
 use crate::ways::Stop;
 use circuit::{Circuit, Position};
 use cnf::Cube;
@@ -30,7 +30,7 @@ pub(crate) struct Scout {
     circuit: Arc<Circuit>,
     query: Query,
     seen: Items<Arc<Checked>>,
-    trails: Vec<Trail>,
+    runs: Vec<Run>,
     avoid: Items<Cube>,
     search: Option<Search>,
     costs: Costs,
@@ -133,7 +133,7 @@ impl Scout {
             circuit: Arc::try_clone(c)?,
             query,
             seen: Items::new(alloc),
-            trails: Vec::new(alloc),
+            runs: Vec::new(alloc),
             avoid: Items::new(alloc),
             search: None,
             costs: first_costs(worker),
@@ -202,7 +202,7 @@ impl Scout {
             j,
             &mut self.query,
             view,
-            &mut self.trails,
+            &mut self.runs,
             &mut self.avoid,
             meter,
         )
@@ -254,6 +254,6 @@ impl Scout {
         requires run { IsReachedRun c.now positions }
         ensures { self.new ≡ self.old }
     {
-        keep(c, &mut self.trails, positions)
+        keep(c, &mut self.runs, positions)
     }
 }

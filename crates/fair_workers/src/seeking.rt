@@ -74,7 +74,7 @@ fn barred(bar: Bar, situations: Vec<Situation>) -> Sought
 }
 
 // The run along the pieces: from an initial state to the situation behind the last of them, with its position.
-fn trail_of(
+fn run_along(
     alloc: Global,
     _c: &Circuit,
     way: Items<Position>,
@@ -327,7 +327,7 @@ fn seek_from(
             alloc, c, j, view, scout, way, situations, pieces, meter,
         ),
         Walked::Barred(bar, pieces) => {
-            let run = trail_of(alloc, c, way, situations.as_slice(), pieces.as_slice())?;
+            let run = run_along(alloc, c, way, situations.as_slice(), pieces.as_slice())?;
             scout.keep(c, run)?;
             Ok(barred(bar, situations))
         }
@@ -368,7 +368,7 @@ fn go_round(
             Ok(Sought::Lasso(lasso))
         }
         Way::Barred(bar) => {
-            let run = trail_of(alloc, c, begun, situations.as_slice(), pieces.as_slice())?;
+            let run = run_along(alloc, c, begun, situations.as_slice(), pieces.as_slice())?;
             scout.keep(c, run)?;
             Ok(barred(bar, situations))
         }

@@ -4,11 +4,10 @@ ghost use Rattle.std.specs.Prelude.{◌≡◌, ◌≢◌, ◌<◌, ◌≤◌, []
 ghost use Rattle.std.specs.Arc.{arc_value};
 ghost use Rattle.wall_store.specs.Boards.{IsSoundList, outcome_of, most_entries};
 ghost use Rattle.fair_workers.specs.Runs.{AreLimits, IsAnswered, IsEnded};
-ghost use Rattle.fair_workers.specs.Working.{IsCrew, IsOver, any_refused, task_of};
+ghost use Rattle.fair_workers.specs.Crews.{IsCrew, IsOver, any_refused, task_of};
 
-use crate::crews::{any_refused, crew_of, due, next_running, spendings, take_turn};
+use crate::crews::{Member, any_refused, crew_of, due, next_running, spendings, take_turn};
 use crate::limits::{Ended, Limits, Report};
-use crate::working::Worker;
 use circuit::Circuit;
 use entry::Checked;
 use std::alloc::Global;
@@ -23,19 +22,21 @@ fn by_schedule(
     limits: Limits,
     _given: &[Arc<Checked>],
     schedule: &[u32],
-    crew: &mut [Worker],
-    board: &mut Board,
-)
+    crew: &mut [Member],
+    board: Board,
+) -> Board
     requires { IsCrew
-        (task_of (arc_value c.now) j limits (map arc_value _given.now)) j board.old crew.old }
+        (task_of (arc_value c.now) j limits (map arc_value _given.now)) j board crew.old }
     ensures { IsCrew
-        (task_of (arc_value c.now) j limits (map arc_value _given.now)) j board.new crew.new }
+        (task_of (arc_value c.now) j limits (map arc_value _given.now)) j result crew.new }
 {
+    let mut board = board;
     let mut at = due(schedule, 0, crew);
     while at < schedule.len() {
-        take_turn(alloc, c, j, limits, crew, schedule[at] as usize, board);
+        board = take_turn(alloc, c, j, limits, crew, schedule[at] as usize, board);
         at = due(schedule, at + 1, crew);
     }
+    board
 }
 
 // Turns from worker 0 upwards, again and again, until all have ended.
@@ -45,20 +46,22 @@ fn round_robin(
     j: u32,
     limits: Limits,
     _given: &[Arc<Checked>],
-    crew: &mut [Worker],
-    board: &mut Board,
-)
+    crew: &mut [Member],
+    board: Board,
+) -> Board
     requires { IsCrew
-        (task_of (arc_value c.now) j limits (map arc_value _given.now)) j board.old crew.old }
+        (task_of (arc_value c.now) j limits (map arc_value _given.now)) j board crew.old }
     ensures crew { IsCrew
-        (task_of (arc_value c.now) j limits (map arc_value _given.now)) j board.new crew.new }
+        (task_of (arc_value c.now) j limits (map arc_value _given.now)) j result crew.new }
     ensures over { IsOver crew.new }
 {
+    let mut board = board;
     let mut k = next_running(crew, 0);
     while k < crew.len() {
-        take_turn(alloc, c, j, limits, crew, k, board);
+        board = take_turn(alloc, c, j, limits, crew, k, board);
         k = next_running(crew, k + 1);
     }
+    board
 }
 
 // Whether the property has an outcome.
@@ -79,7 +82,7 @@ fn ended(
     j: u32,
     _limits: Limits,
     _given: &[Arc<Checked>],
-    crew: &[Worker],
+    crew: &[Member],
     board: Board,
 ) -> Result<Board, Ended>
     requires crew { IsCrew (task_of (arc_value _c.now) j _limits (map arc_value _given.now)) j board crew.now }
@@ -105,7 +108,7 @@ fn reported(
     _j: u32,
     _limits: Limits,
     _given: &[Arc<Checked>],
-    crew: &[Worker],
+    crew: &[Member],
     board: Board,
 ) -> Result<Board, Ended>
     requires crew { IsCrew (task_of (arc_value _c.now) _j _limits (map arc_value _given.now)) _j board crew.now }
@@ -127,16 +130,15 @@ fn run_crew(
     limits: Limits,
     schedule: &[u32],
     given: &[Arc<Checked>],
-    crew: &mut [Worker],
+    crew: &mut [Member],
     board: Board,
 ) -> Result<Board, Ended>
     requires { IsCrew (task_of (arc_value c.now) j limits (map arc_value given.now)) j board crew.old }
     ensures answered { IfOk result (IsAnswered (task_of (arc_value c.now) j limits (map arc_value given.now))) }
     ensures ended { IfErr result (IsEnded (task_of (arc_value c.now) j limits (map arc_value given.now))) }
 {
-    let mut board = board;
-    by_schedule(alloc, c, j, limits, given, schedule, crew, &mut board);
-    round_robin(alloc, c, j, limits, given, crew, &mut board);
+    let board = by_schedule(alloc, c, j, limits, given, schedule, crew, board);
+    let board = round_robin(alloc, c, j, limits, given, crew, board);
     ended(alloc, c, j, limits, given, crew, board)
 }
 
@@ -150,7 +152,8 @@ fn run_crew(
 /// A worker that is refused memory ends, and the others go on. An outcome comes before want of memory, and that before a
 /// report. `Spent` comes only where the property has no outcome, and either the list is full and its entries allow a
 /// skeleton, or each worker has spent its conflicts or its steps. Whatever their limit is, no worker takes more steps than
-/// `most_steps` says; so a limit above that is never spent.
+/// `most_steps` says; so a limit above that is never spent. Nor does one take more turns than `most_turns` says; within
+/// these it found what it added to the list.
 pub fn run_turns(
     alloc: Global,
     c: &Arc<Circuit>,

@@ -1,11 +1,10 @@
-//! A worker, and what it does in a turn. The main call is `turn`: the work up to the next event of the board, and that
-//! event.
+//! A worker, and what it does in a turn over any wall. The main call is `turn`: the work up to the next event of the
+//! wall, and that event.
 
-ghost use Rattle.std.specs.Prelude.{◌≡◌, ◌≢◌, [], ◌∷◌, true, length, IfOk, IfErr, None};
+ghost use Rattle.std.specs.Prelude.{◌≡◌, true, IfOk, IfErr};
 ghost use Rattle.std.specs.Arc.{arc_value};
 ghost use Rattle.skeleton.specs.Finding.{IsFound};
-ghost use Rattle.wall_store.specs.Boards.{plain, properties_of, outcome_of};
-ghost use Rattle.wall_store.specs.Events.{list_of};
+ghost use Rattle.wall_store.specs.Boards.{plain};
 ghost use Rattle.fair_workers.specs.Runs.{IsSpent};
 ghost use Rattle.fair_workers.specs.Walks.{IsStop};
 ghost use Rattle.fair_workers.specs.Deeds.{IsDeed, IsPosting, IsTrueBehind};
@@ -13,6 +12,7 @@ ghost use Rattle.fair_workers.specs.Working.{is_running, is_refused, phase_after
 
 use crate::deciding::{Author, Deed, decide};
 use crate::scouting::Scout;
+use crate::walls::Wall;
 use crate::ways::Stop;
 use circuit::Circuit;
 use edge::Meter;
@@ -20,7 +20,7 @@ use entry::Checked;
 use skeleton::Found;
 use std::alloc::Global;
 use std::sync::Arc;
-use wall_store::{Board, Outcome, Posted, outcomes_stay};
+use wall_store::{Outcome, Posted};
 
 /// What a worker does in its next turn, or how it ended.
 #[derive(Debug, Clone, Copy, PartialEq, Eq)]
@@ -47,45 +47,40 @@ pub(crate) enum Phase {
     Refused,
 }
 
-/// A worker: its number, how many entries it has seen, how many turns it had, its scout and its meter.
+/// A worker: its scout, its meter, and what it does next.
 #[derive(Drop)]
 pub(crate) struct Worker {
-    pub(crate) number: u32,
-    pub(crate) seen: usize,
-    pub(crate) turns: u32,
     pub(crate) scout: Scout,
     pub(crate) meter: Meter,
     pub(crate) phase: Phase,
 }
 
 // What the worker does next with what it has seen.
-fn think(
+fn think<W: Wall>(
     alloc: Global,
     c: &Arc<Circuit>,
     j: u32,
     worker: &mut Worker,
-    board: &Board,
+    wall: &W,
 ) -> Result<Deed, Stop>
-    requires worker { IsWorker j board.now worker.old }
-    requires circuit { arc_value c.now ≡ board.now.circuit }
+    requires kept { W.is_kept wall.now }
+    requires worker { IsWorker j (W.known wall.now) worker.old }
+    requires circuit { arc_value c.now ≡ (W.known wall.now).circuit }
     requires phase { worker.old.phase ≡ Phase.Searches }
-    ensures deed { IfOk result (IsDeed board.now.circuit (plain (list_of board.now worker.old.number)) j
-        worker.old.number) }
+    ensures deed { IfOk result (IsDeed (W.known wall.now).circuit (plain (W.known wall.now).list) j
+        (W.known wall.now).number (W.known wall.now).turns) }
     ensures stop { IfErr result (IsStop worker.new.meter) }
-    ensures thinks { Thinks j (searches_ahead worker.new.phase) board.now worker.old worker.new }
+    ensures thinks { Thinks j (searches_ahead worker.new.phase) (W.known wall.now) worker.old worker.new }
 {
-    board.entries_are_good();
-    board.holds();
-    let view = &board.entries()[..worker.seen];
     let author = Author {
-        number: worker.number,
-        turn: worker.turns,
+        number: wall.number(),
+        turn: wall.turns(),
     };
     decide(
         alloc,
         c,
         j,
-        view,
+        wall.view(),
         &mut worker.scout,
         author,
         &mut worker.meter,
@@ -93,64 +88,70 @@ fn think(
 }
 
 // Whether a skeleton is left, by what the worker has seen.
-fn think_last(alloc: Global, j: u32, worker: &mut Worker, board: &Board) -> Result<Found, Stop>
-    requires worker { IsWorker j board.now worker.old }
-    ensures found { IfOk result (IsFound board.now.circuit j (plain (list_of board.now worker.old.number))) }
+fn think_last<W: Wall>(alloc: Global, j: u32, worker: &mut Worker, wall: &W) -> Result<Found, Stop>
+    requires kept { W.is_kept wall.now }
+    requires worker { IsWorker j (W.known wall.now) worker.old }
+    ensures found { IfOk result (IsFound (W.known wall.now).circuit j (plain (W.known wall.now).list)) }
     ensures stop { IfErr result (IsStop worker.new.meter) }
-    ensures thinks { Thinks j (searches_ahead worker.new.phase) board.now worker.old worker.new }
+    ensures thinks { Thinks j (searches_ahead worker.new.phase) (W.known wall.now) worker.old worker.new }
 {
-    board.entries_are_good();
-    board.holds();
-    let view = &board.entries()[..worker.seen];
-    worker.scout.next(alloc, view, &mut worker.meter)
+    worker.scout.next(alloc, wall.view(), &mut worker.meter)
 }
 
 // Asks whether the property is open.
-fn ask(_j: u32, worker: &mut Worker, board: &mut Board)
-    requires worker { IsWorker _j board.old worker.old }
-    requires served { properties_of board.old.served ≡ _j ∷ [] }
+fn ask<W: Wall>(_j: u32, worker: &mut Worker, wall: &mut W)
+    requires kept { W.is_kept wall.old }
+    requires worker { IsWorker _j (W.known wall.old) worker.old }
     requires phase { worker.old.phase ≡ Phase.Asks }
-    ensures { Turns _j 0 board.old worker.old board.new worker.new }
+    ensures on { W.goes_on wall.old wall.new }
+    ensures turns { Turns _j 0 (W.known wall.old) worker.old (W.known wall.new) worker.new }
 {
-    worker.phase = match board.next_open(worker.number, 0) {
+    worker.phase = match wall.next_open(0) {
         Some(_) => Phase::Looks,
         None => Phase::Closed,
     };
 }
 
 // Asks the same for the last time.
-fn ask_last(_j: u32, worker: &mut Worker, board: &mut Board)
-    requires worker { IsWorker _j board.old worker.old }
-    requires served { properties_of board.old.served ≡ _j ∷ [] }
+fn ask_last<W: Wall>(_j: u32, worker: &mut Worker, wall: &mut W)
+    requires kept { W.is_kept wall.old }
+    requires worker { IsWorker _j (W.known wall.old) worker.old }
     requires phase { worker.old.phase ≡ Phase.AsksLast }
-    ensures { Turns _j 0 board.old worker.old board.new worker.new }
+    ensures on { W.goes_on wall.old wall.new }
+    ensures turns { Turns _j 0 (W.known wall.old) worker.old (W.known wall.new) worker.new }
 {
-    worker.phase = match board.next_open(worker.number, 0) {
+    worker.phase = match wall.next_open(0) {
         Some(_) => Phase::LooksLast,
         None => Phase::Closed,
     };
 }
 
 // Looks, to search then.
-fn look(_j: u32, worker: &mut Worker, board: &mut Board)
-    requires worker { IsWorker _j board.old worker.old }
+fn look<W: Wall>(_j: u32, worker: &mut Worker, wall: &mut W)
+    requires kept { W.is_kept wall.old }
+    requires worker { IsWorker _j (W.known wall.old) worker.old }
     requires phase { worker.old.phase ≡ Phase.Looks }
-    ensures { Turns _j 0 board.old worker.old board.new worker.new }
+    ensures on { W.goes_on wall.old wall.new }
+    ensures turns { Turns _j 0 (W.known wall.old) worker.old (W.known wall.new) worker.new }
 {
-    board.holds();
-    worker.seen = board.look(worker.number) as usize;
-    worker.phase = Phase::Searches;
+    worker.phase = match wall.look() {
+        Ok(()) => Phase::Searches,
+        Err(_) => Phase::Refused,
+    };
 }
 
 // Looks for the last time.
-fn look_last(_j: u32, worker: &mut Worker, board: &mut Board)
-    requires worker { IsWorker _j board.old worker.old }
+fn look_last<W: Wall>(_j: u32, worker: &mut Worker, wall: &mut W)
+    requires kept { W.is_kept wall.old }
+    requires worker { IsWorker _j (W.known wall.old) worker.old }
     requires phase { worker.old.phase ≡ Phase.LooksLast }
-    ensures { Turns _j 0 board.old worker.old board.new worker.new }
+    ensures on { W.goes_on wall.old wall.new }
+    ensures turns { Turns _j 0 (W.known wall.old) worker.old (W.known wall.new) worker.new }
 {
-    board.holds();
-    worker.seen = board.look(worker.number) as usize;
-    worker.phase = Phase::SearchesLast;
+    worker.phase = match wall.look() {
+        Ok(()) => Phase::SearchesLast,
+        Err(_) => Phase::Refused,
+    };
 }
 
 fn after_post(posted: Posted) -> Phase
@@ -164,111 +165,120 @@ fn after_post(posted: Posted) -> Phase
 }
 
 // Posts an entry that was checked behind what the worker has seen.
-fn post(_j: u32, worker: &mut Worker, entry: Arc<Checked>, board: &mut Board)
-    requires worker { IsWorker _j board.old worker.old }
-    requires served { properties_of board.old.served ≡ _j ∷ [] }
+fn post<W: Wall>(_j: u32, worker: &mut Worker, entry: Arc<Checked>, wall: &mut W)
+    requires kept { W.is_kept wall.old }
+    requires worker { IsWorker _j (W.known wall.old) worker.old }
     requires phase { worker.old.phase ≡ Phase.Searches }
-    requires entry { IsPosting board.old.circuit (plain (list_of board.old worker.old.number)) _j worker.old.number
-        (arc_value entry) }
-    ensures { Turns _j (searches_ahead worker.old.phase) board.old worker.old board.new worker.new }
+    requires entry { IsPosting (W.known wall.old).circuit (plain (W.known wall.old).list) _j (W.known wall.old).number
+        (W.known wall.old).turns (arc_value entry) }
+    ensures on { W.goes_on wall.old wall.new }
+    ensures turns { Turns _j (searches_ahead worker.old.phase) (W.known wall.old) worker.old (W.known wall.new) worker.new }
 {
-    board.holds();
-    board.seen_uses_stand();
-    let posted = board.post(worker.number, entry);
-    board.holds();
-    worker.seen = board.entries().len();
-    worker.phase = after_post(posted);
+    worker.phase = match wall.post(entry) {
+        Ok(posted) => after_post(posted),
+        Err(_) => Phase::Refused,
+    };
 }
 
 // Hands in an outcome that is true over what the worker has seen.
-fn finish(c: &Circuit, j: u32, worker: &mut Worker, outcome: Outcome, board: &mut Board)
-    requires worker { IsWorker j board.old worker.old }
-    requires circuit { c.now ≡ board.old.circuit }
-    requires served { properties_of board.old.served ≡ j ∷ [] }
+fn finish<W: Wall>(j: u32, worker: &mut Worker, outcome: Outcome, wall: &mut W)
+    requires kept { W.is_kept wall.old }
+    requires worker { IsWorker j (W.known wall.old) worker.old }
     requires running { is_running worker.old.phase ≡ true }
-    requires outcome { IsTrueBehind board.old.circuit (plain (list_of board.old worker.old.number)) j outcome }
-    ensures { Turns j (searches_ahead worker.old.phase) board.old worker.old board.new worker.new }
+    requires outcome { IsTrueBehind (W.known wall.old).circuit (plain (W.known wall.old).list) j outcome }
+    ensures on { W.goes_on wall.old wall.new }
+    ensures turns { Turns j (searches_ahead worker.old.phase) (W.known wall.old) worker.old (W.known wall.new) worker.new }
 {
-    outcomes_stay(c);
-    board.finish(worker.number, j, outcome);
+    wall.finish(j, outcome);
     worker.phase = Phase::Closed;
 }
 
 // The worker ends, since what it may spend is spent.
-fn end_spent(_j: u32, worker: &mut Worker, _board: &Board)
-    requires worker { IsWorker _j _board.now worker.old }
+fn end_spent<W: Wall>(_j: u32, worker: &mut Worker, wall: &W)
+    requires kept { W.is_kept wall.now }
+    requires worker { IsWorker _j (W.known wall.now) worker.old }
     requires running { is_running worker.old.phase ≡ true }
     requires spent { IsSpent worker.old.meter }
-    ensures { Turns _j (searches_ahead worker.old.phase) _board.now worker.old _board.now worker.new }
+    ensures on { W.goes_on wall.now wall.now }
+    ensures turns { Turns _j (searches_ahead worker.old.phase) (W.known wall.now) worker.old (W.known wall.now) worker.new }
 {
+    wall.holds();
     worker.phase = Phase::Spent;
 }
 
 // The worker ends, since memory was refused.
-fn end_refused(_j: u32, worker: &mut Worker, _board: &Board)
-    requires worker { IsWorker _j _board.now worker.old }
+fn end_refused<W: Wall>(_j: u32, worker: &mut Worker, wall: &W)
+    requires kept { W.is_kept wall.now }
+    requires worker { IsWorker _j (W.known wall.now) worker.old }
     requires running { is_running worker.old.phase ≡ true }
-    ensures { Turns _j (searches_ahead worker.old.phase) _board.now worker.old _board.now worker.new }
+    ensures on { W.goes_on wall.now wall.now }
+    ensures turns { Turns _j (searches_ahead worker.old.phase) (W.known wall.now) worker.old (W.known wall.now) worker.new }
 {
+    wall.holds();
     worker.phase = Phase::Refused;
 }
 
 // The worker ends, since the list is full and a skeleton is left.
-fn end_full(_j: u32, worker: &mut Worker, _board: &Board)
-    requires worker { IsWorker _j _board.now worker.old }
+fn end_full<W: Wall>(_j: u32, worker: &mut Worker, wall: &W)
+    requires kept { W.is_kept wall.now }
+    requires worker { IsWorker _j (W.known wall.now) worker.old }
     requires phase { worker.old.phase ≡ Phase.SearchesLast }
-    requires stuck { IsStuck _j _board.now }
-    ensures { Turns _j (searches_ahead worker.old.phase) _board.now worker.old _board.now worker.new }
+    requires stuck { IsStuck _j (W.known wall.now) }
+    ensures on { W.goes_on wall.now wall.now }
+    ensures turns { Turns _j (searches_ahead worker.old.phase) (W.known wall.now) worker.old (W.known wall.now) worker.new }
 {
+    wall.holds();
     worker.phase = Phase::Full;
 }
 
 // Shares the entry and posts it.
-fn post_shared(alloc: Global, j: u32, worker: &mut Worker, entry: Checked, board: &mut Board)
-    requires worker { IsWorker j board.old worker.old }
-    requires served { properties_of board.old.served ≡ j ∷ [] }
+fn post_shared<W: Wall>(alloc: Global, j: u32, worker: &mut Worker, entry: Checked, wall: &mut W)
+    requires kept { W.is_kept wall.old }
+    requires worker { IsWorker j (W.known wall.old) worker.old }
     requires phase { worker.old.phase ≡ Phase.Searches }
-    requires entry { IsPosting board.old.circuit (plain (list_of board.old worker.old.number)) j worker.old.number
-        entry }
-    ensures { Turns j (searches_ahead worker.old.phase) board.old worker.old board.new worker.new }
+    requires entry { IsPosting (W.known wall.old).circuit (plain (W.known wall.old).list) j (W.known wall.old).number
+        (W.known wall.old).turns entry }
+    ensures on { W.goes_on wall.old wall.new }
+    ensures turns { Turns j (searches_ahead worker.old.phase) (W.known wall.old) worker.old (W.known wall.new) worker.new }
 {
     match Arc::new(alloc, entry) {
-        Ok(entry) => post(j, worker, entry, board),
-        Err(_) => end_refused(j, worker, board),
+        Ok(entry) => post(j, worker, entry, wall),
+        Err(_) => end_refused(j, worker, wall),
     }
 }
 
 // Searches, and then posts or hands in what it found.
-fn search(alloc: Global, c: &Arc<Circuit>, j: u32, worker: &mut Worker, board: &mut Board)
-    requires worker { IsWorker j board.old worker.old }
-    requires circuit { arc_value c.now ≡ board.old.circuit }
-    requires served { properties_of board.old.served ≡ j ∷ [] }
+fn search<W: Wall>(alloc: Global, c: &Arc<Circuit>, j: u32, worker: &mut Worker, wall: &mut W)
+    requires kept { W.is_kept wall.old }
+    requires worker { IsWorker j (W.known wall.old) worker.old }
+    requires circuit { arc_value c.now ≡ (W.known wall.old).circuit }
     requires phase { worker.old.phase ≡ Phase.Searches }
-    ensures { Turns j 0 board.old worker.old board.new worker.new }
+    ensures on { W.goes_on wall.old wall.new }
+    ensures turns { Turns j 0 (W.known wall.old) worker.old (W.known wall.new) worker.new }
 {
-    match think(alloc, c, j, worker, board) {
-        Ok(Deed::Post(entry)) => post_shared(alloc, j, worker, entry, board),
-        Ok(Deed::Finish(outcome)) => finish(c, j, worker, outcome, board),
-        Err(Stop::Spent) => end_spent(j, worker, board),
-        Err(Stop::Memory) => end_refused(j, worker, board),
+    match think(alloc, c, j, worker, wall) {
+        Ok(Deed::Post(entry)) => post_shared(alloc, j, worker, entry, wall),
+        Ok(Deed::Finish(outcome)) => finish(j, worker, outcome, wall),
+        Err(Stop::Spent) => end_spent(j, worker, wall),
+        Err(Stop::Memory) => end_refused(j, worker, wall),
     }
 }
 
 // Asks for a skeleton for the last time.
-fn search_last(alloc: Global, c: &Arc<Circuit>, j: u32, worker: &mut Worker, board: &mut Board)
-    requires worker { IsWorker j board.old worker.old }
-    requires circuit { arc_value c.now ≡ board.old.circuit }
-    requires served { properties_of board.old.served ≡ j ∷ [] }
+fn search_last<W: Wall>(alloc: Global, j: u32, worker: &mut Worker, wall: &mut W)
+    requires kept { W.is_kept wall.old }
+    requires worker { IsWorker j (W.known wall.old) worker.old }
     requires phase { worker.old.phase ≡ Phase.SearchesLast }
-    ensures { Turns j 0 board.old worker.old board.new worker.new }
+    ensures on { W.goes_on wall.old wall.new }
+    ensures turns { Turns j 0 (W.known wall.old) worker.old (W.known wall.new) worker.new }
 {
-    match think_last(alloc, j, worker, board) {
-        Ok(Found::Skeleton(_left)) => end_full(j, worker, board),
+    match think_last(alloc, j, worker, wall) {
+        Ok(Found::Skeleton(_left)) => end_full(j, worker, wall),
         Ok(Found::Refuted(refutation)) => {
-            finish(c, j, worker, Outcome::Holds(refutation), board);
+            finish(j, worker, Outcome::Holds(refutation), wall);
         }
-        Err(Stop::Spent) => end_spent(j, worker, board),
-        Err(Stop::Memory) => end_refused(j, worker, board),
+        Err(Stop::Spent) => end_spent(j, worker, wall),
+        Err(Stop::Memory) => end_refused(j, worker, wall),
     }
 }
 
@@ -297,41 +307,29 @@ impl Phase {
     }
 }
 
-// Counts one turn more.
-fn count_turn(_j: u32, worker: &mut Worker, _board: &Board)
-    requires { IsWorker _j _board.now worker.old }
-    ensures { Thinks _j 0 _board.now worker.old worker.new }
-{
-    worker.turns = worker.turns.saturating_add(1);
-}
-
-/// A turn of a worker that has not ended. Where memory is refused, the worker ends.
-pub(crate) fn turn(alloc: Global, c: &Arc<Circuit>, j: u32, worker: &mut Worker, board: &mut Board)
-    requires worker { IsWorker j board.old worker.old }
-    requires circuit { arc_value c.now ≡ board.old.circuit }
-    requires served { properties_of board.old.served ≡ j ∷ [] }
+/// A turn of a worker that has not ended: what it does up to its next event of the wall, and that event. Where memory is
+/// refused, the worker ends.
+pub(crate) fn turn<W: Wall>(
+    alloc: Global,
+    c: &Arc<Circuit>,
+    j: u32,
+    worker: &mut Worker,
+    wall: &mut W,
+)
+    requires kept { W.is_kept wall.old }
+    requires worker { IsWorker j (W.known wall.old) worker.old }
+    requires circuit { arc_value c.now ≡ (W.known wall.old).circuit }
     requires running { is_running worker.old.phase ≡ true }
-    ensures { Turns j 0 board.old worker.old board.new worker.new }
-{
-    count_turn(j, worker, board);
-    event(alloc, c, j, worker, board);
-}
-
-// What the worker does up to its next event, and that event.
-fn event(alloc: Global, c: &Arc<Circuit>, j: u32, worker: &mut Worker, board: &mut Board)
-    requires worker { IsWorker j board.old worker.old }
-    requires circuit { arc_value c.now ≡ board.old.circuit }
-    requires served { properties_of board.old.served ≡ j ∷ [] }
-    requires running { is_running worker.old.phase ≡ true }
-    ensures { Turns j 0 board.old worker.old board.new worker.new }
+    ensures on { W.goes_on wall.old wall.new }
+    ensures turns { Turns j 0 (W.known wall.old) worker.old (W.known wall.new) worker.new }
 {
     match worker.phase {
-        Phase::Asks => ask(j, worker, board),
-        Phase::Looks => look(j, worker, board),
-        Phase::Searches => search(alloc, c, j, worker, board),
-        Phase::AsksLast => ask_last(j, worker, board),
-        Phase::LooksLast => look_last(j, worker, board),
-        Phase::SearchesLast => search_last(alloc, c, j, worker, board),
+        Phase::Asks => ask(j, worker, wall),
+        Phase::Looks => look(j, worker, wall),
+        Phase::Searches => search(alloc, c, j, worker, wall),
+        Phase::AsksLast => ask_last(j, worker, wall),
+        Phase::LooksLast => look_last(j, worker, wall),
+        Phase::SearchesLast => search_last(alloc, j, worker, wall),
         Phase::Closed | Phase::Full | Phase::Spent | Phase::Refused => unreachable!(),
     }
 }

@@ -1,5 +1,5 @@
 use Rattle.std.proofs.Common.{◌≡◌, length}
-use Rattle.fair_workers.specs.Working.{AreWorkers}
+use Rattle.fair_workers.specs.Crews.{AreWorkers}
 use Rattle.fair_workers.proofs.crews.crew_of.Given as goal
 
 abbrev pub invariant-loop-number : goal.invariant-loop-number

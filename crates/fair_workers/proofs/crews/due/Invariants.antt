@@ -1,5 +1,5 @@
 use Rattle.std.proofs.Common.{◌≡◌, ℕ, ◌<◌, ◌≤◌, false, get_or}
-use Rattle.fair_workers.specs.Working.{runs_at}
+use Rattle.fair_workers.specs.Crews.{runs_at}
 use Rattle.fair_workers.proofs.crews.due.Given as goal
 
 abbrev pub invariant-loop-at : goal.invariant-loop-at

@@ -1,5 +1,5 @@
 use Rattle.std.proofs.Common.{◌≡◌, ℕ, ◌<◌, ◌≤◌, false}
-use Rattle.fair_workers.specs.Working.{runs_at}
+use Rattle.fair_workers.specs.Crews.{runs_at}
 use Rattle.fair_workers.proofs.crews.running_from.Given as goal
 
 abbrev pub invariant-loop-k : goal.invariant-loop-k

@@ -10,11 +10,11 @@ pub returns-in-Some-2-clause-begun : goal.returns-in-Some-2-clause-begun
 returns-in-Some-2-clause-begun c =
     let k = c.args.c.now in
     let view = viewed c.args.view.now in
-    let run = c.as_slice-run.result.now in
+    let run = c.as_slice-walked.result.now in
     let hit = c.in-Some-2.hit in
-    let reached : IsReachedRun c.args.c.now c.as_slice-run.result.now = search rules in
-    let is : IsHit c.args.c.now c.args.j (viewed c.args.view.now) c.as_slice-run.result.now c.in-Some-2.hit =
-    subst (λ o. IfSome o (IsHit c.args.c.now c.args.j (viewed c.args.view.now) c.as_slice-run.result.now)) c.in-Some-2.is c.in_ok-hit.ensures.hit
+    let reached : IsReachedRun c.args.c.now c.as_slice-walked.result.now = search rules in
+    let is : IsHit c.args.c.now c.args.j (viewed c.args.view.now) c.as_slice-walked.result.now c.in-Some-2.hit =
+    subst (λ o. IfSome o (IsHit c.args.c.now c.args.j (viewed c.args.view.now) c.as_slice-walked.result.now)) c.in-Some-2.is c.in_ok-hit.ensures.hit
     in
     record {
       allowed = is.begins.0;
@@ -22,11 +22,11 @@ returns-in-Some-2-clause-begun c =
           (subst (λ t. IsStemTo k t (take hit.at run)) (sym is.begins.1) (way-to-place k run hit.at is.inside reached));
     }
 
-pub trails-preserved : goal.trails-preserved
-trails-preserved c =
-    let before = c.trails.invariant in
+pub runs-preserved : goal.runs-preserved
+runs-preserved c =
+    let before = c.runs.invariant in
     record {
-      trails = c.take_newest.ensures.trails;
+      runs = c.take_newest.ensures.runs;
       avoid = c.newest.ensures.avoid;
       limits = record {
         conflicts = c.newest.ensures.limits.conflicts ∙ before.limits.conflicts;

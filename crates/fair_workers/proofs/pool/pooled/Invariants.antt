@@ -3,12 +3,12 @@ use Rattle.std.specs.List.{All}
 use Rattle.entry.specs.CheckedEntries.{viewed}
 use Rattle.skeleton.specs.Finding.{GoesOnFrom, BeginsNone}
 use Rattle.fair_workers.specs.Walks.{KeepsLimits}
-use Rattle.fair_workers.specs.Pools.{IsTrail}
+use Rattle.fair_workers.specs.Pools.{IsRun}
 use Rattle.fair_workers.proofs.pool.pooled.Given as goal
 
-abbrev pub invariant-trails : goal.invariant-trails
-invariant-trails l = record {
-  trails : All (IsTrail l.c) l.trails.items;
+abbrev pub invariant-runs : goal.invariant-runs
+invariant-runs l = record {
+  runs : All (IsRun l.c) l.runs.items;
   avoid : All (BeginsNone l.c l.j (viewed l.view)) l.avoid;
   limits : KeepsLimits l.initial.meter l.meter;
   steps : l.meter.steps ≡ l.initial.meter.steps;
@@ -17,5 +17,5 @@ invariant-trails l = record {
   seen : GoesOnFrom l.query.seen (viewed l.view);
 }
 
-abbrev pub decreases-trails : goal.decreases-trails
-decreases-trails l = length l.trails.items
+abbrev pub decreases-runs : goal.decreases-runs
+decreases-runs l = length l.runs.items

@@ -1,6 +1,6 @@
 use Rattle.std.proofs.Common.{◌≡◌, ◌-◌, ◌<◌, true, map, length, get_or}
 use Rattle.std.specs.Arc.{arc_value}
-use Rattle.fair_workers.specs.Working.{IsCrew, task_of, runs_at}
+use Rattle.fair_workers.specs.Crews.{IsCrew, task_of, runs_at}
 use Rattle.fair_workers.proofs.turns.by_schedule.Given as goal
 
 abbrev pub invariant-loop-at : goal.invariant-loop-at

@@ -1,6 +1,6 @@
 use Rattle.std.proofs.Common.{map}
 use Rattle.std.specs.Arc.{arc_value}
-use Rattle.fair_workers.specs.Working.{task_of}
+use Rattle.fair_workers.specs.Crews.{task_of}
 use Rattle.fair_workers.proofs.Together.{report-of}
 use Rattle.fair_workers.proofs.turns.reported.Goals as goal
 

@@ -1,6 +1,6 @@
 use Rattle.std.proofs.Common.{◌≡◌, ◌<◌, ◌≤◌, true, map, length}
 use Rattle.std.specs.Arc.{arc_value}
-use Rattle.fair_workers.specs.Working.{IsCrew, IsOver, task_of, runs_at, left_of}
+use Rattle.fair_workers.specs.Crews.{IsCrew, IsOver, task_of, runs_at, left_of}
 use Rattle.fair_workers.proofs.turns.round_robin.Given as goal
 
 abbrev pub invariant-loop-k : goal.invariant-loop-k

@@ -1,21 +1,28 @@
-use Rattle.std.proofs.Common.{length, sym, ap, ◌∙◌, subst}
+use Rattle.std.proofs.Common.{◌<◌, sym, ◌∙◌, subst, arith}
 use Rattle.std.specs.Arc.{arc_value}
-use Rattle.std.proofs.lemmas.List.{length-map}
-use Rattle.fair_workers.specs.Working.{Turns, searches_ahead}
-use Rattle.fair_workers.proofs.Turned.{may-post, post-turn}
+use Rattle.fair_workers.specs.declared.working.Phase.TheVariants.{Refused}
+use Rattle.fair_workers.specs.Working.{rank, searches_ahead, Turns}
+use Rattle.fair_workers.proofs.Turned.{kept-turn, may-post, post-turn}
+use Rattle.fair_workers.proofs.working.post.Goals.{in-Ok, in-Err}
 use Rattle.fair_workers.proofs.working.post.Goals as goal
 
-pub post-posted-requires-clause-may : goal.post-posted-requires-clause-may
-post-posted-requires-clause-may c =
+pub post-requires-clause-may : goal.post-requires-clause-may
+post-requires-clause-may g c =
     let e = arc_value c.args.entry in
-    may-post c.args._j c.args.board.now c.args.worker.now.number e e.origin c.requires.served
-    (c.seen_uses_stand.ensures c.args.worker.now.number) c.requires.entry.circuit c.requires.entry.closed c.requires.entry.used c.requires.entry.work
+    may-post c.args._j (g.W.Wall.known c.args.wall.now) e e.origin c.requires.worker.served c.requires.entry.circuit c.requires.entry.closed
+    c.requires.entry.used c.requires.entry.work
 
-pub returns : goal.returns
-returns c =
-    let e = arc_value c.args.entry in
-    let size = sym (length-map c.entries.result.now (λ x. arc_value x)) ∙ ap length c.entries.ensures.checked in
-    subst (λ p. Turns c.args._j (searches_ahead c.args.worker.now.phase) c.args.board.now c.args.worker.now c.post-posted.new.self (record c.args.worker.now { seen = length c.entries.result.now; phase = p }))
-    (sym c.after_post-worker.ensures)
-    (post-turn c.args._j c.args.board.now c.post-posted.new.self c.args.worker.now e c.post-posted.result (length c.entries.result.now) e.origin
-    c.holds.ensures c.requires.worker c.requires.served c.requires.phase c.requires.entry.work c.post-posted.ensures.answer c.post-posted.ensures.after size)
+pub returns-clause-turns : goal.returns-clause-turns
+returns-clause-turns g c =
+    let k = g.W.Wall.known c.args.wall.now in
+    let l = g.W.Wall.known c.post.new.self in
+    let w = c.args.worker.now in
+    elim c.match-post.branch [
+      | in-Ok b ↦
+          subst (λ p. Turns c.args._j (searches_ahead w.phase) k w l (record w { phase = p })) (sym (b.worker-is ∙ b.after_post-worker.ensures))
+          (post-turn c.args._j k l w b.in-Ok.posted c.requires.worker c.requires.phase b.in-Ok.ensures.ok)
+      | in-Err b ↦
+          subst (λ p. Turns c.args._j (searches_ahead w.phase) k w l (record w { phase = p })) (sym b.worker-is)
+          (kept-turn c.args._j (searches_ahead w.phase) k l w Refused c.requires.worker b.in-Err.ensures.err
+          (subst (λ p. 0 < rank p) (sym c.requires.phase) (omega arith)) (omega arith) tt)
+    ]

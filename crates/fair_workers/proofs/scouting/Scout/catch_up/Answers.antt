@@ -14,7 +14,7 @@ invariant_of-self c =
     record {
       circuit = c.self.invariant.circuit;
       on = goes-on-then s.query.seen (viewed s.seen) (viewed c.in_ok-self-inside.field-0) c.self.invariant.on grows;
-      trails = c.self.invariant.trails;
+      runs = c.self.invariant.runs;
       avoid = avoid-grows c.never_stays.ensures s.query.circuit s.query.property (viewed s.seen) (viewed c.in_ok-self-inside.field-0) s.avoid grows
           c.self.invariant.avoid;
       search = fit-grows s.query.circuit (viewed s.seen) (viewed c.in_ok-self-inside.field-0) s.search grows c.self.invariant.search;

@@ -2,7 +2,7 @@ use Rattle.std.proofs.Common.{IfSome, ◌≡◌, sym, refl, ap, ◌∙◌, subst
 use Rattle.std.specs.List.{All}
 use Rattle.entry.specs.CheckedEntries.{viewed}
 use Rattle.skeleton.specs.Finding.{Asking, GoesOnFrom}
-use Rattle.fair_workers.specs.Pools.{IsTrail}
+use Rattle.fair_workers.specs.Pools.{IsRun}
 use Rattle.fair_workers.specs.Stems.{IsFit}
 use Rattle.fair_workers.proofs.Kept.{avoid-as}
 use Rattle.fair_workers.proofs.scouting.Scout.next.Goals as goal
@@ -14,7 +14,7 @@ invariant_of-self c =
     record {
       circuit = c.self.invariant.circuit ∙ sym c.found.ensures.circuit;
       on = subst (λ xs. GoesOnFrom c.found.new.query.seen xs) (sym same) c.found.ensures.seen;
-      trails = subst (λ k. All (IsTrail k) c.self.inside.trails.items) (sym c.found.ensures.circuit) c.self.invariant.trails;
+      runs = subst (λ k. All (IsRun k) c.self.inside.runs.items) (sym c.found.ensures.circuit) c.self.invariant.runs;
       avoid = avoid-as s.query.circuit c.found.new.query.circuit s.query.property c.found.new.query.property (viewed s.seen) (viewed s.seen) s.avoid
           (sym c.found.ensures.circuit) (sym c.found.ensures.property) refl c.self.invariant.avoid;
       search = subst (λ k. IfSome c.self.inside.search (IsFit k (viewed c.self.inside.seen))) (sym c.found.ensures.circuit) c.self.invariant.search;

@@ -2,15 +2,15 @@ use Rattle.std.proofs.Common.{IfSome, ◌≡◌, sym, ap, ◌∙◌, subst}
 use Rattle.std.specs.List.{All}
 use Rattle.entry.specs.CheckedEntries.{viewed}
 use Rattle.skeleton.specs.Finding.{Asking, GoesOnFrom}
-use Rattle.fair_workers.specs.Pools.{IsTrail}
+use Rattle.fair_workers.specs.Pools.{IsRun}
 use Rattle.fair_workers.specs.Stems.{IsFit}
 use Rattle.fair_workers.proofs.Kept.{avoid-as}
 use Rattle.fair_workers.proofs.scouting.Scout.pooled.Goals as goal
 
-pub pooled-requires-clause-trails : goal.pooled-requires-clause-trails
-pooled-requires-clause-trails c =
+pub pooled-requires-clause-runs : goal.pooled-requires-clause-runs
+pooled-requires-clause-runs c =
     let same : c.self.inside.query.circuit ≡ c.args.c.now = ap (λ (a : Asking). a.circuit) c.self.view_is ∙ c.requires.circuit in
-    subst (λ k. All (IsTrail k) c.self.inside.trails.items) same c.self.invariant.trails
+    subst (λ k. All (IsRun k) c.self.inside.runs.items) same c.self.invariant.runs
 
 pub pooled-requires-clause-avoid : goal.pooled-requires-clause-avoid
 pooled-requires-clause-avoid c =
@@ -25,7 +25,7 @@ invariant_of-self c =
     record {
       circuit = c.self.invariant.circuit ∙ alike;
       on = subst (λ xs. GoesOnFrom c.pooled.new.query.seen xs) (sym same) c.pooled.ensures.seen;
-      trails = subst (λ k. All (IsTrail k) c.pooled.new.trails.items) (sym c.pooled.ensures.circuit) c.pooled.ensures.trails;
+      runs = subst (λ k. All (IsRun k) c.pooled.new.runs.items) (sym c.pooled.ensures.circuit) c.pooled.ensures.runs;
       avoid =
           avoid-as c.args.c.now c.pooled.new.query.circuit c.args.j c.pooled.new.query.property (viewed c.args.view.now) (viewed c.self.inside.seen) c.pooled.new.avoid
           (sym c.pooled.ensures.circuit) (sym c.pooled.ensures.property) (sym same) c.pooled.ensures.avoid;

@@ -1,0 +1,83 @@
+-- Scaffolding of inner functions. What a worker knows of a list that it shares with others, and what a call for the list
+-- makes of that. It goes for a board on which workers take turns, and for whatever else may lend one a list.
+use Rattle.std.specs.Prelude.{◌≡◌, ℕ, ◌+◌, ◌<◌, ◌≤◌, Bool, true, List, ◌++◌, length, Contains, Option, IfNone}
+use Rattle.std.specs.List.{Any}
+use Rattle.aig_semantics.specs.Circuits.{Circuit}
+use Rattle.fair_semantics.specs.Entries.{used_entries, AreClosed}
+use Rattle.fair_semantics.specs.Skeletons.{IsSkeleton}
+use Rattle.entry.specs.declared.origins.Work.{Work}
+use Rattle.entry.specs.CheckedEntries.{CheckedEntry}
+use Rattle.wall_store.specs.declared.outcomes.Posted.{Posted}
+use Rattle.wall_store.specs.declared.outcomes.Posted.TheVariants as posts
+use Rattle.wall_store.specs.Boards.{Allow, FromWorker, plain}
+
+-- The circuit and the properties of the list; the worker's number, and how many turns it has taken; with how many entries
+-- the list began, and how long it may become; the entries that the worker has seen; and which properties it knows to have
+-- an outcome.
+pub record Known : Type 0 where
+  pub circuit : Circuit
+  pub properties : List ℕ
+  pub number : ℕ
+  pub turns : ℕ
+  pub given : ℕ
+  pub limit : ℕ
+  pub list : List CheckedEntry
+  pub settled : ℕ → Bool
+
+-- each property is known to have an outcome
+abbrev pub AreSettled : Known → Type 0
+AreSettled k = (j : ℕ) → Contains k.properties j → k.settled j ≡ true
+
+-- What each call leaves, refused or not: it is one turn more at most.
+pub record Keeps (k l : Known) : Type 0 where
+  pub circuit : l.circuit ≡ k.circuit
+  pub properties : l.properties ≡ k.properties
+  pub given : l.given ≡ k.given
+  pub limit : l.limit ≡ k.limit
+  pub turns : l.turns ≤ k.turns + 1
+
+-- the entries that were seen are the same
+pub record KeepsList (k l : Known) : Type 0 where
+  pub keeps : Keeps k l
+  pub list : l.list ≡ k.list
+
+-- the entries that were seen are those, and possibly more behind them, within the limit
+pub record SeesMore (k l : Known) : Type 0 where
+  pub keeps : Keeps k l
+  pub list : (more : List CheckedEntry) × (l.list ≡ k.list ++ more)
+  pub within : length l.list ≤ l.limit
+
+-- What the answer to a post tells: the worker then sees more; or the list is full; or there is nothing left to find.
+abbrev pub TellsPosted : Known → Known → Posted → Type 0
+TellsPosted k l (posts.Appended n) = length k.list < length l.list
+TellsPosted k l (posts.Stale n) = length k.list < length l.list
+TellsPosted k l posts.Full = length l.list ≡ l.limit
+TellsPosted k l posts.Closed = AreSettled l
+
+pub record HasPosted (k : Known) (r : Posted) (l : Known) : Type 0 where
+  pub sees : SeesMore k l
+  pub tells : TellsPosted k l r
+
+-- property j was handed in
+pub record HasFinished (j : ℕ) (k l : Known) : Type 0 where
+  pub keeps : KeepsList k l
+  pub settled : l.settled j ≡ true
+
+-- an open property was asked for
+pub record HasAsked (k : Known) (r : Option ℕ) (l : Known) : Type 0 where
+  pub keeps : KeepsList k l
+  pub tells : IfNone r (AreSettled l)
+
+-- What a worker may post is an entry of its own and of this turn, that is of the circuit, whose uses are closed among the
+-- entries that it has seen, and whose skeleton, one of a property of the list, these allow.
+pub record IsOwn (k : Known) (e : CheckedEntry) (work : Work) : Type 0 where
+  pub circuit : e.circuit ≡ k.circuit
+  pub author : work.author ≡ k.number
+  pub turn : work.turn ≡ k.turns
+  pub closed : AreClosed (plain k.list) e.entry.uses
+  pub used : e.used ≡ used_entries (plain k.list) e.entry.uses
+  pub skeleton : Any (λ j. IsSkeleton k.circuit j work.skeleton) k.properties
+  pub allowed : Allow k.list work.skeleton
+
+abbrev pub MayPostFrom : Known → CheckedEntry → Type 0
+MayPostFrom k e = FromWorker e.origin (IsOwn k e)
