@@ -139,6 +139,7 @@ SHORT = [
 SECTIONS = [
     (b"aag 4 1 1 1 1 1 1 1 1\n2\n4 2 1\n6\n7\n1\n2\n2\n4\n0\n6 4 3\ni0 x\nc\nany", 50, 55),
     (b"aig 3 1 1 1 1 1 1 1 1\n2 1\n6\n7\n1\n2\n2\n4\n0\n\x02\x01i0 x\nc\nany", 42, 47),
+    (b"aag 1 0 1 0 0 0 0 1 0\n2 3\n1\n2\n", 30, 30),
 ]
 
 

@@ -9,12 +9,13 @@
                                     a shift register that an input may stop, unrolled over STEPS steps; a 1 enters only
                                     where the two places behind it are 0, and in the end PLACE and the next one are 1:
                                     no model
-    cnf.py questions GATES COUNT SEED CNF QUESTIONS
-                                    a circuit of GATES gates over 50 inputs, and COUNT lists of up to 61 assumptions, in
-                                    the same form, with the values of one run of the circuit each: in each tenth list
-                                    those of any variables; in the others those of a cut, from which the value of a gate
-                                    above it follows, and of this gate the other value; in each fifth list the cut lacks
-                                    a variable
+    cnf.py questions KIND GATES BESIDE COUNT SEED CNF QUESTIONS
+                                    a circuit of GATES gates over 50 inputs, BESIDE further gates over 50 inputs of their
+                                    own, and COUNT lists of up to 61 assumptions, in the same form, with the values of one
+                                    run of the first circuit each. KIND model: those of any variables of it. KIND refuted:
+                                    those of a cut, from which the value of a gate above it follows, and of this gate the
+                                    other value. KIND mixed: the former in each tenth list, and else the latter, where in
+                                    each fifth list the cut lacks a variable
 """
 import random
 import sys
@@ -118,6 +119,15 @@ def circuit(gates, chance):
     return found
 
 
+def clauses_of(gates, lift):
+    """The clauses of gates, all of whose variables are so much greater."""
+    clauses = []
+    for gate in gates:
+        gate, first, second = (literal + lift if literal > 0 else literal - lift for literal in gate)
+        clauses += [[-gate, first], [-gate, second], [gate, -first, -second]]
+    return clauses
+
+
 def values_in_run(gates, chance):
     values = [False] + [bool(below(chance, 2)) for _ in range(INPUTS)]
     for _, first, second in gates:
@@ -134,17 +144,17 @@ def cut_below(gates, gate, size):
     return sorted(found)
 
 
-def questions(count, gates, chance):
+def questions(kind, count, gates, chance):
     lists = []
     for number in range(count):
         values = values_in_run(gates, chance)
         size = FEWEST + below(chance, MOST - FEWEST + 1)
-        if number % 10 == 0:
+        if kind == "model" or (kind == "mixed" and number % 10 == 0):
             chosen = sorted({1 + below(chance, len(values) - 1) for _ in range(size)})
         else:
             gate = len(values) - 1 - below(chance, len(gates) // 2)
             chosen = cut_below(gates, gate, size)
-            if number % 5 == 1:
+            if kind == "mixed" and number % 5 == 1:
                 del chosen[below(chance, len(chosen))]
             values[gate] = not values[gate]
             chosen.append(gate)
@@ -152,14 +162,15 @@ def questions(count, gates, chance):
     return lists
 
 
-def write_questions(words):
-    chance = random.Random(int(words[2]))
-    gates = circuit(int(words[0]), chance)
-    clauses = []
-    for gate, first, second in gates:
-        clauses += [[-gate, first], [-gate, second], [gate, -first, -second]]
-    write(words[3], INPUTS + len(gates), clauses)
-    write(words[4], INPUTS + len(gates), questions(int(words[1]), gates, chance))
+def write_questions(kind, gates, beside, count, seed, clauses, lists):
+    chance = random.Random(int(seed))
+    asked = circuit(int(gates), chance)
+    asking = questions(kind, int(count), asked, chance)
+    others = circuit(int(beside), chance)
+    lift = INPUTS + len(asked)
+    variables = lift + (INPUTS + len(others) if others else 0)
+    write(clauses, variables, clauses_of(asked, 0) + clauses_of(others, lift))
+    write(lists, variables, asking)
 
 
 def write(path, variables, clauses):
@@ -176,8 +187,8 @@ def main(words):
         write(words[3], *counter(int(words[1]), int(words[2])))
     elif len(words) == 5 and words[0] == "shifter":
         write(words[4], *shifter(*map(int, words[1:4])))
-    elif len(words) == 6 and words[0] == "questions":
-        write_questions(words[1:])
+    elif len(words) == 8 and words[0] == "questions" and words[1] in ("model", "refuted", "mixed"):
+        write_questions(*words[1:])
     elif len(words) == 4 and words[0] == "random":
         write(words[3], *random_3sat(int(words[1]), int(words[2])))
     else:

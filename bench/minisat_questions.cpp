@@ -15,19 +15,22 @@ using Minisat::mkLit;
 
 typedef std::vector<int> Clause;
 
-// The clauses of a file in DIMACS form.
-static std::vector<Clause> read_formula(const char* name) {
+// Takes the clauses of a file in DIMACS form, one after the other.
+template <class Take>
+static void read_formula(const char* name, Take take) {
   std::ifstream file(name);
   std::string p, cnf;
   long variables, count;
   if (!(file >> p >> cnf >> variables >> count)) exit(1);
-  std::vector<Clause> clauses(1);
+  Clause clause;
   for (int literal; file >> literal;) {
-    if (literal == 0) clauses.emplace_back();
-    else clauses.back().push_back(literal);
+    if (literal != 0) {
+      clause.push_back(literal);
+      continue;
+    }
+    take(clause);
+    clause.clear();
   }
-  clauses.pop_back();
-  return clauses;
 }
 
 static void fill(Minisat::Solver& solver, const Clause& clause, Minisat::vec<Lit>& lits) {
@@ -49,11 +52,12 @@ int main(int count, char** words) {
   if (count != 3) return 64;
   Minisat::Solver solver;
   Minisat::vec<Lit> lits;
-  for (const Clause& clause : read_formula(words[1])) {
+  read_formula(words[1], [&](const Clause& clause) {
     fill(solver, clause, lits);
     solver.addClause(lits);
-  }
-  std::vector<Clause> questions = read_formula(words[2]);
+  });
+  std::vector<Clause> questions;
+  read_formula(words[2], [&](const Clause& question) { questions.push_back(question); });
   long sat = 0, unsat = 0;
   int64_t start = nanoseconds(CLOCK_PROCESS_CPUTIME_ID);
   for (const Clause& question : questions) {

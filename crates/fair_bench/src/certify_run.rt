@@ -10,7 +10,7 @@ use crate::failure::Failure;
 use crate::outside::{print_text, read_file};
 use crate::rewrite_run::read_model;
 use crate::sat_run::NO_LIMIT;
-use crate::stamps::Stamp;
+use crate::stamps::{Stamp, print_time};
 use aig_semantics::{MAX_MODEL_BYTES, Position};
 use certify::Claim;
 use circuit::Circuit;
@@ -22,7 +22,6 @@ use fair_semantics::{Situation, Skeleton};
 use items::Items;
 use proved_entries::{certified, claim_of, entry_again, judge, proved};
 use std::alloc::{AllocError, Global};
-use std::io;
 use std::sync::Arc;
 
 /// Certifies the reach entry that each latch of the model in this file is 0, which no step may leave, and checks the
@@ -131,8 +130,7 @@ fn check_certified(
     start: Stamp,
     conflicts: u64,
 ) -> Result<u8, Failure> {
-    let end = Stamp::now(rt)?;
-    print_time(rt, "certifying", start, end)?;
+    print_time(rt, "certifying", start)?;
     let e = entry_again(rt.alloc(), checked)?;
     judge_timed(rt, c, &e, conflicts)
 }
@@ -140,8 +138,7 @@ fn check_certified(
 fn judge_timed(rt: &HostRuntime, c: &Circuit, e: &Entry, conflicts: u64) -> Result<u8, Failure> {
     let start = Stamp::now(rt)?;
     judge(rt.alloc(), c, &[], e)?;
-    let end = Stamp::now(rt)?;
-    print_time(rt, "checking", start, end)?;
+    print_time(rt, "checking", start)?;
     say_accepted(rt, e.set.len(), conflicts)
 }
 
@@ -149,9 +146,4 @@ fn say_accepted(rt: &HostRuntime, clauses: usize, conflicts: u64) -> Result<u8, 
     let text = format!(in rt.alloc(); "clauses {clauses} conflicts {conflicts} accepted\n")?;
     print_text(rt, text.as_str())?;
     Ok(0)
-}
-
-fn print_time(rt: &HostRuntime, what: &str, start: Stamp, end: Stamp) -> io::Result<()> {
-    let spent = start.processor_to(end);
-    eprintln!(rt; "nanoseconds {what} {spent}")
 }

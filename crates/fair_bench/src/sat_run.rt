@@ -3,8 +3,8 @@
 use crate::failure::Failure;
 use crate::formula::read_formula;
 use crate::outside::{print_text, read_file};
-use crate::stamps::Stamp;
-use cdcl::{Answer, Solver, are_sized};
+use crate::stamps::{Stamp, print_time};
+use cdcl::{Answer, Asked, Solver, are_sized};
 use cnf::{Clause, Db, ProofLine, eval};
 use edge::{Meter, SolveEnd};
 use lrat::Checker;
@@ -18,8 +18,9 @@ pub(crate) const MAX_BYTES: u64 = 9_223_372_036_854_775_807;
 pub(crate) const NO_LIMIT: u64 = 4_294_967_295;
 
 /// Solves the clauses in a file, and writes the answer with a model or the length of the proof. What it took goes to
-/// standard error; the look at the answer is not in it. Gives the number with which the program ends: 10 where there
-/// is a model, and 20 where there is none.
+/// standard error: adding the clauses and solving them without a proof, then making the answer with its proof, and then
+/// the checker's look at that. Gives the number with which the program ends: 10 where there is a model, and 20 where
+/// there is none.
 pub(crate) fn run_sat(rt: &HostRuntime, name: &str) -> Result<u8, Failure> {
     let text = read_file(rt, name, MAX_BYTES)?;
     solve_text(rt, &text)
@@ -33,14 +34,25 @@ fn solve_text(rt: &HostRuntime, text: &[u8]) -> Result<u8, Failure> {
 fn solve_timed(rt: &HostRuntime, clauses: Db) -> Result<Answer, Failure> {
     let start = Stamp::now(rt)?;
     let mut meter = Meter::new(NO_LIMIT, 0);
-    let answer = solve(rt.alloc(), clauses, &mut meter)?;
+    let mut solver = decided(rt.alloc(), clauses, &mut meter)?;
     print_cost(rt, start, meter.spending().conflicts())?;
-    Ok(answer)
+    answer_timed(rt, &mut solver)
 }
 
-fn solve(alloc: Global, clauses: Db, meter: &mut Meter) -> Result<Answer, Failure> {
+// A solver that has found out, without a proof, whether the clauses have a model.
+fn decided(alloc: Global, clauses: Db, meter: &mut Meter) -> Result<Solver, Failure> {
     let mut solver = solver_of(alloc, clauses)?;
-    Ok(solve_free(&mut solver, meter)?)
+    ask_free(alloc, &mut solver, meter)?;
+    Ok(solver)
+}
+
+// The answer of a solver that has found it before. Where there is no model it meets no conflict that it learns from: what
+// is left is the proof.
+fn answer_timed(rt: &HostRuntime, solver: &mut Solver) -> Result<Answer, Failure> {
+    let start = Stamp::now(rt)?;
+    let answer = solve_free(solver, &mut Meter::new(NO_LIMIT, 0))?;
+    print_time(rt, "making the proof", start)?;
+    Ok(answer)
 }
 
 /// A solver with these clauses.
@@ -60,7 +72,10 @@ fn add_one(solver: &mut Solver, clause: Clause) -> Result<(), Failure> {
     Ok(())
 }
 
-// Solves without assumptions.
+fn ask_free(alloc: Global, solver: &mut Solver, meter: &mut Meter) -> Result<Asked, SolveEnd> {
+    solver.ask(alloc, &[], meter)
+}
+
 fn solve_free(solver: &mut Solver, meter: &mut Meter) -> Result<Answer, SolveEnd> {
     solver.solve(&[], meter)
 }
@@ -103,12 +118,19 @@ fn model_text(alloc: Global, values: &[bool]) -> Result<String, AllocError> {
 }
 
 fn say_refutation(rt: &HostRuntime, clauses: Db, proof: &[ProofLine]) -> Result<u8, Failure> {
-    if !is_refuted(rt.alloc(), clauses, proof)? {
+    if !is_refuted_timed(rt, clauses, proof)? {
         return Err(Failure::WrongAnswer);
     }
     let text = format!(in rt.alloc(); "unsat\nproof lines {}\n", proof.len())?;
     print_text(rt, text.as_str())?;
     Ok(20)
+}
+
+fn is_refuted_timed(rt: &HostRuntime, clauses: Db, proof: &[ProofLine]) -> Result<bool, Failure> {
+    let start = Stamp::now(rt)?;
+    let is_taken = is_refuted(rt.alloc(), clauses, proof)?;
+    print_time(rt, "checking the proof", start)?;
+    Ok(is_taken)
 }
 
 // Whether the checker takes every line, and an empty clause is proved.

@@ -34,3 +34,10 @@ fn nanoseconds(time: Duration) -> u64 {
     let whole = time.as_secs().saturating_mul(1_000_000_000);
     whole.saturating_add(u64::from(time.subsec_nanos()))
 }
+
+/// Prints to standard error the processor time since a reading.
+pub(crate) fn print_time(rt: &HostRuntime, what: &str, start: Stamp) -> io::Result<()> {
+    let end = Stamp::now(rt)?;
+    let spent = start.processor_to(end);
+    eprintln!(rt; "nanoseconds {what} {spent}")
+}

@@ -56,7 +56,7 @@ const ENOUGH: &[&str] = &["--conflicts", "1000", "--steps", "1000"];
 
 // Models, the words behind `solve m`, the number with which the run ends, and what is written: all of it, or of a
 // certificate and of a report how it begins.
-const ROWS: [(&[u8], &[&str], u8, &str); 39] = [
+const ROWS: [(&[u8], &[&str], u8, &str); 40] = [
     (TOGGLE, ENOUGH, 0, TWICE),
     (TOGGLE, &[], 0, TWICE),
     (STUCK, ENOUGH, 0, CERTIFICATE),
@@ -116,6 +116,7 @@ const ROWS: [(&[u8], &[&str], u8, &str); 39] = [
     (COUNTER, &["--workers", "0"], 64, USAGE),
     (COUNTER, &["--workers", "65"], 64, USAGE),
     (COUNTER, &["--skeletons", "65537"], 64, USAGE),
+    (COUNTER, &["--property", ""], 64, USAGE),
 ];
 
 // Runs `solve m` with these words behind it.

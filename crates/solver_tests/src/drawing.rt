@@ -1,4 +1,4 @@
-//! Questions drawn from a seed. The main call is `draw_question`.
+//! Questions drawn from a seed, and sequences of them. The main calls are `draw_question` and `draw_sequence`.
 
 use crate::session::{NO_LIMIT, Way};
 use std::alloc::{AllocError, Global};
@@ -26,40 +26,41 @@ pub(crate) fn draw_question(alloc: Global, seed: u64) -> Result<Drawn, AllocErro
     })
 }
 
-/// One turn of a sequence: clauses that are added, and a question of a call with its assumptions, or units, and its limit
-/// of conflicts.
+/// A step of a sequence: a clause that is added, with a 0 behind it, or a question of a call with its assumptions, or
+/// units, and its limit of conflicts.
 #[derive(Debug, Drop)]
-pub(crate) struct Turn {
-    pub(crate) added: Vec<i64>,
-    pub(crate) way: Way,
-    pub(crate) assumed: Vec<i64>,
-    pub(crate) limit: u64,
+pub(crate) enum Step {
+    Add(Vec<i64>),
+    Ask(Way, Vec<i64>, u64),
 }
 
-/// Eight turns over three to twelve variables, with four clauses a variable in all, on the average. The same from the
-/// same seed.
-pub(crate) fn draw_sequence(alloc: Global, seed: u64) -> Result<Vec<Turn>, AllocError> {
+/// Eight questions over three to twelve variables, with four clauses a variable between them in all, on the average. The
+/// same from the same seed.
+pub(crate) fn draw_sequence(alloc: Global, seed: u64) -> Result<Vec<Step>, AllocError> {
     let mut draws = Draws { state: seed };
     let variables = draws.below(10).saturating_add(3);
-    let mut turns = Vec::new(alloc);
+    let mut steps = Vec::new(alloc);
     for _ in 0..8 {
-        turns.push(draw_turn(alloc, &mut draws, variables)?)?;
+        draw_steps(alloc, &mut draws, variables, &mut steps)?;
     }
-    Ok(turns)
+    Ok(steps)
 }
 
-fn draw_turn(alloc: Global, draws: &mut Draws, variables: u64) -> Result<Turn, AllocError> {
-    let count = draws.below(variables.saturating_add(1));
-    let added = draw_clauses(alloc, draws, variables, count)?;
+// Some clauses and a question behind them.
+fn draw_steps(
+    alloc: Global,
+    draws: &mut Draws,
+    variables: u64,
+    steps: &mut Vec<Step>,
+) -> Result<(), AllocError> {
+    for _ in 0..draws.below(variables.saturating_add(1)) {
+        let clause = draw_clauses(alloc, draws, variables, 1)?;
+        steps.push(Step::Add(clause))?;
+    }
     let way = draw_way(draws);
     let assumed = draw_assumptions(alloc, draws, variables)?;
-    let limit = draw_limit(draws);
-    Ok(Turn {
-        added,
-        way,
-        assumed,
-        limit,
-    })
+    steps.push(Step::Ask(way, assumed, draw_limit(draws)))?;
+    Ok(())
 }
 
 fn draw_way(draws: &mut Draws) -> Way {

@@ -47,6 +47,15 @@ pub(crate) enum Mistake {
     Needless,
 }
 
+/// Whether the answer is right, and `Spent` comes only where it may.
+pub(crate) fn is_right(said: Said, may_be_spent: bool) -> bool {
+    match said {
+        Said::Sat | Said::Unsat => true,
+        Said::Spent => may_be_spent,
+        Said::Memory | Said::Wrong(_) => false,
+    }
+}
+
 /// Holds an answer against a search through all values, and looks at what came with it. The numbers of the core come
 /// into `noted`.
 pub(crate) fn judge(

@@ -9,7 +9,11 @@ mod judging;
 #[cfg(test)]
 mod questions;
 #[cfg(test)]
+mod sequences;
+#[cfg(test)]
 mod session;
+#[cfg(test)]
+mod shortening;
 #[cfg(test)]
 mod tests;
 #[cfg(test)]

@@ -1,19 +1,10 @@
 //! Questions whose answers a search through all values gives. Each table and each search is in a function without a
 //! contract, and a solver is lent to what asks it more than once: so each function proves in seconds.
-use crate::drawing::{Drawn, Turn, draw_question, draw_sequence};
-use crate::judging::Said;
+use crate::drawing::{Drawn, draw_question};
+use crate::judging::{Said, is_right};
 use crate::session::{NO_LIMIT, Session, Way};
 use std::alloc::{AllocError, Global};
 use std::test::*;
-
-// The answer is right, and `Spent` comes only where there is a limit.
-fn is_right(said: Said, may_be_spent: bool) -> bool {
-    match said {
-        Said::Sat | Said::Unsat => true,
-        Said::Spent => may_be_spent,
-        Said::Memory | Said::Wrong(_) => false,
-    }
-}
 
 // What is said of a drawn question: at its first clauses, without assumptions; at all its clauses under its
 // assumptions, with no conflict to spend and then with no limit; and at all its clauses without assumptions.
@@ -93,38 +84,6 @@ fn drawn_questions_are_of_each_kind(rt: HostRuntime) -> Result<(), Fail> {
         kinds.sat >= 50 && kinds.unsat >= 50 && kinds.spent >= 20,
         "{kinds:?}"
     );
-    Ok(())
-}
-
-// Whether the answer at a turn is right, and no more conflicts were spent than it has.
-fn is_right_in_turn(session: &mut Session, turn: &Turn) -> Result<bool, AllocError> {
-    session.turn_to(turn.way);
-    session.add(turn.added.as_slice())?;
-    let said = session.ask(turn.assumed.as_slice(), turn.limit)?;
-    Ok(is_right(said, turn.limit < NO_LIMIT) && session.conflicts() <= turn.limit)
-}
-
-fn are_right_in_turn(session: &mut Session, turns: &[Turn]) -> Result<bool, AllocError> {
-    for turn in turns {
-        if !is_right_in_turn(session, turn)? {
-            return Ok(false);
-        }
-    }
-    Ok(true)
-}
-
-// Whether each answer of a drawn sequence of turns on one solver is right.
-fn is_sequence_right(alloc: Global, seed: u64) -> Result<bool, AllocError> {
-    let turns = draw_sequence(alloc, seed)?;
-    let mut session = Session::new(alloc, Way::Solve, &[])?;
-    are_right_in_turn(&mut session, turns.as_slice())
-}
-
-#[test]
-fn drawn_sequences(rt: HostRuntime) -> Result<(), Fail> {
-    for seed in 0..100u64 {
-        assert!(rt; is_sequence_right(rt.alloc(), seed)?, "of {seed}");
-    }
     Ok(())
 }
 
