@@ -5,11 +5,13 @@ mod clause;
 mod cube;
 mod db;
 mod evaluation;
+mod handing;
 
 pub use clause::Clause;
 pub use cube::Cube;
 pub use db::Db;
 pub use evaluation::{eval, holds, subset};
+pub use handing::threads_hand_on_cubes;
 use items::Items;
 pub use proof_semantics::Lit;
 

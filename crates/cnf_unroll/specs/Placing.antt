@@ -7,5 +7,5 @@ abbrev pub numbers_of : Inside → List ℕ
 numbers_of p = map (λ latch. p.start + latch.var) p.latches.now
 
 -- so that each of them is below 2^64
-abbrev pub HasRoom : Inside → Type 0
-HasRoom p = (p.start < 2 ^ 63) × All (λ latch. latch.var < 2 ^ 32) p.latches.now
+abbrev pub IsNumberedLow : Inside → Type 0
+IsNumberedLow p = (p.start < 2 ^ 63) × All (λ latch. latch.var < 2 ^ 32) p.latches.now

@@ -23,11 +23,11 @@ impl<'a> Model for Place<'a> {
 
     ghost Value = { List ℕ };
 
-    ghost use Rattle.cnf_unroll.specs.Placing.{numbers_of, HasRoom};
+    ghost use Rattle.cnf_unroll.specs.Placing.{numbers_of, IsNumberedLow};
 
     ghost view = { numbers_of };
 
-    ghost invariant = { HasRoom };
+    ghost invariant = { IsNumberedLow };
 }
 
 impl<'a> Place<'a> {

@@ -19,7 +19,7 @@ pub use files::FileShelf;
 pub use gates::{FreeGate, Gate, Point};
 pub use mem_shelf::MemShelf;
 pub use mem_sink::MemSink;
-pub use metering::{Counted, Held, Meter, Spending, Spent};
+pub use metering::{Counted, Held, Meter, Spending, Spent, threads_hand_on_meters};
 pub use output::StdSink;
 pub use reading::{ReadEnd, Shelf, read_text};
 pub use solve_end::SolveEnd;

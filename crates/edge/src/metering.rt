@@ -235,3 +235,10 @@ fn count_one(kind: Counted, count: &mut u64, limit: Option<u64>) -> Result<(), S
     *count = count.saturating_add(1);
     Ok(())
 }
+
+fn send<T: Send>() {}
+
+/// Nothing: it has a proof only where a meter may be handed to another thread.
+pub fn threads_hand_on_meters() {
+    send::<Meter>();
+}

@@ -126,3 +126,10 @@ fn small_variables(held: usize, clauses: &[Clause]) -> usize {
         .min(count.saturating_mul(16))
         .saturating_add(1)
 }
+
+fn send<T: Send>() {}
+
+/// Nothing: it has a proof only where a checker may be handed to another thread.
+pub fn threads_hand_on_checkers() {
+    send::<Checker>();
+}

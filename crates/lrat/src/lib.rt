@@ -5,6 +5,7 @@
 //! - `Checker::given`: how many clauses were given
 //! - `Checker::step`: judges a line, which adds a clause or deletes some
 //! - `Checker::proved_empty`: whether an empty clause was given or added
+//! - `threads_hand_on_checkers`: nothing: a checker may be handed to another thread
 #![tactic(auto)]
 
 mod arena;
@@ -16,6 +17,6 @@ mod marks;
 mod propagation;
 mod store;
 
-pub use checker::Checker;
+pub use checker::{Checker, threads_hand_on_checkers};
 pub use faults::LratEnd;
 pub use proof_semantics::LratFault;
