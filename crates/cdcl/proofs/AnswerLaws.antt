@@ -19,11 +19,11 @@ use Rattle.cdcl.specs.declared.asking.Asked.{Asked}
 use Rattle.cdcl.specs.declared.asking.Asked.TheVariants.{Sat, Unsat}
 use Rattle.cdcl.specs.declared.finding.Found.{Found}
 use Rattle.cdcl.specs.declared.finding.Found.TheVariants.{Satisfied, Refused}
-use Rattle.cdcl.specs.Entries.{Entries, added_of, IsLog}
+use Rattle.cdcl.specs.LoggedClauses.{LoggedClauses, added_of, IsLog}
 use Rattle.cdcl.specs.Finding.{Satisfies, Refuses, IsSearchResult, IsAskedFrom}
 use Rattle.cdcl.specs.Searching.{AreTrue}
 use Rattle.cdcl.specs.Solving.{IsModel, HasNoModel}
-use Rattle.cdcl.proofs.EntryLaws.{numbered_true}
+use Rattle.cdcl.proofs.LoggedLaws.{numbered_true}
 use Rattle.cdcl.proofs.ProgressLaws.{added_all}
 use Rattle.cdcl.proofs.SearchLaws.{model_holds}
 use Rattle.cdcl_learn.proofs.LiteralTraceLaws.{true_stands}
@@ -51,32 +51,32 @@ valued (Some x) b e = ap (bool_eq b) (bool_eq-true x b e) ∙ bool_eq-same b
 assigned_true : (steps : List Step) (a : Lit) → is_true steps a ≡ true → literal_value (assigned (literals_of steps)) a ≡ true
 assigned_true steps a e = ap (bool_eq a.positive) (sym (assigned_is steps a.var)) ∙ valued (value_of steps a.var) a.positive e
 
-model_from : (entries : Entries) (added : List (List Lit)) (assumptions : List Lit) (steps : List Step) (v : ℕ → Bool) → added ≡ added_of entries
-    → Satisfies entries.clauses assumptions steps → ((a : Lit) → is_true steps a ≡ true → literal_value v a ≡ true) → IsModel added assumptions v
-model_from entries added assumptions steps v same s each = record {
-  clauses = ap (clauses_value v) same ∙ added_all (clause_value v) entries.sources entries.clauses (model_holds v steps entries.clauses each s.clauses_true);
+model_from : (logged : LoggedClauses) (added : List (List Lit)) (assumptions : List Lit) (steps : List Step) (v : ℕ → Bool) → added ≡ added_of logged
+    → Satisfies logged.clauses assumptions steps → ((a : Lit) → is_true steps a ≡ true → literal_value v a ≡ true) → IsModel added assumptions v
+model_from logged added assumptions steps v same s each = record {
+  clauses = ap (clauses_value v) same ∙ added_all (clause_value v) logged.sources logged.clauses (model_holds v steps logged.clauses each s.clauses_true);
   assumed = all_from (literal_value v) assumptions (λ a has. each a (s.assumed a has));
 }
 
 -- The values of a list that makes the trail's literals true.
-pub listed_model : (entries : Entries) (assumptions : List Lit) (steps : List Step) (values : List Bool) → Satisfies entries.clauses assumptions steps
-    → AreTrue values (literals_of steps) → IsModel (added_of entries) assumptions (values_of values)
-listed_model entries assumptions steps values s each =
-    model_from entries (added_of entries) assumptions steps (values_of values) refl s (λ a e. each a (true_stands steps a e))
+pub listed_model : (logged : LoggedClauses) (assumptions : List Lit) (steps : List Step) (values : List Bool) → Satisfies logged.clauses assumptions steps
+    → AreTrue values (literals_of steps) → IsModel (added_of logged) assumptions (values_of values)
+listed_model logged assumptions steps values s each =
+    model_from logged (added_of logged) assumptions steps (values_of values) refl s (λ a e. each a (true_stands steps a e))
 
 -- The values that the trail gives.
-pub assigned_model : (entries : Entries) (added : List (List Lit)) (assumptions : List Lit) (steps : List Step) → added ≡ added_of entries
-    → Satisfies entries.clauses assumptions steps → IsModel added assumptions (assigned (literals_of steps))
-assigned_model entries added assumptions steps same s = model_from entries added assumptions steps (assigned (literals_of steps)) same s (assigned_true steps)
+pub assigned_model : (logged : LoggedClauses) (added : List (List Lit)) (assumptions : List Lit) (steps : List Step) → added ≡ added_of logged
+    → Satisfies logged.clauses assumptions steps → IsModel added assumptions (assigned (literals_of steps))
+assigned_model logged added assumptions steps same s = model_from logged added assumptions steps (assigned (literals_of steps)) same s (assigned_true steps)
 
 -- The negations of the clause that was found.
-core_from : (entries : Entries) (added : List (List Lit)) (assumptions core : List Lit) (traced : Learned) → added ≡ added_of entries → IsLog entries
-    → Refuses entries.clauses assumptions traced → core ≡ map negation traced.clause → IsCore added assumptions core
-core_from entries added assumptions core traced same log r is =
+core_from : (logged : LoggedClauses) (added : List (List Lit)) (assumptions core : List Lit) (traced : Learned) → added ≡ added_of logged → IsLog logged
+    → Refuses logged.clauses assumptions traced → core ≡ map negation traced.clause → IsCore added assumptions core
+core_from logged added assumptions core traced same log r is =
     let part : is_part core assumptions ≡ true = ap (λ c. is_part c assumptions) is ∙ part_negations assumptions traced.clause r.among in
     let refused : HasNoModel added core = λ v model.
-    hints_refute v (clause_numbered entries.clauses) (map negation traced.clause) traced.hints
-    (numbered_true v entries.clauses (log.implied v (ap (clauses_value v) (sym same) ∙ model.clauses)))
+    hints_refute v (clause_numbered logged.clauses) (map negation traced.clause) traced.hints
+    (numbered_true v logged.clauses (log.implied v (ap (clauses_value v) (sym same) ∙ model.clauses)))
     (ap (cube_value v) (sym is) ∙ model.assumed) r.hinted in
     record {
       among = part;
@@ -85,13 +85,13 @@ core_from entries added assumptions core traced same log r is =
     }
 
 -- What is told of a search is true.
-pub asked_from : (entries : Entries) (added : List (List Lit)) (assumptions : List Lit) (steps : List Step) (found : Found) (asked : Asked) → added ≡ added_of entries → IsLog entries
-    → IsSearchResult entries.clauses assumptions steps found → IsAskedFrom steps found asked → IsAsked added assumptions asked
-asked_from entries added assumptions steps Satisfied (Sat assignment) same log is told =
-    subst (λ ls. IsModel added assumptions (assigned ls)) (sym told) (assigned_model entries added assumptions steps same is)
-asked_from entries added assumptions steps Satisfied (Unsat core) same log is told = absurd told
-asked_from entries added assumptions steps (Refused traced) (Sat assignment) same log is told = absurd told
-asked_from entries added assumptions steps (Refused traced) (Unsat core) same log is told = core_from entries added assumptions core.items traced same log is told
+pub asked_from : (logged : LoggedClauses) (added : List (List Lit)) (assumptions : List Lit) (steps : List Step) (found : Found) (asked : Asked) → added ≡ added_of logged → IsLog logged
+    → IsSearchResult logged.clauses assumptions steps found → IsAskedFrom steps found asked → IsAsked added assumptions asked
+asked_from logged added assumptions steps Satisfied (Sat assignment) same log is told =
+    subst (λ ls. IsModel added assumptions (assigned ls)) (sym told) (assigned_model logged added assumptions steps same is)
+asked_from logged added assumptions steps Satisfied (Unsat core) same log is told = absurd told
+asked_from logged added assumptions steps (Refused traced) (Sat assignment) same log is told = absurd told
+asked_from logged added assumptions steps (Refused traced) (Unsat core) same log is told = core_from logged added assumptions core.items traced same log is told
 
 -- The values at places.
 

@@ -21,7 +21,7 @@ use Rattle.cdcl_trail.proofs.PassLaws.{held_at}
 use Rattle.cdcl_trail.proofs.GuardLaws.{true_settles}
 use Rattle.cdcl.specs.Counting.{IsRefutedAtOnce, IsNoLimit}
 use Rattle.cdcl.specs.Resting.{ComesToRest, IsRested, IsLimitedAtRest}
-use Rattle.cdcl.specs.Entries.{Entries, added_of, learned_of}
+use Rattle.cdcl.specs.LoggedClauses.{LoggedClauses, added_of, learned_of}
 use Rattle.edge.specs.declared.solve_end.SolveEnd.{SolveEnd}
 use Rattle.cdcl.specs.Searching.{IsDeciding}
 use Rattle.cdcl.specs.UnitClauses.{unit_clauses}
@@ -188,10 +188,10 @@ rest_unrefuted clauses lits r refuted =
 
 -- Fewer clauses, and units.
 
-pub rest_added : (entries : Entries) (lits : List Lit) → ComesToRest entries.clauses lits → ComesToRest (added_of entries) lits
-rest_added entries lits r = record {
+pub rest_added : (logged : LoggedClauses) (lits : List Lit) → ComesToRest logged.clauses lits → ComesToRest (added_of logged) lits
+rest_added logged lits r = record {
   steps = r.steps;
-  complete = added_all (is_calm r.steps) entries.sources entries.clauses r.complete;
+  complete = added_all (is_calm r.steps) logged.sources logged.clauses r.complete;
   assumed = r.assumed;
 }
 
@@ -227,23 +227,23 @@ above_base clauses assumptions base steps w above =
     }
 
 -- above the base propagation from the assumptions came to rest
-pub rest_above : (start now : Entries) (assumptions : List Lit) (base : ℕ) (steps : List Step) → IsRested assumptions start now → IsDeciding now.clauses assumptions base steps
+pub rest_above : (start now : LoggedClauses) (assumptions : List Lit) (base : ℕ) (steps : List Step) → IsRested assumptions start now → IsDeciding now.clauses assumptions base steps
     → base < level steps → ComesToRest start.clauses assumptions
 rest_above start now assumptions base steps rest w above =
     elim rest [
-      | inl same ↦ above_base start.clauses assumptions base steps (subst (λ (e : Entries). IsDeciding e.clauses assumptions base steps) same w) above
+      | inl same ↦ above_base start.clauses assumptions base steps (subst (λ (e : LoggedClauses). IsDeciding e.clauses assumptions base steps) same w) above
       | inr r ↦ r
     ]
 
 -- an error may come once propagation came to rest
-pub limited_rested : {T : Type 0} (result : Result T SolveEnd) (start : Entries) (assumptions : List Lit) → ComesToRest start.clauses assumptions
+pub limited_rested : {T : Type 0} (result : Result T SolveEnd) (start : LoggedClauses) (assumptions : List Lit) → ComesToRest start.clauses assumptions
     → IfErr result (IsLimitedAtRest assumptions start)
 limited_rested (Ok x) start assumptions r = tt
 limited_rested (Err end) start assumptions r = inr r
 
 -- What public calls say.
 
-module _ (lits : List Lit) (start : Entries) (added : List (List Lit)) (same : added_of start ≡ added) where
+module _ (lits : List Lit) (start : LoggedClauses) (added : List (List Lit)) (same : added_of start ≡ added) where
   not_at_once : ComesToRest start.clauses lits → IsRefutedAtOnce added lits → ⊥
   not_at_once r refuted = rest_unrefuted (added_of start) lits (rest_added start lits r) (subst (λ cs. IsRefutedAtOnce cs lits) (sym same) refuted)
 
@@ -252,10 +252,10 @@ module _ (lits : List Lit) (start : Entries) (added : List (List Lit)) (same : a
       rest_unrefuted (added_of start ++ unit_clauses lits) [] (rest_units (added_of start) lits (rest_added start lits r))
       (subst (λ cs. IsRefutedAtOnce (cs ++ unit_clauses lits) []) (sym same) refuted)
 
-  pub uncounted : (now : Entries) (learned : List (List Lit)) → IsRested lits start now → learned_of start ≡ learned → IsRefutedAtOnce added lits → learned_of now ≡ learned
+  pub uncounted : (now : LoggedClauses) (learned : List (List Lit)) → IsRested lits start now → learned_of start ≡ learned → IsRefutedAtOnce added lits → learned_of now ≡ learned
   uncounted now learned rest first refuted = elim rest [ inl unchanged ↦ ap learned_of unchanged ∙ first | inr r ↦ absurd (not_at_once r refuted) ]
 
-  pub uncounted_units : (now : Entries) (learned : List (List Lit)) → IsRested lits start now → learned_of start ≡ learned → IsRefutedAtOnce (added ++ unit_clauses lits) []
+  pub uncounted_units : (now : LoggedClauses) (learned : List (List Lit)) → IsRested lits start now → learned_of start ≡ learned → IsRefutedAtOnce (added ++ unit_clauses lits) []
       → learned_of now ≡ learned
   uncounted_units now learned rest first refuted = elim rest [ inl unchanged ↦ ap learned_of unchanged ∙ first | inr r ↦ absurd (not_at_once_units r refuted) ]
 

@@ -6,7 +6,7 @@ use Rattle.std.proofs.lemmas.Bool.{cond-true, cond-false, leb-true, le-leb}
 use Rattle.std.proofs.lemmas.Option.{none-some, same_Some}
 use Rattle.proof_semantics.specs.declared.literals.Lit.{Lit}
 use Rattle.cdcl_trail.proofs.TrailLaws.{either}
-use Rattle.cdcl.specs.Entries.{added_in}
+use Rattle.cdcl.specs.LoggedClauses.{added_in}
 use Rattle.cdcl.specs.Ids.{ids_from, count_added, AreCounted, unit_id, given_id}
 
 -- One more clause.

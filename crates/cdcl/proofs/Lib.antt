@@ -1,4 +1,4 @@
-pub mod EntryLaws
+pub mod LoggedLaws
 pub mod RoomLaws
 pub mod ProgressLaws
 pub mod SpellingLaws
@@ -13,5 +13,6 @@ pub mod WayLaws
 pub mod ConditionLaws
 pub mod AnswerLaws
 pub mod RetiringLaws
+pub mod AscendingLaws
 pub mod UnitLaws
 pub mod CountingLaws

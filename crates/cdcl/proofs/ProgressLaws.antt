@@ -13,12 +13,12 @@ use Rattle.edge.specs.Faults.{one_more}
 use Rattle.edge.specs.Units.{Spendings, SpentConflict}
 use Rattle.cdcl_learn.specs.declared.learning.Learned.{Learned}
 use Rattle.cdcl_trail.proofs.TrailLaws.{or_both, or_neither}
-use Rattle.cdcl.specs.Entries.{Entries, with_added, with_learned, added_in, learned_in, added_of, learned_of, IsLog}
+use Rattle.cdcl.specs.LoggedClauses.{LoggedClauses, with_added, with_learned, added_in, learned_in, added_of, learned_of, IsLog}
 use Rattle.cdcl.specs.Room.{clause_room, literal_variables, variables_in}
 use Rattle.cdcl.specs.Searching.{is_over, are_over, IsNewClause}
 use Rattle.cdcl.specs.Solving.{Solving, IsNewImplicate, AreLearned, Learns, IsBounded, more_conflicts}
 use Rattle.cdcl.specs.Progress.{growth, IsSearched, AreIrredundant, IsSolverLog}
-use Rattle.cdcl.proofs.EntryLaws.{hinted_implied, learned-IsLog}
+use Rattle.cdcl.proofs.LoggedLaws.{hinted_implied, learned-IsLog}
 use Rattle.cdcl.proofs.RoomLaws.{room_falls, room_small, over_append, all_over, own_over}
 
 -- Results.
@@ -161,7 +161,7 @@ one_conflict_more c g next e = ap (more_conflicts c) (next_is g next e)
     next_is : (g next : ℕ) → next ≡ g + 1 → suc g ≡ next
     next_is g next e = omega (arith, e)
 
-pub searched_none : (assumptions : List Lit) (start : Entries) (meter : Spendings) → IsSearched assumptions start start meter meter
+pub searched_none : (assumptions : List Lit) (start : LoggedClauses) (meter : Spendings) → IsSearched assumptions start start meter meter
 searched_none assumptions start meter = record {
   added = refl;
   learned = record { more = []; behind = sym (append-nil (learned_of start)); learned = tt };
@@ -170,14 +170,14 @@ searched_none assumptions start meter = record {
 }
 
 -- A clause that a search learned is worth a conflict.
-pub new_spent : (now : Entries) (assumptions : List Lit) (learned : Learned) → IsLog now → IsNewClause now.clauses assumptions learned → SpentConflict now.clauses learned.clause
+pub new_spent : (now : LoggedClauses) (assumptions : List Lit) (learned : Learned) → IsLog now → IsNewClause now.clauses assumptions learned → SpentConflict now.clauses learned.clause
 new_spent now assumptions learned log new = record {
   implied = λ v holds. hinted_implied now learned.clause learned.hints log new.hinted v (added_all (clause_value v) now.sources now.clauses holds);
   no_tautology = new.no_tautology;
   not_subsumed = new.not_subsumed;
 }
 
-pub searched_more : (assumptions : List Lit) (start now next : Entries) (earlier later latest : Spendings) (learned : Learned) → IsLog now → AreSized assumptions
+pub searched_more : (assumptions : List Lit) (start now next : LoggedClauses) (earlier later latest : Spendings) (learned : Learned) → IsLog now → AreSized assumptions
     → IsNewClause now.clauses assumptions learned → next.clauses ≡ now.clauses ++ learned.clause ∷ [] → next.sources ≡ now.sources ++ Some learned.hints ∷ []
     → latest ≡ record later { conflicts = one_more later.conflicts } → IsSearched assumptions start now earlier later
     → IsLog next × IsSearched assumptions start next earlier latest
@@ -214,7 +214,7 @@ searched_more assumptions start now next earlier later latest learned log sized 
     )
 
 -- Room falls over the variables of what a search begins with.
-pub first_room_falls : (assumptions : List Lit) (start now next : Entries) (earlier later : Spendings) (learned : Learned)
+pub first_room_falls : (assumptions : List Lit) (start now next : LoggedClauses) (earlier later : Spendings) (learned : Learned)
     → IsNewClause now.clauses assumptions learned → next.clauses ≡ now.clauses ++ learned.clause ∷ [] → IsSearched assumptions start now earlier later
     → clause_room (first_variables start.clauses assumptions) next.clauses < clause_room (first_variables start.clauses assumptions) now.clauses
 first_room_falls assumptions start now next earlier later learned new same_clauses searched =
@@ -246,7 +246,7 @@ apart_small vars before (c ∷ more) apart over =
     omega (arith, falls, rest, ap (clause_room vars) (append_assoc before (c ∷ []) more))
 
 -- what a solver keeps stays through a search, and where a clause is added
-pub kept_searched : (assumptions : List Lit) (start now : Entries) (earlier later : Spendings) → IsSolverLog start → IsLog now → IsSearched assumptions start now earlier later → IsSolverLog now
+pub kept_searched : (assumptions : List Lit) (start now : LoggedClauses) (earlier later : Spendings) → IsSolverLog start → IsLog now → IsSearched assumptions start now earlier later → IsSolverLog now
 kept_searched assumptions start now earlier later kept log searched =
     let learns = searched.learned in
     record {
@@ -255,10 +255,10 @@ kept_searched assumptions start now earlier later kept log searched =
           (apart_append [] (learned_of start) learns.more kept.apart (apart_learned (added_of start) (learned_of start) learns.more learns.learned));
     }
 
-pub kept_added : (start now : Entries) → IsSolverLog start → IsLog now → learned_of now ≡ learned_of start → IsSolverLog now
+pub kept_added : (start now : LoggedClauses) → IsSolverLog start → IsLog now → learned_of now ≡ learned_of start → IsSolverLog now
 kept_added start now kept log same = record { log = log; apart = subst (λ xs. AreIrredundant [] xs) (sym same) kept.apart }
 
-pub searched_bounded : (assumptions : List Lit) (solver : Solving) (start now : Entries) (earlier later : Spendings) → solver.added ≡ added_of start → solver.learned ≡ learned_of start
+pub searched_bounded : (assumptions : List Lit) (solver : Solving) (start now : LoggedClauses) (earlier later : Spendings) → solver.added ≡ added_of start → solver.learned ≡ learned_of start
     → IsSolverLog start → IsSolverLog now → IsSearched assumptions start now earlier later → IsBounded solver assumptions (learned_of now)
 searched_bounded assumptions solver start now earlier later same_added same_learned kept kept_now searched vars over_added over_learned over_too =
     let over = all_of_both (is_over vars) start.sources start.clauses kept.log.beside (ap (are_over vars) (sym same_added) ∙ over_added) (ap (are_over vars) (sym same_learned) ∙ over_learned) in

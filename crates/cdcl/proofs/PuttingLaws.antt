@@ -12,7 +12,7 @@ use Rattle.proof_semantics.specs.Lines.{AreSized, text_of}
 use Rattle.proof_semantics.specs.declared.literals.Lit.{Lit}
 use Rattle.cnf.specs.Clauses.{clause_numbered}
 use Rattle.cdcl_trail.proofs.TrailLaws.{either}
-use Rattle.cdcl.specs.Entries.{Entries, added_of, IsLog}
+use Rattle.cdcl.specs.LoggedClauses.{LoggedClauses, added_of, IsLog}
 use Rattle.cdcl.specs.Ids.{ids_from, count_added, given_id}
 use Rattle.cdcl.specs.IdsOf.{id_in}
 use Rattle.cdcl.specs.UnitClauses.{unit_clauses}
@@ -20,7 +20,7 @@ use Rattle.cdcl.specs.WithUnits.{no_sources, with_units}
 use Rattle.cdcl.specs.Writing.{line_by, IsPartialProof, Proves}
 use Rattle.cdcl.specs.WritingOf.{IsPartialProofIn, HaveIds, HasAllIds, HasLine, HasPut, HasVisited}
 use Rattle.cdcl.specs.declared.writing.Writing.{Writing}
-use Rattle.cdcl.proofs.EntryLaws.{number_at-place}
+use Rattle.cdcl.proofs.LoggedLaws.{number_at-place}
 use Rattle.cdcl.proofs.IdLaws.{counted_added, long_ids, id_found, id_given, given_near, given_far, unit_given}
 use Rattle.cdcl.proofs.UnitLaws.{units_log, slice_behind, none_at, long_sources, long_units, hints_more, same_hints, all_needed}
 use Rattle.cdcl.proofs.WritingLaws.{number_put, number_above, hints_named, hints_renamed, some_has, written_none, written_put, written_proves, written_kept}
@@ -54,7 +54,7 @@ less n p is = omega (arith, is)
 
 -- The first step.
 
-begun_given : (log : Entries) (units : List Lit) (ids : ℕ → ℕ) → length units < 2 ^ 60 → count_added log.sources < 2 ^ 60
+begun_given : (log : LoggedClauses) (units : List Lit) (ids : ℕ → ℕ) → length units < 2 ^ 60 → count_added log.sources < 2 ^ 60
     → ((n : ℕ) → ids n ≡ given_id (ids_from 0 log.sources) (count_added log.sources) (length units) n)
     → (i : ℕ) → slice_get (log.sources ++ no_sources units) i ≡ Some None → nat_lt 0 (ids (i + 1)) ≡ true
 begun_given log units ids few few_added is i source = elim (part_or_behind i (length log.sources)) [
@@ -70,7 +70,7 @@ begun_given log units ids few few_added is i source = elim (part_or_behind i (le
       ∙ le-leb 1 (count_added log.sources + far.0 + 1) (omega arith)
 ]
 
-begun_found : (log : Entries) (units : List Lit) (ids : ℕ → ℕ) → IsLog log → length units < 2 ^ 60 → count_added log.sources < 2 ^ 60
+begun_found : (log : LoggedClauses) (units : List Lit) (ids : ℕ → ℕ) → IsLog log → length units < 2 ^ 60 → count_added log.sources < 2 ^ 60
     → ((n : ℕ) → ids n ≡ given_id (ids_from 0 log.sources) (count_added log.sources) (length units) n)
     → (n : ℕ) (c : List Lit) → clause_numbered (log.clauses ++ unit_clauses units) n ≡ Some c → nat_lt 0 (ids n) ≡ true
     → (j : ℕ) × (ids n ≡ 1 + j) × (slice_get (added_of log ++ unit_clauses units) j ≡ Some c)
@@ -99,7 +99,7 @@ begun_found log units ids islog few few_added is n c at has =
     ]
 
 -- Nothing is written.
-pub begun : (log : Entries) (units : List Lit) (ids : ℕ → ℕ) (lines : List (List ℕ)) (greatest : ℕ) → IsLog log → AreSized units → length units < 2 ^ 60 → count_added log.sources < 2 ^ 60
+pub begun : (log : LoggedClauses) (units : List Lit) (ids : ℕ → ℕ) (lines : List (List ℕ)) (greatest : ℕ) → IsLog log → AreSized units → length units < 2 ^ 60 → count_added log.sources < 2 ^ 60
     → ((n : ℕ) → ids n ≡ given_id (ids_from 0 log.sources) (count_added log.sources) (length units) n) → lines ≡ []
     → greatest ≡ count_added log.sources + length units → IsPartialProof (with_units log units) ids lines greatest
 begun log units ids lines greatest islog sized few few_added is none last =
@@ -127,18 +127,18 @@ take_short [] (suc i) n x e = absurd (none-some x e)
 take_short (y ∷ xs) (suc i) zero x e = omega arith
 take_short (y ∷ xs) (suc i) (suc n) x e = omega (arith, take_short xs i n x e)
 
-put_written : (entries : Entries) (old new : Writing) (number : ℕ) (c : List Lit) (hints : List ℕ) → clause_numbered entries.clauses number ≡ Some c → AreSized c
-    → hints_fault (clause_numbered entries.clauses) (map negation c) hints ≡ None → HaveIds old hints → HasPut old new number c hints → IsPartialProofIn entries old → IsPartialProofIn entries new
-put_written entries old new number c hints at sized follows ready put written =
-    written_put entries (id_in old.ids) (id_in new.ids) old.lines.items new.lines.items old.last new.last number c hints at put.small sized follows ready put.ids put.lines put.last written
+put_written : (logged : LoggedClauses) (old new : Writing) (number : ℕ) (c : List Lit) (hints : List ℕ) → clause_numbered logged.clauses number ≡ Some c → AreSized c
+    → hints_fault (clause_numbered logged.clauses) (map negation c) hints ≡ None → HaveIds old hints → HasPut old new number c hints → IsPartialProofIn logged old → IsPartialProofIn logged new
+put_written logged old new number c hints at sized follows ready put written =
+    written_put logged (id_in old.ids) (id_in new.ids) old.lines.items new.lines.items old.last new.last number c hints at put.small sized follows ready put.ids put.lines put.last written
 
-reached_by : (entries : Entries) (old new : Writing) (number : ℕ) (s : Option (List ℕ)) (c : List Lit) → clause_numbered entries.clauses number ≡ Some c → AreSized c
-    → ((hints : List ℕ) → s ≡ Some hints → hints_fault (clause_numbered entries.clauses) (map negation c) hints ≡ None)
-    → HasVisited old new number s c → IsPartialProofIn entries old → IsPartialProofIn entries new
-reached_by entries old new number None c at sized follows same written = subst (IsPartialProofIn entries) (sym same) written
-reached_by entries old new number (Some hints) c at sized follows reached written = elim reached.step [
-  | inl same ↦ subst (IsPartialProofIn entries) (sym same) written
-  | inr put ↦ put_written entries old new number c hints at sized (follows hints refl) put.0 put.1 written
+reached_by : (logged : LoggedClauses) (old new : Writing) (number : ℕ) (s : Option (List ℕ)) (c : List Lit) → clause_numbered logged.clauses number ≡ Some c → AreSized c
+    → ((hints : List ℕ) → s ≡ Some hints → hints_fault (clause_numbered logged.clauses) (map negation c) hints ≡ None)
+    → HasVisited old new number s c → IsPartialProofIn logged old → IsPartialProofIn logged new
+reached_by logged old new number None c at sized follows same written = subst (IsPartialProofIn logged) (sym same) written
+reached_by logged old new number (Some hints) c at sized follows reached written = elim reached.step [
+  | inl same ↦ subst (IsPartialProofIn logged) (sym same) written
+  | inr put ↦ put_written logged old new number c hints at sized (follows hints refl) put.0 put.1 written
 ]
 
 reached_kept : (old new : Writing) (number : ℕ) (s : Option (List ℕ)) (c : List Lit) (n : ℕ) → HasVisited old new number s c → nat_lt 0 (id_in old.ids n) ≡ true
@@ -150,7 +150,7 @@ reached_kept old new number (Some hints) c n reached has = elim reached.step [
 ]
 
 -- What the clause at a place follows from, among all clauses.
-explained_at : (log : Entries) (units : List Lit) (place : ℕ) (c : List Lit) (hints : List ℕ) → IsLog log → slice_get log.clauses place ≡ Some c
+explained_at : (log : LoggedClauses) (units : List Lit) (place : ℕ) (c : List Lit) (hints : List ℕ) → IsLog log → slice_get log.clauses place ≡ Some c
     → slice_get log.sources place ≡ Some (Some hints) → hints_fault (clause_numbered (take place log.clauses)) (map negation c) hints ≡ None
 explained_at log units place c hints islog at source =
     ap (λ d. hints_fault (clause_numbered (take place log.clauses)) (map negation d) hints) (sym (get_or_from_slice_get log.clauses place c [] at)) ∙ islog.explained place hints source
@@ -164,7 +164,7 @@ hints_taken clauses place assumed hints follows =
     (all_needed hints) follows
 
 -- a clause is reached
-pub reached_written : (log : Entries) (units : List Lit) (old new : Writing) (place number : ℕ) (s : Option (List ℕ)) (c : List Lit) → IsLog log → AreSized units
+pub reached_written : (log : LoggedClauses) (units : List Lit) (old new : Writing) (place number : ℕ) (s : Option (List ℕ)) (c : List Lit) → IsLog log → AreSized units
     → number ≡ place + 1 → slice_get log.clauses place ≡ Some c → slice_get log.sources place ≡ Some s → HasVisited old new number s c
     → IsPartialProofIn (with_units log units) old → IsPartialProofIn (with_units log units) new
 reached_written log units old new place number s c islog sized is at source reached written =
@@ -188,7 +188,7 @@ ready_before clauses place w (n ∷ hints) all named =
     (all n (omega (arith, number)) (omega (arith, number, take_short clauses place (n - 1) found.0 (number_at-place (take place clauses) n found.0 found.1))))
     (ready_before clauses place w hints all names.1)
 
-next_id : (log : Entries) (units : List Lit) (old new : Writing) (place number : ℕ) (s : Option (List ℕ)) (c : List Lit) → IsLog log
+next_id : (log : LoggedClauses) (units : List Lit) (old new : Writing) (place number : ℕ) (s : Option (List ℕ)) (c : List Lit) → IsLog log
     → number ≡ place + 1 → slice_get log.clauses place ≡ Some c → slice_get log.sources place ≡ Some s → HasVisited old new number s c
     → IsPartialProofIn (with_units log units) old → HasAllIds place old → (n : ℕ) → n ≡ number → nat_lt 0 (id_in new.ids n) ≡ true
 next_id log units old new place number None c islog is at source same written all n here =
@@ -199,7 +199,7 @@ next_id log units old new place number (Some hints) c islog is at source reached
     ap (λ m. nat_lt 0 (id_in new.ids m)) here
     ∙ reached.done (ready_before log.clauses place old hints all (hints_named _ _ hints (explained_at log units place c hints islog at source)))
 
-unit_has : (log : Entries) (units : List Lit) (w : Writing) (n : ℕ) → IsLog log → IsPartialProofIn (with_units log units) w → length log.clauses < n
+unit_has : (log : LoggedClauses) (units : List Lit) (w : Writing) (n : ℕ) → IsLog log → IsPartialProofIn (with_units log units) w → length log.clauses < n
     → n ≤ length (log.clauses ++ unit_clauses units) → nat_lt 0 (id_in w.ids n) ≡ true
 unit_has log units w n islog written behind below =
     let place : n ≡ (length log.clauses + (n - 1 - length log.clauses)) + 1 = omega (arith, behind) in
@@ -209,7 +209,7 @@ unit_has log units w n islog written behind below =
     ∙ none_at units (n - 1 - length log.clauses) (omega (arith, below, behind, length-append log.clauses (unit_clauses units), long_units units)))
 
 -- all clauses before a place have ids, and so has the next one
-pub reached_more : (log : Entries) (units : List Lit) (old new : Writing) (place number : ℕ) (s : Option (List ℕ)) (c : List Lit) → IsLog log
+pub reached_more : (log : LoggedClauses) (units : List Lit) (old new : Writing) (place number : ℕ) (s : Option (List ℕ)) (c : List Lit) → IsLog log
     → number ≡ place + 1 → slice_get log.clauses place ≡ Some c → slice_get log.sources place ≡ Some s → HasVisited old new number s c
     → IsPartialProofIn (with_units log units) old → HasAllIds place old → HasAllIds (place + 1) new
 reached_more log units old new place number s c islog is at source reached written all n above below = elim (either (nat_le n place)) [
@@ -217,7 +217,7 @@ reached_more log units old new place number s c islog is at source reached writt
   | inr here ↦ next_id log units old new place number s c islog is at source reached written all n (omega (arith, is, below, leb-false n place here))
 ]
 
-pub units_have : (log : Entries) (units : List Lit) (w : Writing) (i : ℕ) → IsLog log → length log.clauses ≤ i → IsPartialProofIn (with_units log units) w → HasAllIds i w
+pub units_have : (log : LoggedClauses) (units : List Lit) (w : Writing) (i : ℕ) → IsLog log → length log.clauses ≤ i → IsPartialProofIn (with_units log units) w → HasAllIds i w
     → HasAllIds (length (log.clauses ++ unit_clauses units)) w
 units_have log units w i islog past written all n above below = elim (either (nat_le n (length log.clauses))) [
   | inl before ↦ all n above (omega (arith, past, leb-true n (length log.clauses) before))
@@ -233,7 +233,7 @@ ready_all clauses w (n ∷ hints) all named =
     and_from _ _ (all n (omega (arith, number)) (omega (arith, number, slice_get_within clauses (n - 1) found.0 (number_at-place clauses n found.0 found.1)))) (ready_all clauses w hints all names.1)
 
 -- the last line
-pub line_proves : (log : Entries) (units : List Lit) (old new : Writing) (c : List Lit) (hints : List ℕ) → IsLog log → AreSized units → AreSized c
+pub line_proves : (log : LoggedClauses) (units : List Lit) (old new : Writing) (c : List Lit) (hints : List ℕ) → IsLog log → AreSized units → AreSized c
     → hints_fault (clause_numbered (log.clauses ++ unit_clauses units)) (map negation c) hints ≡ None → HaveIds old hints → HasLine old new c hints
     → IsPartialProofIn (with_units log units) old → Proves (added_of log ++ unit_clauses units) new.lines.items c
 line_proves log units old new c hints islog sized_units sized follows ready line written =
@@ -246,7 +246,7 @@ line_proves log units old new c hints islog sized_units sized follows ready line
 got_at : {X : Type 0} (seen xs : List X) (i : ℕ) (item : X) → seen ≡ xs → i < length seen → item ≡ get_or seen i item → slice_get xs i ≡ Some item
 got_at seen xs i item same below at = ap (λ ys. slice_get ys i) (sym same) ∙ slice_get-get_or seen i item below ∙ ap (λ x. Some x) (sym at)
 
-pub code_reached : (log : Entries) (units : List Lit) (old new : Writing) (place : ℕ) (seen : List (List Lit)) (seen_sources : List (Option (List ℕ))) (item c : List Lit) (s : Option (List ℕ))
+pub code_reached : (log : LoggedClauses) (units : List Lit) (old new : Writing) (place : ℕ) (seen : List (List Lit)) (seen_sources : List (Option (List ℕ))) (item c : List Lit) (s : Option (List ℕ))
     → IsLog log → AreSized units → seen ≡ log.clauses → seen_sources ≡ log.sources → place < length seen → item ≡ get_or seen place item → c ≡ item → s ≡ get_or seen_sources place s
     → HasVisited old new (place + 1) s c → IsPartialProofIn (with_units log units) old → IsPartialProofIn (with_units log units) new
 code_reached log units old new place seen seen_sources item c s islog sized same same_sources below at reads source reached written =
@@ -254,7 +254,7 @@ code_reached log units old new place seen seen_sources item c s islog sized same
     (got_at seen log.clauses place item same below at ∙ ap (λ x. Some x) (sym reads))
     (got_at seen_sources log.sources place s same_sources (omega (arith, below, ap length same, ap length same_sources, islog.beside)) source) reached written
 
-pub code_more : (log : Entries) (units : List Lit) (old new : Writing) (place : ℕ) (seen : List (List Lit)) (seen_sources : List (Option (List ℕ))) (item c : List Lit) (s : Option (List ℕ))
+pub code_more : (log : LoggedClauses) (units : List Lit) (old new : Writing) (place : ℕ) (seen : List (List Lit)) (seen_sources : List (Option (List ℕ))) (item c : List Lit) (s : Option (List ℕ))
     → IsLog log → seen ≡ log.clauses → seen_sources ≡ log.sources → place < length seen → item ≡ get_or seen place item → c ≡ item → s ≡ get_or seen_sources place s
     → HasVisited old new (place + 1) s c → IsPartialProofIn (with_units log units) old → HasAllIds place old → HasAllIds (place + 1) new
 code_more log units old new place seen seen_sources item c s islog same same_sources below at reads source reached written all =

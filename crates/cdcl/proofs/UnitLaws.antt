@@ -16,13 +16,13 @@ use Rattle.cdcl_trail.proofs.TrailLaws.{either, or_neither}
 use Rattle.cdcl_trail.proofs.ScanLaws.{all_has, any_has, untrue}
 use Rattle.cdcl_learn.specs.declared.learning.Learned.{Learned}
 use Rattle.cnf.specs.Clauses.{clause_numbered}
-use Rattle.cdcl.specs.Entries.{Entries, added_of, IsLog}
+use Rattle.cdcl.specs.LoggedClauses.{LoggedClauses, added_of, IsLog}
 use Rattle.cdcl.specs.Finding.{Refuses}
 use Rattle.cdcl.specs.Solving.{IsModel}
 use Rattle.cdcl.specs.UnitClauses.{unit_clauses}
 use Rattle.cdcl.specs.WithUnits.{no_sources, with_units, place_of, unit_number}
 use Rattle.cdcl.specs.Writing.{Proves}
-use Rattle.cdcl.proofs.EntryLaws.{added-IsLog, values_append}
+use Rattle.cdcl.proofs.LoggedLaws.{added-IsLog, values_append}
 use Rattle.cdcl.proofs.WritingLaws.{number_put, hints_renamed, part_negations}
 use Rattle.cdcl.proofs.BackLaws.{numbered_more}
 
@@ -53,22 +53,22 @@ sized_unit a units sized b has =
       | inr later ↦ absurd (false≢true later)
     ]
 
-pub units_log : (entries : Entries) (units : List Lit) → IsLog entries → AreSized units
-    → IsLog (with_units entries units) × (added_of (with_units entries units) ≡ added_of entries ++ unit_clauses units)
-units_log entries [] log sized =
-    let same : entries ≡ with_units entries [] =
-    ap (λ cs. record { clauses = cs; sources = entries.sources }) (sym (append-nil entries.clauses))
-    ∙ ap (λ ss. record { clauses = entries.clauses ++ []; sources = ss }) (sym (append-nil entries.sources)) in
-    (subst IsLog same log, ap added_of (sym same) ∙ sym (append-nil (added_of entries)))
-units_log entries (a ∷ units) log sized =
-    let next : Entries = record { clauses = entries.clauses ++ (a ∷ []) ∷ []; sources = entries.sources ++ None ∷ [] } in
-    let one = added-IsLog entries next (a ∷ []) log (sized_unit a units sized) refl refl in
+pub units_log : (logged : LoggedClauses) (units : List Lit) → IsLog logged → AreSized units
+    → IsLog (with_units logged units) × (added_of (with_units logged units) ≡ added_of logged ++ unit_clauses units)
+units_log logged [] log sized =
+    let same : logged ≡ with_units logged [] =
+    ap (λ cs. record { clauses = cs; sources = logged.sources }) (sym (append-nil logged.clauses))
+    ∙ ap (λ ss. record { clauses = logged.clauses ++ []; sources = ss }) (sym (append-nil logged.sources)) in
+    (subst IsLog same log, ap added_of (sym same) ∙ sym (append-nil (added_of logged)))
+units_log logged (a ∷ units) log sized =
+    let next : LoggedClauses = record { clauses = logged.clauses ++ (a ∷ []) ∷ []; sources = logged.sources ++ None ∷ [] } in
+    let one = added-IsLog logged next (a ∷ []) log (sized_unit a units sized) refl refl in
     let rest = units_log next units one.0 (λ b has. sized b (or_right _ _ has)) in
-    let same : with_units next units ≡ with_units entries (a ∷ units) =
-    ap (λ cs. record { clauses = cs; sources = (entries.sources ++ None ∷ []) ++ no_sources units }) (append_assoc entries.clauses ((a ∷ []) ∷ []) (unit_clauses units))
-    ∙ ap (λ ss. record { clauses = entries.clauses ++ (a ∷ []) ∷ unit_clauses units; sources = ss }) (append_assoc entries.sources (None ∷ []) (no_sources units)) in (
+    let same : with_units next units ≡ with_units logged (a ∷ units) =
+    ap (λ cs. record { clauses = cs; sources = (logged.sources ++ None ∷ []) ++ no_sources units }) (append_assoc logged.clauses ((a ∷ []) ∷ []) (unit_clauses units))
+    ∙ ap (λ ss. record { clauses = logged.clauses ++ (a ∷ []) ∷ unit_clauses units; sources = ss }) (append_assoc logged.sources (None ∷ []) (no_sources units)) in (
       subst IsLog same rest.0,
-      ap added_of (sym same) ∙ rest.1 ∙ ap (λ cs. cs ++ unit_clauses units) one.1 ∙ append_assoc (added_of entries) ((a ∷ []) ∷ []) (unit_clauses units),
+      ap added_of (sym same) ∙ rest.1 ∙ ap (λ cs. cs ++ unit_clauses units) one.1 ∙ append_assoc (added_of logged) ((a ∷ []) ∷ []) (unit_clauses units),
     )
 
 -- Hints of units.

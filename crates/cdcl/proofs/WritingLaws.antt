@@ -18,11 +18,11 @@ use Rattle.proof_semantics.proofs.LiteralLaws.{lit_eq-same, negation_twice, cube
 use Rattle.proof_semantics.proofs.Soundness.{hints_refute}
 use Rattle.cnf.specs.Clauses.{clause_numbered}
 use Rattle.cdcl_trail.proofs.TrailLaws.{either}
-use Rattle.cdcl.specs.Entries.{Entries, added_of, IsLog}
+use Rattle.cdcl.specs.LoggedClauses.{LoggedClauses, added_of, IsLog}
 use Rattle.cdcl.specs.Solving.{IsRefusal}
 use Rattle.cdcl.specs.Ids.{count_added}
 use Rattle.cdcl.specs.Writing.{hint_by, line_by, IsPartialProof, Proves}
-use Rattle.cdcl.proofs.EntryLaws.{numbered_true}
+use Rattle.cdcl.proofs.LoggedLaws.{numbered_true}
 
 -- Hints under other names.
 
@@ -224,30 +224,30 @@ all_sized clauses ids greatest held (n ∷ hints) small within finds named all =
     and_from _ _ (and_from _ _ (le-leb 1 (ids n) (omega (arith, bounds.0))) (le-leb (ids n) (2 ^ 63 - 1) (omega (arith, bounds.1, small))))
     (all_sized clauses ids greatest held hints small within finds names.1 parts.1)
 
-written_accepts : (entries : Entries) (ids : ℕ → ℕ) (lines : List (List ℕ)) (greatest : ℕ) (c : List Lit) (hints : List ℕ)
-    → (written : IsPartialProof entries ids lines greatest) → greatest < 2 ^ 62
-    → AreSized c → hints_fault (clause_numbered entries.clauses) (map negation c) hints ≡ None → list_all (λ n. nat_lt 0 (ids n)) hints ≡ true
+written_accepts : (logged : LoggedClauses) (ids : ℕ → ℕ) (lines : List (List ℕ)) (greatest : ℕ) (c : List Lit) (hints : List ℕ)
+    → (written : IsPartialProof logged ids lines greatest) → greatest < 2 ^ 62
+    → AreSized c → hints_fault (clause_numbered logged.clauses) (map negation c) hints ≡ None → list_all (λ n. nat_lt 0 (ids n)) hints ≡ true
     → judge written.state (text_of (line_by ids (greatest + 1) c hints)) ≡ Ok (with_addition written.state (greatest + 1) c)
-written_accepts entries ids lines greatest c hints written small sized follows all =
+written_accepts logged ids lines greatest c hints written small sized follows all =
     line_accepted written.state ids (greatest + 1) c hints (omega arith, omega (arith, small)) sized
-    (all_sized entries.clauses ids greatest written.state.held hints small written.within written.finds (hints_named _ _ hints follows) all)
+    (all_sized logged.clauses ids greatest written.state.held hints small written.within written.finds (hints_named _ _ hints follows) all)
     (omega (arith, written.last))
-    (hints_renamed (clause_numbered entries.clauses) (clause_at written.state.held) ids (λ n. nat_lt 0 (ids n)) (map negation c) hints written.finds all follows)
+    (hints_renamed (clause_numbered logged.clauses) (clause_at written.state.held) ids (λ n. nat_lt 0 (ids n)) (map negation c) hints written.finds all follows)
 
-above_free : (entries : Entries) (ids : ℕ → ℕ) (lines : List (List ℕ)) (greatest : ℕ) → (written : IsPartialProof entries ids lines greatest) → (d : List Lit)
+above_free : (logged : LoggedClauses) (ids : ℕ → ℕ) (lines : List (List ℕ)) (greatest : ℕ) → (written : IsPartialProof logged ids lines greatest) → (d : List Lit)
     → clause_at written.state.held (greatest + 1) ≡ Some d → ⊥
-above_free entries ids lines greatest written d e = omega (arith, (written.within (greatest + 1) d e).1)
+above_free logged ids lines greatest written d e = omega (arith, (written.within (greatest + 1) d e).1)
 
 -- The whole proof.
-pub written_proves : (entries : Entries) (ids : ℕ → ℕ) (lines : List (List ℕ)) (greatest : ℕ) (c : List Lit) (hints : List ℕ)
-    → IsPartialProof entries ids lines greatest → greatest < 2 ^ 62 → AreSized c → hints_fault (clause_numbered entries.clauses) (map negation c) hints ≡ None
+pub written_proves : (logged : LoggedClauses) (ids : ℕ → ℕ) (lines : List (List ℕ)) (greatest : ℕ) (c : List Lit) (hints : List ℕ)
+    → IsPartialProof logged ids lines greatest → greatest < 2 ^ 62 → AreSized c → hints_fault (clause_numbered logged.clauses) (map negation c) hints ≡ None
     → list_all (λ n. nat_lt 0 (ids n)) hints ≡ true
-    → Proves (added_of entries) (lines ++ text_of (line_by ids (greatest + 1) c hints) ∷ []) c
-written_proves entries ids lines greatest c hints written small sized follows all = record {
+    → Proves (added_of logged) (lines ++ text_of (line_by ids (greatest + 1) c hints) ∷ []) c
+written_proves logged ids lines greatest c hints written small sized follows all = record {
   state = with_addition written.state (greatest + 1) c;
-  judged = judge_push (start (added_of entries)) written.state (with_addition written.state (greatest + 1) c) lines (text_of (line_by ids (greatest + 1) c hints)) written.judged
-      (written_accepts entries ids lines greatest c hints written small sized follows all);
-  gives = held_last written.state.held (greatest + 1) c (above_free entries ids lines greatest written);
+  judged = judge_push (start (added_of logged)) written.state (with_addition written.state (greatest + 1) c) lines (text_of (line_by ids (greatest + 1) c hints)) written.judged
+      (written_accepts logged ids lines greatest c hints written small sized follows all);
+  gives = held_last written.state.held (greatest + 1) c (above_free logged ids lines greatest written);
   finishes = λ empty. or_right written.state.finished (is_empty c) (ap is_empty empty);
 }
 
@@ -265,24 +265,24 @@ has_more greatest old id true is has = le-leb 1 id (omega (arith, is))
 has_more greatest old id false is has = ap (nat_lt 0) is ∙ has
 
 -- One more line, whose id a clause has from now on.
-pub written_put : (entries : Entries) (ids later : ℕ → ℕ) (lines after : List (List ℕ)) (greatest last number : ℕ) (c : List Lit) (hints : List ℕ)
-    → clause_numbered entries.clauses number ≡ Some c → greatest < 2 ^ 62 → AreSized c
-    → hints_fault (clause_numbered entries.clauses) (map negation c) hints ≡ None → list_all (λ n. nat_lt 0 (ids n)) hints ≡ true
+pub written_put : (logged : LoggedClauses) (ids later : ℕ → ℕ) (lines after : List (List ℕ)) (greatest last number : ℕ) (c : List Lit) (hints : List ℕ)
+    → clause_numbered logged.clauses number ≡ Some c → greatest < 2 ^ 62 → AreSized c
+    → hints_fault (clause_numbered logged.clauses) (map negation c) hints ≡ None → list_all (λ n. nat_lt 0 (ids n)) hints ≡ true
     → ((n : ℕ) → later n ≡ cond (eqb number n) (greatest + 1) (ids n)) → after ≡ lines ++ text_of (line_by ids (greatest + 1) c hints) ∷ [] → last ≡ greatest + 1
-    → IsPartialProof entries ids lines greatest → IsPartialProof entries later after last
-written_put entries ids later lines after greatest last number c hints at small sized follows all puts adds next written = record {
+    → IsPartialProof logged ids lines greatest → IsPartialProof logged later after last
+written_put logged ids later lines after greatest last number c hints at small sized follows all puts adds next written = record {
   state = with_addition written.state (greatest + 1) c;
-  judged = ap (judge_all (start (added_of entries))) adds
-      ∙ judge_push (start (added_of entries)) written.state (with_addition written.state (greatest + 1) c) lines (text_of (line_by ids (greatest + 1) c hints)) written.judged
-      (written_accepts entries ids lines greatest c hints written small sized follows all);
+  judged = ap (judge_all (start (added_of logged))) adds
+      ∙ judge_push (start (added_of logged)) written.state (with_addition written.state (greatest + 1) c) lines (text_of (line_by ids (greatest + 1) c hints)) written.judged
+      (written_accepts logged ids lines greatest c hints written small sized follows all);
   last = sym next;
   within = λ id d e. elim (held_back written.state.held (greatest + 1) c id d e) [
     | inl before ↦ let bounds = written.within id d before in (bounds.0, omega (arith, bounds.1, next))
     | inr here ↦ (omega (arith, here), omega (arith, here, next))
   ];
   given = λ i source. has_more greatest (ids (i + 1)) (later (i + 1)) (eqb number (i + 1)) (puts (i + 1)) (written.given i source);
-  finds = λ n d e has. found_more written.state.held greatest (ids n) (later n) (eqb number n) c d (above_free entries ids lines greatest written)
-      (λ same. same_Some c d (sym at ∙ ap (clause_numbered entries.clauses) (eqb-true number n same) ∙ e)) (written.finds n d e) (puts n) has;
+  finds = λ n d e has. found_more written.state.held greatest (ids n) (later n) (eqb number n) c d (above_free logged ids lines greatest written)
+      (λ same. same_Some c d (sym at ∙ ap (clause_numbered logged.clauses) (eqb-true number n same) ∙ e)) (written.finds n d e) (puts n) has;
 }
 
 pub written_kept : (ids later : ℕ → ℕ) (number greatest n : ℕ) → ((m : ℕ) → later m ≡ cond (eqb number m) (greatest + 1) (ids m))
@@ -290,17 +290,17 @@ pub written_kept : (ids later : ℕ → ℕ) (number greatest n : ℕ) → ((m :
 written_kept ids later number greatest n puts has = has_more greatest (ids n) (later n) (eqb number n) (puts n) has
 
 -- Nothing is written.
-pub written_none : (entries : Entries) (ids : ℕ → ℕ) (lines : List (List ℕ)) (greatest : ℕ) → greatest ≡ length (added_of entries) → lines ≡ []
-    → ((i : ℕ) → slice_get entries.sources i ≡ Some None → nat_lt 0 (ids (i + 1)) ≡ true)
-    → ((n : ℕ) (c : List Lit) → clause_numbered entries.clauses n ≡ Some c → nat_lt 0 (ids n) ≡ true → (j : ℕ) × (ids n ≡ 1 + j) × (slice_get (added_of entries) j ≡ Some c))
-    → IsPartialProof entries ids lines greatest
-written_none entries ids lines greatest counts none given found = record {
-  state = start (added_of entries);
-  judged = ap (judge_all (start (added_of entries))) none;
+pub written_none : (logged : LoggedClauses) (ids : ℕ → ℕ) (lines : List (List ℕ)) (greatest : ℕ) → greatest ≡ length (added_of logged) → lines ≡ []
+    → ((i : ℕ) → slice_get logged.sources i ≡ Some None → nat_lt 0 (ids (i + 1)) ≡ true)
+    → ((n : ℕ) (c : List Lit) → clause_numbered logged.clauses n ≡ Some c → nat_lt 0 (ids n) ≡ true → (j : ℕ) × (ids n ≡ 1 + j) × (slice_get (added_of logged) j ≡ Some c))
+    → IsPartialProof logged ids lines greatest
+written_none logged ids lines greatest counts none given found = record {
+  state = start (added_of logged);
+  judged = ap (judge_all (start (added_of logged))) none;
   last = sym counts;
-  within = λ id c f. let bounds = numbered_within 1 (added_of entries) id c f in (omega (arith, bounds.0), omega (arith, bounds.1, counts));
+  within = λ id c f. let bounds = numbered_within 1 (added_of logged) id c f in (omega (arith, bounds.0), omega (arith, bounds.1, counts));
   given = given;
-  finds = λ n c e has. let r = found n c e has in numbered_at 1 (added_of entries) r.0 (ids n) c r.1 r.2;
+  finds = λ n c e has. let r = found n c e has in numbered_at 1 (added_of logged) r.0 (ids n) c r.1 r.2;
 }
 
 pub count_less : (sources : List (Option (List ℕ))) → count_added sources ≤ length sources
@@ -333,10 +333,10 @@ empty_negations [] e = refl
 empty_negations (a ∷ clause) e = absurd (cc)
 
 -- A proof of the traced clause refuses the assumptions.
-pub refusal_from : (entries : Entries) (assumptions clause core : List Lit) (hints : List ℕ) (lines : List (List ℕ)) → IsLog entries
-    → ((a : Lit) → has_literal clause a ≡ true → has_literal assumptions (negation a) ≡ true) → hints_fault (clause_numbered entries.clauses) (map negation clause) hints ≡ None
-    → core ≡ map negation clause → Proves (added_of entries) lines clause → IsRefusal (added_of entries) assumptions core lines
-refusal_from entries assumptions clause core hints lines log each follows is proves =
+pub refusal_from : (logged : LoggedClauses) (assumptions clause core : List Lit) (hints : List ℕ) (lines : List (List ℕ)) → IsLog logged
+    → ((a : Lit) → has_literal clause a ≡ true → has_literal assumptions (negation a) ≡ true) → hints_fault (clause_numbered logged.clauses) (map negation clause) hints ≡ None
+    → core ≡ map negation clause → Proves (added_of logged) lines clause → IsRefusal (added_of logged) assumptions core lines
+refusal_from logged assumptions clause core hints lines log each follows is proves =
     let part : is_part core assumptions ≡ true = ap (λ c. is_part c assumptions) is ∙ part_negations assumptions clause each in
     let back : map negation core ≡ clause = ap (map negation) is ∙ negations_twice clause in
     record {
@@ -344,6 +344,6 @@ refusal_from entries assumptions clause core hints lines log each follows is pro
       derived = subst (λ r. IsOkAnd r (λ s. clause_at s.held s.last ≡ Some (map negation core))) (sym proves.judged) (proves.gives ∙ ap (λ c. Some c) (sym back));
       refuted = λ none. subst (λ r. IsOkAnd r (λ s. s.finished ≡ true)) (sym proves.judged) (proves.finishes (empty_negations clause (sym is ∙ none)));
       no_model = λ v model.
-          hints_refute v (clause_numbered entries.clauses) (map negation clause) hints (numbered_true v entries.clauses (log.implied v model.clauses))
+          hints_refute v (clause_numbered logged.clauses) (map negation clause) hints (numbered_true v logged.clauses (log.implied v model.clauses))
           (ap (cube_value v) (sym is) ∙ core_holds v assumptions core part model.assumed) follows;
     }

@@ -4,10 +4,11 @@ pub mod Asking
 pub mod Retiring
 pub mod UnitClauses
 pub mod Refuting
-pub mod Entries
+pub mod LoggedClauses
 pub mod Counting
 pub mod Resting
 pub mod WithUnits
+pub mod Ascending
 pub mod Searching
 pub mod Finding
 pub mod Room

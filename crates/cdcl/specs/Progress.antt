@@ -3,23 +3,23 @@ use Rattle.std.specs.Prelude.{◌≡◌, ℕ, ◌+◌, ◌-◌, ◌≤◌, true,
 use Rattle.edge.specs.Units.{Spendings}
 use Rattle.proof_semantics.specs.Clauses.{is_subsumed, has_opposites}
 use Rattle.proof_semantics.specs.declared.literals.Lit.{Lit}
-use Rattle.cdcl.specs.Entries.{Entries, IsLog, added_of, learned_of}
+use Rattle.cdcl.specs.LoggedClauses.{LoggedClauses, IsLog, added_of, learned_of}
 use Rattle.cdcl.specs.Room.{clause_room}
 use Rattle.cdcl_trail.specs.Watched.{TrailState}
 use Rattle.cdcl.specs.Searching.{is_over, are_over, IsHeld}
 use Rattle.cdcl.specs.Solving.{Learns, with_conflicts}
 
 -- how many clauses were learned between the two
-abbrev pub growth : Entries → Entries → ℕ
+abbrev pub growth : LoggedClauses → LoggedClauses → ℕ
 growth start now = length (learned_of now) - length (learned_of start)
 
 -- The clauses are over these variables, and those that were learned and those that can still be learned over them are no
 -- more than at first.
-pub record LearnsFewer (vars : List ℕ) (start now : Entries) : Type 0 where
+pub record LearnsFewer (vars : List ℕ) (start now : LoggedClauses) : Type 0 where
   pub over : are_over vars now.clauses ≡ true
   pub less : growth start now + clause_room vars now.clauses ≤ clause_room vars start.clauses
 
-pub record IsSearched (assumptions : List Lit) (start now : Entries) (earlier later : Spendings) : Type 0 where
+pub record IsSearched (assumptions : List Lit) (start now : LoggedClauses) (earlier later : Spendings) : Type 0 where
   pub added : added_of now ≡ added_of start
   pub learned : Learns (added_of start) (learned_of start) (learned_of now)
   pub counted : later ≡ with_conflicts earlier (growth start now)
@@ -32,11 +32,11 @@ AreIrredundant before (clause ∷ more) =
     (has_opposites clause ≡ false) × (is_subsumed before clause ≡ false) × AreIrredundant (before ++ clause ∷ []) more
 
 -- What a solver keeps.
-pub record IsSolverLog (entries : Entries) : Type 0 where
-  pub log : IsLog entries
-  pub apart : AreIrredundant [] (learned_of entries)
+pub record IsSolverLog (logged : LoggedClauses) : Type 0 where
+  pub log : IsLog logged
+  pub apart : AreIrredundant [] (learned_of logged)
 
 -- with its trail
-pub record IsStanding (entries : Entries) (t : TrailState) : Type 0 where
-  pub kept : IsSolverLog entries
-  pub trail : IsHeld entries.clauses t
+pub record IsStanding (logged : LoggedClauses) (t : TrailState) : Type 0 where
+  pub kept : IsSolverLog logged
+  pub trail : IsHeld logged.clauses t

@@ -6,7 +6,7 @@ use Rattle.proof_semantics.specs.declared.literals.Lit.{Lit}
 use Rattle.cdcl_trail.specs.Trails.{Step}
 use Rattle.cdcl_trail.specs.Propagation.{is_true, is_complete}
 use Rattle.cdcl.specs.Counting.{IsNoLimit}
-use Rattle.cdcl.specs.Entries.{Entries}
+use Rattle.cdcl.specs.LoggedClauses.{LoggedClauses}
 
 -- Under some steps each of the literals is true and no clause is unit or false.
 pub record ComesToRest (clauses : List (List Lit)) (lits : List Lit) : Type 0 where
@@ -15,9 +15,9 @@ pub record ComesToRest (clauses : List (List Lit)) (lits : List Lit) : Type 0 wh
   pub assumed : (a : Lit) → has_literal lits a ≡ true → is_true steps a ≡ true
 
 -- Nothing was learned, or propagation from the literals came to rest.
-abbrev pub IsRested : List Lit → Entries → Entries → Type 0
+abbrev pub IsRested : List Lit → LoggedClauses → LoggedClauses → Type 0
 IsRested lits start now = (now ≡ start) ⊎ ComesToRest start.clauses lits
 
 -- It is no limit, or propagation from the literals came to rest.
-abbrev pub IsLimitedAtRest : List Lit → Entries → SolveEnd → Type 0
+abbrev pub IsLimitedAtRest : List Lit → LoggedClauses → SolveEnd → Type 0
 IsLimitedAtRest lits start end = IsNoLimit end ⊎ ComesToRest start.clauses lits

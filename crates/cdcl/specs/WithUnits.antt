@@ -2,7 +2,7 @@
 use Rattle.std.specs.Prelude.{ℕ, suc, ◌+◌, List, [], ◌∷◌, ◌++◌, Option, None, if◌then◌else◌}
 use Rattle.proof_semantics.specs.Clauses.{lit_eq}
 use Rattle.proof_semantics.specs.declared.literals.Lit.{Lit}
-use Rattle.cdcl.specs.Entries.{Entries}
+use Rattle.cdcl.specs.LoggedClauses.{LoggedClauses}
 use Rattle.cdcl.specs.UnitClauses.{unit_clauses}
 
 -- unit clauses have no hints
@@ -10,10 +10,10 @@ abbrev pub no_sources : List Lit → List (Option (List ℕ))
 no_sources [] = []
 no_sources (a ∷ units) = None ∷ no_sources units
 
-abbrev pub with_units : Entries → List Lit → Entries
-with_units entries units = record {
-  clauses = entries.clauses ++ unit_clauses units;
-  sources = entries.sources ++ no_sources units;
+abbrev pub with_units : LoggedClauses → List Lit → LoggedClauses
+with_units logged units = record {
+  clauses = logged.clauses ++ unit_clauses units;
+  sources = logged.sources ++ no_sources units;
 }
 
 -- how many literals stand before the first that is this one

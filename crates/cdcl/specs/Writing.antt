@@ -6,7 +6,7 @@ use Rattle.proof_semantics.specs.Lines.{Line, addition}
 use Rattle.proof_semantics.specs.Proofs.{ProofState, start, clause_at, judge_all}
 use Rattle.proof_semantics.specs.declared.literals.Lit.{Lit}
 use Rattle.cnf.specs.Clauses.{clause_numbered}
-use Rattle.cdcl.specs.Entries.{Entries, added_of}
+use Rattle.cdcl.specs.LoggedClauses.{LoggedClauses, added_of}
 
 -- the hint that names the clause with a number, by the id of each
 abbrev pub hint_by : (ℕ → ℕ) → ℕ → Lit
@@ -23,13 +23,13 @@ spaced_fields (field ∷ fields) = field ++ 32 ∷ spaced_fields fields
 
 -- What was written holds: the lines are accepted, added clauses have ids, and each clause with an id is held under it. 0
 -- is no id.
-pub record IsPartialProof (entries : Entries) (ids : ℕ → ℕ) (lines : List (List ℕ)) (greatest : ℕ) : Type 0 where
+pub record IsPartialProof (logged : LoggedClauses) (ids : ℕ → ℕ) (lines : List (List ℕ)) (greatest : ℕ) : Type 0 where
   pub state : ProofState
-  pub judged : judge_all (start (added_of entries)) lines ≡ Ok state
+  pub judged : judge_all (start (added_of logged)) lines ≡ Ok state
   pub last : state.last ≡ greatest
   pub within : (id : ℕ) (clause : List Lit) → clause_at state.held id ≡ Some clause → (0 < id) × (id ≤ greatest)
-  pub given : (i : ℕ) → slice_get entries.sources i ≡ Some None → nat_lt 0 (ids (i + 1)) ≡ true
-  pub finds : (n : ℕ) (clause : List Lit) → clause_numbered entries.clauses n ≡ Some clause → nat_lt 0 (ids n) ≡ true → clause_at state.held (ids n) ≡ Some clause
+  pub given : (i : ℕ) → slice_get logged.sources i ≡ Some None → nat_lt 0 (ids (i + 1)) ≡ true
+  pub finds : (n : ℕ) (clause : List Lit) → clause_numbered logged.clauses n ≡ Some clause → nat_lt 0 (ids n) ≡ true → clause_at state.held (ids n) ≡ Some clause
 
 -- the lines are accepted and give the clause last
 pub record Proves (given : List (List Lit)) (lines : List (List ℕ)) (clause : List Lit) : Type 0 where

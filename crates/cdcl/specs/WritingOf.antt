@@ -3,13 +3,13 @@ use Rattle.std.specs.Prelude.{◌≡◌, ℕ, ◌+◌, ◌<◌, ◌≤◌, ◌^�
 use Rattle.std.specs.List.{list_all}
 use Rattle.proof_semantics.specs.Lines.{text_of}
 use Rattle.proof_semantics.specs.declared.literals.Lit.{Lit}
-use Rattle.cdcl.specs.Entries.{Entries}
+use Rattle.cdcl.specs.LoggedClauses.{LoggedClauses}
 use Rattle.cdcl.specs.IdsOf.{id_in}
 use Rattle.cdcl.specs.Writing.{line_by, IsPartialProof}
 use Rattle.cdcl.specs.declared.writing.Writing.{Writing}
 
-abbrev pub IsPartialProofIn : Entries → Writing → Type 0
-IsPartialProofIn entries w = IsPartialProof entries (id_in w.ids) w.lines.items w.last
+abbrev pub IsPartialProofIn : LoggedClauses → Writing → Type 0
+IsPartialProofIn logged w = IsPartialProof logged (id_in w.ids) w.lines.items w.last
 
 -- the clauses with these numbers have ids
 abbrev pub HaveIds : Writing → List ℕ → Type 0

@@ -4,7 +4,7 @@ ghost use Rattle.proof_semantics.specs.Clauses.{has_opposites};
 ghost use Rattle.proof_semantics.specs.Lines.{AreSized};
 ghost use Rattle.cdcl.specs.Asking.{IsAsked};
 ghost use Rattle.cdcl.specs.Resting.{IsLimitedAtRest, IsRested};
-ghost use Rattle.cdcl.specs.Entries.{IsLog, added_of};
+ghost use Rattle.cdcl.specs.LoggedClauses.{IsLog, added_of};
 ghost use Rattle.cdcl.specs.Finding.{IsSearchResult, IsAskedFrom};
 ghost use Rattle.cdcl.specs.Progress.{IsSearched};
 ghost use Rattle.cdcl.specs.Searching.{IsHeld};

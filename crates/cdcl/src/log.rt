@@ -29,11 +29,11 @@ pub(crate) struct Log {
 
 impl Model for Log {
     ghost use Rattle.std.specs.Prelude.{◌≡◌, true};
-    ghost use Rattle.cdcl.specs.Entries.{Entries};
+    ghost use Rattle.cdcl.specs.LoggedClauses.{LoggedClauses};
     ghost use Rattle.cdcl.specs.Ids.{AreCounted};
     ghost use Rattle.cdcl.specs.Variables.{are_over};
 
-    ghost Value = { Entries };
+    ghost Value = { LoggedClauses };
 
     ghost view = { λ l. record { clauses = l.db.clauses; sources = l.sources.items } };
 

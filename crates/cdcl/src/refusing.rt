@@ -2,7 +2,7 @@
 ghost use Rattle.std.specs.Prelude.{◌≡◌, ℕ, List, IfOk, map};
 ghost use Rattle.cdcl.specs.Searching.{IsHinted, NegatesOnly};
 ghost use Rattle.proof_semantics.specs.Clauses.{negation, has_opposites};
-ghost use Rattle.cdcl.specs.Entries.{IsLog, added_of};
+ghost use Rattle.cdcl.specs.LoggedClauses.{IsLog, added_of};
 ghost use Rattle.proof_semantics.specs.Lines.{AreSized};
 ghost use Rattle.cdcl.specs.Solving.{IsAnswer};
 

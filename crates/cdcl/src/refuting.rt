@@ -6,8 +6,9 @@ ghost use Rattle.proof_semantics.specs.Lines.{AreSized};
 ghost use Rattle.proof_semantics.specs.Propagation.{hints_fault};
 ghost use Rattle.proof_semantics.specs.Proofs.{Refutes};
 ghost use Rattle.cnf.specs.Clauses.{clause_numbered};
+ghost use Rattle.cdcl.specs.Ascending.{is_ascending};
 ghost use Rattle.cdcl.specs.Resting.{IsLimitedAtRest, IsRested};
-ghost use Rattle.cdcl.specs.Entries.{IsLog, added_of};
+ghost use Rattle.cdcl.specs.LoggedClauses.{IsLog, added_of};
 ghost use Rattle.cdcl.specs.Finding.{IsSearchResult};
 ghost use Rattle.cdcl.specs.Progress.{IsSearched};
 ghost use Rattle.cdcl.specs.Refuting.{IsRefuted};
@@ -155,12 +156,30 @@ fn unit_number(first: usize, units: &[Lit], literal: Lit) -> u64
     (first + units.len() + 1) as u64
 }
 
+// Whether the variables ascend, as those of a circuit's latches do: then no literal is the negation of another, and one
+// pass tells it.
+fn is_ascending(literals: &[Lit]) -> bool
+    ensures { result ≡ is_ascending 0 literals.now }
+{
+    let mut last = 0;
+    for literal in literals {
+        if literal.var <= last {
+            return false;
+        }
+        last = literal.var;
+    }
+    true
+}
+
 // A literal whose negation is one of the list too.
 fn opposite(literals: &[Lit]) -> Option<Lit>
     ensures one { IfSome result (λ a. has_literal literals.now a ≡ true) }
     ensures other { IfSome result (λ a. has_literal literals.now (negation a) ≡ true) }
     ensures none { IfNone result (has_opposites literals.now ≡ false) }
 {
+    if is_ascending(literals) {
+        return None;
+    }
     for literal in literals {
         if has_literal(literals, literal.negation()) {
             return Some(*literal);

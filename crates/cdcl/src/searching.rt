@@ -4,7 +4,7 @@ ghost use Rattle.proof_semantics.specs.Clauses.{has_opposites};
 ghost use Rattle.cdcl_trail.specs.Trails.{level};
 ghost use Rattle.cdcl_trail.specs.Watched.{Extends};
 ghost use Rattle.cdcl.specs.Resting.{IsLimitedAtRest, IsRested};
-ghost use Rattle.cdcl.specs.Entries.{IsLog};
+ghost use Rattle.cdcl.specs.LoggedClauses.{IsLog};
 ghost use Rattle.cdcl.specs.Finding.{IsSearchResult};
 ghost use Rattle.proof_semantics.specs.Lines.{AreSized};
 ghost use Rattle.cdcl.specs.Progress.{IsSearched};

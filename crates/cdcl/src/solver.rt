@@ -33,7 +33,7 @@ pub struct Solver {
 
 impl Model for Solver {
     ghost use Rattle.cdcl.specs.Solving.{Solving};
-    ghost use Rattle.cdcl.specs.Entries.{added_of, learned_of};
+    ghost use Rattle.cdcl.specs.LoggedClauses.{added_of, learned_of};
     ghost use Rattle.cdcl.specs.Progress.{IsStanding};
 
     ghost Value = { Solving };

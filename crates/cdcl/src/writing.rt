@@ -5,7 +5,7 @@ ghost use Rattle.proof_semantics.specs.Clauses.{negation};
 ghost use Rattle.proof_semantics.specs.Lines.{AreSized};
 ghost use Rattle.proof_semantics.specs.Propagation.{hints_fault};
 ghost use Rattle.cnf.specs.Clauses.{clause_numbered};
-ghost use Rattle.cdcl.specs.Entries.{IsLog, added_of};
+ghost use Rattle.cdcl.specs.LoggedClauses.{IsLog, added_of};
 ghost use Rattle.cdcl.specs.UnitClauses.{unit_clauses};
 ghost use Rattle.cdcl.specs.WithUnits.{with_units};
 ghost use Rattle.cdcl.specs.Writing.{Proves};

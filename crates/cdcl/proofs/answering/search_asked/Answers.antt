@@ -1,5 +1,5 @@
 use Rattle.std.proofs.Common.{sym}
-use Rattle.cdcl.specs.Entries.{added_of}
+use Rattle.cdcl.specs.LoggedClauses.{added_of}
 use Rattle.cdcl.proofs.AnswerLaws.{asked_from}
 use Rattle.cdcl.proofs.answering.search_asked.Goals as goal
 

@@ -1,7 +1,7 @@
 use Rattle.std.proofs.Common.{◌≡◌, ◌++◌, true, map, refl, ap, sym, subst, ◌∙◌}
 use Rattle.proof_semantics.specs.Clauses.{negation, clauses_value}
 use Rattle.cdcl.specs.Asking.{assigned}
-use Rattle.cdcl.specs.Entries.{added_of}
+use Rattle.cdcl.specs.LoggedClauses.{added_of}
 use Rattle.cdcl.specs.Finding.{IsSearchResult}
 use Rattle.cdcl.specs.UnitClauses.{unit_clauses}
 use Rattle.cdcl.proofs.AnswerLaws.{assigned_model}

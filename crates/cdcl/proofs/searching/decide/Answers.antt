@@ -4,7 +4,7 @@ use Rattle.proof_semantics.specs.Clauses.{is_subsumed}
 use Rattle.cdcl_trail.specs.Trails.{level, lower_steps}
 use Rattle.cdcl_trail.specs.Propagation.{is_complete, Propagates, IsReasonedTrail}
 use Rattle.cdcl_trail.specs.Watched.{Extends, TrailState}
-use Rattle.cdcl.specs.Entries.{Entries}
+use Rattle.cdcl.specs.LoggedClauses.{LoggedClauses}
 use Rattle.cdcl.specs.Room.{clause_room, literal_variables, variables_in}
 use Rattle.cdcl.specs.Searching.{IsDeciding, IsHeld, IsHinted, IsBackLevel, count_open}
 use Rattle.cdcl.proofs.RoomLaws.{all_over, own_over}
@@ -168,7 +168,7 @@ returns-in_err-keep-clause-trail c =
 
 pub returns-in_err-learn-clause-trail : goal.returns-in_err-learn-clause-trail
 returns-in_err-learn-clause-trail c =
-    subst (λ (e : Entries). IsHeld e.clauses c.propagate.new.self) (sym c.in_err-learn.ensures.err)
+    subst (λ (e : LoggedClauses). IsHeld e.clauses c.propagate.new.self) (sym c.in_err-learn.ensures.err)
     (held_propagated c.decisions.log.clauses c.clauses.result.now.clauses c.args.assumptions.now c.level-base.result c.decisions.trail.steps c.propagate.new.self
     c.decisions.invariant.on_way c.clauses.ensures c.propagate.ensures.reasons c.propagate.ensures.extends)
 

@@ -1,7 +1,7 @@
 use Rattle.std.proofs.Common.{◌++◌, map, subst, sym}
 use Rattle.proof_semantics.specs.Clauses.{negation}
 use Rattle.cnf.specs.Clauses.{clause_numbered}
-use Rattle.cdcl.specs.Entries.{added_of}
+use Rattle.cdcl.specs.LoggedClauses.{added_of}
 use Rattle.cdcl.specs.UnitClauses.{unit_clauses}
 use Rattle.cdcl.specs.Writing.{Proves}
 use Rattle.cdcl.proofs.WritingLaws.{hints_named}
