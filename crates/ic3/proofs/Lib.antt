@@ -6,6 +6,7 @@ pub mod Holding
 pub mod Apart
 pub mod Sounds
 pub mod Stuck
+pub mod Lowest
 pub mod Starts
 pub mod Closes
 pub mod Ended

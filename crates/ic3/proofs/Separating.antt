@@ -52,7 +52,7 @@ one_true v clause (a ∷ cube) some h =
       | inr later ↦ one_true v clause cube later parts.1
     ]
 
-all_true : (v : ℕ → Bool) (clauses : List (List Lit)) (cube : List Lit) → All (λ clause. has_one_of cube clause ≡ true) clauses
+pub all_true : (v : ℕ → Bool) (clauses : List (List Lit)) (cube : List Lit) → All (λ clause. has_one_of cube clause ≡ true) clauses
     → cube_value v cube ≡ true → clauses_value v clauses ≡ true
 all_true v [] cube each h = refl
 all_true v (clause ∷ clauses) cube each h =

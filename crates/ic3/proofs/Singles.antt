@@ -1,5 +1,5 @@
 -- A clause that no step of the arena leaves is a closed set.
-use Rattle.std.proofs.Common.{◌≡◌, ℕ, zero, suc, ◌+◌, ◌<◌, ◌≤◌, Bool, true, false, not, ◌&&◌, ◌||◌, List, [], ◌∷◌, ◌++◌, map, length, get_or, refl, sym, ap, subst, ◌∙◌, arith}
+use Rattle.std.proofs.Common.{◌≡◌, ℕ, zero, suc, ◌+◌, ◌<◌, Bool, true, false, not, ◌&&◌, ◌||◌, List, [], ◌∷◌, ◌++◌, map, length, get_or, refl, sym, ap, subst, ◌∙◌, arith}
 use Rattle.std.specs.List.{All}
 use Rattle.std.proofs.lemmas.Bool.{false≢true, and_parts, and_from}
 use Rattle.std.proofs.lemmas.List.{length-map, get_or-map}
@@ -26,7 +26,6 @@ use Rattle.ic3_questions.specs.Stepping.{Stepping, IsArenaStep, IsOver, meets_fr
 use Rattle.ic3.specs.Starting.{start_cube}
 use Rattle.ic3.specs.Sound.{IsStartCube, has_one_of, IsSound, Agree}
 use Rattle.ic3.specs.Strengthening.{IsExcluded}
-use Rattle.ic3.specs.Turning.{IsClosedAt}
 use Rattle.ic3.specs.Single.{IsSingle, IsSingleOf}
 use Rattle.ic3.specs.Searches.{CountsUpTo}
 use Rattle.edge.specs.Units.{Spendings}

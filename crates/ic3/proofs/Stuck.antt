@@ -1,5 +1,5 @@
 -- Lemmas that are pushed, and lemmas that are stuck.
-use Rattle.std.proofs.Common.{◌≡◌, ◌≢◌, ◌⊎◌, ℕ, zero, suc, ◌+◌, ◌-◌, ◌<◌, ◌≤◌, Bool, true, false, ◌&&◌, not, List, [], ◌∷◌, ◌++◌, map, length, take, set, get_or, refl, sym, ap, subst, ◌∙◌, inl, inr, arith, get_or-set_other, get_or-set_same}
+use Rattle.std.proofs.Common.{◌≡◌, ◌≢◌, ℕ, zero, suc, ◌+◌, ◌-◌, ◌<◌, ◌≤◌, Bool, true, false, ◌&&◌, not, List, [], ◌∷◌, ◌++◌, map, length, take, set, get_or, refl, sym, ap, subst, ◌∙◌, inl, inr, arith, get_or-set_other, get_or-set_same}
 use Rattle.std.specs.List.{All, remove}
 use Rattle.std.proofs.lemmas.Bool.{cases_Bool, cases_lt, false≢true, and_parts}
 use Rattle.std.proofs.lemmas.List.{take_all, length-map}
@@ -18,7 +18,7 @@ use Rattle.ic3_frames.proofs.Putting.{frame-own, some-own}
 use Rattle.ic3_questions.specs.Stepping.{Stepping, IsPredecessor, IsMissing, IsOver}
 use Rattle.ic3_questions.specs.Searching.{Question}
 use Rattle.ic3.specs.Sound.{IsSound, IsRelative, Agree, IsStuck, AreStuck}
-use Rattle.ic3.specs.Pushing.{AllowBelow, IsPushed, IsTried, Narrows, AreTriedStuck, AreSettled, StayStuck, AllStuck, place_after}
+use Rattle.ic3.specs.Pushing.{AllowBelow, IsPushed, IsTried, Narrows, StayStuck, AllStuck, first_due, place_after}
 use Rattle.ic3.proofs.Sounds.{grow_on, all_parts, Levels}
 
 -- What all lemmas are, those of a level are.
@@ -125,16 +125,10 @@ moved_here levels level place below =
     get_or-set_other (set levels level (remove (own_lemmas levels level) place)) (level + 1) level (own_lemmas levels (level + 1) ++ lemma ∷ []) [] above
     ∙ get_or-set_same levels level (remove (own_lemmas levels level) place) [] below
 
-same_own : (old new : Levels) (level place k : ℕ) → k < level → IsPushed old new level place → own_lemmas new k ≡ own_lemmas old k
-same_own old new level place k below pushed = ap (λ levels. own_lemmas levels k) pushed.lists ∙ moved_other old level place k below
-
 pub pushed_stay : (q : Question) (old new : Levels) (level place : ℕ) → IsPushed old new level place → StayStuck q old new level
-pushed_stay q old new level place pushed zero below stuck =
-    subst (λ own. All (IsStuck q new 0) (take 1 own)) (sym (same_own old new level place 0 below pushed))
-    (All-weaker (IsStuck q old 0) (IsStuck q new 0) (λ lemma. stuck_on q old new level 0 lemma pushed.below (omega arith)) (take 1 (own_lemmas old 0)) stuck)
-pushed_stay q old new level place pushed (suc k) below stuck =
-    subst (All (IsStuck q new (suc k))) (sym (same_own old new level place (suc k) below pushed))
-    (All-weaker (IsStuck q old (suc k)) (IsStuck q new (suc k)) (λ lemma. stuck_on q old new level (suc k) lemma pushed.below (omega arith)) (own_lemmas old (suc k)) stuck)
+pushed_stay q old new level place pushed k below stuck =
+    subst (All (IsStuck q new k)) (sym (ap (λ levels. own_lemmas levels k) pushed.lists ∙ moved_other old level place k below))
+    (All-weaker (IsStuck q old k) (IsStuck q new k) (λ lemma. stuck_on q old new level k lemma pushed.below (omega arith)) (own_lemmas old k) stuck)
 
 take-remove : (xs : List (List Lit)) (i : ℕ) → i < length xs → take i (remove xs i) ≡ take i xs
 take-remove [] i below = absurd (omega arith)
@@ -158,30 +152,6 @@ pushed_fewer old new level place below inside pushed =
     let fewer = length-remove (own_lemmas old level) place inside in
     ap (λ own. length own + 1) is ∙ fewer
 
--- ---- the first lemma of a level
-
-front_all : (P : List Lit → Type 0) (xs : List (List Lit)) → All P xs → All P (take 1 xs)
-front_all P [] h k d below = All-nil P k d below
-front_all P (x ∷ xs) h zero d below = h zero d (omega arith)
-front_all P (x ∷ xs) h (suc k) d below = absurd (omega (arith, below))
-
-front_some : (P : List Lit → Type 0) (xs : List (List Lit)) (n : ℕ) → 0 < n → All P (take n xs) → All P (take 1 xs)
-front_some P [] n some h k d below = All-nil P k d below
-front_some P (x ∷ xs) zero some h k d below = absurd (omega (arith, some))
-front_some P (x ∷ xs) (suc n) some h zero d below = h zero d (omega arith)
-front_some P (x ∷ xs) (suc n) some h (suc k) d below = absurd (omega (arith, below))
-
-first_stuck : (q : Question) (levels : Levels) (k : ℕ) → AreSettled q levels k → All (IsStuck q levels k) (take 1 (own_lemmas levels k))
-first_stuck q levels zero stuck = stuck
-first_stuck q levels (suc k) stuck = front_all (IsStuck q levels (suc k)) (own_lemmas levels (suc k)) stuck
-
--- What was tried of a level is enough where all is tried but of level 0.
-pub settled : (q : Question) (levels : Levels) (k : ℕ) (all : Bool) → (all ≡ false → k ≡ 0) → AreTriedStuck q all levels k → AreSettled q levels k
-settled q levels zero true lowest stuck = front_all (IsStuck q levels 0) (own_lemmas levels 0) stuck
-settled q levels zero false lowest stuck = stuck
-settled q levels (suc k) true lowest stuck = stuck
-settled q levels (suc k) false lowest stuck = absurd (omega (arith, lowest refl))
-
 -- Neighbouring frames differ where each has lemmas of its own, and these are stuck.
 pub stuck_differ : (q : Question) (cube : List Lit) (levels : Levels) → IsSound q cube levels → AllStuck q levels → AllDiffer levels
     → NeighboursDiffer (length q.circuit.latches) levels
@@ -191,7 +161,7 @@ stuck_differ q cube levels sound stuck differ k below same =
     differ_at : (own : List (List Lit)) → own_lemmas levels k ≡ own → own_lemmas levels k ≢ [] → ⊥
     differ_at [] is some = some is
     differ_at (lemma ∷ own) is some =
-        let first : IsStuck q levels k lemma = subst (λ own. All (IsStuck q levels k) (take 1 own)) is (first_stuck q levels k (stuck k below)) 0 [] (omega arith) in
+        let first : IsStuck q levels k lemma = subst (All (IsStuck q levels k)) is (stuck k below) 0 [] (omega arith) in
         let t : List Bool = successor q.circuit first.step in
         let size : length t ≡ length q.circuit.latches = length-map q.circuit.latches _ in
         let next : allowed_by (frame_at levels (k + 1)) t ≡ true = sound.steps k first.step below first.arena first.from in
@@ -214,7 +184,7 @@ tried_front q old new level place next false inside is tried stuck =
 pub tried_stay : (q : Question) (old new : Levels) (level place : ℕ) (pushed : Bool) → IsTried q old new level place pushed
     → StayStuck q old new level
 tried_stay q old new level place true tried = pushed_stay q old new level place tried
-tried_stay q old new level place false tried = λ k below stuck. subst (λ levels. AreSettled q levels k) (sym tried.0) stuck
+tried_stay q old new level place false tried = λ k below stuck. subst (λ levels. AreStuck q levels k) (sym tried.0) stuck
 
 pub tried_fewer : (q : Question) (old new : Levels) (level place next : ℕ) (pushed : Bool) → place < length (own_lemmas old level)
     → next ≡ place_after pushed place → IsTried q old new level place pushed
@@ -229,27 +199,32 @@ tried_fewer q old new level place next false inside is tried =
 pub stay_on : (q : Question) (a b c : Levels) (level : ℕ) → StayStuck q a b level → StayStuck q b c level → StayStuck q a c level
 stay_on q a b c level first second k below stuck = second k below (first k below stuck)
 
-all_stuck_here : (q : Question) (levels : Levels) (level place : ℕ) → length (own_lemmas levels level) ≤ place
+pub all_stuck_here : (q : Question) (levels : Levels) (level place : ℕ) → (place < length (own_lemmas levels level) → ⊥)
     → All (IsStuck q levels level) (take place (own_lemmas levels level)) → AreStuck q levels level
 all_stuck_here q levels level place past stuck =
-    subst (All (IsStuck q levels level)) (take_all place (own_lemmas levels level) past) stuck
+    subst (All (IsStuck q levels level)) (take_all place (own_lemmas levels level) (not_below place (length (own_lemmas levels level)) past)) stuck
+  where
+    not_below : (i n : ℕ) → (i < n → ⊥) → n ≤ i
+    not_below i n h =
+        elim (cases_lt i n) [
+          | inl below ↦ absurd (h below)
+          | inr past ↦ past
+        ]
 
-pub tried_here : (q : Question) (all : Bool) (levels : Levels) (level place : ℕ)
-    → (length (own_lemmas levels level) ≤ place) ⊎ ((all ≡ false) × (0 < place))
-    → All (IsStuck q levels level) (take place (own_lemmas levels level)) → AreTriedStuck q all levels level
-tried_here q true levels level place (inl past) stuck = all_stuck_here q levels level place past stuck
-tried_here q true levels level place (inr front) stuck = absurd (false≢true (sym front.0))
-tried_here q false levels level place (inl past) stuck =
-    front_all (IsStuck q levels level) (own_lemmas levels level) (all_stuck_here q levels level place past stuck)
-tried_here q false levels level place (inr front) stuck = front_some (IsStuck q levels level) (own_lemmas levels level) place front.1 stuck
+-- Where the lemmas of level 0 are not tried, they are stuck.
+pub stuck_first : (q : Question) (levels : Levels) (anew : Bool) (first : ℕ) → first ≡ first_due anew
+    → (anew ≡ false → AreStuck q levels 0) → (k : ℕ) → k + 1 < first → AreStuck q levels k
+stuck_first q levels true first is stuck k below = absurd (omega (arith, is))
+stuck_first q levels false first is stuck zero below = stuck refl
+stuck_first q levels false first is stuck (suc k) below = absurd (omega (arith, is))
 
 -- One more level.
-pub stuck_more : (q : Question) (old new : Levels) (level : ℕ) → 1 ≤ level → ((k : ℕ) → k + 1 < level → AreSettled q old k)
-    → StayStuck q old new (level - 1) → AreSettled q new (level - 1) → (k : ℕ) → k + 1 < level + 1 → AreSettled q new k
+pub stuck_more : (q : Question) (old new : Levels) (level : ℕ) → 1 ≤ level → ((k : ℕ) → k + 1 < level → AreStuck q old k)
+    → StayStuck q old new (level - 1) → AreStuck q new (level - 1) → (k : ℕ) → k + 1 < level + 1 → AreStuck q new k
 stuck_more q old new level some before stay here k below =
     elim (cases_lt (k + 1) level) [
       | inl earlier ↦ stay k (omega arith) (before k earlier)
-      | inr last ↦ let is : level - 1 ≡ k = omega arith in subst (AreSettled q new) is here
+      | inr last ↦ let is : level - 1 ≡ k = omega arith in subst (AreStuck q new) is here
     ]
 
 pub narrow_on : (a b c : Levels) → Narrows a b → Narrows b c → Narrows a c

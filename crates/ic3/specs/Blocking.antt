@@ -1,5 +1,5 @@
--- What blocking keeps (scaffolding): obligations, states from which the goal is reached, each with a level at which it is
--- to be excluded (IC3: Bradley, 2011).
+-- What blocking keeps (scaffolding): obligations, cubes of states from which the goal is reached, each with a level at
+-- which one of its states is to be excluded (IC3: Bradley, 2011).
 use Rattle.std.specs.Prelude.{◌≡◌, ℕ, ◌+◌, ◌-◌, ◌<◌, ◌≤◌, Bool, true, false, List, [], ◌∷◌, ◌++◌, length, slice_index_or, Option, Some, None}
 use Rattle.std.specs.List.{All, sum_by, insert}
 use Rattle.aig_semantics.specs.declared.traces.Position.{Position}

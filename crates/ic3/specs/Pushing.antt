@@ -1,9 +1,8 @@
 -- What pushing does to frames (scaffolding): a lemma that holds after each step from its frame goes into the next one
 -- (IC3: Bradley, 2011).
-use Rattle.std.specs.Prelude.{◌≡◌, ℕ, zero, suc, ◌+◌, ◌<◌, ◌≤◌, Bool, true, false, List, [], length, take, slice_index_or}
-use Rattle.std.specs.List.{All}
+use Rattle.std.specs.Prelude.{◌≡◌, ℕ, ◌+◌, ◌<◌, ◌≤◌, Bool, true, false, List, [], length, slice_index_or}
 use Rattle.proof_semantics.specs.declared.literals.Lit.{Lit}
-use Rattle.ic3_frames.specs.Frames.{frame_at, own_lemmas, moved}
+use Rattle.ic3_frames.specs.Frames.{has_clause, frame_at, own_lemmas, moved}
 use Rattle.ic3_frames.specs.Room.{allowed_by}
 use Rattle.ic3_questions.specs.Searching.{Question}
 use Rattle.ic3.specs.Sound.{IsStuck, AreStuck}
@@ -27,24 +26,25 @@ abbrev pub place_after : Bool → ℕ → ℕ
 place_after true place = place
 place_after false place = place + 1
 
+-- The first frame that lemmas are pushed into: those of level 0, the literals of the starts, are pushed in the first
+-- turn of a search alone.
+abbrev pub first_due : Bool → ℕ
+first_due true = 1
+first_due false = 2
+
 -- what the new frames allow, the old ones allowed
 abbrev pub Narrows : List (List (List Lit)) → List (List (List Lit)) → Type 0
 Narrows old new = (k : ℕ) (s : List Bool) → allowed_by (frame_at new k) s ≡ true → allowed_by (frame_at old k) s ≡ true
 
--- a level's lemmas were tried, all or up to the first that is stuck
-abbrev pub AreTriedStuck : Question → Bool → List (List (List Lit)) → ℕ → Type 0
-AreTriedStuck q true levels k = AreStuck q levels k
-AreTriedStuck q false levels k = All (IsStuck q levels k) (take 1 (own_lemmas levels k))
-
--- The lemmas of a level are stuck: of level 0, whose lemmas are the literals of the starts, the first.
-abbrev pub AreSettled : Question → List (List (List Lit)) → ℕ → Type 0
-AreSettled q levels zero = AreTriedStuck q false levels zero
-AreSettled q levels (suc k) = AreStuck q levels (suc k)
+-- each lemma that level 0 has and level 1 has not was such a one before
+abbrev pub KeepsLowest : List (List (List Lit)) → List (List (List Lit)) → Type 0
+KeepsLowest old new =
+    (lemma : List Lit) → has_clause (own_lemmas new 0) lemma ≡ true → has_clause (own_lemmas old 0) lemma ≡ true
 
 -- what was stuck below a level is stuck
 abbrev pub StayStuck : Question → List (List (List Lit)) → List (List (List Lit)) → ℕ → Type 0
-StayStuck q old new level = (k : ℕ) → k < level → AreSettled q old k → AreSettled q new k
+StayStuck q old new level = (k : ℕ) → k < level → AreStuck q old k → AreStuck q new k
 
 -- the lemmas of each level below the last are stuck
 abbrev pub AllStuck : Question → List (List (List Lit)) → Type 0
-AllStuck q levels = (k : ℕ) → k + 1 < length levels → AreSettled q levels k
+AllStuck q levels = (k : ℕ) → k + 1 < length levels → AreStuck q levels k

@@ -23,11 +23,12 @@ use std::marker::Model;
 use std::mem;
 use std::sync::Arc;
 
-/// The entries of the last question, and its frames, or none.
+/// The entries of the last question, and its frames, or none; and how many questions solvers were asked.
 #[derive(Drop)]
 struct Kept {
     seen: Items<Arc<Checked>>,
     frames: Frames,
+    asked: u64,
 }
 
 /// A search for paths of a circuit from one start, which is asked again and again: for other goals, and under views that
@@ -119,7 +120,17 @@ fn reach_again(
 {
     let mut frames = mem::replace(&mut kept.frames, Frames::new(alloc));
     catch_up(alloc, &mut kept.seen, view)?;
-    let reached = reach_on(alloc, c, view, start, starts, goal, &mut frames, meter)?;
+    let reached = reach_on(
+        alloc,
+        c,
+        view,
+        start,
+        starts,
+        goal,
+        &mut frames,
+        &mut kept.asked,
+        meter,
+    )?;
     kept.frames = frames;
     Ok(reached)
 }
@@ -146,8 +157,23 @@ impl Search {
             kept: Kept {
                 seen: Items::new(alloc),
                 frames: Frames::new(alloc),
+                asked: 0,
             },
         })
+    }
+
+    /// How many frames it keeps: none before the first question, and none after one that ended with an error. Takes no
+    /// memory.
+    pub fn frames(&self) -> u64
+        ensures { result ≡ length self.now.levels }
+    {
+        self.kept.frames.len()
+    }
+
+    /// How many questions its solvers were asked, for those who measure it, or 2^64 - 1 where there were more. No clause
+    /// says it. Takes no memory.
+    pub fn asked(&self) -> u64 {
+        self.kept.asked
     }
 
     /// A path from the start to the goal by steps that the entries of the view allow; or, exactly where there is none, a

@@ -13,6 +13,7 @@ ghost use Rattle.ic3_questions.specs.Stepping.{IsOver, IsPredecessor};
 ghost use Rattle.ic3.specs.Starting.{value_literals};
 ghost use Rattle.ic3.specs.Sound.{IsSearch, IsGoalOf, IsBlocked, KeepsQuestion, Agree};
 ghost use Rattle.ic3.specs.Searches.{CountsUpTo};
+ghost use Rattle.ic3.specs.Pushing.{KeepsLowest};
 ghost use Rattle.ic3.specs.Blocking.{AreObligations, IsOpen, IsBefore, IsHandled, IsPutIn, IsKeptWith, IsGoneOn, IsDescended, IsTurnedTo};
 
 use crate::lifting::lift_step;
@@ -70,6 +71,7 @@ pub(crate) fn block(
     ensures blocked { IfOk result (IsBlocked steps.old.question goal.now frames.new) }
     ensures question { KeepsQuestion steps.old steps.new }
     ensures number { OnOk result (length frames.new ≡ length frames.old) }
+    ensures lowest { OnOk result (KeepsLowest frames.old frames.new) }
     ensures room { let n = length steps.old.question.circuit.latches in
         OnOk result (meter.new.steps + room n frames.new ≤ meter.old.steps + room n frames.old) }
     ensures counted { CountsUpTo (room (length steps.old.question.circuit.latches) frames.old) meter.old meter.new }
@@ -118,6 +120,7 @@ fn turn(
     ensures obligations { OnOk result (AreObligations steps.old.question goal.now top obligations.new) }
     ensures question { KeepsQuestion steps.old steps.new }
     ensures number { OnOk result (length frames.new ≡ length frames.old) }
+    ensures lowest { OnOk result (KeepsLowest frames.old frames.new) }
     ensures room { let n = length steps.old.question.circuit.latches in
         OnOk result (meter.new.steps + room n frames.new ≤ meter.old.steps + room n frames.old) }
     ensures counted { CountsUpTo (room (length steps.old.question.circuit.latches) frames.old) meter.old meter.new }
@@ -160,6 +163,7 @@ fn go_down(
     ensures obligations { OnOk result (AreObligations steps.old.question goal.now top obligations.new) }
     ensures question { KeepsQuestion steps.old steps.new }
     ensures number { OnOk result (length frames.new ≡ length frames.old) }
+    ensures lowest { OnOk result (KeepsLowest frames.old frames.new) }
     ensures room { let n = length steps.old.question.circuit.latches in
         OnOk result (meter.new.steps + room n frames.new ≤ meter.old.steps + room n frames.old) }
     ensures counted { CountsUpTo (room (length steps.old.question.circuit.latches) frames.old) meter.old meter.new }
@@ -207,6 +211,7 @@ fn descend(
     ensures obligations { OnOk result (AreObligations steps.old.question goal.now top obligations.new) }
     ensures question { KeepsQuestion steps.old steps.new }
     ensures number { OnOk result (length frames.new ≡ length frames.old) }
+    ensures lowest { OnOk result (KeepsLowest frames.old frames.new) }
     ensures room { let n = length steps.old.question.circuit.latches in
         OnOk result (meter.new.steps + room n frames.new ≤ meter.old.steps + room n frames.old) }
     ensures counted { CountsUpTo (room (length steps.old.question.circuit.latches) frames.old) meter.old meter.new }
@@ -254,6 +259,7 @@ fn go_on(
     ensures obligations { OnOk result (AreObligations steps.old.question goal.now top obligations.new) }
     ensures question { KeepsQuestion steps.old steps.new }
     ensures number { OnOk result (length frames.new ≡ length frames.old) }
+    ensures lowest { OnOk result (KeepsLowest frames.old frames.new) }
     ensures room { let n = length steps.old.question.circuit.latches in
         OnOk result (meter.new.steps + room n frames.new ≤ meter.old.steps + room n frames.old) }
     ensures counted { CountsUpTo (room (length steps.old.question.circuit.latches) frames.old) meter.old meter.new }
@@ -311,6 +317,7 @@ fn handle(
     ensures search { OnOk result (IsSearch starts.now steps.new frames.new) }
     ensures handled { IfOk result (IsHandled steps.old.question frames.old frames.new below cube.now) }
     ensures number { OnOk result (length frames.new ≡ length frames.old) }
+    ensures lowest { OnOk result (KeepsLowest frames.old frames.new) }
     ensures question { KeepsQuestion steps.old steps.new }
     ensures room { let n = length steps.old.question.circuit.latches in
         OnOk result (meter.new.steps + room n frames.new ≤ meter.old.steps + room n frames.old) }

@@ -6,13 +6,15 @@
 //! | `reach` | a path from a start to a goal, or a set that holds the start, misses the goal and is left by no step |
 //! | `Search::new` | a search from a start, which was asked nothing yet |
 //! | `Search::reach` | what `reach` gives; goal after goal, while the view grows, over frames that are kept |
+//! | `Search::frames`, `Search::asked` | how many these are, and how many questions its solvers were asked |
 //! | `Steps` | the solver that a search asks: steps into cubes, goals that are met; public for its tests |
 //!
 //! What is asked and answered is defined in `ic3_questions`, and in `Searches` of `specs/`; the rest of `specs/` is
 //! scaffolding. The loops: `turning` (block, push, open a frame), `blocking` (with `obligations`, `lifting`, `ending`,
-//! `replaying`, `strengthening`, `shortening` and `ordering`), `pushing`, `closing`, `starting`, `single` (a set of one literal, before frames), over `steps` (the solver of
-//! one step) and `putting` (a lemma for solver and frames). `asking_again` keeps frames, and `going_on` puts their lemmas
-//! into a new solver.
+//! `replaying`, `strengthening`, `shortening` and `ordering`), `pushing`, `closing`, `starting`, `single` (a set of one
+//! literal, before frames), over `steps` (the solver of one step, with `cone`: which clauses it has, and `trying`: its
+//! steps are tried on all) and `putting` (a lemma for solver and frames). `asking_again` keeps frames, and `going_on`
+//! puts their lemmas into a new solver.
 #![tactic(auto)]
 
 mod asking_again;

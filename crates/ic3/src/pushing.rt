@@ -1,11 +1,11 @@
 //! Lemmas that hold after each step from their frame go into the next one too. The main call is `push_all`.
-ghost use Rattle.std.specs.Prelude.{◌≡◌, ◌↔◌, ◌+◌, ◌<◌, ◌≤◌, [], map, length, slice_index_or, IsTrue, IfOk, IfErr, OnOk, false, true, ◌⊎◌};
+ghost use Rattle.std.specs.Prelude.{◌≡◌, ◌↔◌, ◌+◌, ◌<◌, ◌≤◌, [], map, length, slice_index_or, false, IsTrue, IfOk, IfErr, OnOk};
 ghost use Rattle.proof_semantics.specs.Clauses.{negation};
 ghost use Rattle.edge.specs.Ends.{CountsConflicts, IsEnd};
 ghost use Rattle.ic3_frames.specs.Frames.{own_lemmas};
 ghost use Rattle.ic3_frames.specs.Room.{room};
-ghost use Rattle.ic3.specs.Sound.{IsSearch, IsRelative, KeepsQuestion};
-ghost use Rattle.ic3.specs.Pushing.{IsPushed, IsTried, Narrows, AreTriedStuck, StayStuck, AllStuck, place_after};
+ghost use Rattle.ic3.specs.Sound.{IsSearch, IsRelative, KeepsQuestion, AreStuck};
+ghost use Rattle.ic3.specs.Pushing.{IsPushed, IsTried, Narrows, StayStuck, AllStuck, first_due, place_after};
 
 use crate::steps::Steps;
 use cnf::{Clause, Cube};
@@ -16,7 +16,7 @@ use std::alloc::{AllocError, Global};
 
 /// Puts each lemma of a frame that holds after each step from it into the next frame too, from the lowest frame up.
 /// `starts` is the cube of the starts. The literals of the starts, which are the lemmas of the lowest frame, are tried in
-/// the first turn of a search (`anew`): which of them hold after a step stays so, and later turns try the first alone.
+/// the first turn of a search (`anew`) alone: what is stuck there stays so.
 pub(crate) fn push_all(
     alloc: Global,
     starts: &Cube,
@@ -25,7 +25,8 @@ pub(crate) fn push_all(
     frames: &mut Frames,
     meter: &mut Meter,
 ) -> Result<(), SolveEnd>
-    requires { IsSearch starts.now steps.old frames.old }
+    requires search { IsSearch starts.now steps.old frames.old }
+    requires lowest { anew ≡ false → AreStuck steps.old.question frames.old 0 }
     ensures search { OnOk result (IsSearch starts.now steps.new frames.new) }
     ensures stuck { OnOk result (AllStuck steps.old.question frames.new) }
     ensures number { OnOk result (length frames.new ≡ length frames.old) }
@@ -36,19 +37,26 @@ pub(crate) fn push_all(
     ensures end { IfErr result (IsEnd meter.new) }
     ensures counted { CountsConflicts meter.old meter.new }
 {
-    for level in 1..frames.len() {
-        let all = tries_all(anew, level - 1);
-        push_level(alloc, starts, level - 1, all, steps, frames, meter)?;
+    let first = first_due(anew);
+    for level in first..frames.len() {
+        push_level(alloc, starts, level - 1, steps, frames, meter)?;
     }
     Ok(())
 }
 
-// The same of one level: of all its lemmas, or up to the first that does not.
+// The first frame that lemmas are to be pushed into.
+fn first_due(anew: bool) -> u64
+    ensures some { 1 ≤ result }
+    ensures due { result ≡ first_due anew }
+{
+    if anew { 1 } else { 2 }
+}
+
+// The same of one level.
 fn push_level(
     alloc: Global,
     starts: &Cube,
     level: u64,
-    all: bool,
     steps: &mut Steps<'_>,
     frames: &mut Frames,
     meter: &mut Meter,
@@ -56,7 +64,7 @@ fn push_level(
     requires search { IsSearch starts.now steps.old frames.old }
     requires next { level + 1 < length frames.old }
     ensures search { OnOk result (IsSearch starts.now steps.new frames.new) }
-    ensures stuck { OnOk result (AreTriedStuck steps.old.question all frames.new level) }
+    ensures stuck { OnOk result (AreStuck steps.old.question frames.new level) }
     ensures stay { OnOk result (StayStuck steps.old.question frames.old frames.new level) }
     ensures number { OnOk result (length frames.new ≡ length frames.old) }
     ensures narrows { OnOk result (Narrows frames.old frames.new) }
@@ -67,29 +75,11 @@ fn push_level(
     ensures counted { CountsConflicts meter.old meter.new }
 {
     let mut place: u64 = 0;
-    'places: while is_due(frames, level, all, place) {
+    'places: while has_lemma(frames, level, place) {
         let pushed = try_push(alloc, starts, level, place, steps, frames, meter)?;
         place = place_after(place, pushed)?;
     }
     Ok(())
-}
-
-// Whether all lemmas of a level are tried.
-fn tries_all(anew: bool, level: u64) -> bool
-    ensures { result ≡ false → level ≡ 0 }
-{
-    anew || level > 0
-}
-
-// Whether a level has a lemma at this place, and it is tried.
-fn is_due(frames: &Frames, level: u64, all: bool, place: u64) -> bool
-    ensures yes { result ≡ true → place < length (own_lemmas frames.now level) }
-    ensures no { result ≡ false → (length (own_lemmas frames.now level) ≤ place) ⊎ ((all ≡ false) × (0 < place)) }
-{
-    if !all && place > 0 {
-        return false;
-    }
-    has_lemma(frames, level, place)
 }
 
 // Where the next lemma is looked for.

@@ -52,11 +52,22 @@ pub fn reach(
 {
     let starts = start_cube(alloc, c, start)?;
     let mut frames = Frames::new(alloc);
-    reach_on(alloc, c, view, start, &starts, goal, &mut frames, meter)
+    let mut asked = 0;
+    reach_on(
+        alloc,
+        c,
+        view,
+        start,
+        &starts,
+        goal,
+        &mut frames,
+        &mut asked,
+        meter,
+    )
 }
 
 /// The same with frames that are kept from an earlier question with this start, or none: they go on. `starts` is the cube
-/// of the starts. After an error nothing is known of the frames.
+/// of the starts. `asked` rises by the questions that the solver is asked. After an error nothing is known of the frames.
 pub(crate) fn reach_on(
     alloc: Global,
     c: &Circuit,
@@ -65,6 +76,7 @@ pub(crate) fn reach_on(
     starts: &Cube,
     goal: &Goal<'_>,
     frames: &mut Frames,
+    asked: &mut u64,
     meter: &mut Meter,
 ) -> Result<Reached, ReachEnd>
     requires view { IsGoodList c.now (viewed view.now) }
@@ -92,15 +104,62 @@ pub(crate) fn reach_on(
         OnOk result (meter.new.steps + room n frames.new ≤ meter.old.steps + room n frames.old) }
 {
     let mut steps = Steps::new(alloc, c, view, start, avoided(goal))?;
-    match single(alloc, start, starts, goal, &mut steps, meter)? {
+    let reached = reach_by(
+        alloc, c, view, start, starts, goal, &mut steps, frames, meter,
+    );
+    *asked = asked.saturating_add(steps.asked());
+    reached
+}
+
+// The same by a solver that has no lemmas.
+fn reach_by(
+    alloc: Global,
+    c: &Circuit,
+    view: &[Arc<Checked>],
+    start: &Start,
+    starts: &Cube,
+    goal: &Goal<'_>,
+    steps: &mut Steps<'_>,
+    frames: &mut Frames,
+    meter: &mut Meter,
+) -> Result<Reached, ReachEnd>
+    requires view { IsGoodList c.now (viewed view.now) }
+    requires start { IsStart c.now start.now }
+    requires starts { starts.now ≡ start_cube c.now start.now }
+    requires goal { IsGoal c.now goal.now }
+    requires avoids { AvoidsAsked steps.old.avoid goal.now }
+    requires steps { steps.old ≡ no_lemmas (record {
+      circuit = c.now;
+      view = viewed view.now;
+      start = start.now;
+    }) steps.old.avoid }
+    requires open { MayGoOn (record {
+      circuit = c.now;
+      view = viewed view.now;
+      start = start.now;
+    }) starts.now frames.old }
+    ensures reached { IfOk result (IsReached (record {
+      circuit = c.now;
+      view = viewed view.now;
+      start = start.now;
+    }) goal.now) }
+    ensures open { OnOk result (MayGoOn (record {
+      circuit = c.now;
+      view = viewed view.now;
+      start = start.now;
+    }) starts.now frames.new) }
+    ensures end { IfErr result (IsReachEnd meter.new) }
+    ensures counted { CountsUpTo (room (length c.now.latches) frames.old) meter.old meter.new }
+    ensures paid { let n = length c.now.latches in
+        OnOk result (meter.new.steps + room n frames.new ≤ meter.old.steps + room n frames.old) }
+{
+    match single(alloc, start, starts, goal, steps, meter)? {
         Some(clause) => Ok(close_one(alloc, view, start, clause)?),
-        None => turns(
-            alloc, c, view, start, starts, goal, &mut steps, frames, meter,
-        ),
+        None => turns(alloc, c, view, start, starts, goal, steps, frames, meter),
     }
 }
 
-// The same by frames, with a solver that has no lemmas.
+// The same by frames.
 fn turns(
     alloc: Global,
     _c: &Circuit,

@@ -32,6 +32,8 @@ pub(crate) struct Questions {
     pub(crate) levels: u64,
     /// How many questions brought a clause of their own.
     pub(crate) asked: u64,
+    /// How many questions there were, or 2^64 - 1 where there were more; no contract speaks of it.
+    pub(crate) count: u64,
 }
 
 /// The numbers of levels and questions are below this one.
@@ -241,6 +243,7 @@ pub(crate) fn ask_into(
 {
     let number = begin(alloc, s, cube)?;
     let assumptions = assume(alloc, s, level, number, s.next.as_slice(), cube)?;
+    s.count = s.count.saturating_add(1);
     ask(&mut s.solver, alloc, s.free, assumptions.as_slice(), meter)
 }
 
@@ -332,6 +335,7 @@ pub(crate) fn ask_goal(
     ensures counted { CountsConflicts meter.old meter.new }
 {
     let assumptions = assume_true(alloc, s, level, literals)?;
+    s.count = s.count.saturating_add(1);
     ask(&mut s.solver, alloc, s.free, assumptions.as_slice(), meter)
 }
 

@@ -88,5 +88,6 @@ pub(crate) fn questions_of(
         free: begun.free,
         levels: 0,
         asked: 0,
+        count: 0,
     })
 }

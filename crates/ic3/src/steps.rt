@@ -110,6 +110,11 @@ impl<'a> Steps<'a> {
         self.c
     }
 
+    /// How many questions its solver was asked, or 2^64 - 1 where there were more. Takes no memory.
+    pub(crate) fn asked(&self) -> u64 {
+        self.questions.count
+    }
+
     /// The entries that are known. Takes no memory.
     pub(crate) fn view(&self) -> &[Arc<Checked>]
         ensures view { viewed result.now ≡ self.now.question.view }
@@ -242,7 +247,7 @@ impl<'a> Steps<'a> {
         }
     }
 
-    // What the clauses of the cone tell, where it stands up to a trial.
+    // What the clauses of the cone tell, where they have the literal's variable and it stands up to a trial.
     fn try_goal(
         &mut self,
         alloc: Global,

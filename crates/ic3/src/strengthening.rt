@@ -1,4 +1,4 @@
-//! Lemmas against the states of obligations. The main call is `strengthen`.
+//! Lemmas against the cubes of obligations. The main call is `strengthen`.
 ghost use Rattle.std.specs.Prelude.{◌≡◌, ◌+◌, ◌<◌, ◌≤◌, ◌||◌, true, false, length, IfOk, IfErr, IfSome, OnOk};
 ghost use Rattle.proof_semantics.specs.Clauses.{clause_value, cube_value, values_of, has_literal, literal_value, lit_eq, is_part};
 ghost use Rattle.ic3_frames.specs.Frames.{frame_at};
@@ -8,7 +8,7 @@ ghost use Rattle.ic3_questions.specs.Stepping.{IsMissing, IsOver};
 ghost use Rattle.ic3.specs.Starting.{value_literals, misses_starts};
 ghost use Rattle.ic3.specs.Sound.{IsSearch, IsRelative, KeepsQuestion, has_one_of};
 ghost use Rattle.ic3.specs.Searches.{CountsUpTo};
-ghost use Rattle.ic3.specs.Pushing.{Narrows};
+ghost use Rattle.ic3.specs.Pushing.{Narrows, KeepsLowest};
 ghost use Rattle.ic3.specs.Blocking.{IsStronger};
 ghost use Rattle.ic3.specs.Strengthening.{IsOpposed, IsBased, with_literal};
 
@@ -135,6 +135,7 @@ pub(crate) fn strengthen(
     ensures stronger { IfOk result (λ level.
         IsStronger (length steps.old.question.circuit.latches) level frames.old frames.new) }
     ensures narrows { OnOk result (Narrows frames.old frames.new) }
+    ensures lowest { OnOk result (KeepsLowest frames.old frames.new) }
     ensures number { OnOk result (length frames.new ≡ length frames.old) }
     ensures question { KeepsQuestion steps.old steps.new }
     ensures counted { CountsUpTo 1 meter.old meter.new }
@@ -170,6 +171,7 @@ fn put_counted(
     ensures excluded { OnOk result (allowed_by (frame_at frames.new (from + 1)) state.now ≡ false) }
     ensures stronger { OnOk result (IsStronger (length steps.old.question.circuit.latches) (from + 1) frames.old frames.new) }
     ensures narrows { OnOk result (Narrows frames.old frames.new) }
+    ensures lowest { OnOk result (KeepsLowest frames.old frames.new) }
     ensures number { OnOk result (length frames.new ≡ length frames.old) }
     ensures question { KeepsQuestion steps.old steps.new }
     ensures counted { CountsUpTo 1 meter.old meter.new }

@@ -1,9 +1,9 @@
 //! Turns of a search: states of the goal are blocked, lemmas are pushed, and a frame is opened. The main call is `turn`.
-ghost use Rattle.std.specs.Prelude.{◌≡◌, ◌+◌, ◌^◌, ◌<◌, ◌≤◌, [], ◌∷◌, ◌++◌, length, IfOk, IfErr, OnOk};
+ghost use Rattle.std.specs.Prelude.{◌≡◌, ◌+◌, ◌^◌, ◌<◌, ◌≤◌, [], ◌∷◌, ◌++◌, length, false, IfOk, IfErr, OnOk};
 ghost use Rattle.ic3_frames.specs.Frames.{AllDiffer};
 ghost use Rattle.ic3_frames.specs.Room.{room};
 ghost use Rattle.ic3_questions.specs.Searching.{IsReachEnd};
-ghost use Rattle.ic3.specs.Sound.{IsSearch, IsGoalOf, KeepsQuestion, MissesLast};
+ghost use Rattle.ic3.specs.Sound.{IsSearch, IsGoalOf, KeepsQuestion, AreStuck, MissesLast};
 ghost use Rattle.ic3.specs.Searches.{CountsUpTo};
 ghost use Rattle.ic3.specs.Pushing.{AllStuck};
 ghost use Rattle.ic3.specs.Turning.{IsTurned, TakesRoom, HasEnded};
@@ -74,6 +74,7 @@ fn turn(
     requires search { IsSearch starts.now steps.old frames.old }
     requires two { 2 ≤ length frames.old }
     requires goal { IsGoalOf steps.old goal.now }
+    requires lowest { anew ≡ false → AreStuck steps.old.question frames.old 0 }
     ensures search { OnOk result (IsSearch starts.now steps.new frames.new) }
     ensures two { OnOk result (2 ≤ length frames.new) }
     ensures turned { IfOk result (IsTurned steps.old.question goal.now frames.new) }
@@ -104,6 +105,7 @@ fn push_and_open(
     requires search { IsSearch starts.now steps.old frames.old }
     requires two { 2 ≤ length frames.old }
     requires misses { MissesLast steps.old.question _goal.now frames.old }
+    requires lowest { anew ≡ false → AreStuck steps.old.question frames.old 0 }
     ensures search { OnOk result (IsSearch starts.now steps.new frames.new) }
     ensures two { OnOk result (2 ≤ length frames.new) }
     ensures turned { IfOk result (IsTurned steps.old.question _goal.now frames.new) }

@@ -1,9 +1,23 @@
-use Rattle.std.proofs.Common.{◌-◌, ◌≤◌, length, subst, ◌∙◌, arith}
+use Rattle.std.proofs.Common.{◌-◌, ◌≤◌, length, refl, subst, ◌∙◌, arith}
 use Rattle.ic3_frames.specs.Room.{room}
-use Rattle.ic3.specs.Pushing.{AreTriedStuck, StayStuck}
-use Rattle.ic3.proofs.Stuck.{settled, stuck_more, narrow_on}
-use Rattle.ic3.proofs.Ended.{counts_on, keeps_on}
+use Rattle.ic3.specs.Sound.{AreStuck}
+use Rattle.ic3.specs.Pushing.{StayStuck}
+use Rattle.ic3.proofs.Stuck.{stuck_first, stuck_more, narrow_on}
+use Rattle.ic3.proofs.Ended.{counts_none, counts_on, keeps_on}
 use Rattle.ic3.proofs.pushing.push_all.Goals as goal
+
+pub loop-level-init : goal.loop-level-init
+loop-level-init c = record {
+  search = c.requires.search;
+  number = refl;
+  narrows = λ k s allowed. allowed;
+  stuck =
+      stuck_first c.args.steps.now.question c.args.frames.now c.args.anew c.first_due-first.result c.first_due-first.ensures.due
+      c.requires.lowest;
+  room = omega arith;
+  question = record { question = refl; avoid = refl };
+  counted = counts_none c.args.meter.now;
+}
 
 pub loop-level-preserved : goal.loop-level-preserved
 loop-level-preserved c =
@@ -19,10 +33,9 @@ loop-level-preserved c =
       number = says.number ∙ before.number;
       narrows = narrow_on c.args.frames.now c.loop-level.frames c.push_level.new.frames before.narrows says.narrows;
       stuck =
-          stuck_more q c.loop-level.frames c.push_level.new.frames c.loop-level.level (omega arith) before.stuck
+          stuck_more q c.loop-level.frames c.push_level.new.frames c.loop-level.level (omega (arith, c.first_due-first.ensures.some)) before.stuck
           (subst (λ x. StayStuck x c.loop-level.frames c.push_level.new.frames (c.loop-level.level - 1)) is says.stay)
-          (settled q c.push_level.new.frames (c.loop-level.level - 1) c.tries_all-all.result c.tries_all-all.ensures
-          (subst (λ x. AreTriedStuck x c.tries_all-all.result c.push_level.new.frames (c.loop-level.level - 1)) is says.stuck));
+          (subst (λ x. AreStuck x c.push_level.new.frames (c.loop-level.level - 1)) is says.stuck);
       room = omega (arith, less, before.room);
       question = keeps_on c.args.steps.now c.loop-level.steps c.push_level.new.steps before.question says.question;
       counted = counts_on c.args.meter.now c.loop-level.meter c.push_level.new.meter before.counted says.counted;

@@ -1,7 +1,8 @@
-use Rattle.std.proofs.Common.{◌≤◌, length, subst, ◌∙◌, arith}
+use Rattle.std.proofs.Common.{◌≤◌, length, sym, subst, ◌∙◌, arith}
+use Rattle.std.proofs.lemmas.Bool.{false≢true}
 use Rattle.ic3_frames.specs.Room.{room}
 use Rattle.ic3.specs.Pushing.{IsTried}
-use Rattle.ic3.proofs.Stuck.{tried_front, tried_stay, stay_on, narrow_on, tried_here}
+use Rattle.ic3.proofs.Stuck.{tried_front, tried_stay, stay_on, narrow_on, all_stuck_here}
 use Rattle.ic3.proofs.Ended.{counts_on, keeps_on}
 use Rattle.ic3.proofs.pushing.push_level.Goals as goal
 
@@ -10,7 +11,7 @@ places-preserved c =
     let q = c.args.steps.now.question in
     let before = c.places.invariant in
     let says = c.in_ok-pushed.ensures in
-    let inside = c.is_due.ensures.yes c.places-test.true in
+    let inside = c.has_lemma.ensures.0 c.places-test.true in
     let tried =
     subst (λ x. IsTried x c.places.frames c.try_push.new.frames c.args.level c.places.place c.in_ok-pushed.pushed) before.question.question says.tried
     in
@@ -35,5 +36,5 @@ places-preserved c =
 
 pub returns-clause-stuck : goal.returns-clause-stuck
 returns-clause-stuck c =
-    tried_here c.args.steps.now.question c.args.all c.places.frames c.args.level c.places.place (c.is_due.ensures.no c.places-test.false)
-    c.places.invariant.stuck
+    all_stuck_here c.args.steps.now.question c.places.frames c.args.level c.places.place
+    (λ below. false≢true (sym c.places-test.false ∙ c.has_lemma.ensures.1 below)) c.places.invariant.stuck

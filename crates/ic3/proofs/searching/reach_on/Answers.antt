@@ -1,60 +1,15 @@
-use Rattle.std.proofs.Common.{◌≡◌, ◌+◌, ◌≤◌, length, sym, ap, subst, ◌∙◌, arith}
-use Rattle.std.specs.Result.{OnOk}
+use Rattle.std.proofs.Common.{sym, subst}
 use Rattle.entry.specs.CheckedEntries.{viewed}
-use Rattle.ic3_frames.specs.Room.{room}
 use Rattle.ic3_questions.specs.Searching.{Question}
-use Rattle.ic3_questions.specs.Stepping.{Stepping, no_lemmas}
-use Rattle.ic3.specs.Sound.{AvoidsAsked, IsStartCube}
-use Rattle.ic3.specs.Single.{IsSingleOf}
-use Rattle.ic3.proofs.Starts.{is_start_cube}
-use Rattle.ic3.proofs.Ended.{up_to_conflicts}
-use Rattle.ic3.proofs.Singles.{single-reached, counts-behind, kept-none}
+use Rattle.ic3_questions.specs.Stepping.{Stepping}
+use Rattle.ic3.specs.Sound.{AvoidsAsked}
+use Rattle.ic3.proofs.Singles.{kept-none}
 use Rattle.ic3.proofs.searching.reach_on.Goals as goal
 
-pub single-requires : goal.single-requires
-single-requires c = ap (λ (s : Stepping). s.lemmas) c.in_ok-steps.ensures
+pub reach_by-reached-requires-clause-avoids : goal.reach_by-reached-requires-clause-avoids
+reach_by-reached-requires-clause-avoids c = subst (λ (s : Stepping). AvoidsAsked s.avoid c.args.goal.now) (sym c.in_ok-steps.ensures) c.avoided.ensures
 
-pub turns-requires-clause-avoids : goal.turns-requires-clause-avoids
-turns-requires-clause-avoids c =
-    subst (λ (s : Stepping). AvoidsAsked s.avoid c.args.goal.now) (sym (c.in_ok-clause.ensures.same ∙ c.in_ok-steps.ensures)) c.avoided.ensures
-
-pub turns-requires-clause-steps : goal.turns-requires-clause-steps
-turns-requires-clause-steps c =
+pub reach_by-reached-requires-clause-steps : goal.reach_by-reached-requires-clause-steps
+reach_by-reached-requires-clause-steps c =
     let q : Question = record { circuit = c.args.c.now; view = viewed c.args.view.now; start = c.args.start.now } in
-    kept-none q c.avoided.result.now c.single.new.steps (c.in_ok-clause.ensures.same ∙ c.in_ok-steps.ensures)
-
-pub returns-in_err-clause-clause-counted : goal.returns-in_err-clause-clause-counted
-returns-in_err-clause-clause-counted c =
-    up_to_conflicts (room (length c.args.c.now.latches) c.args.frames.now) c.args.meter.now c.single.new.meter c.single.ensures.counted
-
-pub returns-in_err-close_one-in-Some-clause-counted : goal.returns-in_err-close_one-in-Some-clause-counted
-returns-in_err-close_one-in-Some-clause-counted c =
-    up_to_conflicts (room (length c.args.c.now.latches) c.args.frames.now) c.args.meter.now c.single.new.meter c.in_ok-clause.ensures.counted
-
-pub returns-in-Some-clause-counted : goal.returns-in-Some-clause-counted
-returns-in-Some-clause-counted c =
-    up_to_conflicts (room (length c.args.c.now.latches) c.args.frames.now) c.args.meter.now c.single.new.meter c.in_ok-clause.ensures.counted
-
-pub returns-in-Some-clause-paid : goal.returns-in-Some-clause-paid
-returns-in-Some-clause-paid c = let same = c.in_ok-clause.ensures.counted.steps in omega (arith, same)
-
-pub returns-in-Some-clause-reached : goal.returns-in-Some-clause-reached
-returns-in-Some-clause-reached c =
-    let q : Question = record { circuit = c.args.c.now; view = viewed c.args.view.now; start = c.args.start.now } in
-    single-reached c.args.c.now (viewed c.args.view.now) c.args.start.now c.args.goal.now c.args.starts.now c.in-Some.clause
-    c.in_ok-close_one-in-Some.field-0 c.requires.view.valid c.requires.starts
-    (subst (IsStartCube q) (sym c.requires.starts) (is_start_cube c.args.c.now (viewed c.args.view.now) c.args.start.now c.requires.start))
-    (subst (λ (s : Stepping). IsSingleOf s.question c.args.starts.now c.args.goal.now c.in-Some.clause) c.in_ok-steps.ensures
-    (rw c.in-Some.is at c.in_ok-clause.ensures.single))
-    c.in_ok-close_one-in-Some.ensures
-
-pub returns-clause-counted : goal.returns-clause-counted
-returns-clause-counted c =
-    counts-behind (room (length c.args.c.now.latches) c.args.frames.now) c.args.meter.now c.single.new.meter c.turns.new.meter
-    c.in_ok-clause.ensures.counted c.turns.ensures.counted
-
-pub returns-clause-paid : goal.returns-clause-paid
-returns-clause-paid c =
-    let n = length c.args.c.now.latches in
-    subst (λ k. OnOk c.turns.result (c.turns.new.meter.steps + room n c.turns.new.frames ≤ k + room n c.args.frames.now))
-    c.in_ok-clause.ensures.counted.steps c.turns.ensures.paid
+    kept-none q c.avoided.result.now c.in_ok-steps.steps c.in_ok-steps.ensures

@@ -21,6 +21,7 @@ returns c =
       free = c.args.begun.now.free;
       levels = 0;
       asked = 0;
+      count = 0;
     })
     c.max-greatest.ensures.checked c.one_valuation.ensures c.requires.view c.requires.avoid
     c.in_ok-here.ensures c.in_ok-next.ensures c.requires.free grows
