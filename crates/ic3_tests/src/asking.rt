@@ -1,17 +1,21 @@
-//! Searches asked for by texts. The main call is `answer`. A state is written with a digit for each latch.
+//! Searches asked for by texts. The main calls are `answer` and `answer_behind`. A state is written with a digit for each
+//! latch.
 
 ghost use Rattle.std.specs.Prelude.{◌≡◌, true, [], ◌∷◌, IfOk};
 ghost use Rattle.proof_semantics.specs.declared.literals.Lit.{Lit};
+ghost use Rattle.entry.specs.CheckedEntries.{viewed};
+ghost use Rattle.entry.specs.Laws.{IsGoodList};
 ghost use Rattle.ic3_questions.specs.Searching.{IsStart, IsGoal};
 
 use circuit::{Circuit, Position};
 use cnf::{Cube, Lit};
 use edge::Meter;
-use entry::good_lists_grow;
+use entry::{Checked, good_lists_grow};
 use ic3::{Goal, ReachEnd, Reached, Start, reach};
 use ic3_closing::{ClosedSet, shrink};
 use items::Items;
 use std::alloc::{AllocError, Global};
+use std::sync::Arc;
 
 /// Where a search goes to: a state, by digits or values; a literal; or a literal at a position whose state has 0 in the latch of a number.
 #[derive(Clone, Copy)]
@@ -29,6 +33,8 @@ pub(crate) enum Wanted {
     Closed,
     /// A closed set of so many clauses.
     ClosedOf(usize),
+    /// A closed set of so many clauses, with so many uses.
+    ClosedBy(usize, usize),
     End(ReachEnd),
 }
 
@@ -41,23 +47,24 @@ pub(crate) fn state_of(alloc: Global, text: &str) -> Result<Items<bool>, AllocEr
     Ok(state)
 }
 
-// What a search without entries answers. A closed set loses what it does not need.
+// What a search behind a view answers. A closed set loses what it does not need.
 fn search(
     alloc: Global,
     c: &Circuit,
+    view: &[Arc<Checked>],
     start: &Start,
     goal: &Goal<'_>,
     meter: &mut Meter,
 ) -> Result<Reached, ReachEnd>
+    requires view { IsGoodList c.now (viewed view.now) }
     requires start { IsStart c.now start.now }
     requires goal { IsGoal c.now goal.now }
 {
-    good_lists_grow(c);
-    match reach(alloc, c, &[], start, goal, meter)? {
+    match reach(alloc, c, view, start, goal, meter)? {
         Reached::Path(positions) => Ok(Reached::Path(positions)),
         Reached::Closed { clauses, uses } => {
             let whole = ClosedSet { clauses, uses };
-            let part = shrink(alloc, c, &[], start, goal, whole, meter)?;
+            let part = shrink(alloc, c, view, start, goal, whole, meter)?;
             Ok(Reached::Closed {
                 clauses: part.clauses,
                 uses: part.uses,
@@ -81,12 +88,14 @@ fn one_cube(alloc: Global, var: u64) -> Result<Cube, AllocError>
 fn to_literal_at(
     alloc: Global,
     c: &Circuit,
+    view: &[Arc<Checked>],
     start: &Start,
     literal: u64,
     var: u64,
     meter: &mut Meter,
 ) -> Result<Reached, ReachEnd>
-    requires { IsStart c.now start.now }
+    requires view { IsGoodList c.now (viewed view.now) }
+    requires start { IsStart c.now start.now }
 {
     if literal / 2 > c.max() || var >= c.latches().len() as u64 {
         return Err(ReachEnd::Memory);
@@ -96,17 +105,19 @@ fn to_literal_at(
         literal,
         avoid: &cubes,
     };
-    search(alloc, c, start, &goal, meter)
+    search(alloc, c, view, start, &goal, meter)
 }
 
 fn to_literal(
     alloc: Global,
     c: &Circuit,
+    view: &[Arc<Checked>],
     start: &Start,
     literal: u64,
     meter: &mut Meter,
 ) -> Result<Reached, ReachEnd>
-    requires { IsStart c.now start.now }
+    requires view { IsGoodList c.now (viewed view.now) }
+    requires start { IsStart c.now start.now }
 {
     if literal / 2 > c.max() {
         return Err(ReachEnd::Memory);
@@ -115,39 +126,63 @@ fn to_literal(
         literal,
         avoid: &[],
     };
-    search(alloc, c, start, &goal, meter)
+    search(alloc, c, view, start, &goal, meter)
 }
 
 fn to_state(
     alloc: Global,
     c: &Circuit,
+    view: &[Arc<Checked>],
     start: &Start,
     to: &[bool],
     meter: &mut Meter,
 ) -> Result<Reached, ReachEnd>
-    requires { IsStart c.now start.now }
+    requires view { IsGoodList c.now (viewed view.now) }
+    requires start { IsStart c.now start.now }
 {
     if to.len() != c.latches().len() {
         return Err(ReachEnd::Memory);
     }
-    search(alloc, c, start, &Goal::State(to), meter)
+    search(alloc, c, view, start, &Goal::State(to), meter)
 }
 
 fn to_goal(
     alloc: Global,
     c: &Circuit,
+    view: &[Arc<Checked>],
     start: &Start,
     to: To<'_>,
     meter: &mut Meter,
 ) -> Result<Reached, ReachEnd>
-    requires { IsStart c.now start.now }
+    requires view { IsGoodList c.now (viewed view.now) }
+    requires start { IsStart c.now start.now }
 {
     match to {
-        To::State(state) => to_state(alloc, c, start, state_of(alloc, state)?.as_slice(), meter),
-        To::Values(values) => to_state(alloc, c, start, values, meter),
-        To::Literal(literal) => to_literal(alloc, c, start, literal, meter),
-        To::LiteralAt(literal, var) => to_literal_at(alloc, c, start, literal, var, meter),
+        To::State(state) => {
+            let values = state_of(alloc, state)?;
+            to_state(alloc, c, view, start, values.as_slice(), meter)
+        }
+        To::Values(values) => to_state(alloc, c, view, start, values, meter),
+        To::Literal(literal) => to_literal(alloc, c, view, start, literal, meter),
+        To::LiteralAt(literal, var) => { to_literal_at(alloc, c, view, start, literal, var, meter) }
     }
+}
+
+// What a search behind a view answers, from a state.
+fn from_state_behind(
+    alloc: Global,
+    c: &Circuit,
+    view: &[Arc<Checked>],
+    state: Items<bool>,
+    to: To<'_>,
+    meter: &mut Meter,
+) -> Result<Reached, ReachEnd>
+    requires view { IsGoodList c.now (viewed view.now) }
+{
+    if state.len() != c.latches().len() {
+        return Err(ReachEnd::Memory);
+    }
+    to_goal(alloc, c, view, &Start::State(state), to, meter)
 }
 
 /// What a search without entries answers, from a state.
@@ -158,13 +193,28 @@ pub(crate) fn from_state(
     to: To<'_>,
     meter: &mut Meter,
 ) -> Result<Reached, ReachEnd> {
-    if state.len() != c.latches().len() {
-        return Err(ReachEnd::Memory);
-    }
-    to_goal(alloc, c, &Start::State(state), to, meter)
+    good_lists_grow(c);
+    from_state_behind(alloc, c, &[], state, to, meter)
 }
 
-/// What a search without entries answers, from a state, or from the initial states where none is written.
+/// What a search behind a view answers, from a state, or from the initial states where none is written.
+pub(crate) fn answer_behind(
+    alloc: Global,
+    c: &Circuit,
+    view: &[Arc<Checked>],
+    from: &str,
+    to: To<'_>,
+    meter: &mut Meter,
+) -> Result<Reached, ReachEnd>
+    requires view { IsGoodList c.now (viewed view.now) }
+{
+    if from.is_empty() {
+        return to_goal(alloc, c, view, &Start::Initial, to, meter);
+    }
+    from_state_behind(alloc, c, view, state_of(alloc, from)?, to, meter)
+}
+
+/// The same without entries.
 pub(crate) fn answer(
     alloc: Global,
     c: &Circuit,
@@ -172,10 +222,8 @@ pub(crate) fn answer(
     to: To<'_>,
     meter: &mut Meter,
 ) -> Result<Reached, ReachEnd> {
-    if from.is_empty() {
-        return to_goal(alloc, c, &Start::Initial, to, meter);
-    }
-    from_state(alloc, c, state_of(alloc, from)?, to, meter)
+    good_lists_grow(c);
+    answer_behind(alloc, c, &[], from, to, meter)
 }
 
 fn is_state(values: &[bool], text: &str) -> bool {
@@ -202,6 +250,9 @@ pub(crate) fn is(reached: &Result<Reached, ReachEnd>, wanted: Wanted) -> bool {
         }
         (Ok(Reached::Closed { .. }), Wanted::Closed) => true,
         (Ok(Reached::Closed { clauses, .. }), Wanted::ClosedOf(count)) => clauses.len() == count,
+        (Ok(Reached::Closed { clauses, uses }), Wanted::ClosedBy(count, used)) => {
+            clauses.len() == count && uses.len() == used
+        }
         (Err(end), Wanted::End(other)) => *end == other,
         _ => false,
     }

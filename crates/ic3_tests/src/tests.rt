@@ -3,7 +3,7 @@
 use crate::again::agrees_again;
 use crate::asking::{To, Wanted, answer, is};
 use crate::drawing::{agrees, ends_within};
-use crate::walled::keeps_sides;
+use crate::walled::{keeps_outside, keeps_sides};
 use circuit::Circuit;
 use edge::Meter;
 use ic3::ReachEnd;
@@ -122,6 +122,14 @@ fn searches(rt: HostRuntime) -> Result<(), Fail> {
 fn sides_of_a_wall_are_kept(rt: HostRuntime) -> Result<(), Fail> {
     for number in 0..3 {
         assert!(rt; keeps_sides(rt.alloc(), number));
+    }
+    Ok(())
+}
+
+#[test]
+fn a_start_outside_a_reach_entry_has_no_step(rt: HostRuntime) -> Result<(), Fail> {
+    for number in 0..4 {
+        assert!(rt; keeps_outside(rt.alloc(), number));
     }
     Ok(())
 }

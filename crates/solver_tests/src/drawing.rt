@@ -1,6 +1,6 @@
 //! Questions drawn from a seed, and sequences of them. The main calls are `draw_question` and `draw_sequence`.
 
-use crate::session::{NO_LIMIT, Way};
+use crate::session::{FAR, NO_LIMIT, Way};
 use std::alloc::{AllocError, Global};
 
 /// Clauses in two parts, of which the second is added later, and assumptions.
@@ -26,16 +26,18 @@ pub(crate) fn draw_question(alloc: Global, seed: u64) -> Result<Drawn, AllocErro
     })
 }
 
-/// A step of a sequence: a clause that is added, with a 0 behind it, or a question of a call with its assumptions, or
-/// units, and its limit of conflicts.
+/// A step of a sequence: a clause that is added, with a 0 behind it; a question of a call with its assumptions, or
+/// units, and its limit of conflicts; or a question to `solve` whose assumptions have a variable that no list of values
+/// has a place for, so that memory is refused where there is a model.
 #[derive(Debug, Drop)]
 pub(crate) enum Step {
     Add(Vec<i64>),
     Ask(Way, Vec<i64>, u64),
+    Refused(Vec<i64>),
 }
 
-/// Eight questions over three to twelve variables, with four clauses a variable between them in all, on the average. The
-/// same from the same seed.
+/// Eight questions over three to twelve variables, with four clauses a variable between them in all, on the average, and
+/// behind one in four a question to which memory is refused. The same from the same seed.
 pub(crate) fn draw_sequence(alloc: Global, seed: u64) -> Result<Vec<Step>, AllocError> {
     let mut draws = Draws { state: seed };
     let variables = draws.below(10).saturating_add(3);
@@ -60,6 +62,22 @@ fn draw_steps(
     let way = draw_way(draws);
     let assumed = draw_assumptions(alloc, draws, variables)?;
     steps.push(Step::Ask(way, assumed, draw_limit(draws)))?;
+    draw_refused(alloc, draws, variables, steps)
+}
+
+// One in four times a question to which memory is refused.
+fn draw_refused(
+    alloc: Global,
+    draws: &mut Draws,
+    variables: u64,
+    steps: &mut Vec<Step>,
+) -> Result<(), AllocError> {
+    if draws.below(4) != 0 {
+        return Ok(());
+    }
+    let mut assumed = draw_assumptions(alloc, draws, variables)?;
+    assumed.push(FAR)?;
+    steps.push(Step::Refused(assumed))?;
     Ok(())
 }
 

@@ -1,7 +1,7 @@
 //! Drawn sequences of steps on one solver, whose answers a search through all values gives. One that fails is printed
 //! shortened.
 use crate::drawing::{Step, draw_sequence};
-use crate::judging::is_right;
+use crate::judging::{Said, is_right};
 use crate::session::{NO_LIMIT, Session, Way};
 use crate::shortening::{Trial, shortened, without};
 use std::alloc::{AllocError, Global};
@@ -38,7 +38,16 @@ fn is_step_right(session: &mut Session, step: &Step) -> Result<bool, AllocError>
             let said = session.ask(assumed.as_slice(), *limit)?;
             Ok(is_right(said, *limit < NO_LIMIT) && session.conflicts() <= *limit)
         }
+        Step::Refused(assumed) => is_refused(session, assumed.as_slice()),
     }
+}
+
+// Whether memory is refused where there is a model to be written, and nowhere else.
+fn is_refused(session: &mut Session, assumed: &[i64]) -> Result<bool, AllocError> {
+    let has_model = session.has_model(assumed)?;
+    session.turn_to(Way::Solve);
+    let said = session.ask(assumed, NO_LIMIT)?;
+    Ok(said == if has_model { Said::Memory } else { Said::Unsat })
 }
 
 // The steps that are left of a drawn sequence that goes wrong, a line for each; nothing where it does not.
@@ -90,6 +99,7 @@ fn first_planted(steps: &[&Step]) -> Option<usize> {
                     asked = asked.saturating_add(1);
                 }
             }
+            Step::Refused(_) => {}
         }
         if asked == 2 {
             return Some(place);

@@ -1,7 +1,7 @@
 //! A solver beside a record of what it was given. The main type is `Session`.
 
 use crate::judging::{Said, judge, judge_asked, judge_refuted};
-use crate::questions::{clauses, literals};
+use crate::questions::{clauses, has_model, literals};
 use cdcl::{Solver, are_sized, has_opposites};
 use cnf::{Clause, Lit};
 use edge::{Meter, SolveEnd};
@@ -9,6 +9,9 @@ use std::alloc::{AllocError, Global};
 
 /// No limit of conflicts.
 pub(crate) const NO_LIMIT: u64 = 4_294_967_295;
+
+/// 2^62: no list of values has a place for this variable.
+pub(crate) const FAR: i64 = 4_611_686_018_427_387_904;
 
 /// The call that a question goes to.
 #[derive(Clone, Copy, Debug, PartialEq, Eq)]
@@ -20,6 +23,9 @@ pub(crate) enum Way {
     /// `refute`, of units in place of assumptions.
     Refute,
 }
+
+/// All of them.
+pub(crate) const WAYS: [Way; 3] = [Way::Solve, Way::Ask, Way::Refute];
 
 /// A solver, and the clauses that were added to it.
 #[derive(Debug, Drop)]
@@ -123,6 +129,11 @@ impl Session {
             Ok(found) => judge_refuted(self.alloc, self.added.as_slice(), units, &found),
             Err(end) => Ok(said_at(&end)),
         }
+    }
+
+    /// Whether some values make the clauses and these assumptions true.
+    pub(crate) fn has_model(&self, assumed: &[i64]) -> Result<bool, AllocError> {
+        has_model(self.alloc, self.added.as_slice(), assumed)
     }
 
     /// From now on questions go to this call.

@@ -1,7 +1,7 @@
 //! Questions whose answers were worked out by hand: tables of clauses, each with a 0 behind it, with what is asked and
 //! what must be said.
 use crate::judging::Said;
-use crate::session::{NO_LIMIT, Session, Way};
+use crate::session::{NO_LIMIT, Session, WAYS, Way};
 use std::alloc::{AllocError, Global};
 use std::test::*;
 
@@ -53,10 +53,12 @@ fn is_core(session: &Session, wanted: &[i64]) -> bool {
     core.len() == wanted.len() && wanted.iter().all(|number| core.contains(number))
 }
 
-fn is_answered(session: &mut Session, question: &Question) -> Result<bool, AllocError> {
+// Whether it is answered as it must be. `refute` tells no core.
+fn is_answered(session: &mut Session, way: Way, question: &Question) -> Result<bool, AllocError> {
     let (_, assumed, limit, wanted, core, conflicts) = question;
     let said = session.ask(assumed, *limit)?;
-    Ok(said == *wanted && is_core(session, core) && session.conflicts() == *conflicts)
+    let is_told = way == Way::Refute || is_core(session, core);
+    Ok(said == *wanted && is_told && session.conflicts() == *conflicts)
 }
 
 // After a limit was reached it can be asked again.
@@ -66,15 +68,20 @@ fn is_answered_again(session: &mut Session, question: &Question) -> Result<bool,
     Ok(again == *wanted || *wanted == Said::Spent)
 }
 
-fn is_answered_twice(alloc: Global, question: &Question) -> Result<bool, AllocError> {
-    let mut session = Session::new(alloc, Way::Solve, question.0)?;
-    Ok(is_answered(&mut session, question)? && is_answered_again(&mut session, question)?)
+fn is_answered_twice(alloc: Global, way: Way, question: &Question) -> Result<bool, AllocError> {
+    let mut session = Session::new(alloc, way, question.0)?;
+    Ok(is_answered(&mut session, way, question)? && is_answered_again(&mut session, question)?)
 }
 
 #[test]
 fn answers(rt: HostRuntime) -> Result<(), Fail> {
     for question in questions() {
-        assert!(rt; is_answered_twice(rt.alloc(), question)?, "of {question:?}");
+        for way in WAYS {
+            assert!(rt;
+                is_answered_twice(rt.alloc(), way, question)?,
+                "{way:?} of {question:?}"
+            );
+        }
     }
     Ok(())
 }
@@ -143,10 +150,20 @@ fn is_refuted_once(session: &mut Session) -> Result<bool, AllocError> {
 }
 
 // Whether the square is refuted after one conflict when its clauses are added in an order.
-fn is_refuted_in(alloc: Global, order: [usize; 4]) -> Result<bool, AllocError> {
-    let mut session = Session::new(alloc, Way::Solve, &[])?;
+fn is_refuted_in(alloc: Global, way: Way, order: [usize; 4]) -> Result<bool, AllocError> {
+    let mut session = Session::new(alloc, way, &[])?;
     add_in_order(&mut session, order)?;
     is_refuted_once(&mut session)
+}
+
+// The same of each call.
+fn is_refuted_by_all(alloc: Global, order: [usize; 4]) -> Result<bool, AllocError> {
+    for way in WAYS {
+        if !is_refuted_in(alloc, way, order)? {
+            return Ok(false);
+        }
+    }
+    Ok(true)
 }
 
 #[test]
@@ -154,7 +171,7 @@ fn the_square_in_each_order(rt: HostRuntime) -> Result<(), Fail> {
     for code in 0..256usize {
         let order = places_of(code);
         assert!(rt;
-            !is_order(order) || is_refuted_in(rt.alloc(), order)?,
+            !is_order(order) || is_refuted_by_all(rt.alloc(), order)?,
             "in {order:?}"
         );
     }
@@ -204,7 +221,7 @@ fn says_twice(alloc: Global, way: Way, row: &Row) -> Result<bool, AllocError> {
 #[test]
 fn special_clauses_and_assumptions(rt: HostRuntime) -> Result<(), Fail> {
     for row in special_rows() {
-        for way in [Way::Solve, Way::Ask, Way::Refute] {
+        for way in WAYS {
             assert!(rt; says_twice(rt.alloc(), way, row)?, "{way:?} of {row:?}");
         }
     }
@@ -258,7 +275,9 @@ fn pigeon_rows() -> &'static [Row] {
 #[test]
 fn pigeons(rt: HostRuntime) -> Result<(), Fail> {
     for row in pigeon_rows() {
-        assert!(rt; says_twice(rt.alloc(), Way::Solve, row)?, "of {row:?}");
+        for way in WAYS {
+            assert!(rt; says_twice(rt.alloc(), way, row)?, "{way:?} of {row:?}");
+        }
     }
     Ok(())
 }
@@ -306,7 +325,8 @@ fn right_steps_by(alloc: Global, way: Way) -> Result<u64, AllocError> {
 
 #[test]
 fn asked_again(rt: HostRuntime) -> Result<(), Fail> {
-    assert_eq!(rt; right_steps_by(rt.alloc(), Way::Solve)?, 8);
-    assert_eq!(rt; right_steps_by(rt.alloc(), Way::Ask)?, 8);
+    for way in WAYS {
+        assert_eq!(rt; right_steps_by(rt.alloc(), way)?, 8);
+    }
     Ok(())
 }

@@ -9,7 +9,7 @@ use crate::searching::{NO_LIMIT, searched};
 use crate::states::{Known, Space, sets_of};
 use crate::stops::Stop;
 use circuit::Circuit;
-use drawn_circuits::{Drawn, draw, state_of};
+use drawn_circuits::{Drawn, draw, literal_count, state_of};
 use edge::Meter;
 use entry::Checked;
 use ic3::{Goal, ReachEnd, Reached, Start};
@@ -117,6 +117,27 @@ fn limits_rise_to(
     Ok(limit_rises(alloc, c, view, by_steps) && limit_rises(alloc, c, view, by_conflicts))
 }
 
+// Whether they do so to a state, and to a literal.
+fn limits_rise_twice(
+    alloc: Global,
+    c: &Circuit,
+    view: &[Arc<Checked>],
+    arena: Arena<'_>,
+    to: &[bool],
+    literal: u64,
+) -> Result<bool, Stop>
+    requires view { IsGoodList c.now (viewed view.now) }
+{
+    let at_literal = Goal::Literal {
+        literal,
+        avoid: &[],
+    };
+    Ok(
+        limits_rise_to(alloc, c, view, arena, &Goal::State(to))?
+            && limits_rise_to(alloc, c, view, arena, &at_literal)?,
+    )
+}
+
 fn limits_rise_on<'a>(
     alloc: Global,
     c: &Circuit,
@@ -138,7 +159,8 @@ fn limits_rise_on<'a>(
         },
         from: from_drawn(space, seed),
     };
-    limits_rise_to(alloc, c, view, arena, &Goal::State(to.as_slice()))
+    let literal = draw(seed, literal_count(d));
+    limits_rise_twice(alloc, c, view, arena, to.as_slice(), literal)
 }
 
 fn limits_rise_in(
@@ -158,8 +180,8 @@ fn limits_rise_drawn(alloc: Global, number: u64) -> Result<bool, Stop> {
     limits_rise_in(alloc, &parts.shared, &parts.d, &parts.space, &mut seed)
 }
 
-/// Whether a search in the drawn circuit with a number, behind up to four drawn entries, is spent at each limit of
-/// conflicts, and of steps, from 0 up, until it answers as a search of all states does.
+/// Whether searches in the drawn circuit with a number, behind up to four drawn entries, to a state and to a literal, are
+/// spent at each limit of conflicts, and of steps, from 0 up, until they answer as a search of all states does.
 pub(crate) fn limits_rise_behind_entries(alloc: Global, number: u64) -> bool {
     limits_rise_drawn(alloc, number) == Ok(true)
 }

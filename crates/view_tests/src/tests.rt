@@ -15,7 +15,7 @@ fn drawn_circuits_are_searched_behind_entries(rt: HostRuntime) -> Result<(), Fai
 // Whether limits from 0 up are spent one by one until the answer comes.
 #[test]
 fn limits_rise_until_the_answer(rt: HostRuntime) -> Result<(), Fail> {
-    for number in 0..4 {
+    for number in 0..200 {
         assert!(rt;
             limits_rise_behind_entries(rt.alloc(), number),
             "{}",
