@@ -9,13 +9,15 @@
                                     a shift register that an input may stop, unrolled over STEPS steps; a 1 enters only
                                     where the two places behind it are 0, and in the end PLACE and the next one are 1:
                                     no model
-    cnf.py questions KIND GATES BESIDE COUNT SEED CNF QUESTIONS
+    cnf.py questions KIND GATES BESIDE COUNT SEED CNF QUESTIONS [CLAUSES]
                                     a circuit of GATES gates over 50 inputs, BESIDE further gates over 50 inputs of their
                                     own, and COUNT lists of up to 61 assumptions, in the same form, with the values of one
                                     run of the first circuit each. KIND model: those of any variables of it. KIND refuted:
                                     those of a cut, from which the value of a gate above it follows, and of this gate the
                                     other value. KIND mixed: the former in each tenth list, and else the latter, where in
-                                    each fifth list the cut lacks a variable
+                                    each fifth list the cut lacks a variable. With CLAUSES for each list a clause of its
+                                    own, true in that run: up to 20 literals of the first circuit, and behind them the
+                                    negation of a new variable, which the list begins with
 """
 import random
 import sys
@@ -23,6 +25,7 @@ import sys
 RATIO = 4.26
 INPUTS = 50
 FEWEST, MOST = 20, 60
+FEWEST_OWN, MOST_OWN = 2, 20
 
 
 def below(chance, count):
@@ -144,10 +147,22 @@ def cut_below(gates, gate, size):
     return sorted(found)
 
 
-def questions(kind, count, gates, chance):
-    lists = []
+def own_clause(values, chance):
+    """Some literals of a circuit, one of which at least is true under the values."""
+    variables = {1 + below(chance, len(values) - 1) for _ in range(FEWEST_OWN + below(chance, MOST_OWN - FEWEST_OWN + 1))}
+    clause = [variable if below(chance, 2) else -variable for variable in sorted(variables)]
+    place = below(chance, len(clause))
+    if not any(values[abs(literal)] == (literal > 0) for literal in clause):
+        clause[place] = -clause[place]
+    return clause
+
+
+def questions(kind, count, gates, chance, of_own):
+    """Lists of assumptions, and a clause for each."""
+    lists, own = [], []
     for number in range(count):
         values = values_in_run(gates, chance)
+        own.append(own_clause(values, of_own))
         size = FEWEST + below(chance, MOST - FEWEST + 1)
         if kind == "model" or (kind == "mixed" and number % 10 == 0):
             chosen = sorted({1 + below(chance, len(values) - 1) for _ in range(size)})
@@ -159,17 +174,24 @@ def questions(kind, count, gates, chance):
             values[gate] = not values[gate]
             chosen.append(gate)
         lists.append([variable if values[variable] else -variable for variable in chosen])
-    return lists
+    return lists, own
 
 
-def write_questions(kind, gates, beside, count, seed, clauses, lists):
-    chance = random.Random(int(seed))
+def write_questions(kind, gates, beside, count, seed, clauses, lists, brought=None):
+    # the clauses are drawn apart, so that the lists are the same with them and without
+    chance, of_own = random.Random(int(seed)), random.Random(int(seed) + 1)
     asked = circuit(int(gates), chance)
-    asking = questions(kind, int(count), asked, chance)
+    asking, own = questions(kind, int(count), asked, chance, of_own)
     others = circuit(int(beside), chance)
     lift = INPUTS + len(asked)
     variables = lift + (INPUTS + len(others) if others else 0)
     write(clauses, variables, clauses_of(asked, 0) + clauses_of(others, lift))
+    if brought:
+        new = range(variables + 1, variables + len(asking) + 1)
+        asking = [[guard, *assumed] for guard, assumed in zip(new, asking)]
+        own = [[*clause, -guard] for guard, clause in zip(new, own)]
+        variables += len(asking)
+        write(brought, variables, own)
     write(lists, variables, asking)
 
 
@@ -187,7 +209,7 @@ def main(words):
         write(words[3], *counter(int(words[1]), int(words[2])))
     elif len(words) == 5 and words[0] == "shifter":
         write(words[4], *shifter(*map(int, words[1:4])))
-    elif len(words) == 8 and words[0] == "questions" and words[1] in ("model", "refuted", "mixed"):
+    elif len(words) in (8, 9) and words[0] == "questions" and words[1] in ("model", "refuted", "mixed"):
         write_questions(*words[1:])
     elif len(words) == 4 and words[0] == "random":
         write(words[3], *random_3sat(int(words[1]), int(words[2])))

@@ -1,5 +1,6 @@
-// Asks one solver of minisat's library the questions that `fair_bench questions CNF QUESTIONS` asks, and measures them in
-// the same way. The bench compiles it: c++ -O2 minisat_questions.cpp -lminisat (Debian's package minisat).
+// Asks one solver of minisat's library the questions that `fair_bench questions CNF QUESTIONS [CLAUSES]` asks, and measures
+// them in the same way: with a third file each question brings the clause with its number, and retires it by its last
+// literal. The bench compiles it: c++ -O2 minisat_questions.cpp -lminisat (Debian's package minisat).
 #include <cstdint>
 #include <cstdio>
 #include <cstdlib>
@@ -42,6 +43,17 @@ static void fill(Minisat::Solver& solver, const Clause& clause, Minisat::vec<Lit
   }
 }
 
+static void add(Minisat::Solver& solver, const Clause& clause, Minisat::vec<Lit>& lits) {
+  fill(solver, clause, lits);
+  solver.addClause(lits);
+}
+
+static std::vector<Clause> formula_in(const char* name) {
+  std::vector<Clause> clauses;
+  read_formula(name, [&](const Clause& clause) { clauses.push_back(clause); });
+  return clauses;
+}
+
 static int64_t nanoseconds(clockid_t clock) {
   timespec now;
   clock_gettime(clock, &now);
@@ -49,20 +61,20 @@ static int64_t nanoseconds(clockid_t clock) {
 }
 
 int main(int count, char** words) {
-  if (count != 3) return 64;
+  if (count != 3 && count != 4) return 64;
   Minisat::Solver solver;
   Minisat::vec<Lit> lits;
-  read_formula(words[1], [&](const Clause& clause) {
-    fill(solver, clause, lits);
-    solver.addClause(lits);
-  });
-  std::vector<Clause> questions;
-  read_formula(words[2], [&](const Clause& question) { questions.push_back(question); });
+  read_formula(words[1], [&](const Clause& clause) { add(solver, clause, lits); });
+  std::vector<Clause> questions = formula_in(words[2]), brought;
+  if (count == 4) brought = formula_in(words[3]);
+  if (count == 4 && brought.size() != questions.size()) return 3;
   long sat = 0, unsat = 0;
   int64_t start = nanoseconds(CLOCK_PROCESS_CPUTIME_ID);
-  for (const Clause& question : questions) {
-    fill(solver, question, lits);
+  for (size_t number = 0; number < questions.size(); number++) {
+    if (count == 4) add(solver, brought[number], lits);
+    fill(solver, questions[number], lits);
     (solver.solve(lits) ? sat : unsat)++;
+    if (count == 4) add(solver, Clause(1, brought[number].back()), lits);
   }
   int64_t end = nanoseconds(CLOCK_PROCESS_CPUTIME_ID);
   fprintf(stderr, "conflicts %ld\n", (long)solver.conflicts);

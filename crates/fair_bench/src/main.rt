@@ -20,7 +20,7 @@ use crate::certify_run::run_certify;
 use crate::failure::Failure;
 use crate::lrat_run::run_lrat;
 use crate::outside::print_text;
-use crate::questions_run::run_questions;
+use crate::questions_run::{run_own_questions, run_questions};
 use crate::reach_run::run_reach;
 use crate::rewrite_run::run_rewrite;
 use crate::sat_run::run_sat;
@@ -30,7 +30,7 @@ use std::{env, io};
 const USAGE: &str = "\
 usage: fair_bench certify MODEL
        fair_bench lrat CNF PROOF
-       fair_bench questions CNF QUESTIONS
+       fair_bench questions CNF QUESTIONS [CLAUSES]
        fair_bench reach MODEL
        fair_bench rewrite MODEL
        fair_bench sat CNF
@@ -56,6 +56,13 @@ fn run_words(rt: &HostRuntime, words: &[String]) -> Result<u8, Failure> {
         [_, command, first, second] => {
             run_two(rt, command.as_str(), first.as_str(), second.as_str())
         }
+        [_, command, first, second, third] => run_three(
+            rt,
+            command.as_str(),
+            first.as_str(),
+            second.as_str(),
+            third.as_str(),
+        ),
         _ => print_usage(rt),
     }
 }
@@ -84,6 +91,20 @@ fn run_two(rt: &HostRuntime, command: &str, first: &str, second: &str) -> Result
     }
     if command == "questions" {
         return run_questions(rt, first, second);
+    }
+    print_usage(rt)
+}
+
+// A subcommand with the names of three files.
+fn run_three(
+    rt: &HostRuntime,
+    command: &str,
+    first: &str,
+    second: &str,
+    third: &str,
+) -> Result<u8, Failure> {
+    if command == "questions" {
+        return run_own_questions(rt, first, second, third);
     }
     print_usage(rt)
 }

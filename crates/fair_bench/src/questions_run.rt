@@ -1,13 +1,13 @@
-//! The subcommand `questions`: asks one solver many questions under assumptions, and measures them. The main call is
-//! `run_questions`.
+//! The subcommand `questions`: asks one solver many questions under assumptions, and measures them. The main calls
+//! are `run_questions` and `run_own_questions`.
 
 use crate::failure::Failure;
 use crate::formula::read_formula;
 use crate::outside::{print_text, read_file};
-use crate::sat_run::{MAX_BYTES, NO_LIMIT, solver_of};
+use crate::sat_run::{MAX_BYTES, NO_LIMIT, add_one, solver_of};
 use crate::stamps::Stamp;
 use cdcl::{Asked, Solver, are_sized, has_opposites};
-use cnf::{Db, Lit};
+use cnf::{Clause, Db, Lit};
 use edge::Meter;
 use std::alloc::Global;
 use std::io;
@@ -30,7 +30,25 @@ pub(crate) fn run_questions(
 ) -> Result<u8, Failure> {
     let mut solver = solver_of(rt.alloc(), formula_in(rt, clauses)?)?;
     let lists = formula_in(rt, questions)?;
-    ask_timed(rt, &mut solver, &lists)
+    ask_timed(rt, &mut solver, &lists, &Db::new(rt.alloc()))
+}
+
+/// The same questions, each of which brings a clause of its own: that with its number in a third file is added before it
+/// is asked. Behind the answer the clause is retired: its last literal, which stands in no other clause and whose
+/// negation is assumed, becomes a unit clause.
+pub(crate) fn run_own_questions(
+    rt: &HostRuntime,
+    clauses: &str,
+    questions: &str,
+    own: &str,
+) -> Result<u8, Failure> {
+    let mut solver = solver_of(rt.alloc(), formula_in(rt, clauses)?)?;
+    let lists = formula_in(rt, questions)?;
+    let brought = formula_in(rt, own)?;
+    if brought.len() != lists.len() {
+        return Err(Failure::BadInput);
+    }
+    ask_timed(rt, &mut solver, &lists, &brought)
 }
 
 // The clauses in a file.
@@ -39,27 +57,64 @@ fn formula_in(rt: &HostRuntime, name: &str) -> Result<Db, Failure> {
     read_formula(rt.alloc(), &text)
 }
 
-fn ask_timed(rt: &HostRuntime, solver: &mut Solver, lists: &Db) -> Result<u8, Failure> {
+fn ask_timed(
+    rt: &HostRuntime,
+    solver: &mut Solver,
+    lists: &Db,
+    brought: &Db,
+) -> Result<u8, Failure> {
     let start = Stamp::now(rt)?;
-    let tally = ask_all(rt.alloc(), solver, lists)?;
+    let tally = ask_all(rt.alloc(), solver, lists, brought)?;
     let end = Stamp::now(rt)?;
     print_costs(rt, tally, start, end)?;
     print_tally(rt, tally)?;
     Ok(0)
 }
 
-fn ask_all(alloc: Global, solver: &mut Solver, lists: &Db) -> Result<Tally, Failure> {
+fn ask_all(alloc: Global, solver: &mut Solver, lists: &Db, brought: &Db) -> Result<Tally, Failure> {
     let mut tally = Tally {
         sat: 0,
         unsat: 0,
         conflicts: 0,
     };
     let mut meter = Meter::new(NO_LIMIT, 0);
-    for list in lists.as_slice() {
-        ask_one(alloc, solver, list.as_slice(), &mut meter, &mut tally)?;
+    for (number, list) in lists.as_slice().iter().enumerate() {
+        let own = brought.as_slice().get(number);
+        ask_with(alloc, solver, own, list.as_slice(), &mut meter, &mut tally)?;
     }
     tally.conflicts = meter.spending().conflicts();
     Ok(tally)
+}
+
+// Asks beside a clause that holds for this question alone, where there is one.
+fn ask_with(
+    alloc: Global,
+    solver: &mut Solver,
+    own: Option<&Clause>,
+    assumptions: &[Lit],
+    meter: &mut Meter,
+    tally: &mut Tally,
+) -> Result<(), Failure> {
+    match own {
+        Some(clause) => {
+            bring(alloc, solver, clause)?;
+            ask_one(alloc, solver, assumptions, meter, tally)?;
+            retire(alloc, solver, clause)
+        }
+        None => ask_one(alloc, solver, assumptions, meter, tally),
+    }
+}
+
+fn bring(alloc: Global, solver: &mut Solver, clause: &Clause) -> Result<(), Failure> {
+    add_one(solver, Clause::from_slice(alloc, clause.as_slice())?)
+}
+
+// The clause of a question is true for good by its last literal.
+fn retire(alloc: Global, solver: &mut Solver, clause: &Clause) -> Result<(), Failure> {
+    let literal = *clause.as_slice().last().ok_or(Failure::BadInput)?;
+    let mut unit = Clause::new(alloc);
+    unit.push(literal)?;
+    add_one(solver, unit)
 }
 
 fn ask_one(

@@ -1,8 +1,9 @@
 //! The subcommand `reach`: asks a fixed list of searches of a model, without entries, and measures each. The main call is
 //! `run_reach`.
 
-ghost use Rattle.std.specs.Prelude.{◌≡◌, true};
-ghost use Rattle.ic3_questions.specs.Searching.{IsStart};
+ghost use Rattle.std.specs.Prelude.{◌≡◌, true, []};
+ghost use Rattle.ic3.specs.Searches.{GoesOnFrom};
+ghost use Rattle.ic3_questions.specs.Searching.{IsStart, IsGoal};
 
 use crate::failure::Failure;
 use crate::outside::{print_text, read_file};
@@ -13,16 +14,25 @@ use aig_semantics::MAX_MODEL_BYTES;
 use circuit::{Circuit, Position};
 use edge::Meter;
 use entry::good_lists_grow;
-use ic3::{Goal, ReachEnd, Reached, Start, reach};
+use ic3::{Goal, ReachEnd, Reached, Search, Start};
 use items::Items;
 use std::alloc::{AllocError, Global};
 use std::io;
+use std::sync::Arc;
 
 /// What a search answered: the positions of a path and the state of its last one, or how many clauses a closed set has.
 #[derive(Debug, Drop)]
 enum Answer {
     Path { positions: usize, last: Items<bool> },
     Closed { clauses: usize },
+}
+
+/// What a search answered, how many questions its solver was asked, and how many frames it came to.
+#[derive(Debug, Drop)]
+struct Told {
+    answer: Answer,
+    questions: u64,
+    frames: u64,
 }
 
 /// Searches the circuit of the model in this file from its initial states to a position at which a literal is true, for
@@ -35,15 +45,16 @@ pub(crate) fn run_reach(rt: &HostRuntime, name: &str) -> Result<u8, Failure> {
 
 fn search_text(rt: &HostRuntime, bytes: &[u8]) -> Result<u8, Failure> {
     let model = read_model(rt.alloc(), bytes)?;
-    search_circuit(rt, model.circuit())
+    let shared = Arc::new(rt.alloc(), model.into_circuit())?;
+    search_circuit(rt, &shared)
 }
 
-fn search_circuit(rt: &HostRuntime, c: &Circuit) -> Result<u8, Failure> {
-    let goals = goals_of(rt.alloc(), c)?;
+fn search_circuit(rt: &HostRuntime, c: &Arc<Circuit>) -> Result<u8, Failure> {
+    let goals = goals_of(rt.alloc(), &**c)?;
     search_twice(rt, c, goals.as_slice())
 }
 
-fn search_twice(rt: &HostRuntime, c: &Circuit, goals: &[u64]) -> Result<u8, Failure> {
+fn search_twice(rt: &HostRuntime, c: &Arc<Circuit>, goals: &[u64]) -> Result<u8, Failure> {
     match search_all(rt, c, &Start::Initial, "initial", goals)? {
         Some(state) => search_from(rt, c, state, goals),
         None => Ok(0),
@@ -52,7 +63,7 @@ fn search_twice(rt: &HostRuntime, c: &Circuit, goals: &[u64]) -> Result<u8, Fail
 
 fn search_from(
     rt: &HostRuntime,
-    c: &Circuit,
+    c: &Arc<Circuit>,
     state: Items<bool>,
     goals: &[u64],
 ) -> Result<u8, Failure> {
@@ -73,7 +84,7 @@ fn goals_of(alloc: Global, c: &Circuit) -> Result<Vec<u64>, Failure> {
 // Searches for each literal in turn, and answers the last state of the first path.
 fn search_all(
     rt: &HostRuntime,
-    c: &Circuit,
+    c: &Arc<Circuit>,
     start: &Start,
     from: &str,
     goals: &[u64],
@@ -95,7 +106,7 @@ fn keep_first(first: &mut Option<Items<bool>>, found: Option<Items<bool>>) {
 // One search: what it answered is written, and what it took.
 fn search(
     rt: &HostRuntime,
-    c: &Circuit,
+    c: &Arc<Circuit>,
     start: &Start,
     from: &str,
     literal: u64,
@@ -107,15 +118,15 @@ fn search(
 
 fn answer_timed(
     rt: &HostRuntime,
-    c: &Circuit,
+    c: &Arc<Circuit>,
     start: &Start,
     literal: u64,
 ) -> Result<Answer, Failure> {
     let mut meter = Meter::new(NO_LIMIT, NO_LIMIT);
     let before = Stamp::now(rt)?;
-    let answer = answer_of(rt.alloc(), c, start, literal, &mut meter)?;
-    print_costs(rt, &meter, before)?;
-    Ok(answer)
+    let told = told_of(rt.alloc(), c, start, literal, &mut meter)?;
+    print_costs(rt, &meter, before, &told)?;
+    Ok(told.answer)
 }
 
 fn print_answer(
@@ -152,23 +163,70 @@ fn last_of(answer: Answer) -> Option<Items<bool>> {
     }
 }
 
-fn answer_of(
+// What a new search answers.
+fn told_of(
     alloc: Global,
-    c: &Circuit,
+    c: &Arc<Circuit>,
     start: &Start,
     literal: u64,
     meter: &mut Meter,
-) -> Result<Answer, Failure> {
-    if !is_start(c, start) || literal / 2 > c.max() {
+) -> Result<Told, Failure> {
+    let from = copy_of(alloc, start)?;
+    if !is_start(&**c, &from) {
+        return Err(Failure::BadInput);
+    }
+    let mut search = Search::new(alloc, c, from)?;
+    let reached = ask_literal(alloc, &**c, &mut search, literal, meter)?;
+    let answer = answer_in(alloc, &reached)?;
+    Ok(Told {
+        answer,
+        questions: search.asked(),
+        frames: search.frames(),
+    })
+}
+
+fn copy_of(alloc: Global, start: &Start) -> Result<Start, AllocError> {
+    match start {
+        Start::Initial => Ok(Start::Initial),
+        Start::State(state) => Ok(Start::State(state.try_copy(alloc)?)),
+    }
+}
+
+// What the search answers, without entries.
+fn ask(
+    alloc: Global,
+    c: &Circuit,
+    search: &mut Search,
+    goal: &Goal<'_>,
+    meter: &mut Meter,
+) -> Result<Reached, ReachEnd>
+    requires circuit { search.old.circuit ≡ c.now }
+    requires on { GoesOnFrom search.old.view [] }
+    requires goal { IsGoal c.now goal.now }
+{
+    good_lists_grow(c);
+    search.reach(alloc, &[], goal, meter)
+}
+
+fn ask_literal(
+    alloc: Global,
+    c: &Circuit,
+    search: &mut Search,
+    literal: u64,
+    meter: &mut Meter,
+) -> Result<Reached, Failure>
+    requires circuit { search.old.circuit ≡ c.now }
+    requires on { GoesOnFrom search.old.view [] }
+{
+    if literal / 2 > c.max() {
         return Err(Failure::BadInput);
     }
     let goal = Goal::Literal {
         literal,
         avoid: &[],
     };
-    good_lists_grow(c);
-    match reach(alloc, c, &[], start, &goal, meter) {
-        Ok(reached) => answer_in(alloc, &reached),
+    match ask(alloc, c, search, &goal, meter) {
+        Ok(reached) => Ok(reached),
         Err(end) => Err(failure_at(end)),
     }
 }
@@ -209,14 +267,16 @@ fn path_of(alloc: Global, positions: &[Position]) -> Result<Answer, Failure> {
     }
 }
 
-fn print_costs(rt: &HostRuntime, meter: &Meter, before: Stamp) -> io::Result<()> {
+fn print_costs(rt: &HostRuntime, meter: &Meter, before: Stamp, told: &Told) -> io::Result<()> {
     let after = Stamp::now(rt)?;
     let spent = meter.spending();
     let nanoseconds = before.processor_to(after);
     eprintln!(rt;
-        "conflicts {} steps {} nanoseconds {}",
+        "conflicts {} steps {} nanoseconds {} frames {} questions {}",
         spent.conflicts(),
         spent.steps(),
-        nanoseconds
+        nanoseconds,
+        told.frames,
+        told.questions
     )
 }

@@ -64,7 +64,8 @@ pub(crate) fn solver_of(alloc: Global, clauses: Db) -> Result<Solver, Failure> {
     Ok(solver)
 }
 
-fn add_one(solver: &mut Solver, clause: Clause) -> Result<(), Failure> {
+/// Adds a clause of a file.
+pub(crate) fn add_one(solver: &mut Solver, clause: Clause) -> Result<(), Failure> {
     if !are_sized(clause.as_slice()) {
         return Err(Failure::BadInput);
     }
