@@ -1,4 +1,5 @@
 pub mod Values
+pub mod WantedEnds
 pub mod UseLaws
 pub mod Replayed
 pub mod Completing

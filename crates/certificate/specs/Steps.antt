@@ -11,12 +11,14 @@ use Rattle.certificate.specs.declared.ends.AnswerFault.{AnswerFault}
 use Rattle.certificate.specs.declared.ends.AnswerFault.TheVariants as faults
 use Rattle.certificate.specs.declared.ends.AnswerEnd.{AnswerEnd}
 use Rattle.certificate.specs.declared.ends.AnswerEnd.TheVariants as ends
+use Rattle.certificate.specs.declared.state.Body.{Body as BodyInCode}
+use Rattle.certificate.specs.declared.state.Wanted.{Wanted as WantedInCode}
 use Rattle.certificate.specs.declared.state.State.{State as StateInCode}
 use Rattle.certificate.specs.declared.uses.UsesEnd.{UsesEnd}
 use Rattle.certificate.specs.declared.uses.UsesEnd.TheVariants as uses_ends
-use Rattle.certificate.specs.Reading.{Body, State, Stepped, uses_step}
+use Rattle.certificate.specs.Reading.{Body, State, Certified, Stepped, uses_step}
 use Rattle.certificate.specs.Ends.{IsGoodAtEnd, IsFaultAtEnd}
-use Rattle.certificate.specs.Seen.{seen, IsKept}
+use Rattle.certificate.specs.Seen.{seen, seen_body, seen_wanted, IsAhead, IsKept}
 
 -- what is said of the fault of an end, if it has one; no read is made
 abbrev pub OfEnd : (AnswerFault → Type 0) → AnswerEnd → Type 0
@@ -30,6 +32,13 @@ Tells c stepped (Ok next) = (stepped ≡ Ok (seen next)) × IsKept c next
 Tells c stepped (Err (ends.Refused fault)) = stepped ≡ Err fault
 Tells c stepped (Err ends.ReadFault) = ⊥
 Tells c stepped (Err ends.Memory) = Unit {0}
+
+-- an answer is what is wanted behind the step, over this body, and keeps what is kept of both; want of memory says nothing
+abbrev pub TellsWanted : Circuit → Stepped → BodyInCode → Result WantedInCode AnswerEnd → Type 0
+TellsWanted c stepped b (Ok next) = (stepped ≡ Ok (Certified (seen_body b) (seen_wanted b next))) × IsAhead c b next
+TellsWanted c stepped b (Err (ends.Refused fault)) = stepped ≡ Err fault
+TellsWanted c stepped b (Err ends.ReadFault) = ⊥
+TellsWanted c stepped b (Err ends.Memory) = Unit {0}
 
 -- all of the uses, and each may stand; or the number of the first that may not
 abbrev pub Stands : User → List Entry → List Use → Result (List Use) UsesEnd → Type 0

@@ -1,12 +1,12 @@
 //! The check of an answer against a circuit. The main calls are `check_answer`, and `check_with_lasso`, which keeps the
 //! lasso of a stimulus.
 
-ghost use Rattle.std.specs.Prelude.{◌≡◌, ◌<◌, ◌≤◌, List, [], ◌∷◌, ℕ, true, false, Some, Result, Ok, Err, IfOk, IfErr, IsTrue, IsFalse};
+ghost use Rattle.std.specs.Prelude.{◌≡◌, ◌<◌, ◌≤◌, List, [], ◌∷◌, ℕ, true, false, Some, Result, Ok, Err, IfOk, IfErr, OnOk, IsTrue, IsFalse};
 ghost use Rattle.edge.specs.Faults.{Rose, NoneFell};
 ghost use Rattle.edge.specs.Reads.{KeepsTexts, Reads};
 ghost use Rattle.edge.specs.Told.{IfTold};
 ghost use Rattle.text_grammar.specs.Pieces.{Lacks};
-ghost use Rattle.answer_lines.specs.Left.{left_of, most_bytes, Took};
+ghost use Rattle.answer_lines.specs.Left.{at_start, left_of, most_bytes, Took};
 ghost use Rattle.certificate.specs.Answers.{Shows};
 ghost use Rattle.certificate.specs.Ends.{DecidesEnd, CheckSays, EndsWith, ReadsAs, has_unread};
 ghost use Rattle.certificate.specs.Lassos.{KeepsLasso};
@@ -25,6 +25,7 @@ use answer_lines::Lines;
 use circuit::Circuit;
 use edge::Shelf;
 use std::alloc::Global;
+use std::mem;
 use stimulus::is_skipped;
 
 /// Checks the answer that the shelf holds under the name, against a circuit: `Accepted` exactly where it is a good
@@ -98,12 +99,38 @@ fn read_answer<H: Shelf>(
 {
     let mut lines = Lines::new(alloc)?;
     let mut state = State::Status;
+    let result = read_on(alloc, circuit, shelf, name, &mut lines, &mut state, kept);
+    drop(state);
+    result
+}
+
+// The same, from the start of the text and of its reading.
+fn read_on<H: Shelf>(
+    alloc: Global,
+    circuit: &Circuit,
+    shelf: &mut H,
+    name: &str,
+    lines: &mut Lines,
+    state: &mut State,
+    kept: &mut Option<Lasso>,
+) -> Result<Accepted, AnswerEnd>
+    requires start { lines.old ≡ at_start }
+    requires state { state.old ≡ State.Status }
+    ensures found { ReadingSays circuit.now (H.held shelf.old name.now) result }
+    ensures exactly { (text : List ℕ) (verdict : Result Accepted AnswerEnd) → H.held shelf.old name.now ≡ Some text
+        → ReadsAs circuit.now text verdict → EndsWith result verdict }
+    ensures read { result ≡ Err AnswerEnd.ReadFault → Rose (H.faults shelf.old name.now) (H.faults shelf.new name.now) }
+    ensures reads { Reads H.reads name.now (has_unread result) shelf.old shelf.new }
+    ensures counts { NoneFell (H.faults shelf.old) (H.faults shelf.new) }
+    ensures kept { KeepsTexts (H.held shelf.old) (H.held shelf.new) }
+    ensures lasso { IfOk result (λ accepted. KeepsLasso circuit.now (H.held shelf.old name.now) accepted kept.new) }
+{
     let mut number = 1;
-    'lines: while next_line(&mut lines, shelf, name)? {
-        state = line_step(alloc, circuit, state, number, lines.line())?;
+    'lines: while next_line(lines, shelf, name)? {
+        advance(alloc, circuit, state, number, lines.line())?;
         number += 1;
     }
-    finish(alloc, circuit, state, number, kept)
+    finish(alloc, circuit, &*state, number, kept)
 }
 
 /// Reads the next line, and says whether there was one. The condition is that nothing is left behind a line that the
@@ -127,6 +154,26 @@ fn next_line<H: Shelf>(lines: &mut Lines, shelf: &mut H, name: &str) -> Result<b
         return Ok(false);
     }
     Ok(lines.next(shelf, name)?)
+}
+
+// Goes on to the state behind a line with this number, skipped or not.
+fn advance(
+    alloc: Global,
+    circuit: &Circuit,
+    state: &mut State,
+    number: u64,
+    line: &[u8],
+) -> Result<(), AnswerEnd>
+    requires { IsKept circuit.now state.old }
+    ensures ok { OnOk result (read_lines circuit.now (seen state.old) (kept_from number (line.now ∷ [])) ≡ Ok (seen state.new)) }
+    ensures kept { OnOk result (IsKept circuit.now state.new) }
+    ensures fault { IfErr result
+        (OfEnd (λ fault. read_lines circuit.now (seen state.old) (kept_from number (line.now ∷ [])) ≡ Err fault)) }
+{
+    let from = mem::replace(state, State::Status);
+    let next = line_step(alloc, circuit, from, number, line)?;
+    drop(mem::replace(state, next));
+    Ok(())
 }
 
 /// The state behind a line with this number, skipped or not, or the line's fault.

@@ -13,12 +13,12 @@ ghost use Rattle.entry.specs.Listing.{entry_of, entries_of};
 ghost use Rattle.entry.specs.Proved.{obligation_of};
 ghost use Rattle.certificate.specs.declared.ends.AnswerFault.TheVariants.{Entry};
 ghost use Rattle.certificate.specs.Reading.{start_step, entry_uses_step, next_clause, has_base, base_step, clause_step, next_proof, next_line, begin_proof, proof_step, line_step};
-ghost use Rattle.certificate.specs.Seen.{seen_body, seen_begun, seen_proving, IsKept, IsBody, IsOpen, IsEntered, IsAtClause, ArePresent};
-ghost use Rattle.certificate.specs.Steps.{Tells};
+ghost use Rattle.certificate.specs.Seen.{seen_body, seen_begun, seen_proving, IsAhead, IsBody, IsOpen, IsEntered, IsAtClause, ArePresent};
+ghost use Rattle.certificate.specs.Steps.{TellsWanted};
 
 use crate::ends::{AnswerEnd, AnswerFault, misplaced};
 use crate::limits::MAX_ENTRIES;
-use crate::state::{Begun, Body, Proving, State, Wanted};
+use crate::state::{Begun, Body, Proving, Wanted};
 use crate::uses::{UsesEnd, read_uses};
 use certificate_lines::{Opening, WordLine, clause_of, word_line_of};
 use circuit::Circuit;
@@ -38,12 +38,12 @@ fn entry_fault(body: &Body, fault: EntryFault) -> AnswerEnd
 }
 
 // Behind an entry's first line, where there is room for one more.
-fn open_entry(_circuit: &Circuit, body: Body, opening: Opening) -> Result<State, AnswerEnd>
-    requires { IsKept _circuit.now (State.Certified body Wanted.Start) }
-    ensures { (number : ℕ) → Tells _circuit.now (start_step (seen_body body) number (Some (WordLine.Opening opening))) result }
+fn open_entry(_circuit: &Circuit, body: &Body, opening: Opening) -> Result<Wanted, AnswerEnd>
+    requires { IsAhead _circuit.now body.now Wanted.Start }
+    ensures { (number : ℕ) → TellsWanted _circuit.now (start_step (seen_body body.now) number (Some (WordLine.Opening opening))) body.now result }
 {
     if (body.list.len() as u64) < MAX_ENTRIES {
-        return Ok(State::Certified(body, Wanted::EntryUses(opening)));
+        return Ok(Wanted::EntryUses(opening));
     }
     Err(AnswerEnd::Refused(AnswerFault::TooLong))
 }
@@ -51,18 +51,16 @@ fn open_entry(_circuit: &Circuit, body: Body, opening: Opening) -> Result<State,
 /// Behind the first line of an entry or of the refutation.
 pub(crate) fn start_step(
     circuit: &Circuit,
-    body: Body,
+    body: &Body,
     number: u64,
     line: &[u8],
-) -> Result<State, AnswerEnd>
-    requires { IsKept circuit.now (State.Certified body Wanted.Start) }
-    ensures { Tells circuit.now (start_step (seen_body body) number (word_line_of line.now)) result }
+) -> Result<Wanted, AnswerEnd>
+    requires { IsAhead circuit.now body.now Wanted.Start }
+    ensures { TellsWanted circuit.now (start_step (seen_body body.now) number (word_line_of line.now)) body.now result }
 {
     match word_line_of(line) {
         Some(WordLine::Opening(opening)) => open_entry(circuit, body, opening),
-        Some(WordLine::Refutation(refuting)) => {
-            Ok(State::Certified(body, Wanted::RefutationUses(refuting)))
-        }
+        Some(WordLine::Refutation(refuting)) => Ok(Wanted::RefutationUses(refuting)),
         _ => Err(misplaced(number)),
     }
 }
@@ -91,29 +89,34 @@ fn enter(
 }
 
 // Behind the proofs of the first i clauses: the entry has passed where there is no other.
-fn next_proof(_circuit: &Circuit, mut body: Body, entry: Listed, i: u64) -> Result<State, AnswerEnd>
-    requires ready { IsOpen _circuit.now body }
-    requires entered { IsEntered _circuit.now body (entry_of entry) }
+fn next_proof(
+    _circuit: &Circuit,
+    body: &mut Body,
+    entry: Listed,
+    i: u64,
+) -> Result<Wanted, AnswerEnd>
+    requires ready { IsOpen _circuit.now body.old }
+    requires entered { IsEntered _circuit.now body.old (entry_of entry) }
     requires clause { i ≤ length entry.set }
-    ensures { Tells _circuit.now (next_proof (seen_body body) (entry_of entry) i) result }
+    ensures { TellsWanted _circuit.now (next_proof (seen_body body.old) (entry_of entry) i) body.new result }
 {
     if i == entry.set.len() as u64 {
         body.list.push(entry)?;
-        return Ok(State::Certified(body, Wanted::Start));
+        return Ok(Wanted::Start);
     }
-    Ok(State::Certified(body, Wanted::EntryProof(entry, i)))
+    Ok(Wanted::EntryProof(entry, i))
 }
 
 // Behind the last clause.
 fn prove_entry(
     alloc: Global,
     circuit: &Circuit,
-    mut body: Body,
+    body: &mut Body,
     entry: Listed,
-) -> Result<State, AnswerEnd>
-    requires ready { IsOpen circuit.now body }
-    requires present { ArePresent body entry.uses }
-    ensures { Tells circuit.now (next_proof (seen_body body) (entry_of entry) 0) result }
+) -> Result<Wanted, AnswerEnd>
+    requires ready { IsOpen circuit.now body.old }
+    requires present { ArePresent body.old entry.uses }
+    ensures { TellsWanted circuit.now (next_proof (seen_body body.old) (entry_of entry) 0) body.new result }
 {
     enter(
         alloc,
@@ -129,12 +132,12 @@ fn prove_entry(
 fn next_clause(
     alloc: Global,
     circuit: &Circuit,
-    body: Body,
+    body: &mut Body,
     begun: Begun,
-) -> Result<State, AnswerEnd>
-    requires ready { IsOpen circuit.now body }
-    requires present { ArePresent body begun.uses }
-    ensures { Tells circuit.now (next_clause (seen_body body) (seen_begun begun)) result }
+) -> Result<Wanted, AnswerEnd>
+    requires ready { IsOpen circuit.now body.old }
+    requires present { ArePresent body.old begun.uses }
+    ensures { TellsWanted circuit.now (next_clause (seen_body body.old) (seen_begun begun)) body.new result }
 {
     if begun.set.len() as u64 == begun.count {
         let entry = Listed {
@@ -144,22 +147,22 @@ fn next_clause(
         };
         return prove_entry(alloc, circuit, body, entry);
     }
-    Ok(State::Certified(body, Wanted::EntryClause(begun)))
+    Ok(Wanted::EntryClause(begun))
 }
 
 /// Behind the uses of an entry.
 pub(crate) fn entry_uses_step(
     alloc: Global,
     circuit: &Circuit,
-    body: Body,
+    body: &mut Body,
     opening: Opening,
     number: u64,
     line: &[u8],
-) -> Result<State, AnswerEnd>
-    requires { IsKept circuit.now (State.Certified body (Wanted.EntryUses opening)) }
-    ensures { Tells circuit.now (entry_uses_step (seen_body body) opening number (uses_of body.version line.now)) result }
+) -> Result<Wanted, AnswerEnd>
+    requires { IsAhead circuit.now body.old (Wanted.EntryUses opening) }
+    ensures { TellsWanted circuit.now (entry_uses_step (seen_body body.old) opening number (uses_of body.old.version line.now)) body.new result }
 {
-    match read_uses(alloc, &body, User::Entry(opening.kind), opening.uses, line) {
+    match read_uses(alloc, &*body, User::Entry(opening.kind), opening.uses, line) {
         Ok(uses) => {
             let begun = Begun {
                 kind: opening.kind,
@@ -170,7 +173,7 @@ pub(crate) fn entry_uses_step(
             next_clause(alloc, circuit, body, begun)
         }
         Err(UsesEnd::Shape) => Err(misplaced(number)),
-        Err(UsesEnd::Bad(used)) => Err(entry_fault(&body, EntryFault::BadUse(used))),
+        Err(UsesEnd::Bad(used)) => Err(entry_fault(&*body, EntryFault::BadUse(used))),
         Err(UsesEnd::Memory) => Err(AnswerEnd::Memory),
     }
 }
@@ -189,17 +192,17 @@ fn has_base(circuit: &Circuit, kind: Kind, clause: &Clause) -> bool
 fn base_step(
     alloc: Global,
     circuit: &Circuit,
-    body: Body,
+    body: &mut Body,
     mut begun: Begun,
     clause: Clause,
-) -> Result<State, AnswerEnd>
-    requires ready { IsOpen circuit.now body }
-    requires present { ArePresent body begun.uses }
-    ensures { Tells circuit.now (base_step circuit.now (seen_body body) (seen_begun begun) (Ok clause)) result }
+) -> Result<Wanted, AnswerEnd>
+    requires ready { IsOpen circuit.now body.old }
+    requires present { ArePresent body.old begun.uses }
+    ensures { TellsWanted circuit.now (base_step circuit.now (seen_body body.old) (seen_begun begun) (Ok clause)) body.new result }
 {
     if !has_base(circuit, begun.kind, &clause) {
         let number = begun.set.len() as u64;
-        return Err(entry_fault(&body, EntryFault::Base(number)));
+        return Err(entry_fault(&*body, EntryFault::Base(number)));
     }
     begun.set.push(clause)?;
     next_clause(alloc, circuit, body, begun)
@@ -209,20 +212,20 @@ fn base_step(
 pub(crate) fn clause_step(
     alloc: Global,
     circuit: &Circuit,
-    body: Body,
+    body: &mut Body,
     begun: Begun,
     number: u64,
     line: &[u8],
-) -> Result<State, AnswerEnd>
-    requires { IsKept circuit.now (State.Certified body (Wanted.EntryClause begun)) }
-    ensures { Tells circuit.now (clause_step circuit.now (seen_body body) (seen_begun begun) number (clause_of line.now)) result }
+) -> Result<Wanted, AnswerEnd>
+    requires { IsAhead circuit.now body.old (Wanted.EntryClause begun) }
+    ensures { TellsWanted circuit.now (clause_step circuit.now (seen_body body.old) (seen_begun begun) number (clause_of line.now)) body.new result }
 {
     let Some(literals) = clause_of(alloc, line)? else {
         return Err(misplaced(number));
     };
     match body.latches.clause(alloc, circuit, literals.as_slice()) {
         Ok(clause) => base_step(alloc, circuit, body, begun, clause),
-        Err(EntryEnd::Fault(fault)) => Err(entry_fault(&body, fault)),
+        Err(EntryEnd::Fault(fault)) => Err(entry_fault(&*body, fault)),
         Err(EntryEnd::Memory) => Err(AnswerEnd::Memory),
     }
 }
@@ -230,21 +233,21 @@ pub(crate) fn clause_step(
 // Behind some lines of the proof of clause i: behind the last an empty clause has been given or added.
 fn next_line(
     circuit: &Circuit,
-    body: Body,
+    body: &mut Body,
     entry: Listed,
     i: u64,
     proving: Proving,
-) -> Result<State, AnswerEnd>
-    requires at { IsAtClause circuit.now body entry i }
+) -> Result<Wanted, AnswerEnd>
+    requires at { IsAtClause circuit.now body.old entry i }
     requires read { proving.read ≤ proving.count }
-    ensures { Tells circuit.now (next_line (seen_body body) (entry_of entry) i (seen_proving body proving)) result }
+    ensures { TellsWanted circuit.now (next_line (seen_body body.old) (entry_of entry) i (seen_proving body.old proving)) body.new result }
 {
     if proving.read != proving.count {
-        return Ok(State::Certified(body, Wanted::EntryLine(entry, i, proving)));
+        return Ok(Wanted::EntryLine(entry, i, proving));
     }
     if !body.judge.is_finished() {
         let fault = EntryFault::Proof(i, proving.count, LratFault::Unfinished);
-        return Err(entry_fault(&body, fault));
+        return Err(entry_fault(&*body, fault));
     }
     next_proof(circuit, body, entry, i + 1)
 }
@@ -253,14 +256,14 @@ fn next_line(
 fn begin_proof(
     alloc: Global,
     circuit: &Circuit,
-    mut body: Body,
+    body: &mut Body,
     entry: Listed,
     i: u64,
     count: u64,
-) -> Result<State, AnswerEnd>
-    requires { IsAtClause circuit.now body entry i }
-    ensures { Tells circuit.now (next_line (seen_body body) (entry_of entry) i
-        (begin_proof count (obligation_of circuit.now (entries_of body.list) (entry_of entry) i))) result }
+) -> Result<Wanted, AnswerEnd>
+    requires { IsAtClause circuit.now body.old entry i }
+    ensures { TellsWanted circuit.now (next_line (seen_body body.old) (entry_of entry) i
+        (begin_proof count (obligation_of circuit.now (entries_of body.old.list) (entry_of entry) i))) body.new result }
 {
     body.judge
         .begin(alloc, circuit, &entry.set.as_slice()[i as usize])?;
@@ -271,14 +274,14 @@ fn begin_proof(
 pub(crate) fn proof_step(
     alloc: Global,
     circuit: &Circuit,
-    body: Body,
+    body: &mut Body,
     entry: Listed,
     i: u64,
     number: u64,
     line: &[u8],
-) -> Result<State, AnswerEnd>
-    requires { IsKept circuit.now (State.Certified body (Wanted.EntryProof entry i)) }
-    ensures { Tells circuit.now (proof_step circuit.now (seen_body body) (entry_of entry) i number (word_line_of line.now)) result }
+) -> Result<Wanted, AnswerEnd>
+    requires { IsAhead circuit.now body.old (Wanted.EntryProof entry i) }
+    ensures { TellsWanted circuit.now (proof_step circuit.now (seen_body body.old) (entry_of entry) i number (word_line_of line.now)) body.new result }
 {
     match word_line_of(line) {
         Some(WordLine::Proof(count)) => begin_proof(alloc, circuit, body, entry, i, count),
@@ -289,14 +292,14 @@ pub(crate) fn proof_step(
 /// Behind a line of the proof of clause i.
 pub(crate) fn line_step(
     circuit: &Circuit,
-    mut body: Body,
+    body: &mut Body,
     entry: Listed,
     i: u64,
     proving: Proving,
     line: &[u8],
-) -> Result<State, AnswerEnd>
-    requires { IsKept circuit.now (State.Certified body (Wanted.EntryLine entry i proving)) }
-    ensures { Tells circuit.now (line_step (seen_body body) (entry_of entry) i (seen_proving body proving) (judge body.judge.proof line.now)) result }
+) -> Result<Wanted, AnswerEnd>
+    requires { IsAhead circuit.now body.old (Wanted.EntryLine entry i proving) }
+    ensures { TellsWanted circuit.now (line_step (seen_body body.old) (entry_of entry) i (seen_proving body.old proving) (judge body.old.judge.proof line.now)) body.new result }
 {
     match body.judge.step(line) {
         Ok(()) => {
@@ -307,7 +310,7 @@ pub(crate) fn line_step(
             next_line(circuit, body, entry, i, later)
         }
         Err(LratEnd::Fault(fault)) => {
-            Err(entry_fault(&body, EntryFault::Proof(i, proving.read, fault)))
+            Err(entry_fault(&*body, EntryFault::Proof(i, proving.read, fault)))
         }
         Err(LratEnd::Memory) => Err(AnswerEnd::Memory),
     }

@@ -9,8 +9,8 @@ ghost use Rattle.certificate_lines.specs.Words.{word_line_of};
 ghost use Rattle.certificate_lines.specs.Uses.{uses_of};
 ghost use Rattle.entry.specs.Listing.{entries_of};
 ghost use Rattle.certificate.specs.Reading.{refutation_uses_step, next_refuting_line, begin_proof, refuting_step, last_step};
-ghost use Rattle.certificate.specs.Seen.{seen_body, seen_proving, IsKept, IsBody, ArePresent};
-ghost use Rattle.certificate.specs.Steps.{Tells};
+ghost use Rattle.certificate.specs.Seen.{seen_body, seen_proving, IsAhead, IsKept, IsBody, ArePresent};
+ghost use Rattle.certificate.specs.Steps.{Tells, TellsWanted};
 
 use crate::ends::{AnswerEnd, AnswerFault, misplaced};
 use crate::state::{Body, Proving, State, Wanted};
@@ -40,33 +40,37 @@ fn judge_of(
 }
 
 // Behind some lines of the proof: behind the last an empty clause has been given or added.
-fn next_refuting_line(_circuit: &Circuit, body: Body, proving: Proving) -> Result<State, AnswerEnd>
-    requires body { IsBody _circuit.now body }
+fn next_refuting_line(
+    _circuit: &Circuit,
+    body: &mut Body,
+    proving: Proving,
+) -> Result<Wanted, AnswerEnd>
+    requires body { IsBody _circuit.now body.old }
     requires read { proving.read ≤ proving.count }
-    ensures { Tells _circuit.now (next_refuting_line (seen_body body) (seen_proving body proving)) result }
+    ensures { TellsWanted _circuit.now (next_refuting_line (seen_body body.old) (seen_proving body.old proving)) body.new result }
 {
     if proving.read != proving.count {
-        return Ok(State::Certified(body, Wanted::RefutationLine(proving)));
+        return Ok(Wanted::RefutationLine(proving));
     }
     if !body.judge.is_finished() {
         let fault = AnswerFault::Refutation(proving.count, LratFault::Unfinished);
         return Err(AnswerEnd::Refused(fault));
     }
-    Ok(State::Certified(body, Wanted::Last))
+    Ok(Wanted::Last)
 }
 
 // Behind the uses, each of which may stand.
 fn begin_refutation(
     alloc: Global,
     circuit: &Circuit,
-    mut body: Body,
+    body: &mut Body,
     uses: &[Use],
     count: u64,
-) -> Result<State, AnswerEnd>
-    requires body { IsBody circuit.now body }
-    requires present { ArePresent body uses.now }
-    ensures { Tells circuit.now (next_refuting_line (seen_body body) (begin_proof count
-        (skeleton_clauses circuit.now body.property (used_entries (entries_of body.list) uses.now)))) result }
+) -> Result<Wanted, AnswerEnd>
+    requires body { IsBody circuit.now body.old }
+    requires present { ArePresent body.old uses.now }
+    ensures { TellsWanted circuit.now (next_refuting_line (seen_body body.old) (begin_proof count
+        (skeleton_clauses circuit.now body.old.property (used_entries (entries_of body.old.list) uses.now)))) body.new result }
 {
     let judge = judge_of(alloc, circuit, body.property, body.list.as_slice(), uses)?;
     body.judge = judge;
@@ -77,15 +81,15 @@ fn begin_refutation(
 pub(crate) fn refutation_uses_step(
     alloc: Global,
     circuit: &Circuit,
-    body: Body,
+    body: &mut Body,
     refuting: Refutation,
     number: u64,
     line: &[u8],
-) -> Result<State, AnswerEnd>
-    requires { IsKept circuit.now (State.Certified body (Wanted.RefutationUses refuting)) }
-    ensures { Tells circuit.now (refutation_uses_step circuit.now (seen_body body) refuting number (uses_of body.version line.now)) result }
+) -> Result<Wanted, AnswerEnd>
+    requires { IsAhead circuit.now body.old (Wanted.RefutationUses refuting) }
+    ensures { TellsWanted circuit.now (refutation_uses_step circuit.now (seen_body body.old) refuting number (uses_of body.old.version line.now)) body.new result }
 {
-    match read_uses(alloc, &body, User::Refutation, refuting.uses, line) {
+    match read_uses(alloc, &*body, User::Refutation, refuting.uses, line) {
         Ok(uses) => begin_refutation(alloc, circuit, body, uses.as_slice(), refuting.proof_lines),
         Err(UsesEnd::Shape) => Err(misplaced(number)),
         Err(UsesEnd::Bad(used)) => Err(AnswerEnd::Refused(AnswerFault::RefuteUse(used))),
@@ -96,12 +100,12 @@ pub(crate) fn refutation_uses_step(
 /// Behind a line of the proof.
 pub(crate) fn refuting_step(
     circuit: &Circuit,
-    mut body: Body,
+    body: &mut Body,
     proving: Proving,
     line: &[u8],
-) -> Result<State, AnswerEnd>
-    requires { IsKept circuit.now (State.Certified body (Wanted.RefutationLine proving)) }
-    ensures { Tells circuit.now (refuting_step (seen_body body) (seen_proving body proving) (judge body.judge.proof line.now)) result }
+) -> Result<Wanted, AnswerEnd>
+    requires { IsAhead circuit.now body.old (Wanted.RefutationLine proving) }
+    ensures { TellsWanted circuit.now (refuting_step (seen_body body.old) (seen_proving body.old proving) (judge body.old.judge.proof line.now)) body.new result }
 {
     match body.judge.step(line) {
         Ok(()) => {
@@ -130,6 +134,9 @@ pub(crate) fn last_step(
 {
     match word_line_of(line) {
         Some(WordLine::End) => Ok(State::Ended(body)),
-        _ => Err(misplaced(number)),
+        _ => {
+            drop(body);
+            Err(misplaced(number))
+        }
     }
 }

@@ -5,10 +5,11 @@ ghost use Rattle.unless_memory.specs.Answers.{Gives};
 ghost use Rattle.certificate.specs.declared.ends.Accepted.{Accepted as AcceptedOf};
 ghost use Rattle.certificate.specs.declared.ends.AnswerFault.{AnswerFault as FaultOf};
 ghost use Rattle.certificate.specs.Lassos.{IsLassoAtEnd};
-ghost use Rattle.certificate.specs.Reading.{step, certificate_step};
+ghost use Rattle.certificate.specs.Reading.{Stepped, step, certificate_step};
 ghost use Rattle.certificate.specs.Ends.{IsGoodAtEnd, IsFaultAtEnd};
 ghost use Rattle.certificate.specs.Seen.{seen, seen_body, seen_wanted, IsKept};
-ghost use Rattle.certificate.specs.Steps.{OfEnd, Tells};
+ghost use Rattle.aig_semantics.specs.Circuits.{Circuit as CircuitOf};
+ghost use Rattle.certificate.specs.Steps.{OfEnd, Tells, TellsWanted};
 
 use crate::ending::end_in;
 use crate::ends::{Accepted, AnswerEnd, AnswerFault};
@@ -21,11 +22,24 @@ use aig_semantics::Lasso;
 use circuit::Circuit;
 use std::alloc::Global;
 
+// The state in which this is wanted over the body.
+fn certified(body: Body, next: Result<Wanted, AnswerEnd>) -> Result<State, AnswerEnd>
+    ensures { (c : CircuitOf) (stepped : Stepped) → TellsWanted c stepped body next → Tells c stepped result }
+{
+    match next {
+        Ok(wanted) => Ok(State::Certified(body, wanted)),
+        Err(end) => {
+            drop(body);
+            Err(end)
+        }
+    }
+}
+
 // The state behind a line of a certificate.
 fn certificate_step(
     alloc: Global,
     circuit: &Circuit,
-    body: Body,
+    mut body: Body,
     wanted: Wanted,
     number: u64,
     line: &[u8],
@@ -34,15 +48,34 @@ fn certificate_step(
     ensures { Tells circuit.now (certificate_step circuit.now (seen_body body) (seen_wanted body wanted) number line.now) result }
 {
     match wanted {
-        Wanted::Start => start_step(circuit, body, number, line),
-        Wanted::EntryUses(opening) => entry_uses_step(alloc, circuit, body, opening, number, line),
-        Wanted::EntryClause(begun) => clause_step(alloc, circuit, body, begun, number, line),
-        Wanted::EntryProof(entry, i) => proof_step(alloc, circuit, body, entry, i, number, line),
-        Wanted::EntryLine(entry, i, proving) => line_step(circuit, body, entry, i, proving, line),
-        Wanted::RefutationUses(refuting) => {
-            refutation_uses_step(alloc, circuit, body, refuting, number, line)
+        Wanted::Start => {
+            let next = start_step(circuit, &body, number, line);
+            certified(body, next)
         }
-        Wanted::RefutationLine(proving) => refuting_step(circuit, body, proving, line),
+        Wanted::EntryUses(opening) => {
+            let next = entry_uses_step(alloc, circuit, &mut body, opening, number, line);
+            certified(body, next)
+        }
+        Wanted::EntryClause(begun) => {
+            let next = clause_step(alloc, circuit, &mut body, begun, number, line);
+            certified(body, next)
+        }
+        Wanted::EntryProof(entry, i) => {
+            let next = proof_step(alloc, circuit, &mut body, entry, i, number, line);
+            certified(body, next)
+        }
+        Wanted::EntryLine(entry, i, proving) => {
+            let next = line_step(circuit, &mut body, entry, i, proving, line);
+            certified(body, next)
+        }
+        Wanted::RefutationUses(refuting) => {
+            let next = refutation_uses_step(alloc, circuit, &mut body, refuting, number, line);
+            certified(body, next)
+        }
+        Wanted::RefutationLine(proving) => {
+            let next = refuting_step(circuit, &mut body, proving, line);
+            certified(body, next)
+        }
         Wanted::Last => last_step(circuit, body, number, line),
     }
 }
@@ -96,18 +129,18 @@ pub(crate) fn step(
 pub(crate) fn finish(
     alloc: Global,
     circuit: &Circuit,
-    state: State,
+    state: &State,
     number: u64,
     kept: &mut Option<Lasso>,
 ) -> Result<Accepted, AnswerEnd>
-    requires { IsKept circuit.now state }
-    ensures ok { IfOk result (λ accepted. IsGoodAtEnd circuit.now (seen state) accepted) }
-    ensures fault { IfErr result (OfEnd (λ fault. IsFaultAtEnd circuit.now (seen state) number fault)) }
-    ensures every { (accepted : AcceptedOf) → IsGoodAtEnd circuit.now (seen state) accepted
+    requires { IsKept circuit.now state.now }
+    ensures ok { IfOk result (λ accepted. IsGoodAtEnd circuit.now (seen state.now) accepted) }
+    ensures fault { IfErr result (OfEnd (λ fault. IsFaultAtEnd circuit.now (seen state.now) number fault)) }
+    ensures every { (accepted : AcceptedOf) → IsGoodAtEnd circuit.now (seen state.now) accepted
         → Gives (Err AnswerEnd.Memory) (Ok accepted) result }
-    ensures each_fault { (fault : FaultOf) → IsFaultAtEnd circuit.now (seen state) number fault
+    ensures each_fault { (fault : FaultOf) → IsFaultAtEnd circuit.now (seen state.now) number fault
         → Gives (Err AnswerEnd.Memory) (Err (AnswerEnd.Refused fault)) result }
-    ensures lasso { IfOk result (λ accepted. IsLassoAtEnd (seen state) accepted kept.new) }
+    ensures lasso { IfOk result (λ accepted. IsLassoAtEnd (seen state.now) accepted kept.new) }
 {
-    end_in(alloc, circuit, &state, number, kept)
+    end_in(alloc, circuit, state, number, kept)
 }

@@ -3,6 +3,8 @@ ghost use Rattle.std.specs.Prelude.{◌≡◌, ◌++◌, [], ◌∷◌, true, le
 ghost use Rattle.std.specs.Arc.{arc_value};
 ghost use Rattle.edge.specs.Ends.{CountsConflicts, IsEnd};
 ghost use Rattle.cnf_unroll.specs.Laws.{AreOver};
+ghost use Rattle.cnf_unroll.specs.Obligations.{shared_clauses};
+ghost use Rattle.fair_semantics.specs.Entries.{used_entries};
 ghost use Rattle.fair_semantics.specs.declared.entries.Kind.TheVariants.{Reach};
 ghost use Rattle.fair_semantics.specs.Skeletons.{excludes};
 ghost use Rattle.fair_semantics.specs.Validity.{IsValid};
@@ -14,6 +16,7 @@ ghost use Rattle.certify.specs.Claims.{claimed, IsCertified};
 use crate::claims::Claim;
 use crate::refuting::clause_proof;
 use crate::sharing::solver_of;
+use cdcl::Solver;
 use circuit::Circuit;
 use cnf::Proof;
 use cnf_unroll::obligations_tell;
@@ -22,6 +25,33 @@ use entry::{Checked, Entry};
 use items::Items;
 use std::alloc::Global;
 use std::sync::Arc;
+
+// A proof for each clause of the claim, in their order, by a solver of what their obligations share.
+fn proofs_by(
+    alloc: Global,
+    c: &Circuit,
+    _view: &[Arc<Checked>],
+    claim: &Claim,
+    solver: &mut Solver,
+    meter: &mut Meter,
+) -> Result<Items<Proof>, SolveEnd>
+    requires view { IsGoodList c.now (viewed _view.now) }
+    requires valid { IsValid c.now (viewed _view.now) (claimed claim.now) }
+    requires over { AreOver (length c.now.latches) claim.now.clauses }
+    requires shared { solver.old.added
+        ≡ shared_clauses c.now (used_entries (viewed _view.now) claim.now.uses) claim.now.uses claim.now.clauses }
+    ensures proofs { IfOk result (AreProofs c.now (viewed _view.now) (claimed claim.now)) }
+    ensures end { IfErr result (IsEnd meter.new) }
+    ensures counted { CountsConflicts meter.old meter.new }
+{
+    obligations_tell(c);
+    let mut proofs = Items::new(alloc);
+    for clause in claim.clauses.as_slice() {
+        let proof = clause_proof(alloc, c, solver, clause, meter)?;
+        proofs.push(proof)?;
+    }
+    Ok(proofs)
+}
 
 // A proof for each clause of the claim, in their order.
 fn proofs_of(
@@ -38,14 +68,10 @@ fn proofs_of(
     ensures end { IfErr result (IsEnd meter.new) }
     ensures counted { CountsConflicts meter.old meter.new }
 {
-    obligations_tell(c);
     let mut solver = solver_of(alloc, c, view, claim)?;
-    let mut proofs = Items::new(alloc);
-    for clause in claim.clauses.as_slice() {
-        let proof = clause_proof(alloc, c, &mut solver, clause, meter)?;
-        proofs.push(proof)?;
-    }
-    Ok(proofs)
+    let proofs = proofs_by(alloc, c, view, claim, &mut solver, meter);
+    drop(solver);
+    proofs
 }
 
 /// The claim as an entry that was checked behind those of the view, with a proof for each of its clauses. What is

@@ -56,14 +56,26 @@ fn add_clause(solver: &mut Solver, clause: Clause) -> Result<(), AllocError>
     solver.add(clause)
 }
 
+fn add_all(solver: &mut Solver, clauses: Vec<Clause>) -> Result<(), AllocError>
+    ensures { OnOk result (solver.new.added ≡ solver.old.added ++ clauses.items) }
+{
+    for clause in clauses {
+        add_clause(solver, clause)?;
+    }
+    Ok(())
+}
+
 fn solver_with(alloc: Global, clauses: Vec<Clause>) -> Result<Solver, AllocError>
     ensures { IfOk result (λ solver. solver.added ≡ clauses.items) }
 {
     let mut solver = Solver::new(alloc)?;
-    for clause in clauses {
-        add_clause(&mut solver, clause)?;
+    match add_all(&mut solver, clauses) {
+        Ok(()) => Ok(solver),
+        Err(refused) => {
+            drop(solver);
+            Err(refused)
+        }
     }
-    Ok(solver)
 }
 
 /// A solver of what the obligations of the claimed entry share. The error is want of memory.

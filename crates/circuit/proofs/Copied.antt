@@ -1,11 +1,13 @@
 -- What is answered of a copy of the sections of a model is so of the sections.
 use Rattle.std.proofs.Common.{◌≡◌, ◌⊎◌, ℕ, Result, Ok, Err, refl, sym, ◌∙◌, ap, inl, inr}
-use Rattle.std.specs.Prelude.{OnOk}
+use Rattle.std.specs.Prelude.{OnOk, IfOk}
 use Rattle.circuit.specs.declared.circuits.Circuit.{Circuit}
 use Rattle.circuit.specs.declared.checking.Kept.{Kept}
 use Rattle.circuit.specs.declared.faults.ModelEnd.{ModelEnd}
 use Rattle.circuit.specs.declared.faults.ModelEnd.TheVariants.{Memory}
-use Rattle.circuit.specs.Keeping.{HasCircuitOf}
+use Rattle.circuit.specs.declared.parts.Parts.{Parts}
+use Rattle.circuit.specs.Sections.{circuit_of}
+use Rattle.circuit.specs.Keeping.{HasCircuitOf, IsKeptOf}
 use Rattle.unless_memory.specs.Answers.{Gives, GivesExactlyWhere, GivesOneExactlyWhere}
 
 pub err-of : (kept : Result Kept ModelEnd) (result : Result Circuit ModelEnd) (end : ModelEnd) → HasCircuitOf kept result → result ≡ Err end → kept ≡ Err end
@@ -48,3 +50,10 @@ defined-of (Ok kept) (Ok c) P h p = p
 defined-of (Ok kept) (Err end) P h p = absurd h
 defined-of (Err end) (Ok c) P h p = absurd h
 defined-of (Err end) (Err other) P h p = p
+
+pub ok-of : (kept : Result Kept ModelEnd) (result : Result Circuit ModelEnd) (parts : Parts) → HasCircuitOf kept result
+    → IfOk kept (IsKeptOf parts) → IfOk result (λ c. c ≡ circuit_of parts)
+ok-of (Ok kept) (Ok c) parts h k = h ∙ k.circuit
+ok-of (Ok kept) (Err end) parts h k = absurd h
+ok-of (Err end) (Ok c) parts h k = absurd h
+ok-of (Err end) (Err other) parts h k = tt

@@ -8,5 +8,6 @@ pub mod Searching
 pub mod Ascending
 pub mod Copied
 pub mod Tables
+pub mod Told
 pub mod Ranking
 pub mod Evaluated

@@ -6,7 +6,7 @@ ghost use Rattle.circuit.specs.declared.faults.ModelFault.{ModelFault};
 ghost use Rattle.circuit.specs.Sections.{circuit_of, used_by, AreInRange};
 ghost use Rattle.circuit.specs.Marks.{first_marks};
 ghost use Rattle.circuit.specs.Faults.{IsDefined, HasFault, IsFirstTwice, IsFirstUndefined, IsOnlyOnCycle, AnswersNoOther};
-ghost use Rattle.circuit.specs.Keeping.{IsKeptOf, HasCircuitOf};
+ghost use Rattle.circuit.specs.Keeping.{IsKeptOf, HasCircuitOf, TellsOrder};
 ghost use Rattle.circuit.specs.Orders.{IsEvaluationOrder};
 ghost use Rattle.circuit.specs.Ordering.{gates_in};
 ghost use Rattle.unless_memory.specs.Answers.{GivesExactlyWhere, GivesOneExactlyWhere};
@@ -16,7 +16,7 @@ use crate::faults::{ModelEnd, ModelFault};
 use crate::marks::{Mark, first_marked, mark_definitions, mark_uses};
 use crate::ordering::{Order, Ordered, order_gates};
 use crate::parts::Parts;
-use aig_semantics::{Gate, MAX_VARIABLE};
+use aig_semantics::{Gate, Latch, MAX_VARIABLE};
 use items::Items;
 use std::alloc::{AllocError, Global};
 
@@ -57,19 +57,57 @@ fn copy_lists(alloc: Global, lists: &Items<Items<u64>>) -> Result<Items<Items<u6
     Ok(copy)
 }
 
+fn copy_signals(
+    alloc: Global,
+    parts: &Parts,
+) -> Result<(Items<u64>, Items<Latch>, Items<Gate>), AllocError>
+    ensures { IfOk result (λ copy. copy ≡ (parts.now.inputs, parts.now.latches, parts.now.gates)) }
+{
+    let inputs = parts.inputs.try_copy(alloc)?;
+    let latches = parts.latches.try_copy(alloc)?;
+    let gates = parts.gates.try_copy(alloc)?;
+    Ok((inputs, latches, gates))
+}
+
+fn copy_literals(
+    alloc: Global,
+    parts: &Parts,
+) -> Result<(Items<u64>, Items<u64>, Items<u64>), AllocError>
+    ensures { IfOk result (λ copy. copy ≡ (parts.now.outputs, parts.now.bad, parts.now.constraints)) }
+{
+    let outputs = parts.outputs.try_copy(alloc)?;
+    let bad = parts.bad.try_copy(alloc)?;
+    let constraints = parts.constraints.try_copy(alloc)?;
+    Ok((outputs, bad, constraints))
+}
+
+fn copy_properties(
+    alloc: Global,
+    parts: &Parts,
+) -> Result<(Items<Items<u64>>, Items<u64>), AllocError>
+    ensures { IfOk result (λ copy. copy ≡ (parts.now.justice, parts.now.fairness)) }
+{
+    let justice = copy_lists(alloc, &parts.justice)?;
+    let fairness = parts.fairness.try_copy(alloc)?;
+    Ok((justice, fairness))
+}
+
 fn copy_parts(alloc: Global, parts: &Parts) -> Result<Parts, AllocError>
     ensures { IfOk result (λ copy. copy ≡ parts.now) }
 {
+    let (inputs, latches, gates) = copy_signals(alloc, parts)?;
+    let (outputs, bad, constraints) = copy_literals(alloc, parts)?;
+    let (justice, fairness) = copy_properties(alloc, parts)?;
     Ok(Parts {
         max: parts.max,
-        inputs: parts.inputs.try_copy(alloc)?,
-        latches: parts.latches.try_copy(alloc)?,
-        gates: parts.gates.try_copy(alloc)?,
-        outputs: parts.outputs.try_copy(alloc)?,
-        bad: parts.bad.try_copy(alloc)?,
-        constraints: parts.constraints.try_copy(alloc)?,
-        justice: copy_lists(alloc, &parts.justice)?,
-        fairness: parts.fairness.try_copy(alloc)?,
+        inputs,
+        latches,
+        gates,
+        outputs,
+        bad,
+        constraints,
+        justice,
+        fairness,
     })
 }
 
@@ -105,6 +143,29 @@ fn keep(parts: Parts, order: Order) -> Kept
     }
 }
 
+// What is wrong with the definitions and uses of a model, over marks of its own.
+fn fault_in(alloc: Global, parts: &Parts) -> Result<Option<ModelFault>, AllocError>
+    requires { AreInRange parts.now }
+    ensures { IfOk result (λ fault. MatchOption fault (IsDefined parts.now) (HasFault parts.now)) }
+{
+    let mut marks = make_marks(alloc, parts.max)?;
+    Ok(fault_of(parts, &mut marks))
+}
+
+// An order of the gates of a model in which nothing is wrong, or what is wrong.
+fn order_in(alloc: Global, parts: &Parts) -> Result<Order, ModelEnd>
+    requires { AreInRange parts.now }
+    ensures { TellsOrder parts.now result }
+{
+    if let Some(fault) = fault_in(alloc, parts)? {
+        return Err(ModelEnd::Fault(fault));
+    }
+    match order_gates(alloc, parts)? {
+        Ordered::Order(order) => Ok(order),
+        Ordered::Cycle(v) => Err(ModelEnd::Fault(ModelFault::Cycle(v))),
+    }
+}
+
 /// Checks the circuit of a model, and keeps it with the model's outputs and bad state literals; the lists are not
 /// copied. The faults are those of `check_circuit`.
 pub fn keep_circuit(alloc: Global, parts: Parts) -> Result<Kept, ModelEnd>
@@ -125,13 +186,9 @@ pub fn keep_circuit(alloc: Global, parts: Parts) -> Result<Kept, ModelEnd>
         (IsOnlyOnCycle parts) result }
     ensures no_other { AnswersNoOther result }
 {
-    let mut marks = make_marks(alloc, parts.max)?;
-    if let Some(fault) = fault_of(&parts, &mut marks) {
-        return Err(ModelEnd::Fault(fault));
-    }
-    match order_gates(alloc, &parts)? {
-        Ordered::Order(order) => Ok(keep(parts, order)),
-        Ordered::Cycle(v) => Err(ModelEnd::Fault(ModelFault::Cycle(v))),
+    match order_in(alloc, &parts) {
+        Ok(order) => Ok(keep(parts, order)),
+        Err(end) => Err(end),
     }
 }
 

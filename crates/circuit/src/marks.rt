@@ -13,7 +13,7 @@ use aig_semantics::{Gate, Latch};
 use items::Items;
 
 /// What is known of a variable.
-#[derive(Clone, Copy, Debug, PartialEq, Eq)]
+#[derive(Clone, Copy, PartialEq)]
 pub enum Mark {
     /// No definition was seen.
     Nowhere,

@@ -15,7 +15,7 @@ use aig_semantics::Gate;
 use std::alloc::{AllocError, Global};
 
 /// How far the search is at a variable.
-#[derive(Clone, Copy, Debug)]
+#[derive(Clone, Copy)]
 enum Progress {
     /// The variable is no gate's.
     NoGate,

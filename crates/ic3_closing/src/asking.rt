@@ -20,15 +20,27 @@ pub(crate) fn add(solver: &mut Solver, clause: Clause) -> Result<(), AllocError>
     solver.add(clause)
 }
 
+fn add_all(solver: &mut Solver, clauses: Vec<Clause>) -> Result<(), AllocError>
+    ensures { OnOk result (solver.new.added ≡ solver.old.added ++ clauses.items) }
+{
+    for clause in clauses {
+        add(solver, clause)?;
+    }
+    Ok(())
+}
+
 /// A solver with these clauses.
 pub(crate) fn solver_with(alloc: Global, clauses: Vec<Clause>) -> Result<Solver, AllocError>
     ensures { IfOk result (λ solver. solver.added ≡ clauses.items) }
 {
     let mut solver = Solver::new(alloc)?;
-    for clause in clauses {
-        add(&mut solver, clause)?;
+    match add_all(&mut solver, clauses) {
+        Ok(()) => Ok(solver),
+        Err(refused) => {
+            drop(solver);
+            Err(refused)
+        }
     }
-    Ok(solver)
 }
 
 /// Asks the solver. Numbers from 2^63 on are want of memory.

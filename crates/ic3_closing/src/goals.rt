@@ -89,21 +89,39 @@ pub(crate) fn goal_set(
     Ok(set)
 }
 
-// A solver of the steps in the arena from states that meet these clauses.
+// What the steps in the arena from states that meet these clauses, and are in no avoided cube, have to meet.
+fn steps_from(
+    alloc: Global,
+    c: &Circuit,
+    view: &[Arc<Checked>],
+    start: &Start,
+    clauses: &[Clause],
+    avoid: &[Cube],
+) -> Result<Vec<Clause>, AllocError>
+    ensures { IfOk result (λ steps. steps.items ≡ shared_clauses c.now (restricting start.now (viewed view.now))
+        (own_uses (viewed view.now) start.now) (goal_set clauses.now avoid.now)) }
+{
+    let set = goal_set(alloc, clauses, avoid)?;
+    let used = used(alloc, view, start)?;
+    let own = own_uses(alloc, view, start)?;
+    let begun = shared(alloc, c, used.as_slice(), own.as_slice(), &set)?;
+    Ok(begun.clauses.into_vec())
+}
+
+// A solver of the steps in the arena from states that meet these clauses, and are in no avoided cube.
 fn solver_from(
     alloc: Global,
     c: &Circuit,
     view: &[Arc<Checked>],
     start: &Start,
-    set: &ClauseSet,
+    clauses: &[Clause],
+    avoid: &[Cube],
 ) -> Result<Solver, AllocError>
-    ensures { IfOk result (λ solver. solver.added ≡ shared_clauses c.now
-        (restricting start.now (viewed view.now)) (own_uses (viewed view.now) start.now) set.now) }
+    ensures { IfOk result (λ solver. solver.added ≡ shared_clauses c.now (restricting start.now (viewed view.now))
+        (own_uses (viewed view.now) start.now) (goal_set clauses.now avoid.now)) }
 {
-    let used = used(alloc, view, start)?;
-    let own = own_uses(alloc, view, start)?;
-    let begun = shared(alloc, c, used.as_slice(), own.as_slice(), set)?;
-    solver_with(alloc, begun.clauses.into_vec())
+    let steps = steps_from(alloc, c, view, start, clauses, avoid)?;
+    solver_with(alloc, steps)
 }
 
 // Whether no state that meets the clauses is that of a position at which the literal is met as goal. Of a variable that
@@ -134,9 +152,10 @@ fn misses_literal(
     }
     let _greatest = c.max();
     one_valuation(c);
-    let set = goal_set(alloc, clauses, avoid)?;
-    let mut solver = solver_from(alloc, c, view, start, &set)?;
-    is_refused(alloc, &mut solver, &[literal_in_block(literal)], meter)
+    let mut solver = solver_from(alloc, c, view, start, clauses, avoid)?;
+    let refused = is_refused(alloc, &mut solver, &[literal_in_block(literal)], meter);
+    drop(solver);
+    refused
 }
 
 fn meets(clauses: &[Clause], state: &[bool]) -> bool

@@ -21,7 +21,7 @@ use fair_semantics::{Kind, Use};
 use std::alloc::{AllocError, Global};
 use std::sync::Arc;
 
-#[derive(Debug, Drop)]
+#[derive(Drop)]
 pub(crate) struct Guarded {
     solver: Solver,
     /// The guard of part 0.
@@ -153,6 +153,50 @@ fn add_set(
     Ok(())
 }
 
+// Adds the clauses of a block, of which so many stand behind guards, each behind the guard of its part.
+fn add_parts(
+    alloc: Global,
+    solver: &mut Solver,
+    first: u64,
+    clauses: &[Clause],
+    behind: usize,
+    used: &[Used<'_>],
+    whole: &ClosedSet,
+) -> Result<(), AllocError> {
+    let uses = whole.uses.as_slice();
+    let block = clauses.len().saturating_sub(behind);
+    let place = add_some(alloc, solver, None, clauses, 0, block)?;
+    let place = add_uses(alloc, solver, first, clauses, place, used)?;
+    let place = add_sides(alloc, solver, first, clauses, place, uses)?;
+    let parts = uses.len().saturating_mul(2);
+    let count = whole.clauses.len();
+    add_set(alloc, solver, first, clauses, place, count, parts)
+}
+
+// A solver of the clauses of such a block, in which the guards begin with variable `first`.
+fn guarded_by(
+    alloc: Global,
+    first: u64,
+    clauses: &[Clause],
+    behind: usize,
+    used: &[Used<'_>],
+    whole: &ClosedSet,
+) -> Result<Guarded, AllocError> {
+    let mut solver = Solver::new(alloc)?;
+    let parts = whole.uses.len().saturating_mul(2);
+    match add_parts(alloc, &mut solver, first, clauses, behind, used, whole) {
+        Ok(()) => Ok(Guarded {
+            solver,
+            first,
+            free: parts.saturating_add(whole.clauses.len()).saturating_add(1),
+        }),
+        Err(refused) => {
+            drop(solver);
+            Err(refused)
+        }
+    }
+}
+
 /// The solver of a closed set, with the cubes that its goal avoids.
 pub(crate) fn solver_behind_guards(
     alloc: Global,
@@ -167,31 +211,11 @@ pub(crate) fn solver_behind_guards(
     let used = lend(alloc, view, uses)?;
     let set = goal_set(alloc, whole.clauses.as_slice(), avoid)?;
     let begun = shared(alloc, c, used.as_slice(), uses, &set)?;
-    let clauses = begun.clauses.as_slice();
     let behind = all_count(used.as_slice())
         .saturating_add(signed_count(uses))
         .saturating_add(set.len());
-    let block = clauses.len().saturating_sub(behind);
-    let parts = uses.len().saturating_mul(2);
-    let first = begun.free;
-    let mut solver = Solver::new(alloc)?;
-    let place = add_some(alloc, &mut solver, None, clauses, 0, block)?;
-    let place = add_uses(alloc, &mut solver, first, clauses, place, used.as_slice())?;
-    let place = add_sides(alloc, &mut solver, first, clauses, place, uses)?;
-    add_set(
-        alloc,
-        &mut solver,
-        first,
-        clauses,
-        place,
-        whole.clauses.len(),
-        parts,
-    )?;
-    Ok(Guarded {
-        solver,
-        first,
-        free: parts.saturating_add(whole.clauses.len()).saturating_add(1),
-    })
+    let clauses = begun.clauses.as_slice();
+    guarded_by(alloc, begun.free, clauses, behind, used.as_slice(), whole)
 }
 
 fn are_positive(literals: &[Lit]) -> bool
@@ -231,15 +255,42 @@ fn push_guards(
     Ok(())
 }
 
-// Begins a question: these literals are true, where its guard is.
-fn begin(alloc: Global, g: &mut Guarded, literals: &[Lit]) -> Result<Vec<Lit>, AllocError> {
+// Begins a question, and answers its guard: these literals are true where it is.
+fn begin(alloc: Global, g: &mut Guarded, literals: &[Lit]) -> Result<Lit, AllocError> {
     let own = guard(g.first, g.free)?;
     g.free = g.free.saturating_add(1);
     for literal in literals {
         add_behind(alloc, &mut g.solver, Some(own), &[*literal])?;
     }
+    Ok(own)
+}
+
+// Puts the guards of the avoided cubes, where they count, and of all parts at the end, the marked ones first.
+fn push_parts(
+    guards: &mut Vec<Lit>,
+    first: u64,
+    avoids: bool,
+    marks: &[bool],
+) -> Result<(), AllocError> {
+    if avoids {
+        guards.push(guard(first, marks.len())?)?;
+    }
+    push_guards(guards, first, marks, true)?;
+    push_guards(guards, first, marks, false)
+}
+
+// The guards of a question whether all these literals can be true.
+fn question(
+    alloc: Global,
+    g: &mut Guarded,
+    literals: &[Lit],
+    avoids: bool,
+    marks: &[bool],
+) -> Result<Vec<Lit>, AllocError> {
+    let own = begin(alloc, g, literals)?;
     let mut guards = Vec::new(alloc);
     guards.push(own)?;
+    push_parts(&mut guards, g.first, avoids, marks)?;
     Ok(guards)
 }
 
@@ -247,6 +298,14 @@ fn begin(alloc: Global, g: &mut Guarded, literals: &[Lit]) -> Result<Vec<Lit>, A
 pub(crate) fn mark(marks: &mut [bool], part: usize) {
     if part < marks.len() {
         marks[part] = true;
+    }
+}
+
+// Marks the parts of which a core has the guards.
+fn mark_guarded(marks: &mut [bool], first: u64, core: &[Lit]) {
+    for guard in core {
+        let part = guard.var.saturating_sub(first) as usize;
+        mark(marks, part);
     }
 }
 
@@ -263,17 +322,11 @@ pub(crate) fn mark_core(
     ensures end { IfErr result (IsEnd meter.new) }
     ensures counted { CountsConflicts meter.old meter.new }
 {
-    let mut guards = begin(alloc, g, literals)?;
-    if avoids {
-        guards.push(guard(g.first, marks.len())?)?;
-    }
-    push_guards(&mut guards, g.first, marks.as_slice(), true)?;
-    push_guards(&mut guards, g.first, marks.as_slice(), false)?;
-    if let Asked::Unsat(core) = ask_guarded(alloc, &mut g.solver, guards.as_slice(), meter)? {
-        for guard in core.as_slice() {
-            let part = guard.var.saturating_sub(g.first) as usize;
-            mark(marks.as_mut_slice(), part);
-        }
+    let guards = question(alloc, g, literals, avoids, marks.as_slice())?;
+    let first = g.first;
+    match ask_guarded(alloc, &mut g.solver, guards.as_slice(), meter)? {
+        Asked::Sat(_) => {}
+        Asked::Unsat(core) => mark_guarded(marks.as_mut_slice(), first, core.as_slice()),
     }
     Ok(())
 }

@@ -101,7 +101,49 @@ fn mark_obligation(
     mark_core(alloc, g, literals.as_slice(), false, marks, meter)
 }
 
-// Marks what the obligations of the marked clauses rest on, and of those that are marked by this.
+// Marks what the obligation of the next clause rests on that is marked and was not asked for. Says whether there was one.
+fn mark_next(
+    alloc: Global,
+    c: &Circuit,
+    g: &mut Guarded,
+    whole: &ClosedSet,
+    asked: &mut [bool],
+    marks: &mut Vec<bool>,
+    meter: &mut Meter,
+) -> Result<bool, SolveEnd>
+    ensures end { IfErr result (IsEnd meter.new) }
+    ensures counted { CountsConflicts meter.old meter.new }
+{
+    let from = whole.uses.len().saturating_mul(2);
+    let Some(k) = open_clause(marks.as_slice(), from, asked) else {
+        return Ok(false);
+    };
+    mark(asked, k);
+    mark_obligation(alloc, c, g, whole.clauses.as_slice(), k, marks, meter)?;
+    Ok(true)
+}
+
+// Marks what the obligations of the marked clauses rest on that were not asked for, and of those that are marked by this.
+fn mark_open(
+    alloc: Global,
+    c: &Circuit,
+    g: &mut Guarded,
+    whole: &ClosedSet,
+    asked: &mut Vec<bool>,
+    marks: &mut Vec<bool>,
+    meter: &mut Meter,
+) -> Result<(), SolveEnd>
+    ensures end { IfErr result (IsEnd meter.new) }
+    ensures counted { CountsConflicts meter.old meter.new }
+{
+    for _turn in 0..whole.clauses.len() {
+        if !mark_next(alloc, c, g, whole, asked.as_mut_slice(), marks, meter)? {
+            return Ok(());
+        }
+    }
+    Ok(())
+}
+
 fn mark_obligations(
     alloc: Global,
     c: &Circuit,
@@ -113,17 +155,8 @@ fn mark_obligations(
     ensures end { IfErr result (IsEnd meter.new) }
     ensures counted { CountsConflicts meter.old meter.new }
 {
-    let clauses = whole.clauses.as_slice();
-    let from = whole.uses.len().saturating_mul(2);
-    let mut asked = vec![in alloc; false; clauses.len()]?;
-    for _turn in 0..clauses.len() {
-        let Some(k) = open_clause(marks.as_slice(), from, asked.as_slice()) else {
-            return Ok(());
-        };
-        mark(asked.as_mut_slice(), k);
-        mark_obligation(alloc, c, g, clauses, k, marks, meter)?;
-    }
-    Ok(())
+    let mut asked = vec![in alloc; false; whole.clauses.len()]?;
+    mark_open(alloc, c, g, whole, &mut asked, marks, meter)
 }
 
 // Marks the uses of the walls of which an entry names sides.
@@ -175,6 +208,64 @@ fn split_marks(alloc: Global, whole: &ClosedSet, marks: &[bool]) -> Result<Marks
     })
 }
 
+// Marks what is needed.
+fn mark_needed(
+    alloc: Global,
+    c: &Circuit,
+    view: &[Arc<Checked>],
+    goal: &Goal<'_>,
+    whole: &ClosedSet,
+    g: &mut Guarded,
+    marks: &mut Vec<bool>,
+    meter: &mut Meter,
+) -> Result<(), SolveEnd>
+    ensures end { IfErr result (IsEnd meter.new) }
+    ensures counted { CountsConflicts meter.old meter.new }
+{
+    mark_goal(alloc, g, goal, whole, marks, meter)?;
+    mark_obligations(alloc, c, g, whole, marks, meter)?;
+    mark_uses(view, whole.uses.as_slice(), marks.as_mut_slice());
+    Ok(())
+}
+
+// The marks of all parts, by a solver of them.
+fn marks_by(
+    alloc: Global,
+    c: &Circuit,
+    view: &[Arc<Checked>],
+    goal: &Goal<'_>,
+    whole: &ClosedSet,
+    g: &mut Guarded,
+    meter: &mut Meter,
+) -> Result<Vec<bool>, SolveEnd>
+    ensures end { IfErr result (IsEnd meter.new) }
+    ensures counted { CountsConflicts meter.old meter.new }
+{
+    let parts = whole.uses.len().saturating_mul(2);
+    let mut marks = vec![in alloc; false; parts.saturating_add(whole.clauses.len())]?;
+    mark_needed(alloc, c, view, goal, whole, g, &mut marks, meter)?;
+    Ok(marks)
+}
+
+// The marks of all parts.
+fn part_marks(
+    alloc: Global,
+    c: &Circuit,
+    view: &[Arc<Checked>],
+    goal: &Goal<'_>,
+    whole: &ClosedSet,
+    meter: &mut Meter,
+) -> Result<Vec<bool>, SolveEnd>
+    requires { All (λ u. u.entry < length view.now) whole.now.uses }
+    ensures end { IfErr result (IsEnd meter.new) }
+    ensures counted { CountsConflicts meter.old meter.new }
+{
+    let mut g = solver_behind_guards(alloc, c, view, whole, avoided(goal))?;
+    let marks = marks_by(alloc, c, view, goal, whole, &mut g, meter);
+    drop(g);
+    marks
+}
+
 /// Marks what is needed of a closed set.
 pub(crate) fn needed(
     alloc: Global,
@@ -188,11 +279,6 @@ pub(crate) fn needed(
     ensures end { IfErr result (IsEnd meter.new) }
     ensures counted { CountsConflicts meter.old meter.new }
 {
-    let mut g = solver_behind_guards(alloc, c, view, whole, avoided(goal))?;
-    let parts = whole.uses.len().saturating_mul(2);
-    let mut marks = vec![in alloc; false; parts.saturating_add(whole.clauses.len())]?;
-    mark_goal(alloc, &mut g, goal, whole, &mut marks, meter)?;
-    mark_obligations(alloc, c, &mut g, whole, &mut marks, meter)?;
-    mark_uses(view, whole.uses.as_slice(), marks.as_mut_slice());
+    let marks = part_marks(alloc, c, view, goal, whole, meter)?;
     Ok(split_marks(alloc, whole, marks.as_slice())?)
 }

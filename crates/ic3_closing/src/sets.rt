@@ -12,7 +12,7 @@ pub struct ClosedSet {
 }
 
 /// Marks for a closed set: of each use whether it is kept, and whether with its side; of each clause whether it is kept.
-#[derive(Debug, Drop)]
+#[derive(Drop)]
 pub(crate) struct Marks {
     pub(crate) uses: Vec<bool>,
     pub(crate) sides: Vec<bool>,

@@ -155,6 +155,29 @@ fn is_unbroken(
     is_refused(alloc, solver, literals.as_slice(), meter)
 }
 
+// Whether the solver, of what the obligations of an entry with these clauses and uses share, shows each clause unbroken.
+fn are_unbroken(
+    alloc: Global,
+    c: &Circuit,
+    _view: &[Arc<Checked>],
+    part: &ClosedSet,
+    solver: &mut Solver,
+    meter: &mut Meter,
+) -> Result<bool, SolveEnd>
+    requires { solver.old.added ≡ shared_by c.now (viewed _view.now) part.now.clauses part.now.uses }
+    ensures unbroken { IfOk result (λ b. b ≡ true
+        → NoneBreaks c.now (viewed _view.now) part.now.clauses part.now.uses (length part.now.clauses)) }
+    ensures end { IfErr result (IsEnd meter.new) }
+    ensures counted { CountsConflicts meter.old meter.new }
+{
+    for clause in part.clauses.as_slice() {
+        if !is_unbroken(alloc, c, solver, clause, meter)? {
+            return Ok(false);
+        }
+    }
+    Ok(true)
+}
+
 // Whether no step that the uses allow leads from the set to a state that breaks one of its clauses.
 fn stays(
     alloc: Global,
@@ -170,12 +193,9 @@ fn stays(
     ensures counted { CountsConflicts meter.old meter.new }
 {
     let mut solver = solver_of(alloc, c, view, part)?;
-    for clause in part.clauses.as_slice() {
-        if !is_unbroken(alloc, c, &mut solver, clause, meter)? {
-            return Ok(false);
-        }
-    }
-    Ok(true)
+    let unbroken = are_unbroken(alloc, c, view, part, &mut solver, meter);
+    drop(solver);
+    unbroken
 }
 
 /// Whether the part stands by itself: the walls of which used entries name sides are used, no allowed step leaves its

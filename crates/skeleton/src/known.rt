@@ -89,8 +89,13 @@ pub(crate) fn solver_with(alloc: Global, clauses: Vec<Clause>) -> Result<Solver,
 {
     let mut solver = Solver::new(alloc)?;
     let mut count = 0;
-    add_rest(&mut solver, &mut count, clauses)?;
-    Ok(solver)
+    match add_rest(&mut solver, &mut count, clauses) {
+        Ok(()) => Ok(solver),
+        Err(refused) => {
+            drop(solver);
+            Err(refused)
+        }
+    }
 }
 
 fn share(alloc: Global, view: &[Arc<Checked>]) -> Result<Items<Arc<Checked>>, AllocError>
@@ -119,6 +124,22 @@ pub(crate) fn nothing_known(alloc: Global, value: bool) -> Result<Known, AllocEr
     })
 }
 
+// The skeleton clauses over the entries of a view.
+fn clauses_of(
+    alloc: Global,
+    c: &Circuit,
+    j: u32,
+    view: &[Arc<Checked>],
+) -> Result<Vec<Clause>, AllocError>
+    requires property { j < length c.now.justice }
+    requires few { length view.now < 2 ^ 32 }
+    ensures { IfOk result (λ clauses. clauses.items ≡ skeleton_clauses c.now j (numbered (viewed view.now))) }
+{
+    let uses = lend(alloc, view)?;
+    let clauses = skeleton_cnf(alloc, c, j, uses.as_slice())?;
+    Ok(clauses.into_vec())
+}
+
 /// Takes in what the view has more than was seen, and what an error before kept from the solver. The error is want of
 /// memory; the clauses that were added stay.
 pub(crate) fn catch_up(
@@ -141,11 +162,10 @@ pub(crate) fn catch_up(
         return Ok(());
     }
     let seen = share(alloc, view)?;
-    let uses = lend(alloc, view)?;
-    let clauses = skeleton_cnf(alloc, c, j, uses.as_slice())?;
+    let clauses = clauses_of(alloc, c, j, view)?;
     known.seen = seen;
     known.whole = false;
-    add_rest(&mut known.solver, &mut known.count, clauses.into_vec())?;
+    add_rest(&mut known.solver, &mut known.count, clauses)?;
     known.whole = true;
     Ok(())
 }

@@ -52,6 +52,32 @@ fn list_of(alloc: Global, view: &[Arc<Checked>]) -> Result<Vec<Listed>, AllocErr
     Ok(list)
 }
 
+// The skeleton clauses over these uses.
+fn clauses_over(
+    alloc: Global,
+    c: &Circuit,
+    j: u32,
+    list: &[Listed],
+    uses: &[Use],
+) -> Result<Vec<Clause>, AllocError>
+    requires property { j < length c.now.justice }
+    requires present { All (λ u. u.entry < length list.now) uses.now }
+{
+    let lent = used(alloc, list, uses)?;
+    let clauses = skeleton_cnf(alloc, c, j, lent.as_slice())?;
+    Ok(clauses.into_vec())
+}
+
+// What a solver of these clauses answers.
+fn refuted(alloc: Global, clauses: Vec<Clause>, meter: &mut Meter) -> Result<Refuted, SolveEnd>
+    ensures counted { CountsConflicts meter.old meter.new }
+{
+    let mut solver = solver_with(alloc, clauses)?;
+    let answer = refute(alloc, &mut solver, meter);
+    drop(solver);
+    answer
+}
+
 // A proof over these uses, if there is one.
 fn proof_over(
     alloc: Global,
@@ -65,10 +91,8 @@ fn proof_over(
     requires present { All (λ u. u.entry < length list.now) uses }
     ensures counted { CountsConflicts meter.old meter.new }
 {
-    let lent = used(alloc, list, uses.as_slice())?;
-    let clauses = skeleton_cnf(alloc, c, j, lent.as_slice())?;
-    let mut solver = solver_with(alloc, clauses.into_vec())?;
-    match refute(alloc, &mut solver, meter)? {
+    let clauses = clauses_over(alloc, c, j, list, uses.as_slice())?;
+    match refuted(alloc, clauses, meter)? {
         Refuted::Sat(_) => Ok(None),
         Refuted::Unsat(proof) => Ok(Some(Refutation { uses, proof })),
     }
@@ -88,6 +112,27 @@ fn if_good(
     match refutation_fault(alloc, c, list, j, &refutation)? {
         None => Ok(Some(refutation)),
         Some(_) => Ok(None),
+    }
+}
+
+// A refutation over these uses, where one is found that is good.
+fn good_over(
+    alloc: Global,
+    c: &Circuit,
+    j: u32,
+    list: &[Listed],
+    uses: Items<Use>,
+    meter: &mut Meter,
+) -> Result<Option<Refutation>, SolveEnd>
+    requires property { j < length c.now.justice }
+    requires present { All (λ u. u.entry < length list.now) uses }
+    ensures good { IfOk result (λ found. IfSome found (λ r.
+        IsGoodRefutation c.now (entries_of list.now) j r.uses r.proof)) }
+    ensures counted { CountsConflicts meter.old meter.new }
+{
+    match proof_over(alloc, c, j, list, uses, meter)? {
+        Some(refutation) => Ok(if_good(alloc, c, j, list, refutation)?),
+        None => Ok(None),
     }
 }
 
@@ -112,10 +157,7 @@ fn fewer(
         return Ok(None);
     }
     let list = list_of(alloc, view)?;
-    match proof_over(alloc, c, j, list.as_slice(), uses, meter)? {
-        Some(refutation) => Ok(if_good(alloc, c, j, list.as_slice(), refutation)?),
-        None => Ok(None),
-    }
+    good_over(alloc, c, j, list.as_slice(), uses, meter)
 }
 
 /// A good refutation of property `j` over the entries that the given one needs. Where the meter or memory does not

@@ -95,8 +95,8 @@ impl Query {
         requires { j < length (arc_value c.now).justice }
         ensures { IfOk result (λ query. query ≡ record { circuit = arc_value c.now; property = j; seen = [] }) }
     {
-        let known = nothing_known(alloc, worker / 3 % 2 == 1)?;
         let circuit = Arc::try_clone(c)?;
+        let known = nothing_known(alloc, worker / 3 % 2 == 1)?;
         Ok(Query {
             circuit,
             property: j,

@@ -1,6 +1,6 @@
 //! The parts of a new board.
 
-ghost use Rattle.std.specs.Prelude.{◌≡◌, ◌+◌, ◌≤◌, min, map, length, replicate, None, vec_capacity, IfOk};
+ghost use Rattle.std.specs.Prelude.{◌≡◌, ◌+◌, ◌≤◌, min, map, length, replicate, None, vec_capacity, [], ◌++◌, IfOk, OnOk};
 ghost use Rattle.std.specs.Arc.{arc_value};
 ghost use Rattle.wall_store.specs.declared.outcomes.Served.{Served};
 ghost use Rattle.wall_store.specs.Boards.{most_entries};
@@ -37,18 +37,40 @@ pub fn places(alloc: Global, limit: u32) -> Result<Vec<bool>, AllocError>
     Ok(vec![in alloc; false; limit as usize]?)
 }
 
-/// These properties, without outcomes.
-pub fn unserved(alloc: Global, properties: &[u32]) -> Result<Vec<Served>, AllocError>
-    ensures { IfOk result (λ served. served.items ≡ map (λ j. record { property = j; outcome = None }) properties.now) }
+// Puts these properties at the end, without outcomes.
+fn push_unserved(served: &mut Vec<Served>, properties: &[u32]) -> Result<(), AllocError>
+    ensures { OnOk result (served.new.items
+        ≡ served.old.items ++ map (λ j. record { property = j; outcome = None }) properties.now) }
 {
-    let mut served = Vec::new(alloc);
     for j in properties {
         served.push(Served {
             property: *j,
             outcome: None,
         })?;
     }
+    Ok(())
+}
+
+/// These properties, without outcomes.
+pub fn unserved(alloc: Global, properties: &[u32]) -> Result<Vec<Served>, AllocError>
+    ensures { IfOk result (λ served. served.items ≡ map (λ j. record { property = j; outcome = None }) properties.now) }
+{
+    let mut served = Vec::new(alloc);
+    push_unserved(&mut served, properties)?;
     Ok(served)
+}
+
+// Puts these entries into an empty list that has room for them.
+fn put_all(entries: &mut Vec<Arc<Checked>>, given: &[Arc<Checked>]) -> Result<(), AllocError>
+    requires empty { entries.old.items ≡ [] }
+    requires room { length given.now ≤ vec_capacity entries.old }
+    ensures entries { OnOk result (map arc_value entries.new.items ≡ map arc_value given.now) }
+    ensures room { OnOk result (vec_capacity entries.new ≡ vec_capacity entries.old) }
+{
+    for e in given {
+        entries.push_reserved(Arc::try_clone(e)?);
+    }
+    Ok(())
 }
 
 /// A list of these entries, with room for `limit` in all.
@@ -62,8 +84,6 @@ pub fn list_with_room(
     ensures room { IfOk result (λ entries. limit ≤ vec_capacity entries) }
 {
     let mut entries = Vec::with_capacity(alloc, limit as usize)?;
-    for e in given {
-        entries.push_reserved(Arc::try_clone(e)?);
-    }
+    put_all(&mut entries, given)?;
     Ok(entries)
 }
