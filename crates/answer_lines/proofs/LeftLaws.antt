@@ -1,7 +1,7 @@
 -- The lines of what is left of a text.
-use Rattle.std.proofs.Common.{◌≡◌, ◌≢◌, ℕ, zero, suc, ◌+◌, ◌-◌, ◌≤◌, Bool, true, false, List, [], ◌∷◌, ◌++◌, length, take, drop, refl, ap, sym, subst, ◌∙◌, arith, append_assoc, length-append, length-take, inl, inr, Option, Some}
+use Rattle.std.proofs.Common.{◌≡◌, ◌≢◌, ℕ, zero, suc, ◌+◌, ◌-◌, ◌≤◌, ◌<◌, Bool, true, false, List, [], ◌∷◌, ◌++◌, length, take, drop, refl, ap, sym, subst, ◌∙◌, arith, append_assoc, append-nil, length-append, length-take, inl, inr, Option, Some}
 use Rattle.std.proofs.lemmas.List.{length-drop, take-append-drop, drop-take, drop_all, get_or_append_left}
-use Rattle.std.proofs.Math.Seq.{take-append-add, get_or-append-add}
+use Rattle.std.proofs.Math.Seq.{take-append-add, take-append_seam, get_or-append-add}
 use Rattle.std.specs.Prelude.{IsTrue, IsFalse}
 use Rattle.std.proofs.lemmas.List.Elements.{All-append, All-head}
 use Rattle.std.proofs.lemmas.Grind.{common_steps}
@@ -172,3 +172,46 @@ took_last told old mid new same left ended line some none taken last =
       some = λ empty. some (sym line ∙ empty);
       left = λ text is. (sym (left text is) ∙ ended text is ∙ sym line, end_left mid new text (ended text is) none taken);
     })
+
+-- how many bytes are in hand then
+pub read_size : (given : Bool) (line ahead buffer : List ℕ) (n : ℕ) → given ≡ false → line ≡ ahead → n ≤ length buffer → length (front_of given line ++ rest_of buffer 0 n) ≡ length ahead + n
+read_size given line ahead buffer n not_given is_line inside =
+    let front : front_of given line ≡ ahead = ap (λ (g : Bool). front_of g line) not_given ∙ is_line in
+    let size : length (rest_of buffer 0 n) ≡ n = omega (arith, inside, length-take {A = ℕ}) in
+    length-append (front_of given line) (rest_of buffer 0 n) ∙ ap (λ (k : ℕ). length (front_of given line) + k) size ∙ ap (λ (f : List ℕ). length f + n) front
+
+-- no line feed is in what is held
+pub read_front : (given : Bool) (line ahead : List ℕ) → given ≡ false → line ≡ ahead → Lacks ahead 10 → Lacks (front_of given line) 10
+read_front given line ahead not_given is_line lacks =
+    subst (λ (bytes : List ℕ). Lacks bytes 10) (sym (ap (λ (g : Bool). front_of g line) not_given ∙ is_line)) lacks
+
+-- where a read gave nothing, the text ends behind what is in hand
+pub read_end : (ahead text : List ℕ) (place : ℕ) → length ahead ≤ place → length text ≤ place → ahead ++ drop ((place - length ahead) + length ahead) text ≡ ahead
+read_end ahead text place held ended =
+    ap (λ (rest : List ℕ). ahead ++ rest) (drop_all ((place - length ahead) + length ahead) text (omega (arith, held, ended))) ∙ append-nil ahead
+
+-- where a read gave a byte, more is left than is in hand
+pub read_longer : (ahead text : List ℕ) (place : ℕ) → length ahead ≤ place → place < length text → length ahead < length (ahead ++ drop ((place - length ahead) + length ahead) text)
+read_longer ahead text place held more =
+    omega (arith, held, more, length-append {A = ℕ}, length-drop {A = ℕ})
+
+-- a line is something
+pub line_is_some : (line left rest : List ℕ) → IsLine line left rest → left ≡ [] → ⊥
+line_is_some line left rest is_line none = omega (arith, ap length none, ap length is_line.spelled, length-append {A = ℕ})
+
+-- what is not empty has a byte
+pub has_byte : (bytes : List ℕ) → bytes ≢ [] → 0 < length bytes
+has_byte [] some = absurd (some refl)
+has_byte (byte ∷ bytes) some = omega arith
+
+-- what is in hand has no line feed, no more may be given, and more is left
+pub ends_too_long : (old mid : Reading) (text : List ℕ) → mid.taken ≡ old.taken → left_of mid text ≡ left_of old text → Lacks mid.ahead 10 → mid.taken + length mid.ahead ≡ most_bytes → length mid.ahead < length (left_of mid text) → IsTooLong (most_bytes - old.taken) (left_of old text)
+ends_too_long old mid text taken left lacks full more =
+    let room : most_bytes - mid.taken ≡ length mid.ahead = omega (arith, full) in
+    let front : take (most_bytes - mid.taken) (left_of mid text) ≡ mid.ahead = ap (λ (n : ℕ). take n (left_of mid text)) room ∙ take-append_seam mid.ahead (drop (mid.taken + length mid.ahead) text) in
+    let long : IsTooLong (most_bytes - mid.taken) (left_of mid text) = record {
+      longer = omega (arith, room, more);
+      unended = subst (λ (bytes : List ℕ). Lacks bytes 10) (sym front) lacks;
+    } in
+    subst (λ (n : ℕ). IsTooLong (most_bytes - n) (left_of old text)) taken
+    (subst (λ (bytes : List ℕ). IsTooLong (most_bytes - mid.taken) bytes) left long)

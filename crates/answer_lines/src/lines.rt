@@ -9,7 +9,7 @@ ghost use Rattle.answer_lines.specs.Left.{at_start, left_of, given_line, most_by
 ghost use Rattle.answer_lines.specs.LinesOf.{SameLeft};
 
 use crate::ends::LinesEnd;
-use crate::pieces::{PIECE, add_front, forget, hold, read_piece, zeros};
+use crate::pieces::{PIECE, add_front, forget, hold, read_into, zeros};
 use edge::Shelf;
 use std::alloc::{AllocError, Global};
 use std::marker::Model;
@@ -177,7 +177,7 @@ impl Lines {
         )?;
         self.start = self.end;
         let room = room_at(self.place);
-        let n = read_piece(shelf, name, self.place, &mut self.piece, room)?;
+        let n = read_into(shelf, name, self.place, &mut self.piece, room)?;
         if n as u64 > MOST_BYTES - self.place {
             return Err(LinesEnd::TooLong);
         }

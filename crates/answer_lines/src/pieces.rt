@@ -42,6 +42,28 @@ pub(crate) fn read_piece<H: Shelf>(
     shelf.read_at(name, from, &mut piece[..room])
 }
 
+/// The same over the whole piece.
+pub(crate) fn read_into<H: Shelf>(
+    shelf: &mut H,
+    name: &str,
+    from: u64,
+    piece: &mut Vec<u8>,
+    room: usize,
+) -> Result<usize, Failed>
+    requires some { 0 < room }
+    requires room { room ≤ vec_len piece.old }
+    ensures bound { IfOk result (λ n. n ≤ room) }
+    ensures length { length piece.new.items ≡ length piece.old.items }
+    ensures bytes { IfOk result (λ n. IfTold (H.held shelf.old name.now)
+        (λ text. GivesBytes text from n piece.new.items)) }
+    ensures kept { KeepsTexts (H.held shelf.old) (H.held shelf.new) }
+    ensures cause { HasCause (H.faults shelf.old name.now) (H.faults shelf.new name.now) result }
+    ensures others { NoneFell (H.faults shelf.old) (H.faults shelf.new) }
+    ensures step { H.reads shelf.old name.now (is_err result) shelf.new }
+{
+    read_piece(shelf, name, from, piece, room)
+}
+
 /// Adds to a line what stands in front of the first line feed, and says how many bytes those are. `None` where there
 /// is no line feed: then nothing is added.
 pub(crate) fn add_front(line: &mut Vec<u8>, rest: &[u8]) -> Result<Option<usize>, AllocError>

@@ -24,8 +24,7 @@ pub fn ring(alloc: Global, seed: u64, n: u64) -> Result<Model, AllocError>
     ensures ordered { IfOk result IsOrdered }
 {
     let parts = ring_parts(alloc, seed, n)?;
-    let model = plain_model(alloc, &parts)?;
-    Ok(model)
+    plain_model(alloc, &parts)
 }
 
 fn ring_parts(alloc: Global, seed: u64, n: u64) -> Result<Parts, AllocError>
@@ -101,8 +100,7 @@ pub fn scramble(alloc: Global, seed: u64, n: u64) -> Result<Model, AllocError>
     ensures ordered { IfOk result IsOrdered }
 {
     let parts = scramble_parts(alloc, seed, n)?;
-    let model = plain_model(alloc, &parts)?;
-    Ok(model)
+    plain_model(alloc, &parts)
 }
 
 fn scramble_parts(alloc: Global, seed: u64, n: u64) -> Result<Parts, AllocError>

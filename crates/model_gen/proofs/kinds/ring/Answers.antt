@@ -1,5 +1,6 @@
-use Rattle.std.proofs.Common.{subst, sym, ap, ◌∙◌}
+use Rattle.std.proofs.Common.{subst, sym, ap, ◌≡◌, ◌∙◌}
 use Rattle.std.proofs.lemmas.List.Elements.{All-nil}
+use Rattle.std.proofs.lemmas.Result.{IfOk-weaker}
 use Rattle.aig_semantics.specs.Circuits.{IsChecked, AreDefined}
 use Rattle.circuit.specs.Sections.{circuit_of, used_by, AreInRange}
 use Rattle.aiger_grammar.specs.Ordered.{IsOrdered}
@@ -25,4 +26,6 @@ plain_model-requires-clause-defined c =
     (defined_from parts (ring_in_range c.args.seed c.args.n c.requires.few) (ring_ordered c.args.seed c.args.n))
 
 pub returns-clause-ordered : goal.returns-clause-ordered
-returns-clause-ordered c = subst IsOrdered (sym (c.in_ok-model.ensures ∙ ap (λ p. plain (circuit_of p)) c.in_ok-parts.ensures)) (ring_has_order c.args.seed c.args.n)
+returns-clause-ordered c =
+    let same = ap (λ p. plain (circuit_of p)) c.in_ok-parts.ensures in
+    IfOk-weaker c.plain_model.result (λ m. m ≡ _) IsOrdered (λ m is. subst IsOrdered (sym (is ∙ same)) (ring_has_order c.args.seed c.args.n)) c.plain_model.ensures

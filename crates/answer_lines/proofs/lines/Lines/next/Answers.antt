@@ -1,4 +1,5 @@
-use Rattle.std.proofs.Common.{rules, ◌≡◌, ◌∙◌, ℕ, Bool, false, List, Some, ap, sym, subst, arith}
+use Rattle.std.proofs.Common.{rules, IsErrOf, ◌≡◌, ◌∙◌, ℕ, Bool, false, List, Some, ap, sym, subst, arith}
+use Rattle.std.proofs.lemmas.Bool.{false≢true}
 use Rattle.std.specs.Prelude.{IsTrue, IsFalse}
 use Rattle.edge.specs.Reads.{Reads}
 use Rattle.text_grammar.specs.Lines.{IsLine, lines_of}
@@ -6,7 +7,8 @@ use Rattle.text_grammar.specs.Pieces.{Lacks}
 use Rattle.text_grammar.proofs.LineLaws.{first_line}
 use Rattle.answer_lines.specs.LinesOf.{SameLeft}
 use Rattle.answer_lines.specs.Left.{left_of, is_read_fault}
-use Rattle.answer_lines.proofs.LeftLaws.{same_left, line_left, line_within, same_too_long, same_sum, line_sum, end_sum, end_lines, took_line, took_last}
+use Rattle.answer_lines.specs.declared.ends.LinesEnd.TheVariants as ends
+use Rattle.answer_lines.proofs.LeftLaws.{same_left, line_left, line_within, same_too_long, same_sum, line_sum, end_sum, end_lines, took_line, took_last, line_is_some, has_byte, ends_too_long}
 use Rattle.answer_lines.proofs.ReadLaws.{reads_after}
 use Rattle.answer_lines.proofs.lines.Lines.next.Goals as goal
 
@@ -130,3 +132,27 @@ returns-then-not-branch-2-clause-took g c given =
     (λ x told. left x told ∙ same_left c.loop-self.self c.cut.new.self x same ∙ c.loop-self.invariant.left x told)
     (λ x told. left x told ∙ c.in_ok-read_on.ensures.end ended x (held x told) ∙ sym ahead)
     (c.in_ok-end_line.ensures.line some) (c.in_ok-end_line.ensures.some some) c.in_ok-end_line.ensures.ahead c.in_ok-end_line.ensures.taken (c.in_ok-end_line.ensures.last some)
+
+pub returns-clause-end : goal.returns-clause-end
+returns-clause-end g c x told =
+    let found : IsTrue c.in_ok-cut.field-0 = search rules in
+    let line : IsLine c.cut.new.self.line (left_of c.loop-self.self x) (left_of c.cut.new.self x) = line_left c.loop-self.self c.cut.new.self x (c.in_ok-cut.ensures.found found) (c.in_ok-cut.ensures.taken found) in
+    (λ no. absurd (false≢true (sym no)), λ none. absurd (line_is_some c.cut.new.self.line (left_of c.loop-self.self x) (left_of c.cut.new.self x) line (c.loop-self.invariant.left x told ∙ none)))
+
+pub returns-then-not-branch-2-clause-later : goal.returns-then-not-branch-2-clause-later
+returns-then-not-branch-2-clause-later g c given =
+    let none : IsFalse c.in_ok-cut.field-0 = search rules in
+    let some : IsTrue c.in_ok-end_line.field-0 = search rules in
+    let same : SameLeft c.loop-self.self c.cut.new.self = c.in_ok-cut.ensures.same none in
+    omega (arith, c.in_ok-end_line.ensures.taken, c.in_ok-read_on.ensures.taken, same.taken, c.loop-self.invariant.taken, has_byte c.read_on.new.self.ahead (c.in_ok-end_line.ensures.some some))
+
+pub returns-in_err-read_on-clause-too_long : goal.returns-in_err-read_on-clause-too_long
+returns-in_err-read_on-clause-too_long g c long x told =
+    let held : g.H.Shelf.held c.loop-self.shelf c.args.name.now ≡ Some x = c.loop-self.invariant.kept c.args.name.now ∙ told in
+    let none : IsFalse c.in_ok-cut.field-0 = search rules in
+    let ended : IsErrOf c.read_on.result ends.TooLong = search rules in
+    let same : SameLeft c.loop-self.self c.cut.new.self = c.in_ok-cut.ensures.same none in
+    let lacks : Lacks c.cut.new.self.ahead 10 = subst (λ (bytes : List ℕ). Lacks bytes 10) (sym same.ahead) (c.in_ok-cut.ensures.none none) in
+    ends_too_long c.args.self.now c.cut.new.self x (same.taken ∙ c.loop-self.invariant.taken)
+    (same_left c.loop-self.self c.cut.new.self x same ∙ c.loop-self.invariant.left x told) lacks
+    (c.read_on.ensures.full ended) (c.read_on.ensures.too_long ended x held)
