@@ -56,6 +56,11 @@ none_any whole (a ∷ literals) f = elim (cases_Bool (has_literal whole (negatio
       ∙ none_any whole literals (λ b there. f b (or_right _ _ there))
 ]
 
+-- Where two literals of one variable are one, there are no opposites.
+pub no_opposites : (literals : List Lit)
+    → ((a b : Lit) → has_literal literals a ≡ true → has_literal literals b ≡ true → a.var ≡ b.var → a.positive ≡ b.positive)
+    → has_opposites literals ≡ false
+no_opposites literals one = none_any literals literals (λ a here there. turned a.positive (one a (negation a) here there refl))
+
 pub ascending_opposites : (last : ℕ) (literals : List Lit) → is_ascending last literals ≡ true → has_opposites literals ≡ false
-ascending_opposites last literals h =
-    none_any literals literals (λ a here there. turned a.positive (same last literals a (negation a) h here there refl))
+ascending_opposites last literals h = no_opposites literals (λ a b. same last literals a b h)

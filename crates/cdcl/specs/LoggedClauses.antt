@@ -1,4 +1,5 @@
--- Scaffolding of inner functions. The clauses that a solver holds, in the order in which they came, each with the hints that it was learned by.
+-- Scaffolding of inner functions. The clauses that a solver holds, in the order in which they came,
+-- each with the hints that it was learned by.
 use Rattle.std.specs.Prelude.{◌≡◌, ℕ, Bool, true, List, [], ◌∷◌, length, take, map, Option, Some, None, slice_get, slice_index_or}
 use Rattle.proof_semantics.specs.Clauses.{negation, clauses_value}
 use Rattle.proof_semantics.specs.Propagation.{hints_fault}

@@ -45,7 +45,7 @@ pub(crate) fn search_answer(
     ensures limited { IfErr result (IsLimitedAtRest assumptions.now log.old) }
 {
     let found = search(alloc, log, order, trail, assumptions, meter)?;
-    Ok(answer_of(alloc, log, trail, assumptions, found)?)
+    Ok(answer_of(alloc, log, trail, assumptions, &found)?)
 }
 
 /// Searches, and takes the values or writes the core.
@@ -70,7 +70,7 @@ pub(crate) fn search_asked(
     ensures limited { IfErr result (IsLimitedAtRest assumptions.now log.old) }
 {
     let found = search(alloc, log, order, trail, assumptions, meter)?;
-    Ok(asked_of(alloc, trail, found)?)
+    Ok(asked_of(alloc, trail, &found)?)
 }
 
 // The values of the trail, or the core with its proof.
@@ -79,11 +79,11 @@ fn answer_of(
     log: &Log,
     trail: &Trail,
     assumptions: &[Lit],
-    found: Found,
+    found: &Found,
 ) -> Result<Answer, AllocError>
     requires log { IsLog log.now }
     requires sizes { AreSized assumptions.now }
-    requires found { IsSearchResult log.now.clauses assumptions.now trail.now.steps found }
+    requires found { IsSearchResult log.now.clauses assumptions.now trail.now.steps found.now }
     ensures { IfOk result (IsAnswer (added_of log.now) assumptions.now) }
 {
     match found {
@@ -96,8 +96,8 @@ fn answer_of(
 }
 
 // The values of the trail, each to be read for itself, or the core.
-fn asked_of(alloc: Global, trail: &Trail, found: Found) -> Result<Asked, AllocError>
-    ensures { IfOk result (IsAskedFrom trail.now.steps found) }
+fn asked_of(alloc: Global, trail: &Trail, found: &Found) -> Result<Asked, AllocError>
+    ensures { IfOk result (IsAskedFrom trail.now.steps found.now) }
 {
     match found {
         Found::Satisfied => Ok(Asked::Sat(Assignment::of_trail(alloc, trail)?)),

@@ -3,7 +3,7 @@
 use cdcl_learn::Learned;
 
 /// What a search ends with, before an answer is made of it.
-#[derive(Debug, Drop)]
+#[derive(Drop)]
 pub(crate) enum Found {
     /// Under the trail every clause and each assumption is true.
     Satisfied,

@@ -12,7 +12,7 @@ pub(crate) const MOST_GIVEN: u64 = 1 << 60;
 
 /// The id of each clause by its number: of added clauses, of the units behind all clauses, and of
 /// learned clauses that have a line. 0 where a clause has none.
-#[derive(Debug, Drop)]
+#[derive(Drop)]
 pub(crate) struct Ids<'a> {
     given: &'a [u64],
     added: u64,

@@ -1,15 +1,16 @@
 //! The clauses that a solver holds, with the hints of those that it learned. The main type is `Log`.
-ghost use Rattle.std.specs.Prelude.{◌≡◌, ◌+◌, ◌↔◌, [], ◌∷◌, ◌++◌, OnOk, OnErr, IfErr, IsErr, Some, None, true};
+ghost use Rattle.std.specs.Prelude.{◌≡◌, ◌+◌, ◌<◌, [], ◌∷◌, ◌++◌, length, vec_capacity, OnOk, OnErr, IfErr, Some, None, true};
 ghost use Rattle.edge.specs.Units.{SpentConflict};
 ghost use Rattle.edge.specs.Faults.{one_more};
 ghost use Rattle.cdcl.specs.Solving.{IsEnd};
 ghost use Rattle.cdcl.specs.Ids.{ids_from, count_added};
-ghost use Rattle.cdcl.specs.Variables.{are_over};
+ghost use Rattle.cnf.specs.Clauses.{HasRoomFor};
+ghost use Rattle.cdcl.specs.Variables.{are_over, is_over, HasAll};
 
 use crate::cover::Cover;
 use crate::ids::MOST_GIVEN;
 use cdcl_learn::Learned;
-use cnf::{Clause, Db, Var};
+use cnf::{Clause, Db, Lit, Var};
 use edge::{Meter, SolveEnd};
 use items::Items;
 use std::alloc::{AllocError, Global};
@@ -120,10 +121,13 @@ impl Log {
         ensures err { OnErr result (self.new ≡ self.old) }
         ensures uncounted { OnErr result (meter.new ≡ meter.old) }
     {
-        self.db.reserve(1)?;
-        self.sources.reserve(1)?;
-        self.ids.reserve(1)?;
-        self.cover.meet(learned.clause.as_slice())?;
+        make_room(
+            &mut self.db,
+            &mut self.sources,
+            &mut self.ids,
+            &mut self.cover,
+            learned.clause.as_slice(),
+        )?;
         meter.conflict(&self.db, &learned.clause)?;
         let Learned { clause, hints } = learned;
         self.db.push_reserved(clause);
@@ -131,4 +135,29 @@ impl Log {
         self.ids.push_reserved(0);
         Ok(())
     }
+}
+
+// Makes room for one more clause, and takes in its variables. The error is want of memory; clauses,
+// hints and ids stay as they are.
+fn make_room(
+    db: &mut Db,
+    sources: &mut Vec<Option<Items<u64>>>,
+    ids: &mut Vec<u64>,
+    cover: &mut Cover,
+    clause: &[Lit],
+) -> Result<(), AllocError>
+    ensures clauses { db.new.clauses ≡ db.old.clauses }
+    ensures sources { sources.new.items ≡ sources.old.items }
+    ensures ids { ids.new.items ≡ ids.old.items }
+    ensures stays { HasAll cover.old cover.new }
+    ensures over { OnOk result (is_over cover.new clause.now ≡ true) }
+    ensures room { OnOk result (HasRoomFor db.new 1) }
+    ensures room_beside { OnOk result (length sources.new.items < vec_capacity sources.new) }
+    ensures room_of_ids { OnOk result (length ids.new.items < vec_capacity ids.new) }
+{
+    db.reserve(1)?;
+    sources.reserve(1)?;
+    ids.reserve(1)?;
+    cover.meet(clause)?;
+    Ok(())
 }

@@ -1,7 +1,7 @@
 //! The refusal of assumptions: a core and a proof. The main call is `refusal`.
-ghost use Rattle.std.specs.Prelude.{◌≡◌, ℕ, List, IfOk, map};
+ghost use Rattle.std.specs.Prelude.{◌≡◌, IfOk, map};
 ghost use Rattle.cdcl.specs.Searching.{IsHinted, NegatesOnly};
-ghost use Rattle.proof_semantics.specs.Clauses.{negation, has_opposites};
+ghost use Rattle.proof_semantics.specs.Clauses.{negation};
 ghost use Rattle.cdcl.specs.LoggedClauses.{IsLog, added_of};
 ghost use Rattle.proof_semantics.specs.Lines.{AreSized};
 ghost use Rattle.cdcl.specs.Solving.{IsAnswer};
@@ -18,12 +18,12 @@ pub(crate) fn refusal(
     alloc: Global,
     log: &Log,
     assumptions: &[Lit],
-    traced: Learned,
+    traced: &Learned,
 ) -> Result<Answer, AllocError>
     requires log { IsLog log.now }
     requires sizes { AreSized assumptions.now }
-    requires among { NegatesOnly assumptions.now traced.clause }
-    requires hints { IsHinted log.now.clauses traced }
+    requires among { NegatesOnly assumptions.now traced.now.clause }
+    requires hints { IsHinted log.now.clauses traced.now }
     ensures { IfOk result (IsAnswer (added_of log.now) assumptions.now) }
 {
     let core = negations(alloc, traced.clause.as_slice())?;

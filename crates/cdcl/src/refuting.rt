@@ -9,13 +9,13 @@ ghost use Rattle.cnf.specs.Clauses.{clause_numbered};
 ghost use Rattle.cdcl.specs.Ascending.{is_ascending};
 ghost use Rattle.cdcl.specs.Resting.{IsLimitedAtRest, IsRested};
 ghost use Rattle.cdcl.specs.LoggedClauses.{IsLog, added_of};
-ghost use Rattle.cdcl.specs.Finding.{IsSearchResult};
+ghost use Rattle.cdcl.specs.Finding.{IsSearchResult, Refuses};
 ghost use Rattle.cdcl.specs.Progress.{IsSearched};
 ghost use Rattle.cdcl.specs.Refuting.{IsRefuted};
 ghost use Rattle.cdcl.specs.Searching.{IsHeld};
 ghost use Rattle.cdcl.specs.Solving.{IsEnd};
 ghost use Rattle.cdcl.specs.UnitClauses.{unit_clauses};
-ghost use Rattle.cdcl.specs.WithUnits.{place_of, unit_number};
+ghost use Rattle.cdcl.specs.WithUnits.{unit_number};
 
 use crate::asking::{Assignment, Refuted};
 use crate::conditions::has_literal;
@@ -25,6 +25,7 @@ use crate::order::Order;
 use crate::refusing::negations;
 use crate::searching::search;
 use crate::writing::{MOST_CLAUSES, proof_of};
+use cdcl_learn::Learned;
 use cdcl_trail::Trail;
 use cnf::{Lit, Proof};
 use edge::{Meter, SolveEnd};
@@ -56,7 +57,7 @@ pub(crate) fn search_refuted(
         return Ok(Refuted::Unsat(proof));
     }
     let found = search(alloc, log, order, trail, units, meter)?;
-    Ok(refuted_of(alloc, log, trail, units, found)?)
+    Ok(refuted_of(alloc, log, trail, units, &found)?)
 }
 
 // The values of the trail, or the proof of the core with the core's units.
@@ -65,22 +66,35 @@ fn refuted_of(
     log: &Log,
     trail: &Trail,
     units: &[Lit],
-    found: Found,
+    found: &Found,
 ) -> Result<Refuted, AllocError>
     requires log { IsLog log.now }
     requires sizes { AreSized units.now }
     requires apart { has_opposites units.now ≡ false }
-    requires found { IsSearchResult log.now.clauses units.now trail.now.steps found }
+    requires found { IsSearchResult log.now.clauses units.now trail.now.steps found.now }
     ensures { IfOk result (IsRefuted (added_of log.now) units.now) }
 {
     match found {
         Found::Satisfied => Ok(Refuted::Sat(Assignment::of_trail(alloc, trail)?)),
-        Found::Refused(traced) => {
-            let core = negations(alloc, traced.clause.as_slice())?;
-            let proof = refutation(alloc, log, units, core.as_slice(), traced.hints.as_slice())?;
-            Ok(Refuted::Unsat(proof))
-        }
+        Found::Refused(traced) => Ok(Refuted::Unsat(core_refuted(alloc, log, units, traced)?)),
     }
+}
+
+// The proof by the units of a core, and then by what its clause was traced along.
+fn core_refuted(
+    alloc: Global,
+    log: &Log,
+    units: &[Lit],
+    traced: &Learned,
+) -> Result<Proof, AllocError>
+    requires log { IsLog log.now }
+    requires sizes { AreSized units.now }
+    requires apart { has_opposites units.now ≡ false }
+    requires refuses { Refuses log.now.clauses units.now traced.now }
+    ensures { IfOk result (Refutes (added_of log.now ++ unit_clauses units.now)) }
+{
+    let core = negations(alloc, traced.clause.as_slice())?;
+    refutation(alloc, log, units, core.as_slice(), traced.hints.as_slice())
 }
 
 // The proof by two opposite units.
@@ -156,8 +170,8 @@ fn unit_number(first: usize, units: &[Lit], literal: Lit) -> u64
     (first + units.len() + 1) as u64
 }
 
-// Whether the variables ascend, as those of a circuit's latches do: then no literal is the negation of another, and one
-// pass tells it.
+// Whether the variables ascend, as those of a clause over latches in their order mostly do: then no literal is the
+// negation of another, and one pass tells it.
 fn is_ascending(literals: &[Lit]) -> bool
     ensures { result ≡ is_ascending 0 literals.now }
 {

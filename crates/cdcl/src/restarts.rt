@@ -8,7 +8,7 @@ const UNIT: u64 = 100;
 
 /// How far a search has come in the sequence. After Knuth, each number of the sequence is a power
 /// of two that divides its round; a round ends with the greatest of them.
-#[derive(Clone, Copy, Debug)]
+#[derive(Clone, Copy)]
 pub(crate) struct Restarts {
     round: u64,
     length: u64,

@@ -50,7 +50,7 @@ pub(crate) fn proof_of(
 
 // A proof as far as it is written: the ids of clauses, the lines, and the greatest id of a line,
 // which is at first how many clauses are added.
-#[derive(Debug, Drop)]
+#[derive(Drop)]
 struct Writing<'a> {
     ids: Ids<'a>,
     lines: Vec<ProofLine>,

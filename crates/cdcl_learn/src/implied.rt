@@ -14,7 +14,7 @@ use std::collections::BinaryHeap;
 /// those that follow from marked ones before them; and what a look needs. After MiniSat (Eén,
 /// Sörensson, 2003) a look ends at a literal of a level without a marked one. It ends on level 0
 /// too, where reasons would bring hints from far below.
-#[derive(Debug, Drop)]
+#[derive(Drop)]
 pub(crate) struct Implied {
     asked: BinaryHeap<usize>,
     implied: Vec<bool>,

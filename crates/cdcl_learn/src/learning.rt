@@ -49,7 +49,7 @@ pub fn learn(alloc: Global, db: &Db, trail: &Trail, conflict: u64) -> Result<Lea
 
 // A clause on the way, by the marks of its literals, and the numbers of the clauses that explain it,
 // the last one first.
-#[derive(Debug, Drop)]
+#[derive(Drop)]
 pub(crate) struct Resolvent {
     pub(crate) marks: Marks,
     pub(crate) hints: Vec<u64>,

@@ -13,7 +13,7 @@ use std::marker::Model;
 const STRIDE: usize = 64;
 
 /// Which places of a trail are marked, and how many of them from a place on.
-#[derive(Debug, Drop)]
+#[derive(Drop)]
 pub(crate) struct Marks {
     marks: Vec<bool>,
     start: usize,

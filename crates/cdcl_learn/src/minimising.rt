@@ -1,5 +1,5 @@
 //! A learned clause without the literals that follow from its others. The main call is `minimise`.
-ghost use Rattle.std.specs.Prelude.{◌≡◌, ◌≤◌, ℕ, OnOk, true, length, reverse};
+ghost use Rattle.std.specs.Prelude.{◌≡◌, ◌<◌, ◌≤◌, ℕ, OnOk, true, length, reverse};
 ghost use Rattle.cdcl_trail.specs.Propagation.{IsReasonedTrail};
 ghost use Rattle.cdcl_trail.specs.AssignmentOf.{place_in};
 ghost use Rattle.cdcl_trail.specs.Places.{told};
@@ -32,7 +32,6 @@ pub(crate) fn minimise(
     ensures long { length resolvent.new.marks.marks ≡ length trail.now.steps }
     ensures point { OnOk result (IsAtPoint clauses.now trail.now.steps start (marked resolvent.new.marks.marks (literals_of trail.now.steps)) (reverse resolvent.new.hints.items)) }
 {
-    let reasons = trail.reasons();
     let mut implied = Implied::new(alloc, clauses, trail, table, start, resolvent)?;
     let mut bound = start;
     'back: loop {
@@ -40,19 +39,43 @@ pub(crate) fn minimise(
             return Ok(());
         };
         bound = place;
-        if !resolvent.marks.has(place) {
-            continue;
-        }
-        let Some(number) = reasons[place] else {
-            continue;
-        };
-        if !implied.has(clauses, trail, table, &resolvent.marks, place)? {
-            continue;
-        }
-        let reason = clause_at(clauses, number);
-        resolvent.marks.mark_all(table, reason);
-        resolvent.marks.unmark(place);
-        resolvent.hints.push(number)?;
-        implied.ask(trail, table, &resolvent.marks, reason)?;
+        minimise_at(clauses, trail, table, place, &mut implied, resolvent)?;
     }
+}
+
+// Resolves the clause with the reason of the literal at a place, where that one is implied.
+fn minimise_at(
+    clauses: &[Clause],
+    trail: &Trail,
+    table: &Places<'_>,
+    place: usize,
+    implied: &mut Implied,
+    resolvent: &mut Resolvent,
+) -> Result<(), AllocError>
+    requires table { (v : ℕ) → told table.now v ≡ place_in (literals_of trail.now.steps) v }
+    requires place { place < length trail.now.steps }
+    requires reasons { IsReasonedTrail clauses.now trail.now.steps }
+    requires once { once (literals_of trail.now.steps) ≡ true }
+    requires long { length resolvent.old.marks.marks ≡ length trail.now.steps }
+    ensures long { length resolvent.new.marks.marks ≡ length trail.now.steps }
+    ensures point { OnOk result ((start : ℕ) → place < start
+        → IsAtPoint clauses.now trail.now.steps start (marked resolvent.old.marks.marks (literals_of trail.now.steps)) (reverse resolvent.old.hints.items)
+        → IsAtPoint clauses.now trail.now.steps start (marked resolvent.new.marks.marks (literals_of trail.now.steps)) (reverse resolvent.new.hints.items)) }
+{
+    let reasons = trail.reasons();
+    if !resolvent.marks.has(place) {
+        return Ok(());
+    }
+    let Some(number) = reasons[place] else {
+        return Ok(());
+    };
+    if !implied.has(clauses, trail, table, &resolvent.marks, place)? {
+        return Ok(());
+    }
+    let reason = clause_at(clauses, number);
+    resolvent.marks.mark_all(table, reason);
+    resolvent.marks.unmark(place);
+    resolvent.hints.push(number)?;
+    implied.ask(trail, table, &resolvent.marks, reason)?;
+    Ok(())
 }

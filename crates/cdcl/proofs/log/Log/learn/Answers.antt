@@ -3,21 +3,21 @@ use Rattle.cdcl.proofs.CoverLaws.{are_over_kept, are_over_next}
 use Rattle.cdcl.proofs.IdLaws.{counted_kept, counted_some}
 use Rattle.cdcl.proofs.log.Log.learn.Goals as goal
 
-pub invariant_of-self-in_err-meet : goal.invariant_of-self-in_err-meet
-invariant_of-self-in_err-meet c = (
-  are_over_kept c.self.inside.cover c.meet.new.self c.self.inside.db.clauses c.reserve.new.self.clauses c.meet.ensures.stays c.self.invariant.0 c.reserve.ensures.clauses,
-  counted_kept c.reserve-2.ensures.items c.reserve-3.ensures.items c.self.invariant.1,
+pub invariant_of-self : goal.invariant_of-self
+invariant_of-self c = (
+  are_over_kept c.self.inside.cover c.make_room.new.cover c.self.inside.db.clauses c.make_room.new.db.clauses c.make_room.ensures.stays c.self.invariant.0 c.make_room.ensures.clauses,
+  counted_kept c.make_room.ensures.sources c.make_room.ensures.ids c.self.invariant.1,
 )
 
 pub invariant_of-self-in_err-conflict : goal.invariant_of-self-in_err-conflict
 invariant_of-self-in_err-conflict c = (
-  are_over_kept c.self.inside.cover c.meet.new.self c.self.inside.db.clauses c.reserve.new.self.clauses c.meet.ensures.stays c.self.invariant.0 c.reserve.ensures.clauses,
-  counted_kept c.reserve-2.ensures.items c.reserve-3.ensures.items c.self.invariant.1,
+  are_over_kept c.self.inside.cover c.make_room.new.cover c.self.inside.db.clauses c.make_room.new.db.clauses c.make_room.ensures.stays c.self.invariant.0 c.make_room.ensures.clauses,
+  counted_kept c.make_room.ensures.sources c.make_room.ensures.ids c.self.invariant.1,
 )
 
 pub invariant_of-self-2 : goal.invariant_of-self-2
 invariant_of-self-2 c = (
-  are_over_next c.self.inside.cover c.meet.new.self c.self.inside.db.clauses c.push_reserved.new.self.clauses c.args.learned.clause c.as_slice.result.now c.meet.ensures.stays
-      c.self.invariant.0 c.as_slice.ensures c.in_ok-meet.ensures.over (c.push_reserved.ensures.clauses ∙ ap (λ cs. cs ++ c.args.learned.clause ∷ []) c.reserve.ensures.clauses),
-  counted_some c.args.learned.hints c.reserve-2.ensures.items c.reserve-3.ensures.items c.push_reserved-2.ensures.items c.push_reserved-3.ensures.items c.self.invariant.1,
+  are_over_next c.self.inside.cover c.make_room.new.cover c.self.inside.db.clauses c.push_reserved.new.self.clauses c.args.learned.clause c.as_slice.result.now c.make_room.ensures.stays
+      c.self.invariant.0 c.as_slice.ensures c.in_ok-make_room.ensures.over (c.push_reserved.ensures.clauses ∙ ap (λ cs. cs ++ c.args.learned.clause ∷ []) c.make_room.ensures.clauses),
+  counted_some c.args.learned.hints c.make_room.ensures.sources c.make_room.ensures.ids c.push_reserved-2.ensures.items c.push_reserved-3.ensures.items c.self.invariant.1,
 )
