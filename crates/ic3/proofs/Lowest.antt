@@ -1,10 +1,11 @@
 -- The lemmas of level 0, the literals of the starts: what is stuck there stays so, since the lowest frame allows the
 -- starts alone, and no lemma comes to level 0.
-use Rattle.std.proofs.Common.{◌≡◌, ℕ, zero, suc, ◌<◌, Bool, true, false, ◌||◌, if◌then◌else◌, List, [], ◌∷◌, ◌++◌, length, get_or, refl, sym, ap, subst, ◌∙◌, inl, inr, arith}
+use Rattle.std.proofs.Common.{◌≡◌, ℕ, zero, suc, ◌<◌, Bool, true, if◌then◌else◌, List, [], ◌∷◌, ◌++◌, length, get_or, sym, ap, subst, inl, inr, arith}
 use Rattle.std.specs.List.{All}
-use Rattle.std.proofs.lemmas.Bool.{cases_Bool, false≢true}
-use Rattle.std.proofs.lemmas.List.Elements.{All-head, All-tail, All-weaker}
-use Rattle.std.proofs.lemmas.Map.Views.{All-remove_key}
+use Rattle.std.proofs.lemmas.Bool.{cases_Bool}
+use Rattle.std.proofs.lemmas.List.Elements.{All-contains, All-weaker}
+use Rattle.std.proofs.lemmas.List.Folds.{list_any_at}
+use Rattle.std.proofs.lemmas.Map.Views.{All-remove_key, Contains-from_any}
 use Rattle.std.specs.Set.{remove_key}
 use Rattle.proof_semantics.specs.declared.literals.Lit.{Lit}
 use Rattle.proof_semantics.specs.Clauses.{values_of}
@@ -18,27 +19,16 @@ use Rattle.ic3.specs.Sound.{IsStartCube, IsSound, IsStuck, AreStuck}
 use Rattle.ic3.specs.Pushing.{KeepsLowest}
 use Rattle.ic3.proofs.Sounds.{Levels}
 use Rattle.ic3.proofs.Separating.{all_true}
+use Rattle.ic3.proofs.Stuck.{stuck_on}
 
 -- ---- which lemmas a level has
 
-or_true : (a b : Bool) → b ≡ true → (a || b) ≡ true
-or_true true b h = refl
-or_true false b h = h
-
--- The clause at a place is one of the list; and what all of the list are, each clause that it has is.
-has_at : (xs : List (List Lit)) (k : ℕ) (d : List Lit) → k < length xs → has_clause xs (get_or xs k d) ≡ true
-has_at [] k d below = absurd (omega arith)
-has_at (x ∷ xs) zero d below = rw (same-same x) refl
-has_at (x ∷ xs) (suc k) d below =
-    or_true (same_clause (get_or xs k d) x) (has_clause xs (get_or xs k d)) (has_at xs k d (omega arith))
-
+-- what all of a list are, a clause that it has is; and it has each of its own
 has_holds : (P : List Lit → Type 0) (xs : List (List Lit)) (c : List Lit) → All P xs → has_clause xs c ≡ true → P c
-has_holds P [] c each there = absurd (false≢true there)
-has_holds P (x ∷ xs) c each there =
-    elim (cases_Bool (same_clause c x)) [
-      | inl here ↦ subst P (sym (same-is c x here)) (All-head P x xs each)
-      | inr apart ↦ has_holds P xs c (All-tail P x xs each) (rw apart at there)
-    ]
+has_holds P xs c each there = All-contains P xs c each (Contains-from_any {eq = same_clause} same-is c xs there)
+
+has_at : (xs : List (List Lit)) (k : ℕ) (d : List Lit) → k < length xs → has_clause xs (get_or xs k d) ≡ true
+has_at xs k d below = list_any_at (same_clause (get_or xs k d)) xs k d below (same-same (get_or xs k d))
 
 all_among : (P : List Lit → Type 0) (xs ys : List (List Lit)) → ((c : List Lit) → has_clause ys c ≡ true → has_clause xs c ≡ true)
     → All P xs → All P ys
@@ -96,12 +86,8 @@ lowest_stuck q cube old new exact before after keeps stuck =
 
 -- They are where a frame is opened.
 opened_one : (q : Question) (levels : Levels) (lemma : List Lit) → IsStuck q levels 0 lemma → IsStuck q (levels ++ [] ∷ []) 0 lemma
-opened_one q levels lemma stuck = record {
-  step = stuck.step;
-  arena = stuck.arena;
-  from = ap (λ clauses. allowed_by clauses stuck.step.latches) (opened-stay levels 0) ∙ stuck.from;
-  breaks = stuck.breaks;
-}
+opened_one q levels lemma =
+    stuck_on q levels (levels ++ [] ∷ []) 0 0 lemma (λ k s within. ap (λ clauses. allowed_by clauses s) (opened-stay levels k)) (omega arith)
 
 pub opened_stuck : (q : Question) (levels new : Levels) → 0 < length levels → new ≡ levels ++ [] ∷ [] → AreStuck q levels 0 → AreStuck q new 0
 opened_stuck q levels new some is stuck = subst (λ those. AreStuck q those 0) (sym is) (behind levels some stuck)

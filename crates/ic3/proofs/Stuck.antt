@@ -18,7 +18,7 @@ use Rattle.ic3_frames.proofs.Putting.{frame-own, some-own}
 use Rattle.ic3_questions.specs.Stepping.{Stepping, IsPredecessor, IsMissing, IsOver}
 use Rattle.ic3_questions.specs.Searching.{Question}
 use Rattle.ic3.specs.Sound.{IsSound, IsRelative, Agree, IsStuck, AreStuck}
-use Rattle.ic3.specs.Pushing.{AllowBelow, IsPushed, IsTried, Narrows, StayStuck, AllStuck, first_due, place_after}
+use Rattle.ic3.specs.Pushing.{AllowBelow, IsPushed, IsTried, Narrows, StayStuck, AllStuck, place_after}
 use Rattle.ic3.proofs.Sounds.{grow_on, all_parts, Levels}
 
 -- What all lemmas are, those of a level are.
@@ -202,21 +202,16 @@ stay_on q a b c level first second k below stuck = second k below (first k below
 pub all_stuck_here : (q : Question) (levels : Levels) (level place : ℕ) → (place < length (own_lemmas levels level) → ⊥)
     → All (IsStuck q levels level) (take place (own_lemmas levels level)) → AreStuck q levels level
 all_stuck_here q levels level place past stuck =
-    subst (All (IsStuck q levels level)) (take_all place (own_lemmas levels level) (not_below place (length (own_lemmas levels level)) past)) stuck
-  where
-    not_below : (i n : ℕ) → (i < n → ⊥) → n ≤ i
-    not_below i n h =
-        elim (cases_lt i n) [
-          | inl below ↦ absurd (h below)
-          | inr past ↦ past
-        ]
+    elim (cases_lt place (length (own_lemmas levels level))) [
+      | inl below ↦ absurd (past below)
+      | inr behind ↦ subst (All (IsStuck q levels level)) (take_all place (own_lemmas levels level) behind) stuck
+    ]
 
 -- Where the lemmas of level 0 are not tried, they are stuck.
-pub stuck_first : (q : Question) (levels : Levels) (anew : Bool) (first : ℕ) → first ≡ first_due anew
+pub stuck_first : (q : Question) (levels : Levels) (anew : Bool) (first : ℕ) → first ≤ 2 → (1 < first → anew ≡ false)
     → (anew ≡ false → AreStuck q levels 0) → (k : ℕ) → k + 1 < first → AreStuck q levels k
-stuck_first q levels true first is stuck k below = absurd (omega (arith, is))
-stuck_first q levels false first is stuck zero below = stuck refl
-stuck_first q levels false first is stuck (suc k) below = absurd (omega (arith, is))
+stuck_first q levels anew first most later stuck zero below = stuck (later (omega arith))
+stuck_first q levels anew first most later stuck (suc k) below = absurd (omega arith)
 
 -- One more level.
 pub stuck_more : (q : Question) (old new : Levels) (level : ℕ) → 1 ≤ level → ((k : ℕ) → k + 1 < level → AreStuck q old k)

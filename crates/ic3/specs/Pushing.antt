@@ -26,12 +26,6 @@ abbrev pub place_after : Bool → ℕ → ℕ
 place_after true place = place
 place_after false place = place + 1
 
--- The first frame that lemmas are pushed into: those of level 0, the literals of the starts, are pushed in the first
--- turn of a search alone.
-abbrev pub first_due : Bool → ℕ
-first_due true = 1
-first_due false = 2
-
 -- what the new frames allow, the old ones allowed
 abbrev pub Narrows : List (List (List Lit)) → List (List (List Lit)) → Type 0
 Narrows old new = (k : ℕ) (s : List Bool) → allowed_by (frame_at new k) s ≡ true → allowed_by (frame_at old k) s ≡ true

@@ -23,12 +23,12 @@ use std::marker::Model;
 use std::mem;
 use std::sync::Arc;
 
-/// The entries of the last question, and its frames, or none; and how many questions solvers were asked.
+/// The entries of the last question, and its frames, or none; and how many questions its solvers were asked so far.
 #[derive(Drop)]
 struct Kept {
     seen: Items<Arc<Checked>>,
     frames: Frames,
-    asked: u64,
+    solver_questions: u64,
 }
 
 /// A search for paths of a circuit from one start, which is asked again and again: for other goals, and under views that
@@ -128,7 +128,7 @@ fn reach_again(
         starts,
         goal,
         &mut frames,
-        &mut kept.asked,
+        &mut kept.solver_questions,
         meter,
     )?;
     kept.frames = frames;
@@ -157,7 +157,7 @@ impl Search {
             kept: Kept {
                 seen: Items::new(alloc),
                 frames: Frames::new(alloc),
-                asked: 0,
+                solver_questions: 0,
             },
         })
     }
@@ -172,8 +172,8 @@ impl Search {
 
     /// How many questions its solvers were asked, for those who measure it, or 2^64 - 1 where there were more. No clause
     /// says it. Takes no memory.
-    pub fn asked(&self) -> u64 {
-        self.kept.asked
+    pub fn solver_questions(&self) -> u64 {
+        self.kept.solver_questions
     }
 
     /// A path from the start to the goal by steps that the entries of the view allow; or, exactly where there is none, a

@@ -14,6 +14,7 @@ ghost use Rattle.ic3.specs.Starting.{value_literals};
 ghost use Rattle.ic3.specs.Sound.{IsSearch, IsGoalOf, IsBlocked, KeepsQuestion, Agree};
 ghost use Rattle.ic3.specs.Searches.{CountsUpTo};
 ghost use Rattle.ic3.specs.Pushing.{KeepsLowest};
+ghost use Rattle.ic3.specs.Strengthening.{IsBased};
 ghost use Rattle.ic3.specs.Blocking.{AreObligations, IsOpen, IsBefore, IsHandled, IsPutIn, IsKeptWith, IsGoneOn, IsDescended, IsTurnedTo};
 
 use crate::lifting::lift_step;
@@ -33,7 +34,7 @@ use items::Items;
 use std::alloc::{AllocError, Global};
 
 /// What a turn comes to.
-#[derive(Debug, Drop)]
+#[derive(Drop)]
 pub(crate) enum Blocked {
     /// The positions of a path to the goal.
     Path(Items<Position>),
@@ -44,7 +45,7 @@ pub(crate) enum Blocked {
 }
 
 /// What becomes of an obligation.
-#[derive(Clone, Copy, Debug, Drop)]
+#[derive(Clone, Copy, Drop)]
 pub(crate) enum Handled {
     /// Its state is a start.
     Start,
@@ -297,7 +298,6 @@ fn keep(
 }
 
 // A step before a node whose state is no start, from the frame below its own, lifted; or a lemma that excludes the state.
-// A literal by which the state differs from the starts is put into the cube, if that has none.
 fn handle(
     alloc: Global,
     starts: &Cube,
@@ -324,16 +324,11 @@ fn handle(
     ensures counted { CountsUpTo (room (length steps.old.question.circuit.latches) frames.old) meter.old meter.new }
     ensures end { IfErr result (IsReachEnd meter.new) }
 {
-    let whole = state_cube(alloc, state)?;
-    let copy = cube.clone()?;
-    let asked = based(alloc, starts, &whole, copy)?;
+    let asked = asked_about(alloc, starts, state, cube)?;
     match steps.predecessor(alloc, below, &asked, meter)? {
-        Found::Step(position) => {
-            let found = lifted(alloc, cube, &asked, below, below, position, steps, frames)?;
-            Ok(Some(from_start(
-                alloc, starts, below, cube, &asked, found, steps, frames, meter,
-            )?))
-        }
+        Found::Step(position) => Ok(Some(from_start(
+            alloc, starts, below, cube, &asked, position, steps, frames, meter,
+        )?)),
         Found::Missing(part) => {
             strengthen(
                 alloc, starts, below, state, &asked, part, steps, frames, meter,
@@ -343,15 +338,33 @@ fn handle(
     }
 }
 
-// A step that was found. Where the cube of states that take it meets the starts, a step from a start, if the solver finds
-// one.
+// The cube that is asked about: that of a node whose state is no start, with a literal by which the state differs from the
+// starts, if it has none.
+fn asked_about(
+    alloc: Global,
+    starts: &Cube,
+    state: &[bool],
+    cube: &Cube,
+) -> Result<Cube, AllocError>
+    requires over { IsOver (length state.now) starts.now }
+    requires outside { cube_value (values_of state.now) starts.now ≡ false }
+    requires part { is_part cube.now (value_literals 0 state.now) ≡ true }
+    ensures { IfOk result (IsBased starts.now (value_literals 0 state.now) cube.now) }
+{
+    let whole = state_cube(alloc, state)?;
+    let copy = cube.clone()?;
+    based(alloc, starts, &whole, copy)
+}
+
+// The position of a step that was found, lifted. Where its cube meets the starts, that of a step from a start, if the
+// solver finds one.
 fn from_start(
     alloc: Global,
     starts: &Cube,
     below: u64,
     into: &Cube,
     asked: &Cube,
-    found: Lifted,
+    position: Position,
     steps: &mut Steps<'_>,
     frames: &Frames,
     meter: &mut Meter,
@@ -359,17 +372,18 @@ fn from_start(
     requires agree { Agree steps.old.lemmas frames.now }
     requires over { IsOver (length steps.old.question.circuit.latches) asked.now }
     requires part { is_part into.now asked.now ≡ true }
-    requires before { IsBefore steps.old.question frames.now below into.now found }
+    requires found { IsPredecessor steps.old below asked.now position }
     ensures before { IfOk result (IsBefore steps.old.question frames.now below into.now) }
     ensures same { steps.new ≡ steps.old }
     ensures counted { CountsConflicts meter.old meter.new }
     ensures end { IfErr result (IsEnd meter.new) }
 {
+    let found = lifted(alloc, into, asked, below, below, position, steps, frames)?;
     if misses_starts(starts, &found.cube) {
         return Ok(found);
     }
     match steps.predecessor(alloc, 0, asked, meter)? {
-        Found::Step(position) => Ok(lifted(alloc, into, asked, 0, below, position, steps, frames)?),
+        Found::Step(first) => Ok(lifted(alloc, into, asked, 0, below, first, steps, frames)?),
         Found::Missing(_) => Ok(found),
     }
 }

@@ -6,7 +6,7 @@
 //! | `reach` | a path from a start to a goal, or a set that holds the start, misses the goal and is left by no step |
 //! | `Search::new` | a search from a start, which was asked nothing yet |
 //! | `Search::reach` | what `reach` gives; goal after goal, while the view grows, over frames that are kept |
-//! | `Search::frames`, `Search::asked` | how many these are, and how many questions its solvers were asked |
+//! | `Search::frames`, `Search::solver_questions` | how many these are, and how many questions its solvers were asked |
 //! | `Steps` | the solver that a search asks: steps into cubes, goals that are met; public for its tests |
 //!
 //! What is asked and answered is defined in `ic3_questions`, and in `Searches` of `specs/`; the rest of `specs/` is

@@ -23,7 +23,7 @@ use items::Items;
 use std::alloc::{AllocError, Global};
 
 /// How a state leads to the goal. The other states of its cube do by the same inputs.
-#[derive(Debug, Drop)]
+#[derive(Drop)]
 pub(crate) enum Way {
     /// It is the goal.
     Goal(Items<bool>),
@@ -46,21 +46,21 @@ impl Way {
 }
 
 /// A cube of states that lead to the goal, and how one of them does, which was found.
-#[derive(Debug, Drop)]
+#[derive(Drop)]
 pub(crate) struct Node {
     pub(crate) cube: Cube,
     pub(crate) way: Way,
 }
 
 /// A position that was found before a cube, and a cube of states that step there by its inputs.
-#[derive(Debug, Drop)]
+#[derive(Drop)]
 pub(crate) struct Lifted {
     pub(crate) cube: Cube,
     pub(crate) position: Position,
 }
 
 /// What is to be shown: that the frame of a level need not have the cube of the node with this number.
-#[derive(Clone, Copy, Debug, Drop)]
+#[derive(Clone, Copy, Drop)]
 pub(crate) struct Obligation {
     pub(crate) node: u64,
     pub(crate) level: u64,
@@ -68,7 +68,7 @@ pub(crate) struct Obligation {
 
 /// Nodes in the order in which they came, numbered from 0, and the obligations that are left. The last obligation is the
 /// next: its level is the lowest, and of these it came last.
-#[derive(Debug, Drop)]
+#[derive(Drop)]
 pub(crate) struct Obligations {
     pub(crate) nodes: Vec<Node>,
     pub(crate) queue: Vec<Obligation>,

@@ -6,7 +6,7 @@ use ic3_frames::Frames;
 use std::alloc::{AllocError, Global};
 
 // How many lemmas hold a latch's literals.
-#[derive(Clone, Copy, Debug, Drop)]
+#[derive(Drop)]
 struct Activity {
     positive: u64,
     negative: u64,

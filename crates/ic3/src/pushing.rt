@@ -4,8 +4,10 @@ ghost use Rattle.proof_semantics.specs.Clauses.{negation};
 ghost use Rattle.edge.specs.Ends.{CountsConflicts, IsEnd};
 ghost use Rattle.ic3_frames.specs.Frames.{own_lemmas};
 ghost use Rattle.ic3_frames.specs.Room.{room};
-ghost use Rattle.ic3.specs.Sound.{IsSearch, IsRelative, KeepsQuestion, AreStuck};
-ghost use Rattle.ic3.specs.Pushing.{IsPushed, IsTried, Narrows, StayStuck, AllStuck, first_due, place_after};
+ghost use Rattle.ic3_questions.specs.Stepping.{IsOver};
+ghost use Rattle.ic3.specs.Sound.{IsSearch, IsRelative, KeepsQuestion, AreStuck, Agree};
+ghost use Rattle.ic3.specs.Holding.{TellsOn};
+ghost use Rattle.ic3.specs.Pushing.{IsPushed, IsTried, Narrows, StayStuck, AllStuck, place_after};
 
 use crate::steps::Steps;
 use cnf::{Clause, Cube};
@@ -16,7 +18,7 @@ use std::alloc::{AllocError, Global};
 
 /// Puts each lemma of a frame that holds after each step from it into the next frame too, from the lowest frame up.
 /// `starts` is the cube of the starts. The literals of the starts, which are the lemmas of the lowest frame, are tried in
-/// the first turn of a search (`anew`) alone: what is stuck there stays so.
+/// the first turn of a question alone (`anew`): what is stuck there stays so.
 pub(crate) fn push_all(
     alloc: Global,
     starts: &Cube,
@@ -47,7 +49,8 @@ pub(crate) fn push_all(
 // The first frame that lemmas are to be pushed into.
 fn first_due(anew: bool) -> u64
     ensures some { 1 ≤ result }
-    ensures due { result ≡ first_due anew }
+    ensures lowest { 1 < result → anew ≡ false }
+    ensures next { result ≤ 2 }
 {
     if anew { 1 } else { 2 }
 }
@@ -152,13 +155,34 @@ fn try_push(
     ensures counted { CountsConflicts meter.old meter.new }
 {
     let lemma = lemma_at(frames, level, place)?;
-    let cube = negated(alloc, &lemma)?;
+    let holds = holds_on(alloc, level, &lemma, steps, frames, meter)?;
+    if !holds {
+        return Ok(false);
+    }
+    push_one(starts, level, place, &lemma, steps, frames)?;
+    Ok(true)
+}
+
+// Whether a lemma holds after each step from the frame of a level.
+fn holds_on(
+    alloc: Global,
+    level: u64,
+    lemma: &Clause,
+    steps: &mut Steps<'_>,
+    _frames: &Frames,
+    meter: &mut Meter,
+) -> Result<bool, SolveEnd>
+    requires over { IsOver (length steps.old.question.circuit.latches) lemma.now }
+    requires agree { Agree steps.old.lemmas _frames.now }
+    ensures told { IfOk result (TellsOn steps.old.question _frames.now level lemma.now) }
+    ensures same { steps.new ≡ steps.old }
+    ensures end { IfErr result (IsEnd meter.new) }
+    ensures counted { CountsConflicts meter.old meter.new }
+{
+    let cube = negated(alloc, lemma)?;
     match steps.predecessor(alloc, level, &cube, meter)? {
         Found::Step(_) => Ok(false),
-        Found::Missing(_) => {
-            push_one(starts, level, place, &lemma, steps, frames)?;
-            Ok(true)
-        }
+        Found::Missing(_) => Ok(true),
     }
 }
 

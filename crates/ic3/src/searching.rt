@@ -52,7 +52,7 @@ pub fn reach(
 {
     let starts = start_cube(alloc, c, start)?;
     let mut frames = Frames::new(alloc);
-    let mut asked = 0;
+    let mut solver_questions = 0;
     reach_on(
         alloc,
         c,
@@ -61,13 +61,13 @@ pub fn reach(
         &starts,
         goal,
         &mut frames,
-        &mut asked,
+        &mut solver_questions,
         meter,
     )
 }
 
 /// The same with frames that are kept from an earlier question with this start, or none: they go on. `starts` is the cube
-/// of the starts. `asked` rises by the questions that the solver is asked. After an error nothing is known of the frames.
+/// of the starts. `solver_questions` rises by the questions of the solver. After an error nothing is known of the frames.
 pub(crate) fn reach_on(
     alloc: Global,
     c: &Circuit,
@@ -76,7 +76,7 @@ pub(crate) fn reach_on(
     starts: &Cube,
     goal: &Goal<'_>,
     frames: &mut Frames,
-    asked: &mut u64,
+    solver_questions: &mut u64,
     meter: &mut Meter,
 ) -> Result<Reached, ReachEnd>
     requires view { IsGoodList c.now (viewed view.now) }
@@ -107,7 +107,7 @@ pub(crate) fn reach_on(
     let reached = reach_by(
         alloc, c, view, start, starts, goal, &mut steps, frames, meter,
     );
-    *asked = asked.saturating_add(steps.asked());
+    *solver_questions = solver_questions.saturating_add(steps.solver_questions());
     reached
 }
 

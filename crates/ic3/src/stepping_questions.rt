@@ -32,7 +32,7 @@ pub(crate) struct Questions {
     pub(crate) levels: u64,
     /// How many questions brought a clause of their own.
     pub(crate) asked: u64,
-    /// How many questions there were, or 2^64 - 1 where there were more; no contract speaks of it.
+    /// How many questions were handed to `ask`, or 2^64 - 1 where there were more; no contract speaks of it.
     pub(crate) count: u64,
 }
 

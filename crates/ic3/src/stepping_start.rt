@@ -1,19 +1,20 @@
 //! How the solver of a search begins. The main call is `questions_of`.
-ghost use Rattle.std.specs.Prelude.{◌≡◌, length, IfOk};
+ghost use Rattle.std.specs.Prelude.{◌≡◌, [], length, map, IfOk, OnOk};
 ghost use Rattle.cnf_unroll.specs.Laws.{AreOver};
 ghost use Rattle.entry.specs.CheckedEntries.{viewed};
 ghost use Rattle.entry.specs.Laws.{IsGoodList};
 ghost use Rattle.ic3_questions.specs.Stepping.{no_lemmas};
-ghost use Rattle.ic3_questions.specs.SteppingClauses.{base_clauses, first_guard};
+ghost use Rattle.ic3_questions.specs.SteppingClauses.{base_clauses, first_guard, guarded, denied_at};
 ghost use Rattle.ic3.specs.SteppingInside.{IsHeldBy};
+ghost use Rattle.ic3.specs.SteppingStart.{HasBegun};
 
 use crate::cone::{Cone, meet_entries};
 use crate::stepping_clauses::add_denials;
 use crate::stepping_questions::{Questions, question_guard};
 use cdcl::Solver;
 use circuit::{Circuit, one_valuation};
-use cnf::Cube;
-use cnf_unroll::{Begun, shared};
+use cnf::{Cube, Db};
+use cnf_unroll::{Begun, Used, shared};
 use entry::Checked;
 use ic3_questions::{Start, own_uses, state_place, successor_place, used};
 use items::Items;
@@ -42,6 +43,46 @@ pub(crate) fn base(
     let own = own_uses(alloc, view, start)?;
     let none = Items::new(alloc);
     shared(alloc, c, used.as_slice(), own.as_slice(), &none)
+}
+
+// Puts the clauses into a solver that constraints and entries stand on; behind them those that deny the avoided cubes.
+fn fill(
+    alloc: Global,
+    c: &Circuit,
+    base: &Db,
+    cone: &mut Cone,
+    used: &[Used<'_>],
+    guard: u64,
+    here: &[u64],
+    avoid: &[Cube],
+    solver: &mut Solver,
+) -> Result<(), AllocError>
+    requires { solver.old.added ≡ [] }
+    ensures { OnOk result (HasBegun base.now.clauses
+        (map (λ cube. guarded guard (denied_at here.now cube)) avoid.now) solver.new.added) }
+{
+    meet_entries(c, base, cone, solver, used)?;
+    add_denials(alloc, solver, guard, here, avoid)?;
+    Ok(())
+}
+
+// A solver with these clauses.
+fn filled(
+    alloc: Global,
+    c: &Circuit,
+    base: &Db,
+    cone: &mut Cone,
+    used: &[Used<'_>],
+    guard: u64,
+    here: &[u64],
+    avoid: &[Cube],
+) -> Result<Solver, AllocError>
+    ensures { IfOk result (λ solver. HasBegun base.now.clauses
+        (map (λ cube. guarded guard (denied_at here.now cube)) avoid.now) solver.added) }
+{
+    let mut solver = Solver::new(alloc)?;
+    fill(alloc, c, base, cone, used, guard, here, avoid, &mut solver)?;
+    Ok(solver)
 }
 
 /// The solver of a search before its first lemma.
@@ -77,10 +118,17 @@ pub(crate) fn questions_of(
     let here = state_place(alloc, c)?;
     let next = successor_place(alloc, c)?;
     let used = used(alloc, view, start)?;
-    let mut solver = Solver::new(alloc)?;
-    meet_entries(c, &begun.clauses, cone, &mut solver, used.as_slice())?;
     let guard = question_guard(begun.free, 0)?;
-    add_denials(alloc, &mut solver, guard, here.as_slice(), avoid)?;
+    let solver = filled(
+        alloc,
+        c,
+        &begun.clauses,
+        cone,
+        used.as_slice(),
+        guard,
+        here.as_slice(),
+        avoid,
+    )?;
     Ok(Questions {
         solver,
         here,

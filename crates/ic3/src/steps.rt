@@ -111,7 +111,7 @@ impl<'a> Steps<'a> {
     }
 
     /// How many questions its solver was asked, or 2^64 - 1 where there were more. Takes no memory.
-    pub(crate) fn asked(&self) -> u64 {
+    pub(crate) fn solver_questions(&self) -> u64 {
         self.questions.count
     }
 

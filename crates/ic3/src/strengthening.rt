@@ -1,6 +1,6 @@
 //! Lemmas against the cubes of obligations. The main call is `strengthen`.
 ghost use Rattle.std.specs.Prelude.{◌≡◌, ◌+◌, ◌<◌, ◌≤◌, ◌||◌, true, false, length, IfOk, IfErr, IfSome, OnOk};
-ghost use Rattle.proof_semantics.specs.Clauses.{clause_value, cube_value, values_of, has_literal, literal_value, lit_eq, is_part};
+ghost use Rattle.proof_semantics.specs.Clauses.{clause_value, cube_value, values_of, has_literal, lit_eq, is_part};
 ghost use Rattle.ic3_frames.specs.Frames.{frame_at};
 ghost use Rattle.ic3_frames.specs.Room.{allowed_by};
 ghost use Rattle.ic3_questions.specs.Searching.{IsReachEnd};
@@ -27,16 +27,7 @@ use std::alloc::{AllocError, Global};
 pub(crate) fn holds_in(cube: &Cube, state: &[bool]) -> bool
     ensures { result ≡ cube_value (values_of state.now) cube.now }
 {
-    cube.as_slice()
-        .iter()
-        .all(|literal| is_true(*literal, state))
-}
-
-fn is_true(literal: Lit, state: &[bool]) -> bool
-    ensures { result ≡ literal_value (values_of state.now) literal }
-{
-    let value = state.get(literal.var as usize).copied().unwrap_or(false);
-    literal.positive == value
+    cube.as_slice().iter().all(|literal| literal.holds(state))
 }
 
 fn contains(cube: &Cube, literal: Lit) -> bool

@@ -12,6 +12,7 @@ ghost use Rattle.ic3.specs.SteppingInside.{Keeps, TriedInto, TellsTried, TriedGo
 use crate::stepping_questions::{
     Questions, ask_goal, ask_into, literal_in_block, part_at, position_of, retire,
 };
+use crate::strengthening::holds_in;
 use cdcl::{Asked, Assignment};
 use circuit::{Circuit, Position, eval_into, literal_value};
 use cnf::{Cube, Db, eval, holds};
@@ -19,13 +20,6 @@ use edge::{Meter, SolveEnd};
 use ic3_questions::{Found, Lemma, input_place};
 use items::Items;
 use std::alloc::{AllocError, Global};
-
-// Whether all literals of the cube are true in the state.
-fn holds_in(cube: &Cube, state: &[bool]) -> bool
-    ensures { result ≡ cube_value (values_of state.now) cube.now }
-{
-    cube.as_slice().iter().all(|literal| literal.holds(state))
-}
 
 // The circuit's values at the position that an assignment gives.
 fn valuation(

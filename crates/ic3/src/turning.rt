@@ -1,4 +1,4 @@
-//! Turns of a search: states of the goal are blocked, lemmas are pushed, and a frame is opened. The main call is `turn`.
+//! Turns of a search: states of the goal are blocked, lemmas are pushed, and a frame is opened. The main call is `turn_on`.
 ghost use Rattle.std.specs.Prelude.{◌≡◌, ◌+◌, ◌^◌, ◌<◌, ◌≤◌, [], ◌∷◌, ◌++◌, length, false, IfOk, IfErr, OnOk};
 ghost use Rattle.ic3_frames.specs.Frames.{AllDiffer};
 ghost use Rattle.ic3_frames.specs.Room.{room};
@@ -20,7 +20,7 @@ use items::Items;
 use std::alloc::Global;
 
 /// What a turn comes to.
-#[derive(Debug, Drop)]
+#[derive(Drop)]
 pub(crate) enum Turned {
     /// The positions of a path to the goal.
     Path(Items<Position>),
@@ -61,7 +61,7 @@ pub(crate) fn turn_on(
     }
 }
 
-// One turn; the first of a search is told.
+// One turn. Whether it is the first of the question is `anew`.
 fn turn(
     alloc: Global,
     starts: &Cube,

@@ -12,8 +12,8 @@ loop-level-init c = record {
   number = refl;
   narrows = λ k s allowed. allowed;
   stuck =
-      stuck_first c.args.steps.now.question c.args.frames.now c.args.anew c.first_due-first.result c.first_due-first.ensures.due
-      c.requires.lowest;
+      stuck_first c.args.steps.now.question c.args.frames.now c.args.anew c.first_due-first.result c.first_due-first.ensures.next
+      c.first_due-first.ensures.lowest c.requires.lowest;
   room = omega arith;
   question = record { question = refl; avoid = refl };
   counted = counts_none c.args.meter.now;
