@@ -3,11 +3,37 @@
 ghost use Rattle.std.specs.Prelude.{◌≡◌, ◌≤◌, ℕ, Some, option_map, IfSome, IfNone, false};
 ghost use Rattle.clap.specs.Walk.{rows_of, rule_of, first_of};
 ghost use Rattle.clap.specs.Matches.{found_of};
-ghost use Rattle.fair_top.specs.Words.{flag_in, number_option, IsNumberIn, IsNumberGiven, IsNumberOr};
+ghost use Rattle.fair_top.specs.Words.{flag, flag_in, number_option, wanted, wanted_number, IsNumberIn, IsNumberGiven, IsNumberOr};
 
 use clap::builder::ValueParser;
-use clap::{Arg, ArgMatches};
+use clap::{Arg, ArgAction, ArgMatches};
 use std::alloc::Global;
+
+/// A value that has to be given.
+pub(crate) fn required<'a>(alloc: Global, name: &'a str) -> Arg<'a>
+    ensures rule { rule_of result ≡ wanted name.now }
+    ensures local { result.global ≡ false }
+{
+    Arg::new(alloc, name).required(true)
+}
+
+/// A number that has to be given.
+pub(crate) fn required_number<'a>(alloc: Global, name: &'a str, low: u64, high: u64) -> Arg<'a>
+    ensures rule { rule_of result ≡ wanted_number name.now low high }
+    ensures local { result.global ≡ false }
+{
+    Arg::new(alloc, name)
+        .required(true)
+        .value_parser(ValueParser::unsigned(low, high))
+}
+
+/// An option without a value.
+pub(crate) fn flag<'a>(alloc: Global, name: &'a str) -> Arg<'a>
+    ensures rule { rule_of result ≡ flag name.now }
+    ensures local { result.global ≡ false }
+{
+    Arg::new(alloc, name).long(name).action(ArgAction::SetTrue)
+}
 
 /// An option that has a number.
 pub(crate) fn number_option<'a>(alloc: Global, name: &'a str, low: u64, high: u64) -> Arg<'a>

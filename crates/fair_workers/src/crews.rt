@@ -1,6 +1,6 @@
 //! The workers of a run, and whose turn it is. The main call is `crew_of`.
 
-ghost use Rattle.std.specs.Prelude.{◌≡◌, ℕ, ◌+◌, ◌<◌, ◌≤◌, ◌∷◌, [], true, false, map, length, slice_index, IfOk};
+ghost use Rattle.std.specs.Prelude.{◌≡◌, ℕ, ◌+◌, ◌<◌, ◌≤◌, ◌∷◌, [], true, false, map, length, slice_index, IfOk, OnOk};
 ghost use Rattle.std.specs.Arc.{arc_value};
 ghost use Rattle.edge.specs.Units.{limit_of};
 ghost use Rattle.wall_store.specs.Boards.{properties_of};
@@ -84,13 +84,36 @@ pub(crate) fn crew_of(
     ensures count { IfOk result (λ crew. length crew.items ≡ limits.workers) }
     ensures workers { IfOk result (λ crew. AreWorkers limits j board.now crew.items) }
 {
+    let mut crew = Vec::new(alloc);
+    fill(alloc, c, j, limits, board, &mut crew)?;
+    Ok(crew)
+}
+
+// Puts the workers into a crew in which there is none.
+fn fill(
+    alloc: Global,
+    c: &Arc<Circuit>,
+    j: u32,
+    limits: Limits,
+    board: &Board,
+    crew: &mut Vec<Member>,
+) -> Result<(), AllocError>
+    requires property { j < length (arc_value c.now).justice }
+    requires circuit { arc_value c.now ≡ board.now.circuit }
+    requires served { properties_of board.now.served ≡ j ∷ [] }
+    requires workers { limits.workers ≡ board.now.workers }
+    requires seen { (n : ℕ) → n < board.now.workers → seen_by board.now n ≡ length board.now.entries }
+    requires grows { board.now.limit ≤ length board.now.entries + limits.skeletons }
+    requires none { crew.old.items ≡ [] }
+    ensures count { OnOk result (length crew.new.items ≡ limits.workers) }
+    ensures workers { OnOk result (AreWorkers limits j board.now crew.new.items) }
+{
     board.holds();
     let seen = board.entries().len();
-    let mut crew = Vec::new(alloc);
     for number in 0..limits.workers {
         crew.push(new_member(alloc, c, j, limits, number, seen)?)?;
     }
-    Ok(crew)
+    Ok(())
 }
 
 /// A turn of a member that has not ended, at its seat of the board.

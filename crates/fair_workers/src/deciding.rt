@@ -23,7 +23,7 @@ use std::sync::Arc;
 use wall_store::Outcome;
 
 /// What a worker does with the board.
-#[derive(Debug, Drop)]
+#[derive(Drop)]
 pub(crate) enum Deed {
     /// It posts an entry.
     Post(Checked),
@@ -32,7 +32,7 @@ pub(crate) enum Deed {
 }
 
 /// Who posts, and in which of its turns.
-#[derive(Debug, Clone, Copy)]
+#[derive(Clone, Copy)]
 pub(crate) struct Author {
     pub(crate) number: u32,
     pub(crate) turn: u32,

@@ -22,21 +22,21 @@ use std::sync::Arc;
 const MOST_RUNS: usize = 64;
 
 /// An initial run; a skeleton may begin in the states of its first `left` positions.
-#[derive(Debug, Drop)]
+#[derive(Drop)]
 pub(crate) struct Run {
     pub(crate) positions: Items<Position>,
     pub(crate) left: usize,
 }
 
 /// A skeleton that begins in the state of a position of a run.
-#[derive(Debug, Drop)]
+#[derive(Drop)]
 pub(crate) struct Hit {
     pub(crate) at: usize,
     pub(crate) skeleton: Skeleton,
 }
 
 /// A skeleton, and an initial run to its first state.
-#[derive(Debug, Drop)]
+#[derive(Drop)]
 pub(crate) struct Begun {
     pub(crate) way: Items<Position>,
     pub(crate) skeleton: Skeleton,

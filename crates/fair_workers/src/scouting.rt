@@ -37,7 +37,7 @@ pub(crate) struct Scout {
 }
 
 /// What rounds have cost in which the first literal was asked for, and those in which a state was. The cheaper comes next.
-#[derive(Debug, Clone, Copy)]
+#[derive(Clone, Copy)]
 struct Costs {
     by_literal: u64,
     by_state: u64,
@@ -128,10 +128,10 @@ impl Scout {
         requires { j < length (arc_value c.now).justice }
         ensures { IfOk result (λ scout. scout ≡ record { circuit = arc_value c.now; property = j; seen = [] }) }
     {
-        let query = Query::new(alloc, c, j, worker)?;
+        let circuit = Arc::try_clone(c)?;
         Ok(Scout {
-            circuit: Arc::try_clone(c)?,
-            query,
+            circuit,
+            query: Query::new(alloc, c, j, worker)?,
             seen: Items::new(alloc),
             runs: Vec::new(alloc),
             avoid: Items::new(alloc),

@@ -31,14 +31,14 @@ use std::sync::Arc;
 const MOST_QUESTIONS: u32 = 1000;
 
 /// Where a search begins: a skeleton whose first state is reached; or an entry that excludes a skeleton.
-#[derive(Debug, Drop)]
+#[derive(Drop)]
 pub(crate) enum Start {
     Begun(Begun),
     Barred(Bar, Skeleton),
 }
 
 /// What the search of a skeleton comes to: a fair lasso, or an entry that excludes a skeleton, and that skeleton.
-#[derive(Debug, Drop)]
+#[derive(Drop)]
 pub(crate) enum Sought {
     Lasso(Lasso),
     Barred(Bar, Skeleton),

@@ -21,14 +21,14 @@ use std::alloc::{AllocError, Global};
 use std::sync::Arc;
 
 /// What one step comes to: a run to another situation, or a wall.
-#[derive(Debug, Drop)]
+#[derive(Drop)]
 pub(crate) enum Step {
     Piece(Items<Position>, Situation),
     Barred(Bar),
 }
 
 /// What a walk comes to: a run for each step; or a wall, and the runs of the steps before it.
-#[derive(Debug, Drop)]
+#[derive(Drop)]
 pub(crate) enum Walked {
     Pieces(Items<Items<Position>>),
     Barred(Bar, Items<Items<Position>>),

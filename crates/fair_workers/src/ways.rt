@@ -24,7 +24,7 @@ use std::alloc::{AllocError, Global};
 use std::sync::Arc;
 
 /// Why a search stopped without an answer.
-#[derive(Debug, Clone, Copy)]
+#[derive(Clone, Copy)]
 pub(crate) enum Stop {
     /// Conflicts or steps are spent.
     Spent,
@@ -44,7 +44,7 @@ impl From<AllocError> for Stop {
 }
 
 /// What an entry is made of that excludes a skeleton.
-#[derive(Debug, Drop)]
+#[derive(Drop)]
 pub(crate) struct Bar {
     pub(crate) kind: Kind,
     pub(crate) clauses: Items<Clause>,
@@ -52,7 +52,7 @@ pub(crate) struct Bar {
 }
 
 /// A way from one state to another, or why there is none.
-#[derive(Debug, Drop)]
+#[derive(Drop)]
 pub(crate) enum Way {
     Open(Items<Position>),
     Barred(Bar),

@@ -23,7 +23,7 @@ use std::sync::Arc;
 use wall_store::{Outcome, Posted};
 
 /// What a worker does in its next turn, or how it ended.
-#[derive(Debug, Clone, Copy, PartialEq, Eq)]
+#[derive(Clone, Copy)]
 pub(crate) enum Phase {
     /// It asks whether its property is open.
     Asks,

@@ -13,14 +13,14 @@ pub enum Shown {
 }
 
 /// A property, and what a pass shows of it.
-#[derive(Debug, Clone, Copy)]
+#[derive(Clone, Copy)]
 pub struct PassMark {
     pub property: u32,
     pub shown: Shown,
 }
 
 /// Which properties are closed: all, one, or those that a search from a number on passes over before it finds one.
-#[derive(Debug, Clone, Copy)]
+#[derive(Clone, Copy)]
 pub enum Closing {
     All,
     One(u32),

@@ -17,9 +17,9 @@ ghost use Rattle.fair_top.specs.Statuses.{is_read_fault};
 use crate::commands::Asked;
 use crate::models::model_of;
 use crate::status::{Done, Status};
-use crate::words::value_of;
+use crate::words::{required, value_of};
 use certificate::{Accepted, AnswerEnd, check_answer};
-use clap::{Arg, ArgMatches, Command};
+use clap::{ArgMatches, Command};
 use edge::Shelf;
 use std::alloc::{AllocError, Global};
 
@@ -27,9 +27,9 @@ fn check_command<'a>(alloc: Global) -> Result<Command<'a>, AllocError>
     ensures shape { IfOk result (λ command. app_of command ≡ check_command) }
     ensures local { IfOk result (λ command. (fields_of command).has_globals ≡ false) }
 {
-    let model = Arg::new(alloc, "MODEL").required(true);
-    let answer = Arg::new(alloc, "ANSWER").required(true);
-    Command::new(alloc, "check").arg(model)?.arg(answer)
+    Command::new(alloc, "check")
+        .arg(required(alloc, "MODEL"))?
+        .arg(required(alloc, "ANSWER"))
 }
 
 /// The program with this command.

@@ -6,24 +6,25 @@ ghost use Rattle.clap.specs.Simple.{app_of, with_subcommand};
 ghost use Rattle.clap.specs.Walk.{rows_of};
 ghost use Rattle.clap.specs.Matches.{found_of};
 ghost use Rattle.clap.specs.declared.builder.command.Command.TheViews.{out-Command as fields_of};
+ghost use Rattle.std.specs.Arc.{arc_value};
 ghost use Rattle.certificate.specs.declared.ends.Accepted.{Accepted as AcceptedOf};
 ghost use Rattle.certificate.specs.Answers.{IsGood};
 ghost use Rattle.wall_store.specs.Boards.{outcome_of};
 ghost use Rattle.fair_workers.specs.Runs.{IsAnswered as IsAnsweredBy, IsReport};
 ghost use Rattle.fair_top.specs.Check.{done_of};
 ghost use Rattle.fair_top.specs.Commands.{Asked as AskedFor, meant, Means};
-ghost use Rattle.fair_top.specs.Demo.{demo_command, demo_task, verdict_text, summary_text, SumsUpAnswer, SumsUpReport, SumsUp, GivesDemo};
+ghost use Rattle.fair_top.specs.Demo.{demo_command, demo_task, verdict_text, summary_text, SumsUpAnswer, SumsUpBoard, SumsUpReport, SumsUp, GivesDemo};
+ghost use Rattle.fair_top.specs.Solve.{IsTextOfOutcome};
 ghost use Rattle.fair_top.specs.Statuses.{status_in, is_read_fault};
 
 use crate::commands::Asked;
 use crate::commands::solving::{DEFAULTS, SolveRequest, entry_count, limits_of, printed};
 use crate::status::{Done, Status};
 use crate::texts::Outcome;
-use crate::words::number_of;
+use crate::words::{number_of, required_number};
 use certificate::check_answer;
 use circuit::Circuit;
-use clap::builder::ValueParser;
-use clap::{Arg, ArgMatches, Command};
+use clap::{ArgMatches, Command};
 use edge::{MemShelf, Shelf};
 use fair_workers::{Board, Ended, Report, run_turns};
 use model_gen::scramble;
@@ -51,13 +52,9 @@ fn demo_command<'a>(alloc: Global) -> Result<Command<'a>, AllocError>
     ensures shape { IfOk result (λ command. app_of command ≡ demo_command) }
     ensures local { IfOk result (λ command. (fields_of command).has_globals ≡ false) }
 {
-    let seed = Arg::new(alloc, "SEED")
-        .required(true)
-        .value_parser(ValueParser::unsigned(0, 4_294_967_295));
-    let size = Arg::new(alloc, "SIZE")
-        .required(true)
-        .value_parser(ValueParser::unsigned(1, 256));
-    Command::new(alloc, "demo").arg(seed)?.arg(size)
+    Command::new(alloc, "demo")
+        .arg(required_number(alloc, "SEED", 0, 4_294_967_295))?
+        .arg(required_number(alloc, "SIZE", 1, 256))
 }
 
 /// The program with this command.
@@ -100,14 +97,22 @@ fn summed_up(alloc: Global, request: &DemoRequest, circuit: Circuit) -> Result<O
     ensures found { IfOk result (λ outcome. SumsUp circuit request.now outcome.status outcome.text.items) }
     ensures ended { IfErr result (λ status. status ≡ Status.Memory) }
 {
-    let circuit = match Arc::new(alloc, circuit) {
-        Ok(circuit) => circuit,
-        Err(_) => return Err(Status::Memory),
-    };
+    match Arc::new(alloc, circuit) {
+        Ok(circuit) => run_for(alloc, request, &circuit),
+        Err(_) => Err(Status::Memory),
+    }
+}
+
+// The same for a circuit that the workers share.
+fn run_for(alloc: Global, request: &DemoRequest, circuit: &Arc<Circuit>) -> Result<Outcome, Status>
+    requires { length (arc_value circuit.now).justice ≡ 1 }
+    ensures found { IfOk result (λ outcome. SumsUp (arc_value circuit.now) request.now outcome.status outcome.text.items) }
+    ensures ended { IfErr result (λ status. status ≡ Status.Memory) }
+{
     let limits = limits_of(&REQUEST);
-    match run_turns(alloc, &circuit, REQUEST.property, limits, &[], &[]) {
-        Ok(board) => answered(alloc, request, &circuit, board),
-        Err(Ended::Spent(report)) => reported(alloc, request, &circuit, report),
+    match run_turns(alloc, circuit, REQUEST.property, limits, &[], &[]) {
+        Ok(board) => answered(alloc, request, circuit, board),
+        Err(Ended::Spent(report)) => reported(alloc, request, circuit, report),
         Err(Ended::Memory) => Err(Status::Memory),
     }
 }
@@ -124,25 +129,57 @@ fn answered(
     ensures found { IfOk result (λ outcome. SumsUpAnswer circuit.now request.now outcome.status outcome.text.items) }
     ensures ended { IfErr result (λ status. status ≡ Status.Memory) }
 {
-    let answer = match printed(alloc, circuit, &REQUEST, &board) {
+    match checked_summary(alloc, request, circuit, &board) {
+        Ok(text) => Ok(Outcome {
+            status: Status::Done(Done::Demo(board)),
+            text,
+        }),
+        Err(status) => Err(status),
+    }
+}
+
+// Its text.
+fn checked_summary(
+    alloc: Global,
+    request: &DemoRequest,
+    circuit: &Circuit,
+    board: &Board,
+) -> Result<Vec<u8>, Status>
+    requires one { length circuit.now.justice ≡ 1 }
+    requires answered { IsAnsweredBy (demo_task circuit.now) board.now }
+    ensures sums { IfOk result (λ text. SumsUpBoard circuit.now request.now text.items board.now) }
+    ensures ended { IfErr result (λ status. status ≡ Status.Memory) }
+{
+    let answer = match answer_text(alloc, circuit, board) {
         Ok(answer) => answer,
         Err(status) => return Err(status),
     };
-    if let Err(status) = checked(alloc, circuit, answer.text) {
+    if let Err(status) = checked(alloc, circuit, answer) {
         return Err(status);
     }
     match summary(
         alloc,
         request,
-        verdict(&board),
-        entry_count(&board),
+        verdict(board),
+        entry_count(board),
         "accepted",
     ) {
-        Ok(text) => Ok(Outcome {
-            status: Status::Done(Done::Demo(board)),
-            text,
-        }),
+        Ok(text) => Ok(text),
         Err(_) => Err(Status::Memory),
+    }
+}
+
+// The text that `solve` prints of the outcome.
+fn answer_text(alloc: Global, circuit: &Circuit, board: &Board) -> Result<Vec<u8>, Status>
+    requires one { length circuit.now.justice ≡ 1 }
+    requires answered { IsAnsweredBy (demo_task circuit.now) board.now }
+    ensures text { IfOk result (λ text. IsTextOfOutcome circuit.now 0 board.now.entries (outcome_of board.now.served 0) text.items) }
+    ensures good { IfOk result (λ text. (found : AcceptedOf) × IsGood circuit.now text.items found) }
+    ensures ended { IfErr result (λ status. status ≡ Status.Memory) }
+{
+    match printed(alloc, circuit, &REQUEST, board) {
+        Ok(answer) => Ok(answer.text),
+        Err(status) => Err(status),
     }
 }
 

@@ -15,10 +15,9 @@ ghost use Rattle.fair_top.specs.declared.status.Done.TheVariants.{Printed};
 use crate::commands::Asked;
 use crate::status::{Done, Status};
 use crate::texts::Outcome;
-use crate::words::{flag_of, number_of, value_of};
+use crate::words::{flag, flag_of, number_of, required, required_number, value_of};
 use aiger_names::Model;
-use clap::builder::ValueParser;
-use clap::{Arg, ArgAction, ArgMatches, Command};
+use clap::{ArgMatches, Command};
 use model_gen::{ring, scramble};
 use std::alloc::{AllocError, Global};
 
@@ -48,21 +47,11 @@ fn gen_command<'a>(alloc: Global) -> Result<Command<'a>, AllocError>
     ensures shape { IfOk result (λ command. app_of command ≡ gen_command) }
     ensures local { IfOk result (λ command. (fields_of command).has_globals ≡ false) }
 {
-    let kind = Arg::new(alloc, "KIND").required(true);
-    let seed = Arg::new(alloc, "SEED")
-        .required(true)
-        .value_parser(ValueParser::unsigned(0, 4_294_967_295));
-    let size = Arg::new(alloc, "SIZE")
-        .required(true)
-        .value_parser(ValueParser::unsigned(1, 256));
-    let binary = Arg::new(alloc, "binary")
-        .long("binary")
-        .action(ArgAction::SetTrue);
     Command::new(alloc, "gen")
-        .arg(kind)?
-        .arg(seed)?
-        .arg(size)?
-        .arg(binary)
+        .arg(required(alloc, "KIND"))?
+        .arg(required_number(alloc, "SEED", 0, 4_294_967_295))?
+        .arg(required_number(alloc, "SIZE", 1, 256))?
+        .arg(flag(alloc, "binary"))
 }
 
 /// The program with this command.

@@ -26,11 +26,11 @@ use crate::commands::Asked;
 use crate::models::model_of;
 use crate::status::{Done, Status};
 use crate::texts::{Outcome, with_text};
-use crate::words::{number_option, number_or, value_of};
+use crate::words::{number_option, number_or, required, value_of};
 use aig_semantics::Lasso;
 use certificate::{good_answers_are_true, written_certificates_are_good, written_stimuli_are_good};
 use circuit::Circuit;
-use clap::{Arg, ArgMatches, Command};
+use clap::{ArgMatches, Command};
 use edge::Shelf;
 use entry::Refutation;
 use fair_workers::{Board, Ended, Limits, run_turns};
@@ -69,9 +69,8 @@ fn solve_command<'a>(alloc: Global) -> Result<Command<'a>, AllocError>
     ensures shape { IfOk result (λ command. app_of command ≡ solve_command) }
     ensures local { IfOk result (λ command. (fields_of command).has_globals ≡ false) }
 {
-    let model = Arg::new(alloc, "MODEL").required(true);
     Command::new(alloc, "solve")
-        .arg(model)?
+        .arg(required(alloc, "MODEL"))?
         .arg(number_option(alloc, "property", 0, 4_294_967_295))?
         .arg(number_option(alloc, "workers", 1, 64))?
         .arg(number_option(alloc, "conflicts", 0, 4_294_967_295))?
@@ -158,13 +157,22 @@ fn searched(alloc: Global, circuit: Circuit, request: &SolveRequest) -> Result<O
     ensures found { IfOk result (λ outcome. EndsFor circuit request.now outcome.status outcome.text.items) }
     ensures ended { IfErr result (λ status. status ≡ Status.Memory) }
 {
-    let circuit = match Arc::new(alloc, circuit) {
-        Ok(circuit) => circuit,
-        Err(_) => return Err(Status::Memory),
-    };
+    match Arc::new(alloc, circuit) {
+        Ok(circuit) => run_for(alloc, &circuit, request),
+        Err(_) => Err(Status::Memory),
+    }
+}
+
+// The same for a circuit that the workers share.
+fn run_for(alloc: Global, circuit: &Arc<Circuit>, request: &SolveRequest) -> Result<Outcome, Status>
+    requires within { AreWithin request.now }
+    requires property { request.now.property < length (arc_value circuit.now).justice }
+    ensures found { IfOk result (λ outcome. EndsFor (arc_value circuit.now) request.now outcome.status outcome.text.items) }
+    ensures ended { IfErr result (λ status. status ≡ Status.Memory) }
+{
     let limits = limits_of(request);
-    match run_turns(alloc, &circuit, request.property, limits, &[], &[]) {
-        Ok(board) => printed(alloc, &circuit, request, &board),
+    match run_turns(alloc, circuit, request.property, limits, &[], &[]) {
+        Ok(board) => printed(alloc, circuit, request, &board),
         Err(Ended::Spent(report)) => with_text(alloc, Status::Unknown(report)),
         Err(Ended::Memory) => Err(Status::Memory),
     }

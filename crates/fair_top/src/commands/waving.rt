@@ -23,11 +23,11 @@ use crate::commands::Asked;
 use crate::models::model_of;
 use crate::status::{Done, Status};
 use crate::texts::{Outcome, with_text};
-use crate::words::value_of;
+use crate::words::{required, value_of};
 use aig_semantics::Lasso;
 use aiger_names::Model;
 use certificate::{Accepted, AnswerEnd, AnswerFault, check_with_lasso};
-use clap::{Arg, ArgMatches, Command};
+use clap::{ArgMatches, Command};
 use edge::Shelf;
 use std::alloc::{AllocError, Global};
 
@@ -35,9 +35,9 @@ fn wave_command<'a>(alloc: Global) -> Result<Command<'a>, AllocError>
     ensures shape { IfOk result (λ command. app_of command ≡ wave_command) }
     ensures local { IfOk result (λ command. (fields_of command).has_globals ≡ false) }
 {
-    let model = Arg::new(alloc, "MODEL").required(true);
-    let answer = Arg::new(alloc, "ANSWER").required(true);
-    Command::new(alloc, "wave").arg(model)?.arg(answer)
+    Command::new(alloc, "wave")
+        .arg(required(alloc, "MODEL"))?
+        .arg(required(alloc, "ANSWER"))
 }
 
 /// The program with this command.

@@ -1,21 +1,16 @@
 use Rattle.std.proofs.Common.{rules, ap₂, codes, Bool, false, ◌||◌, ◌≡◌, ◌∙◌}
 use Rattle.std.proofs.lemmas.Result.{IfOk-weaker}
-use Rattle.clap.specs.Walk.{rule_of}
 use Rattle.clap.specs.Simple.{app_of, new_app, with_rule}
-use Rattle.fair_top.specs.Words.{wanted, wanted_number, flag}
+use Rattle.fair_top.specs.Words.{wanted}
 use Rattle.fair_top.proofs.commands.generating.gen_command.Goals as goal
 
 pub returns-clause-shape : goal.returns-clause-shape
 returns-clause-shape c =
-    let kind_is : rule_of c.required-kind.result ≡ wanted (codes "KIND") = search rules in
-    let seed_is : rule_of c.value_parser-seed.result ≡ wanted_number (codes "SEED") 0 4294967295 = search rules in
-    let size_is : rule_of c.value_parser-size.result ≡ wanted_number (codes "SIZE") 1 256 = search rules in
-    let flag_is : rule_of c.action-binary.result ≡ flag (codes "binary") = search rules in
-    let with_kind : app_of c.in_ok-arg.field-0 ≡ with_rule (new_app (codes "gen")) (wanted (codes "KIND")) =
-    c.in_ok-arg.ensures.shape (search rules) ∙ ap₂ with_rule c.new-5.ensures.app kind_is in
-    let with_seed = c.in_ok-arg-2.ensures.shape (search rules) ∙ ap₂ with_rule with_kind seed_is in
-    let with_size = c.in_ok-arg-3.ensures.shape (search rules) ∙ ap₂ with_rule with_seed size_is in
-    IfOk-weaker c.arg-4.result _ _ (λ command h. h.shape (search rules) ∙ ap₂ with_rule with_size flag_is) c.arg-4.ensures
+    let with_1 : app_of c.in_ok-arg.field-0 ≡ with_rule (new_app (codes "gen")) (wanted (codes "KIND")) =
+    c.in_ok-arg.ensures.shape (search rules) ∙ ap₂ with_rule c.new.ensures.app c.required.ensures.rule in
+    let with_2 = c.in_ok-arg-2.ensures.shape (search rules) ∙ ap₂ with_rule with_1 c.required_number.ensures.rule in
+    let with_3 = c.in_ok-arg-3.ensures.shape (search rules) ∙ ap₂ with_rule with_2 c.required_number-2.ensures.rule in
+    IfOk-weaker c.arg-4.result _ _ (λ command h. h.shape (search rules) ∙ ap₂ with_rule with_3 c.flag.ensures.rule) c.arg-4.ensures
 
 -- no argument is global
 none_global : (old given new : Bool) → new ≡ (old || given) → old ≡ false → given ≡ false → new ≡ false
@@ -23,7 +18,7 @@ none_global old given new e f g = e ∙ ap₂ (λ (a b : Bool). a || b) f g
 
 pub returns-clause-local : goal.returns-clause-local
 returns-clause-local c =
-    let one = none_global _ c.required-kind.result.global _ c.in_ok-arg.ensures.globals c.new-5.ensures.local (search rules) in
-    let two = none_global _ c.value_parser-seed.result.global _ c.in_ok-arg-2.ensures.globals one (search rules) in
-    let three = none_global _ c.value_parser-size.result.global _ c.in_ok-arg-3.ensures.globals two (search rules) in
-    IfOk-weaker c.arg-4.result _ _ (λ command h. none_global _ c.action-binary.result.global _ h.globals three (search rules)) c.arg-4.ensures
+    let local_1 = none_global _ c.required.result.global _ c.in_ok-arg.ensures.globals c.new.ensures.local c.required.ensures.local in
+    let local_2 = none_global _ c.required_number.result.global _ c.in_ok-arg-2.ensures.globals local_1 c.required_number.ensures.local in
+    let local_3 = none_global _ c.required_number-2.result.global _ c.in_ok-arg-3.ensures.globals local_2 c.required_number-2.ensures.local in
+    IfOk-weaker c.arg-4.result _ _ (λ command h. none_global _ c.flag.result.global _ h.globals local_3 c.flag.ensures.local) c.arg-4.ensures

@@ -1,0 +1,7 @@
+use Rattle.fair_top.proofs.commands.demonstrating.answer_text.Goals as goal
+
+pub returns-in-Ok-clause-text : goal.returns-in-Ok-clause-text
+returns-in-Ok-clause-text c = c.in-Ok.ensures.text
+
+pub returns-in-Ok-clause-good : goal.returns-in-Ok-clause-good
+returns-in-Ok-clause-good c = (c.in-Ok.ensures.found.0, c.in-Ok.ensures.found.3)

@@ -1,0 +1,23 @@
+use Rattle.std.proofs.Common.{rules, ◌≡◌, inl, inr, subst}
+use Rattle.std.specs.Prelude.{IfOk}
+use Rattle.std.specs.Arc.{arc_value}
+use Rattle.std.proofs.lemmas.Result.{IfOk-weaker}
+use Rattle.aig_semantics.specs.Circuits.{Circuit}
+use Rattle.fair_top.specs.Demo.{SumsUp}
+use Rattle.fair_top.proofs.Decided.{nothing_before}
+use Rattle.fair_top.proofs.commands.demonstrating.run_for.Goals as goal
+
+pub run_turns-requires-clause-given : goal.run_turns-requires-clause-given
+run_turns-requires-clause-given c = λ before after e wrong. absurd (nothing_before before after e wrong)
+
+pub returns-in-Ok-clause-found : goal.returns-in-Ok-clause-found
+returns-in-Ok-clause-found c =
+    let is : c.deref.result.now ≡ arc_value c.args.circuit.now = search rules in
+    subst (λ (k : Circuit). IfOk c.answered.result (λ outcome. SumsUp k c.args.request.now outcome.status outcome.text.items)) is
+    (IfOk-weaker c.answered.result _ _ (λ outcome h. inl h) c.answered.ensures.found)
+
+pub returns-in-Err-Spent-clause-found : goal.returns-in-Err-Spent-clause-found
+returns-in-Err-Spent-clause-found c =
+    let is : c.deref-in-Err-Spent.result.now ≡ arc_value c.args.circuit.now = search rules in
+    subst (λ (k : Circuit). IfOk c.reported.result (λ outcome. SumsUp k c.args.request.now outcome.status outcome.text.items)) is
+    (IfOk-weaker c.reported.result _ _ (λ outcome h. inr h) c.reported.ensures.found)
