@@ -111,9 +111,7 @@ const BOTH: Model = Model {
     fairness: &[3],
 };
 
-/// The values in front of the dot of a text, or behind it.
-fn values_of(alloc: Global, text: &str, behind: bool) -> Result<Items<bool>, AllocError> {
-    let mut values = Items::new(alloc);
+fn push_digits(text: &str, behind: bool, values: &mut Items<bool>) -> Result<(), AllocError> {
     let mut is_behind = false;
     for byte in text.as_bytes() {
         if *byte == b'.' {
@@ -122,6 +120,13 @@ fn values_of(alloc: Global, text: &str, behind: bool) -> Result<Items<bool>, All
             values.push(*byte == b'1')?;
         }
     }
+    Ok(())
+}
+
+/// The values in front of the dot of a text, or behind it.
+fn values_of(alloc: Global, text: &str, behind: bool) -> Result<Items<bool>, AllocError> {
+    let mut values = Items::new(alloc);
+    push_digits(text, behind, &mut values)?;
     Ok(values)
 }
 

@@ -15,24 +15,44 @@ pub(crate) struct Model {
     pub(crate) fairness: &'static [u64],
 }
 
-fn properties_of(alloc: Global, literals: &[u64]) -> Result<Items<Items<u64>>, AllocError> {
-    let mut justice = Items::new(alloc);
-    justice.push(Items::from_slice(alloc, literals)?)?;
-    Ok(justice)
+fn no_parts(alloc: Global, max: u64) -> Parts {
+    Parts {
+        max,
+        inputs: Items::new(alloc),
+        latches: Items::new(alloc),
+        gates: Items::new(alloc),
+        outputs: Items::new(alloc),
+        bad: Items::new(alloc),
+        constraints: Items::new(alloc),
+        justice: Items::new(alloc),
+        fairness: Items::new(alloc),
+    }
+}
+
+fn put_lists(alloc: Global, model: &Model, parts: &mut Parts) -> Result<(), AllocError> {
+    parts.inputs = Items::from_slice(alloc, model.inputs)?;
+    parts.latches = Items::from_slice(alloc, model.latches)?;
+    parts.gates = Items::from_slice(alloc, model.gates)?;
+    Ok(())
+}
+
+fn put_properties(alloc: Global, model: &Model, parts: &mut Parts) -> Result<(), AllocError> {
+    parts.constraints = Items::from_slice(alloc, model.constraints)?;
+    parts.fairness = Items::from_slice(alloc, model.fairness)?;
+    parts
+        .justice
+        .push(Items::from_slice(alloc, model.property)?)
+}
+
+fn put_parts(alloc: Global, model: &Model, parts: &mut Parts) -> Result<(), AllocError> {
+    put_lists(alloc, model, parts)?;
+    put_properties(alloc, model, parts)
 }
 
 pub(crate) fn parts_of(alloc: Global, model: &Model) -> Result<Parts, AllocError> {
-    Ok(Parts {
-        max: model.max,
-        inputs: Items::from_slice(alloc, model.inputs)?,
-        latches: Items::from_slice(alloc, model.latches)?,
-        gates: Items::from_slice(alloc, model.gates)?,
-        outputs: Items::new(alloc),
-        bad: Items::new(alloc),
-        constraints: Items::from_slice(alloc, model.constraints)?,
-        justice: properties_of(alloc, model.property)?,
-        fairness: Items::from_slice(alloc, model.fairness)?,
-    })
+    let mut parts = no_parts(alloc, model.max);
+    put_parts(alloc, model, &mut parts)?;
+    Ok(parts)
 }
 
 /// The circuit of a model in range; of one out of range `Header`, which no check says.

@@ -5,7 +5,8 @@ ghost use Rattle.aig_semantics.specs.Runs.{IsPosition};
 ghost use Rattle.ternary.specs.Cubes.{MakesTrue};
 
 use crate::models::{Model, checked, circuit_of, parts_of};
-use circuit::{Circuit, Gate, Latch, ModelEnd, Position, Reset, eval_into, literal_value};
+use circuit::{Circuit, Gate, Latch, ModelEnd, Parts, Position, Reset, eval_into, literal_value};
+use cnf::Lit;
 use items::Items;
 use std::alloc::{AllocError, Global};
 use std::process::Abort;
@@ -89,8 +90,7 @@ const WIDE: Model = Model {
 };
 
 /// So many latches whose next value is 1.
-fn latches_to(alloc: Global, count: u64) -> Result<Items<Latch>, AllocError> {
-    let mut latches = Items::new(alloc);
+fn push_latches(count: u64, latches: &mut Items<Latch>) -> Result<(), AllocError> {
     for var in 1..=count {
         latches.push(Latch {
             var,
@@ -98,12 +98,17 @@ fn latches_to(alloc: Global, count: u64) -> Result<Items<Latch>, AllocError> {
             reset: Reset::Free,
         })?;
     }
-    Ok(latches)
+    Ok(())
+}
+
+fn wide_parts(alloc: Global) -> Result<Parts, AllocError> {
+    let mut parts = parts_of(alloc, &WIDE)?;
+    push_latches(WIDTH, &mut parts.latches)?;
+    Ok(parts)
 }
 
 fn wide(alloc: Global) -> Result<Circuit, ModelEnd> {
-    let mut parts = parts_of(alloc, &WIDE)?;
-    parts.latches = latches_to(alloc, WIDTH)?;
+    let parts = wide_parts(alloc)?;
     checked(alloc, &parts)
 }
 
@@ -123,6 +128,24 @@ fn digit(number: usize) -> Value3 {
     }
 }
 
+/// The values of all variables where the latches have those of a list; all unknown where a circuit has inputs, or other
+/// latches.
+fn simulated(alloc: Global, c: &Circuit, latches: &[Value3]) -> Result<Vec<Value3>, AllocError> {
+    let mut values = vec![in alloc; Value3::X; c.max() as usize + 1]?;
+    if latches.len() == c.latches().len() && c.inputs().is_empty() {
+        eval3_into(c, latches, &[], &mut values);
+    }
+    Ok(values)
+}
+
+fn are_spelled(values: &[Value3], wanted: &[u8]) -> bool {
+    values.len() == wanted.len()
+        && values
+            .iter()
+            .zip(wanted)
+            .all(|(v, byte)| letter(*v) == *byte)
+}
+
 /// Whether the variables have these values where the latches have those of a list.
 fn simulates(
     alloc: Global,
@@ -130,12 +153,8 @@ fn simulates(
     latches: &[Value3],
     wanted: &[u8],
 ) -> Result<bool, AllocError> {
-    if latches.len() != c.latches().len() || !c.inputs().is_empty() {
-        return Ok(false);
-    }
-    let mut values = vec![in alloc; Value3::X; c.max() as usize + 1]?;
-    eval3_into(c, latches, &[], &mut values);
-    Ok(values.iter().map(|v| letter(*v)).eq(wanted.iter().copied()))
+    let values = simulated(alloc, c, latches)?;
+    Ok(are_spelled(&values, wanted))
 }
 
 /// The lanes of two latches: lane k has the two ternary digits of k.
@@ -149,29 +168,46 @@ fn digits_in_lanes() -> [Lanes; 2] {
     [low, high]
 }
 
-/// The first lane that has other values than the rows of a table, taken again and again.
+/// The lanes of all variables; all unknown where a circuit has inputs, or other latches.
+fn simulated_lanes(
+    alloc: Global,
+    c: &Circuit,
+    latches: &[Lanes],
+) -> Result<Vec<Lanes>, AllocError> {
+    let mut values = vec![in alloc; Lanes::splat(Value3::X); c.max() as usize + 1]?;
+    if latches.len() == c.latches().len() && c.inputs().is_empty() {
+        eval3_lanes(c, latches, &[], &mut values);
+    }
+    Ok(values)
+}
+
+fn is_lane(values: &[Lanes], k: usize, wanted: &[u8]) -> bool {
+    k < LANES
+        && values.len() == wanted.len()
+        && values
+            .iter()
+            .zip(wanted)
+            .all(|(lanes, byte)| letter(lanes.lane(k)) == *byte)
+}
+
+/// The first lane that has other values than the rows of the table, taken again and again.
+fn first_wrong(values: &[Lanes]) -> Option<usize> {
+    for k in 0..LANES {
+        let row = simulations().get(k % 9).copied().unwrap_or("");
+        if !is_lane(values, k, row.as_bytes()) {
+            return Some(k);
+        }
+    }
+    None
+}
+
 fn first_wrong_lane(
     alloc: Global,
     c: &Circuit,
     latches: &[Lanes],
-    rows: &[&[u8]],
 ) -> Result<Option<usize>, AllocError> {
-    if latches.len() != c.latches().len() || !c.inputs().is_empty() || rows.is_empty() {
-        return Ok(Some(LANES));
-    }
-    let mut values = vec![in alloc; Lanes::splat(Value3::X); c.max() as usize + 1]?;
-    eval3_lanes(c, latches, &[], &mut values);
-    for k in 0..LANES {
-        let row = rows[k % rows.len()];
-        if !values
-            .iter()
-            .map(|lanes| letter(lanes.lane(k)))
-            .eq(row.iter().copied())
-        {
-            return Ok(Some(k));
-        }
-    }
-    Ok(None)
+    let values = simulated_lanes(alloc, c, latches)?;
+    Ok(first_wrong(&values))
 }
 
 /// Whether each literal is true at the position.
@@ -184,7 +220,43 @@ fn are_true(alloc: Global, c: &Circuit, at: &Position, keep: &[u64]) -> Result<b
     Ok(keep.iter().all(|l| literal_value(&values, *l)))
 }
 
+fn is_literal(literal: &Lit, wanted: &(u64, bool)) -> bool {
+    literal.var == wanted.0 && literal.positive == wanted.1
+}
+
+fn are_literals(literals: &[Lit], wanted: &[(u64, bool)]) -> bool {
+    literals.len() == wanted.len()
+        && literals
+            .iter()
+            .zip(wanted)
+            .all(|(literal, pair)| is_literal(literal, pair))
+}
+
 /// Whether the cube lifted from a position has these literals.
+fn lifts_at(
+    alloc: Global,
+    c: &Circuit,
+    at: &Position,
+    keep: &[u64],
+    wanted: &[(u64, bool)],
+) -> Result<bool, AllocError> {
+    if at.latches.len() != c.latches().len() || at.inputs.len() != c.inputs().len() {
+        return Ok(false);
+    }
+    if !are_true(alloc, c, at, keep)? {
+        return Ok(false);
+    }
+    let cube = lift(alloc, c, at, keep)?;
+    Ok(are_literals(cube.as_slice(), wanted))
+}
+
+fn position_of(alloc: Global, latches: &[bool], inputs: &[bool]) -> Result<Position, AllocError> {
+    Ok(Position {
+        latches: Items::from_slice(alloc, latches)?,
+        inputs: Items::from_slice(alloc, inputs)?,
+    })
+}
+
 fn lifts(
     alloc: Global,
     c: &Circuit,
@@ -193,30 +265,17 @@ fn lifts(
     keep: &[u64],
     wanted: &[(u64, bool)],
 ) -> Result<bool, AllocError> {
-    let at = Position {
-        latches: Items::from_slice(alloc, latches)?,
-        inputs: Items::from_slice(alloc, inputs)?,
-    };
-    if latches.len() != c.latches().len() || inputs.len() != c.inputs().len() {
-        return Ok(false);
-    }
-    if !are_true(alloc, c, &at, keep)? {
-        return Ok(false);
-    }
-    let cube = lift(alloc, c, &at, keep)?;
-    Ok(
-        cube.as_slice()
-            .iter()
-            .map(|l| (l.var, l.positive))
-            .eq(wanted.iter().copied()),
-    )
+    let at = position_of(alloc, latches, inputs)?;
+    lifts_at(alloc, c, &at, keep, wanted)
 }
 
 // The values of the counter's variables 0 to 6, where its bits are the two ternary digits of the row's number.
-const SIMULATIONS: [&[u8]; 9] = [
-    b"0000010", b"0101000", b"0x0x0x0", b"0010100", b"0110011", b"0x10xxx", b"00x0xx0", b"01xx0xx",
-    b"0xxxxxx",
-];
+fn simulations() -> &'static [&'static str] {
+    &[
+        "0000010", "0101000", "0x0x0x0", "0010100", "0110011", "0x10xxx", "00x0xx0", "01xx0xx",
+        "0xxxxxx",
+    ]
+}
 
 // The bits of the counter, literals that are true there, and the only cube that is lifted from there.
 const LIFTS: [(&[bool], &[u64], &[(u64, bool)]); 8] = [
@@ -231,25 +290,30 @@ const LIFTS: [(&[bool], &[u64], &[(u64, bool)]); 8] = [
 ];
 
 fn check_simulations(rt: &impl Abort, alloc: Global, c: &Circuit) -> Result<(), AllocError> {
-    for (k, row) in SIMULATIONS.iter().enumerate() {
-        let agree = simulates(alloc, c, &[digit(k), digit(k / 3)], row)?;
+    for (k, row) in simulations().iter().enumerate() {
+        let agree = simulates(alloc, c, &[digit(k), digit(k / 3)], row.as_bytes())?;
         assert!(rt; agree, "of row {k}");
     }
     Ok(())
 }
 
 fn check_lifts(rt: &impl Abort, alloc: Global, c: &Circuit) -> Result<(), AllocError> {
-    for (latches, keep, wanted) in LIFTS {
+    for (latches, keep, wanted) in &LIFTS {
         let agree = lifts(alloc, c, latches, &[], keep, wanted)?;
         assert!(rt; agree, "of {keep:?} at {latches:?}");
     }
     Ok(())
 }
 
+fn check_lanes(rt: &impl Abort, alloc: Global, c: &Circuit) -> Result<(), AllocError> {
+    let wrong = first_wrong_lane(alloc, c, &digits_in_lanes())?;
+    assert!(rt; wrong.is_none(), "in lane {wrong:?}");
+    Ok(())
+}
+
 fn check_counter(rt: &impl Abort, alloc: Global, c: &Circuit) -> Result<(), AllocError> {
     check_simulations(rt, alloc, c)?;
-    let wrong = first_wrong_lane(alloc, c, &digits_in_lanes(), &SIMULATIONS)?;
-    assert!(rt; wrong.is_none(), "in lane {wrong:?}");
+    check_lanes(rt, alloc, c)?;
     check_lifts(rt, alloc, c)
 }
 
@@ -262,18 +326,21 @@ fn check_guarded(rt: &impl Abort, alloc: Global, c: &Circuit) -> Result<(), Allo
     Ok(())
 }
 
-/// Of many latches the two that are read are kept.
-fn check_wide(rt: &impl Abort, alloc: Global, c: &Circuit) -> Result<(), AllocError> {
+/// Whether of many latches the two that are read are kept.
+fn is_wide_lifted(alloc: Global, c: &Circuit) -> Result<bool, AllocError> {
     let latches = vec![in alloc; true; 200]?;
-    let agree = lifts(
+    lifts(
         alloc,
         c,
         &latches,
         &[],
         &[130, 6, 258],
         &[(2, true), (64, true), (128, true)],
-    )?;
-    assert!(rt; agree);
+    )
+}
+
+fn check_wide(rt: &impl Abort, alloc: Global, c: &Circuit) -> Result<(), AllocError> {
+    assert!(rt; is_wide_lifted(alloc, c)?);
     Ok(())
 }
 

@@ -1,6 +1,7 @@
 //! Texts of stimuli, and stimuli replayed on small circuits, with values worked out by hand.
 use crate::models::{Model, circuit_of};
 use circuit::{Circuit, Latch, Reset, Stimulus};
+use items::Items;
 use std::alloc::Global;
 use std::test::*;
 use stimulus::{ReplayEnd, ReplayFault, read, replay, write};
@@ -40,6 +41,14 @@ fn size_of(alloc: Global, text: &str) -> Result<(usize, usize), u64> {
     }
 }
 
+fn are_inputs(found: &[Items<bool>], wanted: &[&[bool]]) -> bool {
+    found.len() == wanted.len()
+        && found
+            .iter()
+            .zip(wanted)
+            .all(|(one, other)| one.as_slice() == *other)
+}
+
 /// Whether the text is that of a stimulus with these latch values and these inputs at its positions.
 fn is_read_as(
     alloc: Global,
@@ -48,11 +57,7 @@ fn is_read_as(
     inputs: &[&[bool]],
 ) -> Result<bool, ReplayEnd> {
     let s = read(alloc, text.as_bytes())?;
-    let mut same = s.latches.as_slice() == latches && s.inputs.len() == inputs.len();
-    for (k, values) in s.inputs.as_slice().iter().enumerate() {
-        same = same && k < inputs.len() && values.as_slice() == inputs[k];
-    }
-    Ok(same)
+    Ok(s.latches.as_slice() == latches && are_inputs(s.inputs.as_slice(), inputs))
 }
 
 /// What is written of the stimulus of this text.

@@ -22,24 +22,42 @@ const RISES: Model = Model {
     fairness: &[],
 };
 
+// The clause of this value of the latch.
+fn value_clause(alloc: Global, positive: bool) -> Result<Clause, AllocError> {
+    Clause::from_slice(alloc, &[Lit { var: 0, positive }])
+}
+
 // The set of the states in which the latch has this value.
 fn latch_is(alloc: Global, positive: bool) -> Result<ClauseSet, AllocError> {
     let mut set = Items::new(alloc);
-    set.push(Clause::from_slice(alloc, &[Lit { var: 0, positive }])?)?;
+    set.push(value_clause(alloc, positive)?)?;
     Ok(set)
+}
+
+fn push_literal(alloc: Global, literal: &Lit, text: &mut String) -> Result<(), AllocError> {
+    if !literal.positive {
+        text.push_str("-")?;
+    }
+    text.push_str(format!(in alloc; "{} ", literal.var)?.as_str())
+}
+
+fn push_clause(alloc: Global, clause: &Clause, text: &mut String) -> Result<(), AllocError> {
+    for literal in clause.as_slice() {
+        push_literal(alloc, literal, text)?;
+    }
+    text.push_str("0 ")
+}
+
+fn push_clauses(alloc: Global, db: &Db, text: &mut String) -> Result<(), AllocError> {
+    for clause in db.as_slice() {
+        push_clause(alloc, clause, text)?;
+    }
+    Ok(())
 }
 
 fn written(alloc: Global, db: &Db) -> Result<String, AllocError> {
     let mut text = String::new(alloc);
-    for clause in db.as_slice() {
-        for literal in clause.as_slice() {
-            if !literal.positive {
-                text.push_str("-")?;
-            }
-            text.push_str(format!(in alloc; "{} ", literal.var)?.as_str())?;
-        }
-        text.push_str("0 ")?;
-    }
+    push_clauses(alloc, db, &mut text)?;
     Ok(text)
 }
 

@@ -1,4 +1,6 @@
 //! Conflicts worked out by hand.
+ghost use Rattle.std.specs.Prelude.{◌≡◌, []};
+
 use crate::literals::{clause, clauses, literal};
 use cdcl_learn::{Learned, learn};
 use cdcl_trail::Trail;
@@ -6,9 +8,16 @@ use cnf::Db;
 use std::alloc::{AllocError, Global};
 use std::test::*;
 
-// What the first conflict teaches, where these literals are decided one after the other.
-fn first_conflict(alloc: Global, db: &Db, decided: &[i64]) -> Result<Option<Learned>, AllocError> {
-    let mut trail = Trail::new(alloc);
+// What the first conflict teaches, where these literals are decided one after the other on a new trail.
+fn conflict_on(
+    alloc: Global,
+    db: &Db,
+    trail: &mut Trail,
+    decided: &[i64],
+) -> Result<Option<Learned>, AllocError>
+    requires steps { trail.old.steps ≡ [] }
+    requires taken { trail.old.taken ≡ [] }
+{
     if trail.propagate(db)?.is_some() {
         return Ok(None);
     }
@@ -19,10 +28,15 @@ fn first_conflict(alloc: Global, db: &Db, decided: &[i64]) -> Result<Option<Lear
         }
         trail.assume(assumed)?;
         if let Some(conflict) = trail.propagate(db)? {
-            return Ok(Some(learn(alloc, db, &trail, conflict)?));
+            return Ok(Some(learn(alloc, db, trail, conflict)?));
         }
     }
     Ok(None)
+}
+
+fn first_conflict(alloc: Global, db: &Db, decided: &[i64]) -> Result<Option<Learned>, AllocError> {
+    let mut trail = Trail::new(alloc);
+    conflict_on(alloc, db, &mut trail, decided)
 }
 
 // Clauses, decided literals, the clause that the first conflict teaches, and its hints.
@@ -86,16 +100,20 @@ fn minimised_rows() -> &'static [Row] {
 
 fn is(alloc: Global, found: &Learned, row: &Row) -> Result<bool, AllocError> {
     let (_, _, learned, hints) = row;
-    Ok(found.clause == clause(alloc, learned)? && found.hints.as_slice() == *hints)
+    let wanted = clause(alloc, learned)?;
+    Ok(found.clause == wanted && found.hints.as_slice() == *hints)
 }
 
-fn teaches(alloc: Global, row: &Row) -> Result<bool, AllocError> {
-    let (lists, decided, _, _) = row;
-    let db = clauses(alloc, lists)?;
-    match first_conflict(alloc, &db, decided)? {
+fn teaches_of(alloc: Global, db: &Db, row: &Row) -> Result<bool, AllocError> {
+    match first_conflict(alloc, db, row.1)? {
         Some(found) => is(alloc, &found, row),
         None => Ok(false),
     }
+}
+
+fn teaches(alloc: Global, row: &Row) -> Result<bool, AllocError> {
+    let db = clauses(alloc, row.0)?;
+    teaches_of(alloc, &db, row)
 }
 
 #[test]

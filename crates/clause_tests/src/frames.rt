@@ -32,40 +32,61 @@ fn push_on(frames: &mut Frames, level: u64, place: u64) -> Result<(), AllocError
     Ok(())
 }
 
+fn add_lemma(alloc: Global, frames: &mut Frames, level: u64, var: u64) -> Result<(), AllocError> {
+    if level < frames.len() {
+        frames.add(level, lemma_of(alloc, var)?)?;
+    }
+    Ok(())
+}
+
 fn perform(alloc: Global, frames: &mut Frames, act: &Act) -> Result<(), AllocError> {
     match act {
         Open => frames.add_frame(),
-        Add(level, var) => {
-            if *level < frames.len() {
-                frames.add(*level, lemma_of(alloc, *var)?)?;
-            }
-            Ok(())
-        }
+        Add(level, var) => add_lemma(alloc, frames, *level, *var),
         Push(level, place) => push_on(frames, *level, *place),
     }
 }
 
+fn perform_all(alloc: Global, frames: &mut Frames, acts: &[Act]) -> Result<(), AllocError> {
+    for one in acts {
+        perform(alloc, frames, one)?;
+    }
+    Ok(())
+}
+
 fn after(alloc: Global, acts: &[Act]) -> Result<Frames, AllocError> {
     let mut frames = Frames::new(alloc);
-    for one in acts {
-        perform(alloc, &mut frames, one)?;
-    }
+    perform_all(alloc, &mut frames, acts)?;
     Ok(frames)
+}
+
+fn push_lemma(lemma: &Clause, text: &mut String) -> Result<(), AllocError> {
+    for literal in lemma.as_slice() {
+        text.push_str(if literal.var == 1 { "1" } else { "2" })?;
+    }
+    Ok(())
+}
+
+fn push_level(frames: &Frames, level: u64, text: &mut String) -> Result<(), AllocError> {
+    for place in 0..8_u64 {
+        if let Some(lemma) = frames.lemma(level, place) {
+            push_lemma(lemma, text)?;
+        }
+    }
+    text.push_str("/")
+}
+
+fn push_levels(frames: &Frames, text: &mut String) -> Result<(), AllocError> {
+    for level in 0..frames.len() {
+        push_level(frames, level, text)?;
+    }
+    Ok(())
 }
 
 /// The variables of each level's lemmas, and `/` behind each level.
 fn spelled(alloc: Global, frames: &Frames) -> Result<String, AllocError> {
     let mut text = String::new(alloc);
-    for level in 0..frames.len() {
-        for place in 0..8_u64 {
-            if let Some(lemma) = frames.lemma(level, place) {
-                for literal in lemma.as_slice() {
-                    text.push_str(if literal.var == 1 { "1" } else { "2" })?;
-                }
-            }
-        }
-        text.push_str("/")?;
-    }
+    push_levels(frames, &mut text)?;
     Ok(text)
 }
 
@@ -94,13 +115,18 @@ const SPELLED: [(&[Act], &str); 7] = [
     ),
 ];
 
-/// Whether the frame of each level allows the state in which variable 1 alone is true, a digit a level.
-fn allowed(alloc: Global, frames: &Frames) -> Result<String, AllocError> {
-    let mut text = String::new(alloc);
+fn push_allowed(frames: &Frames, text: &mut String) -> Result<(), AllocError> {
     for level in 0..frames.len() {
         let allows = frames.at(level).allows(&[false, true, false]);
         text.push_str(if allows { "1" } else { "0" })?;
     }
+    Ok(())
+}
+
+/// Whether the frame of each level allows the state in which variable 1 alone is true, a digit a level.
+fn allowed(alloc: Global, frames: &Frames) -> Result<String, AllocError> {
+    let mut text = String::new(alloc);
+    push_allowed(frames, &mut text)?;
     Ok(text)
 }
 
@@ -141,7 +167,7 @@ fn is_spelled(alloc: Global, acts: &[Act], wanted: &str) -> Result<bool, AllocEr
 
 #[test]
 fn lemmas_of_levels(rt: HostRuntime) -> Result<(), Fail> {
-    for (acts, wanted) in SPELLED {
+    for (acts, wanted) in &SPELLED {
         assert!(rt; is_spelled(rt.alloc(), acts, wanted)?, "of {wanted}");
     }
     Ok(())
@@ -155,7 +181,7 @@ fn is_allowed(alloc: Global, acts: &[Act], wanted: &str) -> Result<bool, AllocEr
 
 #[test]
 fn states_of_frames(rt: HostRuntime) -> Result<(), Fail> {
-    for (acts, wanted) in ALLOWED {
+    for (acts, wanted) in &ALLOWED {
         assert!(rt; is_allowed(rt.alloc(), acts, wanted)?, "of {wanted}");
     }
     Ok(())
@@ -169,8 +195,8 @@ fn counted_after(alloc: Global, acts: &[Act]) -> Result<Result<u64, Option<bool>
 
 #[test]
 fn steps_of_frames(rt: HostRuntime) -> Result<(), Fail> {
-    for (acts, wanted) in COUNTED {
-        assert_eq!(rt; counted_after(rt.alloc(), acts)?, wanted);
+    for (acts, wanted) in &COUNTED {
+        assert_eq!(rt; counted_after(rt.alloc(), acts)?, *wanted);
     }
     Ok(())
 }

@@ -10,18 +10,28 @@ pub(crate) fn literal(number: i64) -> Lit {
     }
 }
 
-pub(crate) fn clause(alloc: Global, numbers: &[i64]) -> Result<Clause, AllocError> {
-    let mut made = Clause::new(alloc);
+fn push_literals(numbers: &[i64], made: &mut Clause) -> Result<(), AllocError> {
     for number in numbers {
         made.push(literal(*number))?;
     }
+    Ok(())
+}
+
+pub(crate) fn clause(alloc: Global, numbers: &[i64]) -> Result<Clause, AllocError> {
+    let mut made = Clause::new(alloc);
+    push_literals(numbers, &mut made)?;
     Ok(made)
+}
+
+fn push_clauses(alloc: Global, lists: &[&[i64]], made: &mut Db) -> Result<(), AllocError> {
+    for numbers in lists {
+        made.push(clause(alloc, numbers)?)?;
+    }
+    Ok(())
 }
 
 pub(crate) fn clauses(alloc: Global, lists: &[&[i64]]) -> Result<Db, AllocError> {
     let mut made = Db::new(alloc);
-    for numbers in lists {
-        made.push(clause(alloc, numbers)?)?;
-    }
+    push_clauses(alloc, lists, &mut made)?;
     Ok(made)
 }

@@ -101,42 +101,75 @@ impl Asker for Core {
     ghost leaves_on = { λ s t u first second. second ∙ first };
 }
 
-fn literals_of(alloc: Global, codes: &[u64]) -> Result<Vec<Lit>, AllocError> {
-    let mut literals = Vec::new(alloc);
+fn push_literals(codes: &[u64], literals: &mut Vec<Lit>) -> Result<(), AllocError> {
     for code in codes {
         literals.push(Lit {
             var: *code / 2,
             positive: *code % 2 == 0,
         })?;
     }
+    Ok(())
+}
+
+fn literals_of(alloc: Global, codes: &[u64]) -> Result<Vec<Lit>, AllocError> {
+    let mut literals = Vec::new(alloc);
+    push_literals(codes, &mut literals)?;
     Ok(literals)
 }
 
-fn codes_of(alloc: Global, cube: &Cube) -> Result<Vec<u64>, AllocError> {
-    let mut codes = Vec::new(alloc);
-    for literal in cube.as_slice() {
-        let sign = if literal.positive { 0 } else { 1 };
-        codes.push(literal.var.saturating_mul(2).saturating_add(sign))?;
-    }
-    Ok(codes)
+fn cube_of(alloc: Global, codes: &[u64]) -> Result<Cube, AllocError> {
+    let literals = literals_of(alloc, codes)?;
+    Cube::from_slice(alloc, literals.as_slice())
 }
 
-/// What is left of a cube whose literals are dropped in an order; nothing where the asker does not pass it.
-fn shortened<A: Asker>(
+fn clause_of(alloc: Global, codes: &[u64]) -> Result<Clause, AllocError> {
+    let literals = literals_of(alloc, codes)?;
+    Clause::from_slice(alloc, literals.as_slice())
+}
+
+fn code_of(literal: &Lit) -> u64 {
+    let sign = if literal.positive { 0 } else { 1 };
+    literal.var.saturating_mul(2).saturating_add(sign)
+}
+
+fn has_codes(cube: &Cube, codes: &[u64]) -> bool {
+    let literals = cube.as_slice();
+    literals.len() == codes.len()
+        && literals
+            .iter()
+            .zip(codes)
+            .all(|(literal, code)| code_of(literal) == *code)
+}
+
+/// Whether these literals are left of a cube that the asker passes, where its literals are dropped in an order.
+fn leaves<A: Asker>(
+    alloc: Global,
+    cube: Cube,
+    order: &[u64],
+    wanted: &[u64],
+    asker: &mut A,
+    meter: &mut Meter,
+) -> Result<bool, SolveEnd>
+    requires { A.passes asker.old cube }
+{
+    let order = literals_of(alloc, order)?;
+    let left = generalise(alloc, cube, order.as_slice(), asker, meter)?;
+    Ok(has_codes(&left, wanted))
+}
+
+/// The same of a cube that the asker is asked for first.
+fn is_left<A: Asker>(
     alloc: Global,
     codes: &[u64],
     order: &[u64],
+    wanted: &[u64],
     asker: &mut A,
     meter: &mut Meter,
-) -> Result<Vec<u64>, SolveEnd> {
-    let cube = Cube::from_slice(alloc, literals_of(alloc, codes)?.as_slice())?;
+) -> Result<bool, SolveEnd> {
+    let cube = cube_of(alloc, codes)?;
     match asker.excluded(alloc, &cube, meter)? {
-        Some(_) => {
-            let order = literals_of(alloc, order)?;
-            let left = generalise(alloc, cube, order.as_slice(), asker, meter)?;
-            Ok(codes_of(alloc, &left)?)
-        }
-        None => Ok(Vec::new(alloc)),
+        Some(_) => leaves(alloc, cube, order, wanted, asker, meter),
+        None => Ok(false),
     }
 }
 
@@ -150,31 +183,45 @@ type Row = (
     u64,
 );
 
+fn push_own(alloc: Global, lists: &[&[u64]], own: &mut Vec<Clause>) -> Result<(), AllocError> {
+    for codes in lists {
+        own.push(clause_of(alloc, codes)?)?;
+    }
+    Ok(())
+}
+
+fn asker_of(alloc: Global, lists: &[&[u64]]) -> Result<Listed, AllocError> {
+    let mut own = Vec::new(alloc);
+    push_own(alloc, lists, &mut own)?;
+    Ok(Listed { own, asked: 0 })
+}
+
 fn by_list(alloc: Global, row: &Row, meter: &mut Meter) -> Result<bool, SolveEnd> {
     let (own, cube, order, wanted, questions) = *row;
-    let mut asker = Listed {
-        own: Vec::new(alloc),
+    let mut asker = asker_of(alloc, own)?;
+    let same = is_left(alloc, cube, order, wanted, &mut asker, meter)?;
+    Ok(same && asker.asked == questions.saturating_add(1))
+}
+
+fn core_asker_of(alloc: Global, lists: &[&[u64]]) -> Result<Core, AllocError> {
+    Ok(Core {
+        own: clause_of(alloc, lists.first().unwrap_or(&[].as_slice()))?,
         asked: 0,
-    };
-    for codes in own {
-        let literals = literals_of(alloc, codes)?;
-        asker
-            .own
-            .push(Clause::from_slice(alloc, literals.as_slice())?)?;
-    }
-    let left = shortened(alloc, cube, order, &mut asker, meter)?;
-    Ok(left.as_slice() == wanted && asker.asked == questions.saturating_add(1))
+    })
 }
 
 fn by_core(alloc: Global, row: &Row) -> Result<bool, SolveEnd> {
     let (own, cube, order, wanted, questions) = *row;
-    let literals = literals_of(alloc, own.first().unwrap_or(&[].as_slice()))?;
-    let mut asker = Core {
-        own: Clause::from_slice(alloc, literals.as_slice())?,
-        asked: 0,
-    };
-    let left = shortened(alloc, cube, order, &mut asker, &mut Meter::new(0, 0))?;
-    Ok(left.as_slice() == wanted && asker.asked == questions.saturating_add(1))
+    let mut asker = core_asker_of(alloc, own)?;
+    let same = is_left(
+        alloc,
+        cube,
+        order,
+        wanted,
+        &mut asker,
+        &mut Meter::new(0, 0),
+    )?;
+    Ok(same && asker.asked == questions.saturating_add(1))
 }
 
 // The order of the literals decides where two cubes pass, and of a literal that is not in it nothing is asked.
@@ -199,16 +246,16 @@ const CORES: [Row; 4] = [
 
 #[test]
 fn literals_are_dropped_in_order(rt: HostRuntime) -> Result<(), Fail> {
-    for row in LISTED {
-        assert!(rt; by_list(rt.alloc(), &row, &mut Meter::new(7, 0))?);
+    for row in &LISTED {
+        assert!(rt; by_list(rt.alloc(), row, &mut Meter::new(7, 0))?);
     }
     Ok(())
 }
 
 #[test]
 fn answers_are_taken_up(rt: HostRuntime) -> Result<(), Fail> {
-    for row in CORES {
-        assert!(rt; by_core(rt.alloc(), &row)?);
+    for row in &CORES {
+        assert!(rt; by_core(rt.alloc(), row)?);
     }
     Ok(())
 }

@@ -119,36 +119,38 @@ fn has_two(clause: &[Lit]) -> bool
     }
 }
 
+// That with a variable the one that comes after it is true.
+fn link(alloc: Global, var: u64) -> Result<Clause, AllocError> {
+    let one = Lit {
+        var,
+        positive: false,
+    };
+    let next = Lit {
+        var: var.saturating_add(1),
+        positive: true,
+    };
+    Clause::from_slice(alloc, &[one, next])
+}
+
 // That the first variable is true, and with each variable the one that comes after it.
 fn add_row(session: &mut Session, alloc: Global) -> Result<(), AllocError> {
     session.add(clause(alloc, &[1])?)?;
     for var in 1..ROW {
-        let mut made = Clause::new(alloc);
-        made.push(Lit {
-            var,
-            positive: false,
-        })?;
-        made.push(Lit {
-            var: var + 1,
-            positive: true,
-        })?;
-        session.add(made)?;
+        session.add(link(alloc, var)?)?;
     }
     Ok(())
 }
 
 // The clauses (1), (-1 2), (-2 -3 4) and (3 5).
-fn four_clauses(alloc: Global) -> Result<Session, AllocError> {
-    let mut session = Session::new(alloc);
-    for numbers in [
-        [1i64].as_slice(),
-        [-1, 2].as_slice(),
-        [-2, -3, 4].as_slice(),
-        [3, 5].as_slice(),
-    ] {
+fn four_clauses() -> &'static [&'static [i64]] {
+    &[&[1], &[-1, 2], &[-2, -3, 4], &[3, 5]]
+}
+
+fn add_all(session: &mut Session, alloc: Global, lists: &[&[i64]]) -> Result<(), AllocError> {
+    for numbers in lists {
         session.add(clause(alloc, numbers)?)?;
     }
-    Ok(session)
+    Ok(())
 }
 
 // Whether the literals are these, and nothing is known of variable 5.
@@ -170,44 +172,65 @@ fn has_reasons(trail: &Trail) -> bool {
         && trail.reason(3).is_none()
 }
 
-// What is so of the four clauses when 3 is assumed, after the way back, and when -3 is assumed with
-// (-5 -1) beside them.
-fn one_way_and_the_other(alloc: Global) -> Result<[bool; 4], AllocError> {
-    let mut session = four_clauses(alloc)?;
+// What is so of the four clauses before 3 is assumed, and then.
+fn one_way(session: &mut Session) -> Result<[bool; 3], AllocError> {
     let is_open = session.propagate()?.is_none();
     session.assume(3)?;
-    let is_complete = session.propagate()?.is_none()
-        && has_literals(&session.trail, &[1, 2, 3, 4])
-        && session.level_of(2) == Some(0)
-        && session.level_of(4) == Some(1);
-    let is_reasoned = has_reasons(&session.trail);
+    let is_closed = session.propagate()?.is_some();
+    Ok([
+        is_open && !is_closed,
+        has_literals(&session.trail, &[1, 2, 3, 4])
+            && session.level_of(2) == Some(0)
+            && session.level_of(4) == Some(1),
+        has_reasons(&session.trail),
+    ])
+}
+
+// What is so after the way back, and when -3 is assumed with (-5 -1) beside them.
+fn the_other_way(session: &mut Session, alloc: Global) -> Result<[bool; 2], AllocError> {
     session.back_to(0);
     let is_back = has_literals(&session.trail, &[1, 2]);
     session.add(clause(alloc, &[-5, -1])?)?;
     session.assume(-3)?;
-    Ok([
-        is_open && is_complete,
-        is_reasoned,
-        is_back,
-        session.ends_in_conflict()?,
-    ])
+    Ok([is_back, session.ends_in_conflict()?])
+}
+
+fn both_ways(session: &mut Session, alloc: Global) -> Result<([bool; 3], [bool; 2]), AllocError> {
+    add_all(session, alloc, four_clauses())?;
+    Ok((one_way(session)?, the_other_way(session, alloc)?))
+}
+
+fn one_way_and_the_other(alloc: Global) -> Result<([bool; 3], [bool; 2]), AllocError> {
+    let mut session = Session::new(alloc);
+    both_ways(&mut session, alloc)
 }
 
 #[test]
 fn assumed_and_forced(rt: HostRuntime) -> Result<(), Fail> {
-    assert_eq!(rt; one_way_and_the_other(rt.alloc())?, [true; 4]);
+    assert_eq!(rt; one_way_and_the_other(rt.alloc())?, ([true; 3], [true; 2]));
     Ok(())
+}
+
+// Whether two literals that are not of the variable are watched.
+fn watches_two_but(session: &mut Session, number: u64, var: u64) -> Result<bool, AllocError> {
+    match session.watched(number)? {
+        Some((first, second)) => {
+            Ok(first.var != var && second.var != var && first.var != second.var)
+        }
+        None => Ok(false),
+    }
+}
+
+fn leaves_one(session: &mut Session, alloc: Global) -> Result<bool, AllocError> {
+    session.add(clause(alloc, &[1, 2, 3])?)?;
+    session.assume(-1)?;
+    watches_two_but(session, 1, 1)
 }
 
 // Whether the false literal of (1 2 3) is watched no more, and the two others are.
 fn false_one_is_left(alloc: Global) -> Result<bool, AllocError> {
     let mut session = Session::new(alloc);
-    session.add(clause(alloc, &[1, 2, 3])?)?;
-    session.assume(-1)?;
-    let Some((first, second)) = session.watched(1)? else {
-        return Ok(false);
-    };
-    Ok(first.var != 1 && second.var != 1 && first.var != second.var)
+    leaves_one(&mut session, alloc)
 }
 
 #[test]
@@ -225,41 +248,55 @@ fn has_places(trail: &Trail) -> bool {
         && places.get(8).is_none()
 }
 
-// What is told of variables far apart, with the clauses (-2^62 7) and (-7 2^40 9), once 2^62 is
-// assumed.
-fn far_apart(alloc: Global) -> Result<[bool; 3], AllocError> {
-    let mut session = Session::new(alloc);
+// What is told of the variables once 2^62 is assumed.
+fn told_far_apart(session: &mut Session) -> Result<[bool; 4], AllocError> {
+    session.assume(1 << 62)?;
+    let is_open = session.propagate()?.is_none();
+    Ok([
+        is_open,
+        has_literals(&session.trail, &[1 << 62, 7]) && session.level_of(7) == Some(1),
+        has_places(&session.trail),
+        watches_two_but(session, 2, 7)?,
+    ])
+}
+
+fn add_far_apart(session: &mut Session, alloc: Global) -> Result<[bool; 4], AllocError> {
     session.add(clause(alloc, &[-(1 << 62), 7])?)?;
     session.add(clause(alloc, &[-7, 1 << 40, 9])?)?;
-    session.assume(1 << 62)?;
-    let is_complete = session.propagate()?.is_none()
-        && has_literals(&session.trail, &[1 << 62, 7])
-        && session.level_of(7) == Some(1);
-    let has_two_places = has_places(&session.trail);
-    let Some((first, second)) = session.watched(2)? else {
-        return Ok([false; 3]);
-    };
-    let is_watched = first.var != 7 && second.var != 7 && first.var != second.var;
-    Ok([is_complete, has_two_places, is_watched])
+    told_far_apart(session)
+}
+
+// What is told of variables far apart, with the clauses (-2^62 7) and (-7 2^40 9), once 2^62 is assumed.
+fn far_apart(alloc: Global) -> Result<[bool; 4], AllocError> {
+    let mut session = Session::new(alloc);
+    add_far_apart(&mut session, alloc)
 }
 
 #[test]
 fn variables_far_apart(rt: HostRuntime) -> Result<(), Fail> {
-    assert_eq!(rt; far_apart(rt.alloc())?, [true; 3]);
+    assert_eq!(rt; far_apart(rt.alloc())?, [true; 4]);
     Ok(())
+}
+
+fn ends_behind(session: &mut Session, alloc: Global) -> Result<bool, AllocError> {
+    session.begin_anew(alloc);
+    session.add(clause(alloc, &[-10_000])?)?;
+    session.ends_in_conflict()
+}
+
+fn follow(session: &mut Session, alloc: Global) -> Result<(usize, bool), AllocError> {
+    add_row(session, alloc)?;
+    if session.propagate()?.is_some() {
+        return Ok((0, false));
+    }
+    let count = session.trail.literals().len();
+    Ok((count, ends_behind(session, alloc)?))
 }
 
 // How many literals the row gives, and whether it ends in a conflict with the negation of its last.
 fn follow_row(alloc: Global) -> Result<(usize, bool), AllocError> {
     let mut session = Session::new(alloc);
-    add_row(&mut session, alloc)?;
-    if session.propagate()?.is_some() {
-        return Ok((0, false));
-    }
-    let count = session.trail.literals().len();
-    session.begin_anew(alloc);
-    session.add(clause(alloc, &[-10_000])?)?;
-    Ok((count, session.ends_in_conflict()?))
+    follow(&mut session, alloc)
 }
 
 #[test]

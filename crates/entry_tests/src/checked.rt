@@ -1,18 +1,19 @@
 //! Checked entries of circuits of one latch: what they keep, the sides of states, the skeletons that they exclude, and
 //! the same entries from claims without a proof.
 
-ghost use Rattle.std.specs.Prelude.{◌≡◌, [], length, IfOk};
+ghost use Rattle.std.specs.Prelude.{◌≡◌, ◌∷◌, [], length, IfOk};
 ghost use Rattle.std.specs.Arc.{arc_value};
 ghost use Rattle.cnf_unroll.specs.Laws.{AreOver};
 ghost use Rattle.entry.specs.Listing.{entry_of};
 ghost use Rattle.entry.specs.Proved.{IsProved};
 ghost use Rattle.certify.specs.Claims.{claimed};
 
-use crate::claims::{judged, proof_of};
+use crate::claims::{judged, proof_of, with_proofs};
 use crate::tests::{RISES, STUCK};
 use aig_semantics::Position;
 use certify::{Claim, certify};
 use circuit::Circuit;
+use cnf::Proof;
 use cnf_unroll::ClauseSet;
 use edge::{Meter, SolveEnd};
 use entry::{
@@ -25,8 +26,8 @@ use std::alloc::{AllocError, Global};
 use std::sync::Arc;
 use std::test::Fail;
 
-// An entry of one clause of one literal of the model, without uses, and the line of its proof.
-struct Row {
+/// An entry of one clause of one literal of the model, without uses, and the line of its proof.
+pub(crate) struct Row {
     model: &'static str,
     kind: Kind,
     literal: u64,
@@ -37,41 +38,65 @@ struct Row {
     skeletons: [(bool, bool, bool); 3],
 }
 
-const ROWS: [Row; 2] = [
-    Row {
-        model: RISES,
-        kind: Kind::Wall,
-        literal: 2,
-        line: "6 0 1 3 5 0",
-        inside: true,
-        skeletons: [
-            (true, true, false),
-            (false, false, false),
-            (false, true, true),
-        ],
-    },
-    Row {
-        model: STUCK,
-        kind: Kind::Reach,
-        literal: 3,
-        line: "6 0 4 2 5 0",
-        inside: false,
-        skeletons: [
-            (false, false, false),
-            (false, true, true),
-            (true, true, true),
-        ],
-    },
-];
+/// The wall of the states in which a latch that rises is 1.
+pub(crate) const WALL: Row = Row {
+    model: RISES,
+    kind: Kind::Wall,
+    literal: 2,
+    line: "6 0 1 3 5 0",
+    inside: true,
+    skeletons: [
+        (true, true, false),
+        (false, false, false),
+        (false, true, true),
+    ],
+};
+
+const REACHED: Row = Row {
+    model: STUCK,
+    kind: Kind::Reach,
+    literal: 3,
+    line: "6 0 4 2 5 0",
+    inside: false,
+    skeletons: [
+        (false, false, false),
+        (false, true, true),
+        (true, true, true),
+    ],
+};
+
+// A list of one value.
+fn only<T: Drop>(alloc: Global, value: T) -> Result<Items<T>, AllocError>
+    ensures { IfOk result (λ list. list ≡ value ∷ []) }
+{
+    let mut list = Items::new(alloc);
+    list.push(value)?;
+    Ok(list)
+}
+
+// The set of one clause of one literal of the model.
+fn set_of(alloc: Global, c: &Circuit, literal: u64) -> Result<ClauseSet, EntryEnd>
+    ensures over { IfOk result (λ set. AreOver (length c.now.latches) set) }
+    ensures one { IfOk result (λ set. length set ≡ 1) }
+{
+    let clause = clause_from_aiger(alloc, c, &[literal])?;
+    Ok(only(alloc, clause)?)
+}
+
+// A proof of one line, alone.
+fn proofs_of(alloc: Global, line: &str) -> Result<Items<Proof>, AllocError>
+    ensures { IfOk result (λ proofs. length proofs ≡ 1) }
+{
+    let proof = proof_of(alloc, line)?;
+    only(alloc, proof)
+}
 
 fn row_entry(alloc: Global, c: &Circuit, row: &Row) -> Result<Entry, EntryEnd>
     ensures over { IfOk result (λ e. AreOver (length c.now.latches) e.set) }
     ensures count { IfOk result (λ e. length e.proofs ≡ length e.set) }
 {
-    let mut set = Items::new(alloc);
-    set.push(clause_from_aiger(alloc, c, &[row.literal])?)?;
-    let mut proofs = Items::new(alloc);
-    proofs.push(proof_of(alloc, row.line)?)?;
+    let set = set_of(alloc, c, row.literal)?;
+    let proofs = proofs_of(alloc, row.line)?;
     Ok(Entry {
         kind: row.kind,
         set,
@@ -80,8 +105,12 @@ fn row_entry(alloc: Global, c: &Circuit, row: &Row) -> Result<Entry, EntryEnd>
     })
 }
 
-// The entry of a row, checked behind no entries.
-fn checked_row(alloc: Global, shared: &Arc<Circuit>, row: &Row) -> Result<Checked, EntryEnd>
+/// The entry of a row, checked behind no entries.
+pub(crate) fn checked_row(
+    alloc: Global,
+    shared: &Arc<Circuit>,
+    row: &Row,
+) -> Result<Checked, EntryEnd>
     ensures { IfOk result (λ e. IsProved (arc_value shared.now) [] e.entry e.proofs) }
 {
     let c: &Circuit = &**shared;
@@ -93,16 +122,20 @@ fn checked_row(alloc: Global, shared: &Arc<Circuit>, row: &Row) -> Result<Checke
 }
 
 // One position with this value of the latch, and its successor.
+fn situation_of(alloc: Global, now: bool, next: bool) -> Result<Situation, AllocError> {
+    let latches = Items::from_slice(alloc, &[now])?;
+    let successor = Items::from_slice(alloc, &[next])?;
+    Ok(Situation {
+        position: Position {
+            latches,
+            inputs: Items::new(alloc),
+        },
+        successor,
+    })
+}
+
 fn skeleton_of(alloc: Global, now: bool, next: bool) -> Result<Skeleton, AllocError> {
-    let position = Position {
-        latches: Items::from_slice(alloc, &[now])?,
-        inputs: Items::new(alloc),
-    };
-    let mut situations = Items::new(alloc);
-    situations.push(Situation {
-        position,
-        successor: Items::from_slice(alloc, &[next])?,
-    })?;
+    let situations = only(alloc, situation_of(alloc, now, next)?)?;
     Ok(Skeleton { situations })
 }
 
@@ -116,16 +149,27 @@ fn clauses_again(alloc: Global, set: &ClauseSet) -> Result<ClauseSet, AllocError
     Ok(copy)
 }
 
+fn listed_again(alloc: Global, listed: &Listed) -> Result<Listed, AllocError>
+    ensures { IfOk result (λ copy. entry_of copy ≡ entry_of listed.now) }
+{
+    let set = clauses_again(alloc, &listed.set)?;
+    let uses = listed.uses.try_copy(alloc)?;
+    Ok(Listed {
+        kind: listed.kind,
+        set,
+        uses,
+    })
+}
+
 // The claim of an entry, for a skeleton.
 fn claim_of(alloc: Global, listed: &Listed, skeleton: Skeleton) -> Result<Claim, AllocError>
     ensures { IfOk result (λ claim. claimed claim ≡ entry_of listed.now) }
 {
-    let clauses = clauses_again(alloc, &listed.set)?;
-    let uses = listed.uses.try_copy(alloc)?;
+    let copy = listed_again(alloc, listed)?;
     Ok(Claim {
-        kind: listed.kind,
-        clauses,
-        uses,
+        kind: copy.kind,
+        clauses: copy.set,
+        uses: copy.uses,
         author: 7,
         turn: 9,
         skeleton,
@@ -154,32 +198,55 @@ fn certified(
     certify(alloc, shared, &[], claim, &mut meter)
 }
 
-// The claim of a row for its last skeleton, certified.
-fn certified_row(alloc: Global, shared: &Arc<Circuit>, row: &Row) -> Result<Checked, Fail> {
+fn claim_for(alloc: Global, known: &Checked, row: &Row) -> Result<Claim, AllocError>
+    ensures { IfOk result (λ claim. claimed claim ≡ known.now.entry) }
+{
     let (now, next, _) = row.skeletons[2];
     let skeleton = skeleton_of(alloc, now, next)?;
+    claim_of(alloc, known.listed(), skeleton)
+}
+
+// The claim of a row for its last skeleton, certified.
+fn certified_row(alloc: Global, shared: &Arc<Circuit>, row: &Row) -> Result<Checked, Fail> {
     let known = checked_row(alloc, shared, row)?;
-    let claim = claim_of(alloc, known.listed(), skeleton)?;
+    let claim = claim_for(alloc, &known, row)?;
     Ok(certified(alloc, shared, known, claim)?)
+}
+
+fn push_lines(alloc: Global, proof: &Proof, copy: &mut Proof) -> Result<(), AllocError> {
+    for line in proof.as_slice() {
+        copy.push(line.try_copy(alloc)?)?;
+    }
+    Ok(())
+}
+
+fn proof_again(alloc: Global, proof: &Proof) -> Result<Proof, AllocError> {
+    let mut copy = Items::new(alloc);
+    push_lines(alloc, proof, &mut copy)?;
+    Ok(copy)
+}
+
+fn push_proofs(
+    alloc: Global,
+    proofs: &[Proof],
+    copies: &mut Items<Proof>,
+) -> Result<(), AllocError> {
+    for proof in proofs {
+        copies.push(proof_again(alloc, proof)?)?;
+    }
+    Ok(())
+}
+
+fn proofs_again(alloc: Global, proofs: &[Proof]) -> Result<Items<Proof>, AllocError> {
+    let mut copies = Items::new(alloc);
+    push_proofs(alloc, proofs, &mut copies)?;
+    Ok(copies)
 }
 
 // A checked entry as it could be read from a certificate.
 fn entry_again(alloc: Global, checked: &Checked) -> Result<Entry, AllocError> {
-    let listed = checked.listed();
-    let mut proofs = Items::new(alloc);
-    for proof in checked.proofs() {
-        let mut copy = Items::new(alloc);
-        for line in proof.as_slice() {
-            copy.push(line.try_copy(alloc)?)?;
-        }
-        proofs.push(copy)?;
-    }
-    Ok(Entry {
-        kind: listed.kind,
-        set: clauses_again(alloc, &listed.set)?,
-        uses: listed.uses.try_copy(alloc)?,
-        proofs,
-    })
+    let listed = listed_again(alloc, checked.listed())?;
+    Ok(with_proofs(listed, proofs_again(alloc, checked.proofs())?))
 }
 
 fn keeps(checked: &Checked, row: &Row) -> bool {
@@ -215,45 +282,67 @@ fn excludes_is(view: &[Arc<Checked>], skeleton: &Skeleton, wanted: bool) -> bool
     excludes(view, 0, skeleton, &mut scratch) == wanted
 }
 
+fn excludes_row(
+    alloc: Global,
+    view: &[Arc<Checked>],
+    row: &(bool, bool, bool),
+) -> Result<bool, AllocError> {
+    let (now, next, wanted) = *row;
+    let skeleton = skeleton_of(alloc, now, next)?;
+    Ok(excludes_is(view, &skeleton, wanted))
+}
+
+// How many of the row's skeletons the entry excludes, or not, as the row says.
+fn right_skeletons(alloc: Global, view: &[Arc<Checked>], row: &Row) -> Result<u64, AllocError> {
+    let mut count = 0u64;
+    for skeleton in &row.skeletons {
+        if excludes_row(alloc, view, skeleton)? {
+            count = count.saturating_add(1);
+        }
+    }
+    Ok(count)
+}
+
 // Whether the entry lies as the row says.
 fn tells(alloc: Global, checked: Checked, row: &Row) -> Result<bool, AllocError> {
     let view = [Arc::new(alloc, checked)?];
-    let mut told = sides_are(view.as_slice(), row);
-    for (now, next, wanted) in &row.skeletons {
-        let skeleton = skeleton_of(alloc, *now, *next)?;
-        told = told && excludes_is(view.as_slice(), &skeleton, *wanted);
-    }
-    Ok(told)
+    Ok(sides_are(view.as_slice(), row) && right_skeletons(alloc, view.as_slice(), row)? == 3)
 }
 
 fn given_tells(alloc: Global, c: &Arc<Circuit>, row: &Row) -> Result<bool, Fail> {
     let checked = checked_row(alloc, c, row)?;
     let kept = keeps(&checked, row) && matches!(checked.origin(), Origin::Given);
-    Ok(kept && tells(alloc, checked, row)?)
+    let told = tells(alloc, checked, row)?;
+    Ok(kept && told)
+}
+
+// An error where the entry is not accepted as one that is read.
+fn judged_again(alloc: Global, c: &Circuit, checked: &Checked) -> Result<(), EntryEnd> {
+    let e = entry_again(alloc, checked)?;
+    judged(alloc, c, &[], &e)
 }
 
 fn certified_tells(alloc: Global, c: &Arc<Circuit>, row: &Row) -> Result<bool, Fail> {
     let checked = certified_row(alloc, c, row)?;
+    judged_again(alloc, &**c, &checked)?;
     let kept = keeps(&checked, row) && is_by(checked.origin());
-    judged(alloc, &**c, &[], &entry_again(alloc, &checked)?)?;
-    Ok(kept && tells(alloc, checked, row)?)
+    let told = tells(alloc, checked, row)?;
+    Ok(kept && told)
 }
 
-fn row_tells(alloc: Global, row: &Row) -> Result<(bool, bool), Fail> {
+fn both_tell(alloc: Global, c: &Arc<Circuit>, row: &Row) -> Result<[bool; 2], Fail> {
+    let given = given_tells(alloc, c, row)?;
+    Ok([given, certified_tells(alloc, c, row)?])
+}
+
+fn row_tells(alloc: Global, row: &Row) -> Result<[bool; 2], Fail> {
     let model = aiger_ascii::read(alloc, row.model.as_bytes())?;
-    let c = Arc::new(alloc, model.into_circuit())?;
-    Ok((
-        given_tells(alloc, &c, row)?,
-        certified_tells(alloc, &c, row)?,
-    ))
+    both_tell(alloc, &Arc::new(alloc, model.into_circuit())?, row)
 }
 
 #[test]
 fn checked_entries(rt: HostRuntime) -> Result<(), Fail> {
-    for row in &ROWS {
-        let (given, certified) = row_tells(rt.alloc(), row)?;
-        assert!(rt; given, "{}", row.model);
-        assert!(rt; certified, "{}", row.model);
-    }
+    assert_eq!(rt; row_tells(rt.alloc(), &WALL)?, [true; 2]);
+    assert_eq!(rt; row_tells(rt.alloc(), &REACHED)?, [true; 2]);
     Ok(())
 }

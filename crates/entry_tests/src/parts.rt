@@ -1,8 +1,10 @@
 //! The parts of the checks, each called by itself on the wall of a latch that rises.
 
 use crate::claims::{FIRST, OUTSIDE, list_of};
-use crate::tests::{RISEN, RISES};
+use crate::tests::{OF_WALL, RISEN, RISES};
 use circuit::Circuit;
+use cnf::Clause;
+use cnf_unroll::ClauseSet;
 use entry::{
     EntryEnd, Judge, Kind, Listed, User, first_bad_use, first_baseless, holds_initial, used,
 };
@@ -14,22 +16,58 @@ fn ends_with(judge: &mut Judge, line: &str) -> bool {
     !judge.is_finished() && judge.step(line.as_bytes()).is_ok() && judge.is_finished()
 }
 
-// Whether the clauses of the entry have this proof, each by itself, and are not all proved without a line.
-fn clauses_end_with(
+// Whether the clause has this proof, and is not proved without a line.
+fn clause_ends_with(
     alloc: Global,
     c: &Circuit,
-    entry: &Listed,
+    judge: &mut Judge,
+    clause: &Clause,
     line: &str,
 ) -> Result<bool, AllocError> {
-    let mut judge = Judge::new(alloc, c)?;
-    judge.enter(alloc, c, &[], &[], &entry.set)?;
-    for clause in entry.set.as_slice() {
-        judge.begin(alloc, c, clause)?;
-        if judge.proof_fault(&[])?.is_none() || !ends_with(&mut judge, line) {
+    judge.begin(alloc, c, clause)?;
+    Ok(judge.proof_fault(&[])?.is_some() && ends_with(judge, line))
+}
+
+fn each_ends_with(
+    alloc: Global,
+    c: &Circuit,
+    judge: &mut Judge,
+    set: &ClauseSet,
+    line: &str,
+) -> Result<bool, AllocError> {
+    for clause in set.as_slice() {
+        if !clause_ends_with(alloc, c, judge, clause, line)? {
             return Ok(false);
         }
     }
     Ok(true)
+}
+
+// A judge that went to an entry without uses.
+fn judge_of(alloc: Global, c: &Circuit, set: &ClauseSet) -> Result<Judge, AllocError> {
+    let mut judge = Judge::new(alloc, c)?;
+    judge.enter(alloc, c, &[], &[], set)?;
+    Ok(judge)
+}
+
+// Whether the clauses of the set have this proof, each by itself, and are not all proved without a line.
+fn clauses_end_with(
+    alloc: Global,
+    c: &Circuit,
+    set: &ClauseSet,
+    line: &str,
+) -> Result<bool, AllocError> {
+    let mut judge = judge_of(alloc, c, set)?;
+    each_ends_with(alloc, c, &mut judge, set, line)
+}
+
+// A judge of the refutation over the first entry, where there is one, and a property.
+fn refuting(alloc: Global, c: &Circuit, list: &[Listed]) -> Result<Judge, AllocError> {
+    if list.is_empty() || c.property_count() == 0 {
+        return Err(AllocError);
+    }
+    let lent = used(alloc, list, &[FIRST])?;
+    Judge::refutation(alloc, c, 0, lent.as_slice())
 }
 
 // Whether the refutation over the first entry ends with this line.
@@ -39,11 +77,7 @@ fn refutation_ends_with(
     list: &[Listed],
     line: &str,
 ) -> Result<bool, AllocError> {
-    if list.is_empty() || c.property_count() == 0 {
-        return Ok(false);
-    }
-    let lent = used(alloc, list, &[FIRST])?;
-    let mut judge = Judge::refutation(alloc, c, 0, lent.as_slice())?;
+    let mut judge = refuting(alloc, c, list)?;
     Ok(ends_with(&mut judge, line))
 }
 
@@ -64,18 +98,20 @@ fn may_be_used(list: &[Listed]) -> bool {
         && first_bad_use(User::Refutation, list, &[FIRST]) == None
 }
 
+fn proofs_agree(alloc: Global, c: &Circuit, list: &[Listed]) -> Result<bool, AllocError> {
+    match list.first() {
+        Some(entry) => Ok(
+            is_wall_alone(c, entry)
+                && clauses_end_with(alloc, c, &entry.set, "6 0 1 3 5 0")?
+                && refutation_ends_with(alloc, c, list, OF_WALL)?,
+        ),
+        None => Ok(false),
+    }
+}
+
 fn parts_agree(alloc: Global, c: &Circuit) -> Result<bool, EntryEnd> {
     let list = list_of(alloc, c, &[RISEN])?;
-    let list = list.as_slice();
-    let Some(entry) = list.first() else {
-        return Ok(false);
-    };
-    Ok(
-        is_wall_alone(c, entry)
-            && may_be_used(list)
-            && clauses_end_with(alloc, c, entry, "6 0 1 3 5 0")?
-            && refutation_ends_with(alloc, c, list, "11 0 1 3 4 9 10 5 0")?,
-    )
+    Ok(may_be_used(list.as_slice()) && proofs_agree(alloc, c, list.as_slice())?)
 }
 
 fn parts_of(alloc: Global, text: &str) -> Result<bool, Fail> {

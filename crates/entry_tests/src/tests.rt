@@ -111,7 +111,8 @@ fn entries(rt: HostRuntime) -> Result<(), Fail> {
     Ok(())
 }
 
-const OF_WALL: &str = "11 0 1 3 4 9 10 5 0";
+/// The line of a refutation over that wall.
+pub(crate) const OF_WALL: &str = "11 0 1 3 4 9 10 5 0";
 
 // A circuit, a list of entries, the uses and the line of a refutation over them, and its fault.
 const REFUTATIONS: [(&str, &[Claim], &[Use], &str, Option<RefutationFault>); 15] = [

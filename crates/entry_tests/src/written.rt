@@ -1,17 +1,12 @@
 //! The certificate of a checked wall, written, and judged again as an answer. Its text was worked out by hand.
 
-ghost use Rattle.std.specs.Prelude.{◌≡◌, length, IfOk};
-ghost use Rattle.cnf_unroll.specs.Laws.{AreOver};
-
-use crate::tests::RISES;
+use crate::checked::{WALL, checked_row};
+use crate::claims::{FIRST, proof_of};
+use crate::tests::{OF_WALL, RISES};
 use certificate::{Accepted, AnswerEnd, check_answer, write};
 use circuit::Circuit;
-use cnf::Proof;
 use edge::MemShelf;
-use entry::{
-    Checked, Entry, EntryEnd, Kind, Refutation, Side, Use, check_entry, clause_from_aiger,
-    good_lists_grow, proved_entries_are_valid,
-};
+use entry::{Checked, EntryEnd, Refutation, Use};
 use items::Items;
 use std::alloc::{AllocError, Global};
 use std::sync::Arc;
@@ -20,80 +15,65 @@ use std::test::Fail;
 const TEXT: &str =
     "0\nj0\nversion 2\nwall 1 0\n\n2 0\nproof 1\n6 0 1 3 5 0\nrefute 1 1\n0\n11 0 1 3 4 9 10 5 0\nend\n";
 
-fn proof_of(alloc: Global, line: &str) -> Result<Proof, AllocError>
-    ensures { IfOk result (λ proof. length proof ≡ 1) }
-{
-    let mut proof = Items::new(alloc);
-    proof.push(Items::from_slice(alloc, line.as_bytes())?)?;
-    Ok(proof)
-}
-
-// The wall of the states in which the latch is 1.
-fn wall(alloc: Global, c: &Circuit) -> Result<Entry, EntryEnd>
-    ensures over { IfOk result (λ e. AreOver (length c.now.latches) e.set) }
-    ensures count { IfOk result (λ e. length e.proofs ≡ length e.set) }
-{
-    let mut set = Items::new(alloc);
-    set.push(clause_from_aiger(alloc, c, &[2])?)?;
-    let mut proofs = Items::new(alloc);
-    proofs.push(proof_of(alloc, "6 0 1 3 5 0")?)?;
-    Ok(Entry {
-        kind: Kind::Wall,
-        set,
-        uses: Items::new(alloc),
-        proofs,
-    })
-}
-
-// The wall, checked behind no entries.
-fn checked_wall(alloc: Global, shared: &Arc<Circuit>) -> Result<Checked, EntryEnd> {
-    let c: &Circuit = &**shared;
-    let e = wall(alloc, c)?;
-    check_entry(alloc, c, &[], &e)?;
-    proved_entries_are_valid(c);
-    good_lists_grow(c);
-    Ok(Checked::given(alloc, shared, &[], e)?)
+fn uses_of(alloc: Global) -> Result<Items<Use>, AllocError> {
+    Items::from_slice(alloc, &[FIRST])
 }
 
 fn refutation(alloc: Global) -> Result<Refutation, AllocError> {
-    let mut uses = Items::new(alloc);
-    uses.push(Use {
-        entry: 0,
-        side: Side::Any,
-    })?;
-    let proof = proof_of(alloc, "11 0 1 3 4 9 10 5 0")?;
-    Ok(Refutation { uses, proof })
+    let uses = uses_of(alloc)?;
+    Ok(Refutation {
+        uses,
+        proof: proof_of(alloc, OF_WALL)?,
+    })
+}
+
+fn written_of(alloc: Global, wall: Arc<Checked>) -> Result<Vec<u8>, AllocError> {
+    let list = [wall];
+    let refutation = refutation(alloc)?;
+    write(alloc, 0, list.as_slice(), &refutation)
 }
 
 fn written(alloc: Global, shared: &Arc<Circuit>) -> Result<Vec<u8>, EntryEnd> {
-    let mut list = Vec::new(alloc);
-    list.push(Arc::new(alloc, checked_wall(alloc, shared)?)?)?;
-    let refutation = refutation(alloc)?;
-    Ok(write(alloc, 0, list.as_slice(), &refutation)?)
+    let wall = checked_row(alloc, shared, &WALL)?;
+    Ok(written_of(alloc, Arc::new(alloc, wall)?)?)
 }
 
+fn texts_of(alloc: Global, text: Vec<u8>) -> Result<Vec<(String, Vec<u8>)>, AllocError> {
+    let mut texts = Vec::new(alloc);
+    texts.push((String::from_str(alloc, "a")?, text))?;
+    Ok(texts)
+}
+
+// What is said of the text, on a shelf of it alone.
 fn judged(
     alloc: Global,
     c: &Circuit,
     text: Vec<u8>,
 ) -> Result<Result<Accepted, AnswerEnd>, AllocError> {
-    let mut texts = Vec::new(alloc);
-    texts.push((String::from_str(alloc, "a")?, text))?;
+    let texts = texts_of(alloc, text)?;
     let mut shelf = MemShelf::new(texts, 7, Vec::new(alloc));
     Ok(check_answer(alloc, c, &mut shelf, "a"))
+}
+
+fn is_accepted(alloc: Global, c: &Circuit, text: Vec<u8>) -> Result<bool, AllocError> {
+    let holds = Accepted::Holds {
+        property: 0,
+        entries: 1,
+    };
+    Ok(judged(alloc, c, text)? == Ok(holds))
+}
+
+fn is_written_and_accepted(alloc: Global, shared: &Arc<Circuit>) -> Result<bool, EntryEnd> {
+    let text = written(alloc, shared)?;
+    let same = text.as_slice() == TEXT.as_bytes();
+    let accepted = is_accepted(alloc, &**shared, text)?;
+    Ok(same && accepted)
 }
 
 // Whether the text is what is written, and is accepted.
 fn is_written(alloc: Global) -> Result<bool, Fail> {
     let model = aiger_ascii::read(alloc, RISES.as_bytes())?;
-    let shared = Arc::new(alloc, model.into_circuit())?;
-    let text = written(alloc, &shared)?;
-    let same = text.as_slice() == TEXT.as_bytes();
-    let holds = Accepted::Holds {
-        property: 0,
-        entries: 1,
-    };
-    Ok(same && judged(alloc, &*shared, text)? == Ok(holds))
+    Ok(is_written_and_accepted(alloc, &Arc::new(alloc, model.into_circuit())?)?)
 }
 
 #[test]

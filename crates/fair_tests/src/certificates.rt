@@ -1,7 +1,8 @@
 //! Runs of `check` on certificates: tables of models and answers with the line that must be written.
 
-use crate::tests::{FREE_AT_0, STUCK, TOGGLE, ends_so, run_words};
-use std::alloc::Global;
+use crate::runs::{ends_so, is_end, run_words};
+use crate::tests::{FREE_AT_0, STUCK, TOGGLE};
+use std::alloc::{AllocError, Global};
 use std::sync::Wait;
 use std::test::Fail;
 use std::thread::Threads;
@@ -29,8 +30,10 @@ const REFUTED: &str = "0\nj0\nversion 1\nrefute 0 1\n\n5 0 1 4 0\nend\n";
 const NAMED: &str =
     "0\nj0\nversion 2\nwall 1 0\n\n2 0\nproof 1\n6 0 1 3 5 0\nwall 1 1\n0-\n3 0\nproof 1\n13 0 1 3 10 9 8 0\nrefute 1 1\n0\n11 0 1 3 4 9 10 5 0\nend\n";
 
-// Models and answers, with what must be written.
-const ROWS: [(&str, &str, &str); 29] = [
+/// A model and an answer, and the line that must be written.
+type Row = (&'static str, &'static str, &'static str);
+
+const ROWS: [Row; 29] = [
     (STUCK, REACH, "accepted certificate j0 entries 1\n"),
     // By clause 2 the latch becomes 0 where it is 1.
     (
@@ -164,8 +167,10 @@ const ROWS: [(&str, &str, &str); 29] = [
     (NEVER, "c\nu\n0", "refused shape line 4\n"),
 ];
 
-// The proof line of a refutation, and what must be written.
-const PROOF_LINES: [(&str, &str); 8] = [
+/// The proof line of a refutation, and what must be written.
+type ProofLine = (&'static str, &'static str);
+
+const PROOF_LINES: [ProofLine; 8] = [
     ("5 0 1 4 0 0", "refused refutation line 0 bad line\n"),
     (
         "9223372036854775808 0 1 4 0",
@@ -245,9 +250,11 @@ const BASE: [&str; 62] = [
     "end",
 ];
 
-// What stands in the place of the line with this number, counted from 1, and what must be written. Each kind of fault is
-// there in an entry and in the refutation.
-const EDITS: [(usize, &str, &str); 26] = [
+/// The number of a line, counted from 1, what stands in its place, and what must be written.
+type Edit = (usize, &'static str, &'static str);
+
+// Each kind of fault is there in an entry and in the refutation.
+const EDITS: [Edit; 26] = [
     (62, "end", "accepted certificate j0 entries 4\n"),
     (39, "0- 1", "accepted certificate j0 entries 4\n"),
     (4, "wall 03 0", "refused shape line 4\n"),
@@ -324,8 +331,10 @@ const EDITS: [(usize, &str, &str); 26] = [
     ),
 ];
 
-// The number of lines in front of which the certificate is cut off, and what must be written.
-const CUTS: [(usize, &str); 11] = [
+/// The number of lines behind which the certificate is cut off, and what must be written.
+type Cut = (usize, &'static str);
+
+const CUTS: [Cut; 11] = [
     (1, "refused shape line 2\n"),
     (2, "refused shape line 3\n"),
     (3, "refused shape line 4\n"),
@@ -339,8 +348,10 @@ const CUTS: [(usize, &str); 11] = [
     (61, "refused shape line 62\n"),
 ];
 
-// How many entries, what stands behind them, and what must be written.
-const MANY: [(u64, &str, &str); 3] = [
+/// How many entries, what stands behind them, and what must be written.
+type Many = (u64, &'static str, &'static str);
+
+const MANY: [Many; 3] = [
     (
         65_536,
         "refute 1 1\n65535\n7 0 1 4 0\nend\n",
@@ -350,6 +361,30 @@ const MANY: [(u64, &str, &str); 3] = [
     (65_537, "", "refused too long\n"),
 ];
 
+fn rows() -> &'static [Row] {
+    &ROWS
+}
+
+fn proof_lines() -> &'static [ProofLine] {
+    &PROOF_LINES
+}
+
+fn base() -> &'static [&'static str] {
+    &BASE
+}
+
+fn edits() -> &'static [Edit] {
+    &EDITS
+}
+
+fn cuts() -> &'static [Cut] {
+    &CUTS
+}
+
+fn many_rows() -> &'static [Many] {
+    &MANY
+}
+
 /// Whether `check` over these texts writes this line and ends with its number, at once and at one byte a call alike.
 fn says<R: Threads + Wait + Sync>(
     rt: &R,
@@ -357,7 +392,7 @@ fn says<R: Threads + Wait + Sync>(
     model: &str,
     answer: &str,
     line: &str,
-) -> Result<bool, Fail> {
+) -> Result<bool, AllocError> {
     let words = ["fairlive", "check", "m", "a"];
     let number = if line.as_bytes().starts_with(b"accepted") {
         0
@@ -375,42 +410,51 @@ fn says<R: Threads + Wait + Sync>(
     )
 }
 
+fn push_line(text: &mut String, line: &str) -> Result<(), AllocError> {
+    text.push_str(line)?;
+    text.push_str("\n")?;
+    Ok(())
+}
+
 /// The certificate with this line in the place of the one with this number, counted from 1.
-fn edited(alloc: Global, number: usize, other: &str) -> Result<String, Fail> {
+fn edited(alloc: Global, number: usize, other: &str) -> Result<String, AllocError> {
     let mut text = String::new(alloc);
-    for (k, line) in BASE.iter().enumerate() {
-        text.push_str(if k + 1 == number { other } else { line })?;
-        text.push_str("\n")?;
+    for (k, line) in base().iter().enumerate() {
+        push_line(&mut text, if k + 1 == number { other } else { line })?;
     }
     Ok(text)
 }
 
 /// The first so many lines of the certificate.
-fn front(alloc: Global, count: usize) -> Result<String, Fail> {
+fn front(alloc: Global, count: usize) -> Result<String, AllocError> {
     let mut text = String::new(alloc);
-    for (k, line) in BASE.iter().enumerate() {
+    for (k, line) in base().iter().enumerate() {
         if k < count {
-            text.push_str(line)?;
-            text.push_str("\n")?;
+            push_line(&mut text, line)?;
         }
     }
     Ok(text)
 }
 
 /// A refutation of this one line, over no entries.
-fn refuted(alloc: Global, proof: &str) -> Result<String, Fail> {
+fn refuted(alloc: Global, proof: &str) -> Result<String, AllocError> {
     let mut text = String::from_str(alloc, "0\nj0\nversion 1\nrefute 0 1\n\n")?;
-    text.push_str(proof)?;
-    text.push_str("\nend\n")?;
+    push_line(&mut text, proof)?;
+    push_line(&mut text, "end")?;
     Ok(text)
 }
 
-/// So many entries without clauses behind the version, and then these lines.
-fn many(alloc: Global, entries: u64, behind: &str) -> Result<String, Fail> {
-    let mut text = String::from_str(alloc, "0\nj0\nversion 1\n")?;
+fn push_walls(text: &mut String, entries: u64) -> Result<(), AllocError> {
     for _ in 0..entries {
         text.push_str("wall 0 0\n\n")?;
     }
+    Ok(())
+}
+
+/// So many entries without clauses behind the version, and then these lines.
+fn many(alloc: Global, entries: u64, behind: &str) -> Result<String, AllocError> {
+    let mut text = String::from_str(alloc, "0\nj0\nversion 1\n")?;
+    push_walls(&mut text, entries)?;
     text.push_str(behind)?;
     Ok(text)
 }
@@ -422,7 +466,7 @@ fn edited_says<R: Threads + Wait + Sync>(
     number: usize,
     other: &str,
     line: &str,
-) -> Result<bool, Fail> {
+) -> Result<bool, AllocError> {
     let answer = edited(alloc, number, other)?;
     says(rt, alloc, RISES, &answer, line)
 }
@@ -433,7 +477,7 @@ fn front_says<R: Threads + Wait + Sync>(
     alloc: Global,
     count: usize,
     line: &str,
-) -> Result<bool, Fail> {
+) -> Result<bool, AllocError> {
     let answer = front(alloc, count)?;
     says(rt, alloc, RISES, &answer, line)
 }
@@ -444,7 +488,7 @@ fn refuted_says<R: Threads + Wait + Sync>(
     alloc: Global,
     proof: &str,
     line: &str,
-) -> Result<bool, Fail> {
+) -> Result<bool, AllocError> {
     let answer = refuted(alloc, proof)?;
     says(rt, alloc, NEVER, &answer, line)
 }
@@ -456,14 +500,14 @@ fn many_says<R: Threads + Wait + Sync>(
     entries: u64,
     behind: &str,
     line: &str,
-) -> Result<bool, Fail> {
+) -> Result<bool, AllocError> {
     let answer = many(alloc, entries, behind)?;
     says(rt, alloc, NEVER, &answer, line)
 }
 
 /// The place of the first row that is not answered so, from 0.
-fn wrong_row<R: Threads + Wait + Sync>(rt: &R, alloc: Global) -> Result<Option<usize>, Fail> {
-    for (k, (model, answer, line)) in ROWS.iter().enumerate() {
+fn wrong_row<R: Threads + Wait + Sync>(rt: &R, alloc: Global) -> Result<Option<usize>, AllocError> {
+    for (k, (model, answer, line)) in rows().iter().enumerate() {
         if !says(rt, alloc, model, answer, line)? {
             return Ok(Some(k));
         }
@@ -471,20 +515,30 @@ fn wrong_row<R: Threads + Wait + Sync>(rt: &R, alloc: Global) -> Result<Option<u
     Ok(None)
 }
 
-/// The place of the first row that `wave` does not refuse, from 0: as `check` does, or since a good one has no run.
+/// Whether `wave` refuses an answer as `check` does, or since a good one has no run.
+fn is_refused_by_wave<R: Threads + Wait + Sync>(
+    rt: &R,
+    alloc: Global,
+    row: &Row,
+) -> Result<bool, AllocError> {
+    let (model, answer, line) = row;
+    let wanted = if line.as_bytes().starts_with(b"accepted") {
+        "refused unknown status\n"
+    } else {
+        line
+    };
+    let words = ["fairlive", "wave", "m", "a"];
+    let ran = run_words(rt, alloc, &words, model.as_bytes(), answer, 1000, &[], &[])?;
+    Ok(is_end(&ran, wanted.as_bytes(), 1))
+}
+
+/// The place of the first row that `wave` does not refuse so, from 0.
 pub(crate) fn says_of_waves<R: Threads + Wait + Sync>(
     rt: &R,
     alloc: Global,
-) -> Result<Option<usize>, Fail> {
-    let words = ["fairlive", "wave", "m", "a"];
-    for (k, (model, answer, line)) in ROWS.iter().enumerate() {
-        let wanted = if line.as_bytes().starts_with(b"accepted") {
-            "refused unknown status\n"
-        } else {
-            line
-        };
-        let ran = run_words(rt, alloc, &words, model.as_bytes(), answer, 1000, &[], &[])?;
-        if ran.text.as_slice() != wanted.as_bytes() || ran.status.number() != 1 {
+) -> Result<Option<usize>, AllocError> {
+    for (k, row) in rows().iter().enumerate() {
+        if !is_refused_by_wave(rt, alloc, row)? {
             return Ok(Some(k));
         }
     }
@@ -495,8 +549,8 @@ pub(crate) fn says_of_waves<R: Threads + Wait + Sync>(
 fn wrong_proof_line<R: Threads + Wait + Sync>(
     rt: &R,
     alloc: Global,
-) -> Result<Option<usize>, Fail> {
-    for (k, (proof, line)) in PROOF_LINES.iter().enumerate() {
+) -> Result<Option<usize>, AllocError> {
+    for (k, (proof, line)) in proof_lines().iter().enumerate() {
         if !refuted_says(rt, alloc, proof, line)? {
             return Ok(Some(k));
         }
@@ -505,8 +559,11 @@ fn wrong_proof_line<R: Threads + Wait + Sync>(
 }
 
 /// The place of the first edit that is not answered so, from 0.
-fn wrong_edit<R: Threads + Wait + Sync>(rt: &R, alloc: Global) -> Result<Option<usize>, Fail> {
-    for (k, (number, other, line)) in EDITS.iter().enumerate() {
+fn wrong_edit<R: Threads + Wait + Sync>(
+    rt: &R,
+    alloc: Global,
+) -> Result<Option<usize>, AllocError> {
+    for (k, (number, other, line)) in edits().iter().enumerate() {
         if !edited_says(rt, alloc, *number, other, line)? {
             return Ok(Some(k));
         }
@@ -515,8 +572,8 @@ fn wrong_edit<R: Threads + Wait + Sync>(rt: &R, alloc: Global) -> Result<Option<
 }
 
 /// The place of the first cut that is not answered so, from 0.
-fn wrong_cut<R: Threads + Wait + Sync>(rt: &R, alloc: Global) -> Result<Option<usize>, Fail> {
-    for (k, (count, line)) in CUTS.iter().enumerate() {
+fn wrong_cut<R: Threads + Wait + Sync>(rt: &R, alloc: Global) -> Result<Option<usize>, AllocError> {
+    for (k, (count, line)) in cuts().iter().enumerate() {
         if !front_says(rt, alloc, *count, line)? {
             return Ok(Some(k));
         }
@@ -525,8 +582,11 @@ fn wrong_cut<R: Threads + Wait + Sync>(rt: &R, alloc: Global) -> Result<Option<u
 }
 
 /// The place of the first one of many entries that is not answered so, from 0.
-fn wrong_many<R: Threads + Wait + Sync>(rt: &R, alloc: Global) -> Result<Option<usize>, Fail> {
-    for (k, (entries, behind, line)) in MANY.iter().enumerate() {
+fn wrong_many<R: Threads + Wait + Sync>(
+    rt: &R,
+    alloc: Global,
+) -> Result<Option<usize>, AllocError> {
+    for (k, (entries, behind, line)) in many_rows().iter().enumerate() {
         if !many_says(rt, alloc, *entries, behind, line)? {
             return Ok(Some(k));
         }

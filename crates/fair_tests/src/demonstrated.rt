@@ -1,16 +1,18 @@
 //! Runs of `demo`: summaries of models whose verdicts were found by a search over all their states, and words that it
 //! refuses.
 
-use crate::tests::{Outcome, USAGE, ends_so, run_words};
+use crate::runs::{Outcome, first_taken, is_end, run_words};
 use fair_top::{Done, Status};
-use std::alloc::Global;
+use std::alloc::{AllocError, Global};
 use std::sync::Wait;
 use std::test::Fail;
 use std::thread::Threads;
 use text_grammar::push_number;
 
-// Seeds and sizes, with the verdicts.
-const MODELS: [(&str, &str, &str); 12] = [
+/// A seed and a size, with the verdict.
+type Row = (&'static str, &'static str, &'static str);
+
+const MODELS: [Row; 12] = [
     ("1", "4", "0"),
     ("0", "1", "0"),
     ("3", "1", "1"),
@@ -25,6 +27,10 @@ const MODELS: [(&str, &str, &str); 12] = [
     ("2", "8", "1"),
 ];
 
+fn models() -> &'static [Row] {
+    &MODELS
+}
+
 // How many entries the board has with which a run ended, if it ended with one that has an outcome.
 fn entry_count(status: &Status) -> Option<u64> {
     match status {
@@ -36,89 +42,124 @@ fn entry_count(status: &Status) -> Option<u64> {
     }
 }
 
-// The summary with these words.
-fn summary(
-    alloc: Global,
-    seed: &str,
-    size: &str,
-    verdict: &str,
-    entries: u64,
-) -> Result<Vec<u8>, Fail> {
-    let mut text = Vec::from_slice(alloc, b"demo scramble ")?;
-    text.extend_from_slice(seed.as_bytes())?;
-    text.extend_from_slice(b" ")?;
-    text.extend_from_slice(size.as_bytes())?;
-    text.extend_from_slice(b"\nverdict ")?;
-    text.extend_from_slice(verdict.as_bytes())?;
-    text.extend_from_slice(b"\nentries ")?;
-    push_number(&mut text, entries)?;
+fn push_all(text: &mut Vec<u8>, parts: &[&[u8]]) -> Result<(), AllocError> {
+    for part in parts {
+        text.extend_from_slice(part)?;
+    }
+    Ok(())
+}
+
+fn push_front(text: &mut Vec<u8>, row: &Row) -> Result<(), AllocError> {
+    let (seed, size, verdict) = row;
+    push_all(
+        text,
+        &[
+            b"demo scramble ",
+            seed.as_bytes(),
+            b" ",
+            size.as_bytes(),
+            b"\nverdict ",
+            verdict.as_bytes(),
+            b"\nentries ",
+        ],
+    )
+}
+
+fn push_count(text: &mut Vec<u8>, count: u64) -> Result<(), AllocError> {
+    push_number(text, count)
+}
+
+// The summary of a model with so many entries.
+fn summary(alloc: Global, row: &Row, entries: u64) -> Result<Vec<u8>, AllocError> {
+    let mut text = Vec::new(alloc);
+    push_front(&mut text, row)?;
+    push_count(&mut text, entries)?;
     text.extend_from_slice(b"\ncheck accepted\n")?;
     Ok(text)
 }
 
-// Whether a run ended with a board whose summary, with this verdict, is what it wrote.
-fn is_summary(
-    alloc: Global,
-    ran: &Outcome,
-    seed: &str,
-    size: &str,
-    verdict: &str,
-) -> Result<bool, Fail> {
-    let Some(entries) = entry_count(&ran.status) else {
-        return Ok(false);
-    };
-    let text = summary(alloc, seed, size, verdict, entries)?;
-    Ok(ran.status.number() == 0 && ran.text.as_slice() == text.as_slice())
+fn is_written(alloc: Global, ran: &Outcome, row: &Row, entries: u64) -> Result<bool, AllocError> {
+    let text = summary(alloc, row, entries)?;
+    Ok(is_end(ran, text.as_slice(), 0))
 }
 
-// Whether two runs for this model write one summary, with this verdict, the second one at 7 bytes a call over a shelf
-// whose first read fails.
+// How many entries the board has with which a run ended, if its summary, with the row's verdict, is what it wrote.
+fn summed_up(alloc: Global, ran: &Outcome, row: &Row) -> Result<Option<u64>, AllocError> {
+    match entry_count(&ran.status) {
+        Some(entries) => {
+            let is_so = is_written(alloc, ran, row, entries)?;
+            Ok(is_so.then_some(entries))
+        }
+        None => Ok(None),
+    }
+}
+
+// The same of a run for the model, with at most so many bytes a call over a shelf whose first read fails or not.
+fn run_summed<R: Threads + Wait + Sync>(
+    rt: &R,
+    alloc: Global,
+    row: &Row,
+    most: u64,
+    reads: &[u64],
+) -> Result<Option<u64>, AllocError> {
+    let words = ["fairlive", "demo", row.0, row.1];
+    let ran = run_words(rt, alloc, &words, b"", "", most, reads, &[])?;
+    summed_up(alloc, &ran, row)
+}
+
+// Whether two runs for a model write one summary, with its verdict, the second one at 7 bytes a call over a shelf whose
+// first read fails.
 fn is_summed_up<R: Threads + Wait + Sync>(
     rt: &R,
     alloc: Global,
-    seed: &str,
-    size: &str,
-    verdict: &str,
-) -> Result<bool, Fail> {
-    let words = ["fairlive", "demo", seed, size];
-    let ran = run_words(rt, alloc, &words, b"", "", 1000, &[], &[])?;
-    let again = run_words(rt, alloc, &words, b"", "", 7, &[1], &[])?;
-    Ok(
-        is_summary(alloc, &ran, seed, size, verdict)?
-            && is_summary(alloc, &again, seed, size, verdict)?
-            && ran.text.as_slice() == again.text.as_slice(),
-    )
+    row: &Row,
+) -> Result<bool, AllocError> {
+    let entries = run_summed(rt, alloc, row, 1000, &[])?;
+    let again = run_summed(rt, alloc, row, 7, &[1])?;
+    Ok(entries.is_some() && entries == again)
+}
+
+// The place of the first model that is not summed up so, from 0.
+fn wrong_model<R: Threads + Wait + Sync>(
+    rt: &R,
+    alloc: Global,
+) -> Result<Option<usize>, AllocError> {
+    for (k, row) in models().iter().enumerate() {
+        if !is_summed_up(rt, alloc, row)? {
+            return Ok(Some(k));
+        }
+    }
+    Ok(None)
 }
 
 #[test]
 fn summaries_of_demo(rt: HostRuntime) -> Result<(), Fail> {
-    for (seed, size, verdict) in &MODELS {
-        assert!(rt;
-            is_summed_up(&rt, rt.alloc(), seed, size, verdict)?,
-            "{seed} {size}"
-        );
-    }
+    assert_eq!(rt; wrong_model(&rt, rt.alloc())?, None);
     Ok(())
+}
+
+const NO_REQUESTS: [&[&str]; 12] = [
+    &["fairlive", "demo"],
+    &["fairlive", "demo", "1"],
+    &["fairlive", "demo", "1", "4", "4"],
+    &["fairlive", "demo", "1", "0"],
+    &["fairlive", "demo", "1", "257"],
+    &["fairlive", "demo", "-1", "4"],
+    &["fairlive", "demo", "4294967296", "4"],
+    &["fairlive", "demo", "x", "4"],
+    &["fairlive", "demo", "", "4"],
+    &["fairlive", "demo", "1", "4", "--binary"],
+    &["fairlive", "demo", "1", "4", "--workers", "2"],
+    &["fairlive", "demo", "1", "4", "--help"],
+];
+
+fn no_requests() -> &'static [&'static [&'static str]] {
+    &NO_REQUESTS
 }
 
 /// Words that ask for no summary.
 #[test]
 fn words_that_demo_refuses(rt: HostRuntime) -> Result<(), Fail> {
-    for words in [
-        ["fairlive", "demo"].as_slice(),
-        &["fairlive", "demo", "1"],
-        &["fairlive", "demo", "1", "4", "4"],
-        &["fairlive", "demo", "1", "0"],
-        &["fairlive", "demo", "1", "257"],
-        &["fairlive", "demo", "-1", "4"],
-        &["fairlive", "demo", "4294967296", "4"],
-        &["fairlive", "demo", "x", "4"],
-        &["fairlive", "demo", "", "4"],
-        &["fairlive", "demo", "1", "4", "--binary"],
-        &["fairlive", "demo", "1", "4", "--workers", "2"],
-        &["fairlive", "demo", "1", "4", "--help"],
-    ] {
-        assert!(rt; ends_so(&rt, rt.alloc(), words, b"", "", USAGE.as_bytes(), 64)?);
-    }
+    assert_eq!(rt; first_taken(&rt, rt.alloc(), no_requests(), "", "")?, None);
     Ok(())
 }

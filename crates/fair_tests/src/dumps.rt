@@ -3,7 +3,7 @@ ghost use Rattle.std.specs.Prelude.{◌≡◌, ◌↔◌, ◌<◌, length, All, 
 
 use aig_semantics::Lasso;
 use aiger_names::Model;
-use circuit::Circuit;
+use circuit::{Circuit, ModelEnd};
 use items::Items;
 use std::alloc::{AllocError, Global};
 use std::test::*;
@@ -38,6 +38,48 @@ fn values(alloc: Global, digits: &[u8]) -> Result<Items<bool>, AllocError> {
     Ok(list)
 }
 
+// A list of values for each text of digits.
+fn rows_of(alloc: Global, texts: &[&[u8]]) -> Result<Items<Items<bool>>, AllocError> {
+    let mut rows = Items::new(alloc);
+    for digits in texts {
+        rows.push(values(alloc, digits)?)?;
+    }
+    Ok(rows)
+}
+
+fn lasso_of(alloc: Global, start: &[u8], inputs: &[&[u8]], from: u64) -> Result<Lasso, AllocError> {
+    let start = values(alloc, start)?;
+    let inputs = rows_of(alloc, inputs)?;
+    Ok(Lasso {
+        start,
+        inputs,
+        from,
+    })
+}
+
+// The call on a text; no clause of its contract is wanted here.
+fn read_ascii(alloc: Global, text: &[u8]) -> Result<Model, ModelEnd> {
+    aiger_ascii::read(alloc, text)
+}
+
+/// The model of an ASCII text.
+pub(crate) fn model_of(alloc: Global, text: &[u8]) -> Result<Model, AllocError> {
+    match read_ascii(alloc, text) {
+        Ok(model) => Ok(model),
+        Err(_) => Err(AllocError),
+    }
+}
+
+fn is_dump_of(
+    alloc: Global,
+    model: &Model,
+    lasso: &Lasso,
+    text: &[u8],
+) -> Result<bool, AllocError> {
+    let written = dump(alloc, model, 0, lasso)?;
+    Ok(written.as_slice() == text)
+}
+
 // Whether the dump of the model's first property is this text.
 fn is_dump(
     alloc: Global,
@@ -47,20 +89,9 @@ fn is_dump(
     from: u64,
     text: &[u8],
 ) -> Result<bool, AllocError> {
-    let mut rows = Items::new(alloc);
-    for row in inputs {
-        rows.push(values(alloc, row)?)?;
-    }
-    let lasso = Lasso {
-        start: values(alloc, start)?,
-        inputs: rows,
-        from,
-    };
-    let Ok(model) = aiger_ascii::read(alloc, model) else {
-        return Err(AllocError);
-    };
-    let written = dump(alloc, &model, 0, &lasso)?;
-    Ok(written.as_slice() == text)
+    let model = model_of(alloc, model)?;
+    let lasso = lasso_of(alloc, start, inputs, from)?;
+    is_dump_of(alloc, &model, &lasso, text)
 }
 
 // A latch that takes its negation, from 0 on; the property is that it is 1.
@@ -181,11 +212,16 @@ $enddefinitions $end
 #20
 ";
 
+fn are_dumps(alloc: Global) -> Result<[bool; 3], AllocError> {
+    Ok([
+        is_dump(alloc, TOGGLE, b"0", &[b"", b""], 0, TOGGLE_DUMP)?,
+        is_dump(alloc, NAMED, b"0", &[b"1", b"0", b"1"], 1, NAMED_DUMP)?,
+        is_dump(alloc, NOTHING, b"", &[b""], 0, NOTHING_DUMP)?,
+    ])
+}
+
 #[test]
-fn dumps_are_as_worked_out(rt: HostRuntime) -> Result<(), AllocError> {
-    let alloc = rt.alloc();
-    assert!(rt; is_dump(alloc, TOGGLE, b"0", &[b"", b""], 0, TOGGLE_DUMP)?);
-    assert!(rt; is_dump(alloc, NAMED, b"0", &[b"1", b"0", b"1"], 1, NAMED_DUMP)?);
-    assert!(rt; is_dump(alloc, NOTHING, b"", &[b""], 0, NOTHING_DUMP)?);
+fn dumps_are_as_worked_out(rt: HostRuntime) -> Result<(), Fail> {
+    assert_eq!(rt; are_dumps(rt.alloc())?, [true; 3]);
     Ok(())
 }

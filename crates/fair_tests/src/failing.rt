@@ -1,10 +1,9 @@
 //! Runs of each command in which one read or one write fails: each in turn, until none is left to fail.
 
-ghost use Rattle.std.specs.Prelude.{◌≤◌};
-
 use crate::certificates::{RISES, WALL};
-use crate::tests::{COUNTER, CYCLE, STUCK, TOGGLE, TWO_FROM_0, TWO_POSITIONS, USAGE, run_words};
-use std::alloc::Global;
+use crate::runs::{Outcome, USAGE, run_words};
+use crate::tests::{COUNTER, CYCLE, STUCK, TOGGLE, TWO_FROM_0, TWO_POSITIONS};
+use std::alloc::{AllocError, Global};
 use std::sync::Wait;
 use std::test::Fail;
 use std::thread::Threads;
@@ -153,8 +152,28 @@ const ROWS: [Row; 18] = [
     (&["fairlive"], TOGGLE, TWO_POSITIONS, 0, 64, USAGE),
 ];
 
-// How the run of a row ends where these calls fail: its number, how long its text is, and whether that is the front of
-// this one.
+fn rows() -> &'static [Row] {
+    &ROWS
+}
+
+/// How a run ends: its number, how long its text is, and whether that is the front of the whole one.
+type End = (u8, u64, bool);
+
+fn is_end(end: End, number: u8, len: u64) -> bool {
+    let (found, found_len, is_front) = end;
+    found == number && found_len == len && is_front
+}
+
+fn end_of(ran: &Outcome, whole: &[u8]) -> End {
+    let text = ran.text.as_slice();
+    (
+        ran.status.number(),
+        text.len() as u64,
+        whole.starts_with(text),
+    )
+}
+
+// How the run of a row ends where these calls fail.
 fn cut_run<R: Threads + Wait + Sync>(
     rt: &R,
     alloc: Global,
@@ -163,36 +182,29 @@ fn cut_run<R: Threads + Wait + Sync>(
     reads: &[u64],
     writes: &[u64],
     whole: &[u8],
-) -> Result<(u8, u64, bool), Fail>
-    requires { 1 ≤ most }
-{
+) -> Result<End, AllocError> {
     let (words, model, answer, _, _, _) = row;
-    let ran = run_words(
-        rt,
-        alloc,
-        words,
-        model.as_bytes(),
-        answer,
-        most,
-        reads,
-        writes,
-    )?;
-    Ok((
-        ran.status.number(),
-        ran.text.len() as u64,
-        whole.starts_with(ran.text.as_slice()),
-    ))
+    let model = model.as_bytes();
+    let ran = run_words(rt, alloc, words, model, answer, most, reads, writes)?;
+    Ok(end_of(&ran, whole))
+}
+
+// The text of a run that begins and ends as the row says; else an empty one.
+fn text_of(alloc: Global, ran: Outcome, row: &Row) -> Vec<u8> {
+    let is_so = ran.status.number() == row.4 && ran.text.as_slice().starts_with(row.5.as_bytes());
+    let Outcome { text, .. } = ran;
+    if is_so { text } else { Vec::new(alloc) }
 }
 
 // The text of a run without a failing call; an empty one where it does not begin or end as the row says.
-fn whole_text<R: Threads + Wait + Sync>(rt: &R, alloc: Global, row: &Row) -> Result<Vec<u8>, Fail> {
-    let (words, model, answer, _, number, text) = row;
+fn whole_text<R: Threads + Wait + Sync>(
+    rt: &R,
+    alloc: Global,
+    row: &Row,
+) -> Result<Vec<u8>, AllocError> {
+    let (words, model, answer, _, _, _) = row;
     let ran = run_words(rt, alloc, words, model.as_bytes(), answer, 1000, &[], &[])?;
-    if ran.status.number() == *number && ran.text.as_slice().starts_with(text.as_bytes()) {
-        Ok(ran.text)
-    } else {
-        Ok(Vec::new(alloc))
-    }
+    Ok(text_of(alloc, ran, row))
 }
 
 // How many reads a run makes: each that fails in turn ends it without a text, until none fails and it ends as without. None
@@ -203,15 +215,13 @@ fn reads_of<R: Threads + Wait + Sync>(
     row: &Row,
     most: u64,
     whole: &[u8],
-) -> Result<Option<u64>, Fail>
-    requires { 1 ≤ most }
-{
+) -> Result<Option<u64>, AllocError> {
     for k in 1..1000 {
         let ended = cut_run(rt, alloc, row, most, &[k], &[], whole)?;
-        if ended == (row.4, whole.len() as u64, true) {
+        if is_end(ended, row.4, whole.len() as u64) {
             return Ok(Some(k - 1));
         }
-        if ended != (4, 0, true) {
+        if !is_end(ended, 4, 0) {
             return Ok(None);
         }
     }
@@ -226,17 +236,15 @@ fn is_cut_by_writes<R: Threads + Wait + Sync>(
     row: &Row,
     most: u64,
     whole: &[u8],
-) -> Result<bool, Fail>
-    requires { 1 ≤ most }
-{
+) -> Result<bool, AllocError> {
     let len = whole.len() as u64;
     let mut before: u64 = 0;
     for k in 1..1000 {
         let ended = cut_run(rt, alloc, row, most, &[], &[k], whole)?;
         if before >= len {
-            return Ok(ended == (row.4, len, true));
+            return Ok(is_end(ended, row.4, len));
         }
-        if ended != (5, before, true) {
+        if !is_end(ended, 5, before) {
             return Ok(false);
         }
         before = before.saturating_add(most);
@@ -245,11 +253,9 @@ fn is_cut_by_writes<R: Threads + Wait + Sync>(
 }
 
 // How many calls read a text of so many bytes, and then its end.
-fn calls(len: usize, most: u64) -> u64
-    requires { 1 ≤ most }
-{
+fn calls(len: usize, most: u64) -> u64 {
     let len = len as u64;
-    let pieces = len / most;
+    let pieces = len.checked_div(most).unwrap_or(0);
     if pieces.saturating_mul(most) < len {
         pieces.saturating_add(2)
     } else {
@@ -258,9 +264,7 @@ fn calls(len: usize, most: u64) -> u64
 }
 
 // How many calls read the texts that the row says.
-fn calls_of(row: &Row, most: u64) -> u64
-    requires { 1 ≤ most }
-{
+fn calls_of(row: &Row, most: u64) -> u64 {
     let (_, model, answer, read, _, _) = row;
     match *read {
         0 => 0,
@@ -269,22 +273,29 @@ fn calls_of(row: &Row, most: u64) -> u64
     }
 }
 
-// Whether a run is cut by each read and by each write of so many bytes, and reads no more than it has to.
+// Whether a run with this text is cut by each read and by each write of so many bytes, and reads no more than it has to.
+fn is_cut<R: Threads + Wait + Sync>(
+    rt: &R,
+    alloc: Global,
+    row: &Row,
+    most: u64,
+    whole: &[u8],
+) -> Result<bool, AllocError> {
+    if whole.is_empty() || reads_of(rt, alloc, row, most, whole)? != Some(calls_of(row, most)) {
+        return Ok(false);
+    }
+    is_cut_by_writes(rt, alloc, row, most, whole)
+}
+
+// The same of the run that the row says.
 fn is_cut_by_each<R: Threads + Wait + Sync>(
     rt: &R,
     alloc: Global,
     row: &Row,
     most: u64,
-) -> Result<bool, Fail>
-    requires { 1 ≤ most }
-{
+) -> Result<bool, AllocError> {
     let whole = whole_text(rt, alloc, row)?;
-    let reads = reads_of(rt, alloc, row, most, &whole)?;
-    Ok(
-        !whole.is_empty()
-            && reads == Some(calls_of(row, most))
-            && is_cut_by_writes(rt, alloc, row, most, &whole)?,
-    )
+    is_cut(rt, alloc, row, most, &whole)
 }
 
 // The place of the first row that ends otherwise, from 0.
@@ -292,10 +303,8 @@ fn wrong_row<R: Threads + Wait + Sync>(
     rt: &R,
     alloc: Global,
     most: u64,
-) -> Result<Option<usize>, Fail>
-    requires { 1 ≤ most }
-{
-    for (k, row) in ROWS.iter().enumerate() {
+) -> Result<Option<usize>, AllocError> {
+    for (k, row) in rows().iter().enumerate() {
         if !is_cut_by_each(rt, alloc, row, most)? {
             return Ok(Some(k));
         }
@@ -303,13 +312,22 @@ fn wrong_row<R: Threads + Wait + Sync>(
     Ok(None)
 }
 
+// The first wrong rows at three sizes of what a call takes.
+fn wrong_rows<R: Threads + Wait + Sync>(
+    rt: &R,
+    alloc: Global,
+) -> Result<[Option<usize>; 3], AllocError> {
+    Ok([
+        wrong_row(rt, alloc, 1)?,
+        wrong_row(rt, alloc, 3)?,
+        wrong_row(rt, alloc, 1000)?,
+    ])
+}
+
 /// Each read failing in turn ends a run without a text, and each write failing in turn leaves exactly what was written before
 /// it, at three sizes of what a call takes.
 #[test]
 fn failing_calls(rt: HostRuntime) -> Result<(), Fail> {
-    for most in [1, 3, 1000] {
-        let wrong = wrong_row(&rt, rt.alloc(), most)?;
-        assert_eq!(rt; wrong, None, "{most}");
-    }
+    assert_eq!(rt; wrong_rows(&rt, rt.alloc())?, [None; 3]);
     Ok(())
 }

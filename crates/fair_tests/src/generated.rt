@@ -1,19 +1,31 @@
 //! Runs of `gen`: its texts, made by another program, and its words.
 
-ghost use Rattle.std.specs.Prelude.{◌≤◌};
-
-use crate::tests::{Outcome, TWO_FROM_0, USAGE, ends_so, is_printed, run_words};
-use std::alloc::Global;
+use crate::runs::{Outcome, ends_so, first_taken, run_words};
+use crate::tests::TWO_FROM_0;
+use aiger_names::Model;
+use circuit::ModelEnd;
+use fair_top::{Done, Status};
+use std::alloc::{AllocError, Global};
 use std::sync::Wait;
 use std::test::Fail;
 use std::thread::Threads;
 
 const RING: &str = "aag 2 0 2 0 0 0 0 1\n2 4 1\n4 2\n2\n2\n4\n";
 
+const RING_IN_ASCII: &[u8] = b"aag 2 0 2 0 0 0 0 1\n2 4 1\n4 2\n2\n2\n4\n";
+
 const RING_IN_BINARY: &[u8] = b"aig 2 0 2 0 0 0 0 1\n4 1\n2\n2\n2\n4\n";
 
-// Kind, seed and size, and the text in ASCII and in binary.
-const MODELS: [(&str, &str, &str, &str, &[u8]); 5] = [
+/// Kind, seed and size, and the text in ASCII and in binary.
+type Row = (
+    &'static str,
+    &'static str,
+    &'static str,
+    &'static str,
+    &'static [u8],
+);
+
+const MODELS: [Row; 5] = [
     ("ring", "0", "2", RING, RING_IN_BINARY),
     (
         "ring",
@@ -45,15 +57,17 @@ const MODELS: [(&str, &str, &str, &str, &[u8]); 5] = [
     ),
 ];
 
+fn models() -> &'static [Row] {
+    &MODELS
+}
+
 /// Runs these words, with at most `most` bytes a call.
 fn run_gen<R: Threads + Wait + Sync>(
     rt: &R,
     alloc: Global,
     words: &[&str],
     most: u64,
-) -> Result<Outcome, Fail>
-    requires { 1 ≤ most }
-{
+) -> Result<Outcome, AllocError> {
     run_words(rt, alloc, words, b"", "", most, &[], &[])
 }
 
@@ -61,145 +75,211 @@ fn run_gen<R: Threads + Wait + Sync>(
 fn are_written<R: Threads + Wait + Sync>(
     rt: &R,
     alloc: Global,
-    kind: &str,
-    seed: &str,
-    size: &str,
-    ascii: &str,
-    binary: &[u8],
-) -> Result<bool, Fail> {
+    row: &Row,
+) -> Result<bool, AllocError> {
+    let (kind, seed, size, ascii, binary) = row;
     let words = ["fairlive", "gen", kind, seed, size];
-    let packed = ["fairlive", "gen", kind, seed, size, "--binary"];
-    Ok(
-        ends_so(rt, alloc, &words, b"", "", ascii.as_bytes(), 0)?
-            && ends_so(rt, alloc, &packed, b"", "", binary, 0)?,
-    )
+    if !ends_so(rt, alloc, &words, b"", "", ascii.as_bytes(), 0)? {
+        return Ok(false);
+    }
+    let words = ["fairlive", "gen", kind, seed, size, "--binary"];
+    ends_so(rt, alloc, &words, b"", "", binary, 0)
+}
+
+/// The place of the first model that is not written so, from 0.
+fn wrong_model<R: Threads + Wait + Sync>(
+    rt: &R,
+    alloc: Global,
+) -> Result<Option<usize>, AllocError> {
+    for (k, row) in models().iter().enumerate() {
+        if !are_written(rt, alloc, row)? {
+            return Ok(Some(k));
+        }
+    }
+    Ok(None)
+}
+
+/// Whether the status says that the text of a model was written.
+fn is_printed(status: &Status) -> bool {
+    matches!(status, Status::Done(Done::Printed))
+}
+
+fn ring_is_printed<R: Threads + Wait + Sync>(rt: &R, alloc: Global) -> Result<bool, AllocError> {
+    let ran = run_gen(rt, alloc, &["fairlive", "gen", "ring", "0", "2"], 7)?;
+    Ok(is_printed(&ran.status))
 }
 
 /// The texts of both forms, at once and at one byte a call.
 #[test]
 fn models_of_gen(rt: HostRuntime) -> Result<(), Fail> {
-    for (kind, seed, size, ascii, binary) in &MODELS {
-        assert!(rt;
-            are_written(&rt, rt.alloc(), kind, seed, size, ascii, binary)?,
-            "{ascii}"
-        );
-    }
-    let ran = run_gen(&rt, rt.alloc(), &["fairlive", "gen", "ring", "0", "2"], 7)?;
-    assert!(rt; is_printed(&ran.status));
+    assert_eq!(rt; wrong_model(&rt, rt.alloc())?, None);
+    assert!(rt; ring_is_printed(&rt, rt.alloc())?);
     Ok(())
+}
+
+fn ring_goes_round<R: Threads + Wait + Sync>(
+    rt: &R,
+    alloc: Global,
+    model: &[u8],
+) -> Result<bool, AllocError> {
+    let words = ["fairlive", "check", "m", "a"];
+    let answer = "1\nj0\n10\n\n\n.\n";
+    ends_so(rt, alloc, &words, model, answer, TWO_FROM_0.as_bytes(), 0)
 }
 
 /// The ring is checked in both forms: its latches are 10, then 01, then 10 again.
 #[test]
 fn answers_of_a_ring(rt: HostRuntime) -> Result<(), Fail> {
-    let words = ["fairlive", "check", "m", "a"];
-    for model in [RING.as_bytes(), RING_IN_BINARY] {
-        assert!(rt;
-            ends_so(
-                &rt,
-                rt.alloc(),
-                &words,
-                model,
-                "1\nj0\n10\n\n\n.\n",
-                TWO_FROM_0.as_bytes(),
-                0
-            )?
-        );
-    }
+    assert!(rt; ring_goes_round(&rt, rt.alloc(), RING.as_bytes())?);
+    assert!(rt; ring_goes_round(&rt, rt.alloc(), RING_IN_BINARY)?);
     Ok(())
 }
 
+// The calls, in functions without a contract: no clause of them is wanted here.
+fn read_binary(alloc: Global, text: &[u8]) -> Result<Model, ModelEnd> {
+    aiger_binary::read(alloc, text)
+}
+
+fn write_ascii(alloc: Global, model: &Model) -> Result<Vec<u8>, AllocError> {
+    aiger_ascii::write(alloc, model)
+}
+
 /// The ASCII text of the model that a binary text stands for.
-fn in_ascii(alloc: Global, text: &[u8]) -> Result<Vec<u8>, Fail> {
-    let model = aiger_binary::read(alloc, text)?;
-    Ok(aiger_ascii::write(alloc, &model)?)
+fn in_ascii(alloc: Global, text: &[u8]) -> Result<Vec<u8>, AllocError> {
+    match read_binary(alloc, text) {
+        Ok(model) => write_ascii(alloc, &model),
+        Err(_) => Err(AllocError),
+    }
+}
+
+/// Whether both texts stand for one model.
+fn are_one(alloc: Global, ascii: &[u8], binary: &[u8]) -> Result<bool, AllocError> {
+    let read = in_ascii(alloc, binary)?;
+    Ok(read.as_slice() == ascii)
+}
+
+/// What a run of these words writes; an empty text where it does not end with 0.
+fn text_of<R: Threads + Wait + Sync>(
+    rt: &R,
+    alloc: Global,
+    words: &[&str],
+) -> Result<Vec<u8>, AllocError> {
+    let Outcome { status, text } = run_gen(rt, alloc, words, 1000)?;
+    Ok(if status.number() == 0 {
+        text
+    } else {
+        Vec::new(alloc)
+    })
+}
+
+/// Whether the binary form of a drawn model is so long, and stands for the model of this text.
+fn is_its_binary<R: Threads + Wait + Sync>(
+    rt: &R,
+    alloc: Global,
+    row: &Drawn,
+    ascii: &[u8],
+) -> Result<bool, AllocError> {
+    let words = ["fairlive", "gen", "scramble", row.0, row.1, "--binary"];
+    let binary = text_of(rt, alloc, &words)?;
+    if binary.len() != row.3 {
+        return Ok(false);
+    }
+    are_one(alloc, ascii, &binary)
 }
 
 /// Whether both forms of a drawn model are so long, and stand for one model.
 fn are_one_model<R: Threads + Wait + Sync>(
     rt: &R,
     alloc: Global,
-    seed: &str,
-    size: &str,
-    ascii: usize,
-    binary: usize,
-) -> Result<bool, Fail> {
-    let words = ["fairlive", "gen", "scramble", seed, size];
-    let plain = run_gen(rt, alloc, &words, 1000)?;
-    let words = ["fairlive", "gen", "scramble", seed, size, "--binary"];
-    let packed = run_gen(rt, alloc, &words, 1000)?;
-    let read = in_ascii(alloc, packed.text.as_slice())?;
-    Ok(
-        plain.status.number() == 0
-            && packed.status.number() == 0
-            && plain.text.len() == ascii
-            && packed.text.len() == binary
-            && read.as_slice() == plain.text.as_slice(),
-    )
+    row: &Drawn,
+) -> Result<bool, AllocError> {
+    let words = ["fairlive", "gen", "scramble", row.0, row.1];
+    let ascii = text_of(rt, alloc, &words)?;
+    if ascii.len() != row.2 {
+        return Ok(false);
+    }
+    is_its_binary(rt, alloc, row, &ascii)
 }
+
+/// A seed and a size, and how long the texts are in ASCII and in binary.
+type Drawn = (&'static str, &'static str, usize, usize);
 
 /// Both forms stand for one model, also of the greatest seed and size.
 #[test]
 fn forms_of_a_scramble(rt: HostRuntime) -> Result<(), Fail> {
-    for (seed, size, ascii, binary) in [("7", "2", 77, 49), ("4294967295", "256", 8849, 3282)] {
-        assert!(rt;
-            are_one_model(&rt, rt.alloc(), seed, size, ascii, binary)?,
-            "{seed} {size}"
-        );
-    }
+    assert!(rt; are_one_model(&rt, rt.alloc(), &("7", "2", 77, 49))?);
+    assert!(rt; are_one_model(&rt, rt.alloc(), &("4294967295", "256", 8849, 3282))?);
     Ok(())
+}
+
+const NO_REQUESTS: [&[&str]; 18] = [
+    &["fairlive", "gen"],
+    &["fairlive", "gen", "ring"],
+    &["fairlive", "gen", "ring", "0"],
+    &["fairlive", "gen", "rings", "0", "2"],
+    &["fairlive", "gen", "Ring", "0", "2"],
+    &["fairlive", "gen", "", "0", "2"],
+    &["fairlive", "gen", "ring", "-1", "2"],
+    &["fairlive", "gen", "ring", "4294967296", "2"],
+    &["fairlive", "gen", "ring", "18446744073709551616", "2"],
+    &["fairlive", "gen", "ring", "0", "0"],
+    &["fairlive", "gen", "ring", "0", "257"],
+    &["fairlive", "gen", "ring", "0", "2", "--binary", "--binary"],
+    &["fairlive", "gen", "ring", "0", "2", "--binary=true"],
+    &["fairlive", "gen", "ring", "0", "2", "x"],
+    &["fairlive", "gen", "ring", "x", "2"],
+    &["fairlive", "gen", "ring", "", "2"],
+    &["fairlive", "gen", "ring", "0", "2", "--help"],
+    &["fairlive", "gen", "ring", "0", "2", "--", "--binary"],
+];
+
+fn no_requests() -> &'static [&'static [&'static str]] {
+    &NO_REQUESTS
 }
 
 /// Words that ask for no model.
 #[test]
 fn words_that_gen_refuses(rt: HostRuntime) -> Result<(), Fail> {
-    for words in [
-        ["fairlive", "gen"].as_slice(),
-        &["fairlive", "gen", "ring"],
-        &["fairlive", "gen", "ring", "0"],
-        &["fairlive", "gen", "rings", "0", "2"],
-        &["fairlive", "gen", "Ring", "0", "2"],
-        &["fairlive", "gen", "", "0", "2"],
-        &["fairlive", "gen", "ring", "-1", "2"],
-        &["fairlive", "gen", "ring", "4294967296", "2"],
-        &["fairlive", "gen", "ring", "18446744073709551616", "2"],
-        &["fairlive", "gen", "ring", "0", "0"],
-        &["fairlive", "gen", "ring", "0", "257"],
-        &["fairlive", "gen", "ring", "0", "2", "--binary", "--binary"],
-        &["fairlive", "gen", "ring", "0", "2", "--binary=true"],
-        &["fairlive", "gen", "ring", "0", "2", "x"],
-        &["fairlive", "gen", "ring", "x", "2"],
-        &["fairlive", "gen", "ring", "", "2"],
-        &["fairlive", "gen", "ring", "0", "2", "--help"],
-        &["fairlive", "gen", "ring", "0", "2", "--", "--binary"],
-    ] {
-        assert!(rt; ends_so(&rt, rt.alloc(), words, b"", "", USAGE.as_bytes(), 64)?);
-    }
+    assert_eq!(rt; first_taken(&rt, rt.alloc(), no_requests(), "", "")?, None);
     Ok(())
+}
+
+/// Words, and the text that is written.
+type Custom = (&'static [&'static str], &'static [u8]);
+
+const CUSTOMS: [Custom; 4] = [
+    (&["fairlive", "gen", "ring", "+0", "002"], RING_IN_ASCII),
+    (&["fairlive", "gen", "ring", "0", "--", "2"], RING_IN_ASCII),
+    (
+        &["fairlive", "gen", "--binary", "ring", "0", "2"],
+        RING_IN_BINARY,
+    ),
+    (
+        &["fairlive", "gen", "ring", "--binary", "0", "2"],
+        RING_IN_BINARY,
+    ),
+];
+
+fn customs() -> &'static [Custom] {
+    &CUSTOMS
+}
+
+/// The place of the first words that are not answered so, from 0.
+fn wrong_custom<R: Threads + Wait + Sync>(
+    rt: &R,
+    alloc: Global,
+) -> Result<Option<usize>, AllocError> {
+    for (k, (words, text)) in customs().iter().enumerate() {
+        if !ends_so(rt, alloc, words, b"", "", text, 0)? {
+            return Ok(Some(k));
+        }
+    }
+    Ok(None)
 }
 
 /// Words that are taken by the customs of the command line.
 #[test]
 fn words_that_gen_takes(rt: HostRuntime) -> Result<(), Fail> {
-    for (words, text) in [
-        (
-            ["fairlive", "gen", "ring", "+0", "002"].as_slice(),
-            RING.as_bytes(),
-        ),
-        (
-            &["fairlive", "gen", "ring", "0", "--", "2"],
-            RING.as_bytes(),
-        ),
-        (
-            &["fairlive", "gen", "--binary", "ring", "0", "2"],
-            RING_IN_BINARY,
-        ),
-        (
-            &["fairlive", "gen", "ring", "--binary", "0", "2"],
-            RING_IN_BINARY,
-        ),
-    ] {
-        assert!(rt; ends_so(&rt, rt.alloc(), words, b"", "", text, 0)?);
-    }
+    assert_eq!(rt; wrong_custom(&rt, rt.alloc())?, None);
     Ok(())
 }

@@ -12,6 +12,8 @@ mod failing;
 #[cfg(test)]
 mod generated;
 #[cfg(test)]
+mod runs;
+#[cfg(test)]
 mod solving;
 #[cfg(test)]
 mod tests;

@@ -1,7 +1,7 @@
 //! Runs of `solve` over texts in memory: what it prints of models that were worked out by hand, and that `check` accepts it.
 
-use crate::tests::{Outcome, USAGE, run_words};
-use std::alloc::Global;
+use crate::runs::{Outcome, USAGE, run_words};
+use std::alloc::{AllocError, Global};
 use std::sync::Wait;
 use std::test::Fail;
 use std::thread::Threads;
@@ -54,9 +54,11 @@ const ROUND: &str = "1\nj0\n00\n\n\n\n\n.\n";
 // What limits that serve say.
 const ENOUGH: &[&str] = &["--conflicts", "1000", "--steps", "1000"];
 
-// Models, the words behind `solve m`, the number with which the run ends, and what is written: all of it, or of a
-// certificate and of a report how it begins.
-const ROWS: [(&[u8], &[&str], u8, &str); 40] = [
+/// A model, the words behind `solve m`, the number with which the run ends, and what is written: all of it, or of a
+/// certificate and of a report how it begins.
+type Row = (&'static [u8], &'static [&'static str], u8, &'static str);
+
+const ROWS: [Row; 40] = [
     (TOGGLE, ENOUGH, 0, TWICE),
     (TOGGLE, &[], 0, TWICE),
     (STUCK, ENOUGH, 0, CERTIFICATE),
@@ -119,32 +121,51 @@ const ROWS: [(&[u8], &[&str], u8, &str); 40] = [
     (COUNTER, &["--property", ""], 64, USAGE),
 ];
 
-// Runs `solve m` with these words behind it.
+fn rows() -> &'static [Row] {
+    &ROWS
+}
+
+// The words of `solve m` with these behind it.
+fn words_with<'a>(alloc: Global, options: &[&'a str]) -> Result<Vec<&'a str>, AllocError> {
+    let mut words = Vec::new(alloc);
+    words.extend_from_slice(&["fairlive", "solve", "m"])?;
+    words.extend_from_slice(options)?;
+    Ok(words)
+}
+
 fn solved<R: Threads + Wait + Sync>(
     rt: &R,
     alloc: Global,
     model: &[u8],
     options: &[&str],
-) -> Result<Outcome, Fail> {
-    let mut words = Vec::new(alloc);
-    words.extend_from_slice(&["fairlive", "solve", "m"])?;
-    words.extend_from_slice(options)?;
+) -> Result<Outcome, AllocError> {
+    let words = words_with(alloc, options)?;
     run_words(rt, alloc, &words, model, "", 1000, &[], &[])
 }
 
-// Whether `check` accepts what was printed of the model.
+// Whether `check` accepts this answer.
 fn is_accepted<R: Threads + Wait + Sync>(
     rt: &R,
     alloc: Global,
     model: &[u8],
-    printed: &[u8],
-) -> Result<bool, Fail> {
-    let Ok(answer) = str::from_utf8(printed) else {
-        return Ok(false);
-    };
+    answer: &str,
+) -> Result<bool, AllocError> {
     let words = ["fairlive", "check", "m", "a"];
     let checked = run_words(rt, alloc, &words, model, answer, 1000, &[], &[])?;
     Ok(checked.status.number() == 0 && checked.text.as_slice().starts_with(b"accepted "))
+}
+
+// Whether `check` accepts what was printed of the model.
+fn is_printed_accepted<R: Threads + Wait + Sync>(
+    rt: &R,
+    alloc: Global,
+    model: &[u8],
+    printed: &[u8],
+) -> Result<bool, AllocError> {
+    match str::from_utf8(printed) {
+        Ok(answer) => is_accepted(rt, alloc, model, answer),
+        Err(_) => Ok(false),
+    }
 }
 
 // Whether a text is the one of a row: a stimulus and all that is no answer as a whole, else how it begins.
@@ -156,19 +177,45 @@ fn is_text(text: &[u8], wanted: &str) -> bool {
     }
 }
 
+// Whether a run ended as its row says, and a verdict that it printed is accepted.
+fn is_right<R: Threads + Wait + Sync>(
+    rt: &R,
+    alloc: Global,
+    row: &Row,
+    ran: &Outcome,
+) -> Result<bool, AllocError> {
+    let (model, _, number, text) = row;
+    if ran.status.number() != *number || !is_text(ran.text.as_slice(), text) {
+        return Ok(false);
+    }
+    if *number != 0 {
+        return Ok(true);
+    }
+    is_printed_accepted(rt, alloc, model, ran.text.as_slice())
+}
+
+fn is_solved_so<R: Threads + Wait + Sync>(
+    rt: &R,
+    alloc: Global,
+    row: &Row,
+) -> Result<bool, AllocError> {
+    let ran = solved(rt, alloc, row.0, row.1)?;
+    is_right(rt, alloc, row, &ran)
+}
+
+// The place of the first row that is not answered so, from 0.
+fn wrong_row<R: Threads + Wait + Sync>(rt: &R, alloc: Global) -> Result<Option<usize>, AllocError> {
+    for (k, row) in rows().iter().enumerate() {
+        if !is_solved_so(rt, alloc, row)? {
+            return Ok(Some(k));
+        }
+    }
+    Ok(None)
+}
+
 /// The rows, each printed verdict with its check.
 #[test]
 fn answers_of_solve(rt: HostRuntime) -> Result<(), Fail> {
-    for (model, options, number, text) in &ROWS {
-        let ran = solved(&rt, rt.alloc(), model, options)?;
-        assert_eq!(rt; ran.status.number(), *number, "{text}");
-        assert!(rt; is_text(ran.text.as_slice(), text), "{text}");
-        if *number == 0 {
-            assert!(rt;
-                is_accepted(&rt, rt.alloc(), model, ran.text.as_slice())?,
-                "{text}"
-            );
-        }
-    }
+    assert_eq!(rt; wrong_row(&rt, rt.alloc())?, None);
     Ok(())
 }

@@ -2,8 +2,9 @@
 
 use crate::certificates::says_of_waves;
 use crate::dumps::{NOTHING, NOTHING_DUMP, TOGGLE, TOGGLE_DUMP};
-use crate::tests::{ROWS, ends_so, run_words};
-use std::alloc::Global;
+use crate::runs::{Outcome, ends_so, run_words};
+use crate::tests;
+use std::alloc::{AllocError, Global};
 use std::sync::Wait;
 use std::test::Fail;
 use std::thread::Threads;
@@ -79,8 +80,12 @@ const DUMPS: [Row; 4] = [
     ),
 ];
 
+fn dumps() -> &'static [Row] {
+    &DUMPS
+}
+
 /// The identifier of the wire at this place.
-fn push_identifier(text: &mut Vec<u8>, k: usize) -> Result<(), Fail> {
+fn push_identifier(text: &mut Vec<u8>, k: usize) -> Result<(), AllocError> {
     let first = 33 + (k % 94) as u8;
     text.push(first)?;
     if k >= 94 {
@@ -89,9 +94,12 @@ fn push_identifier(text: &mut Vec<u8>, k: usize) -> Result<(), Fail> {
     Ok(())
 }
 
+fn digit(number: usize) -> u8 {
+    48 + (number % 10) as u8
+}
+
 /// A numeral of at most three digits.
-fn push_small(text: &mut Vec<u8>, number: usize) -> Result<(), Fail> {
-    let digit = |n: usize| 48 + (n % 10) as u8;
+fn push_small(text: &mut Vec<u8>, number: usize) -> Result<(), AllocError> {
     if number >= 100 {
         text.push(digit(number / 100))?;
     }
@@ -102,127 +110,101 @@ fn push_small(text: &mut Vec<u8>, number: usize) -> Result<(), Fail> {
     Ok(())
 }
 
-fn push_name(text: &mut Vec<u8>, k: usize, name: &[u8]) -> Result<(), Fail> {
+// A wire up to its name.
+fn push_wire(text: &mut Vec<u8>, k: usize) -> Result<(), AllocError> {
     text.extend_from_slice(b"$var wire 1 ")?;
     push_identifier(text, k)?;
     text.push(b' ')?;
+    Ok(())
+}
+
+fn push_name(text: &mut Vec<u8>, k: usize, name: &[u8]) -> Result<(), AllocError> {
+    push_wire(text, k)?;
     text.extend_from_slice(name)?;
     text.extend_from_slice(b" $end\n")?;
     Ok(())
 }
 
-// The values at ten times this number.
-fn push_values(text: &mut Vec<u8>, t: usize, digits: &[u8]) -> Result<(), Fail> {
+fn push_names(text: &mut Vec<u8>, names: &[&str]) -> Result<(), AllocError> {
+    for (k, name) in names.iter().enumerate() {
+        push_name(text, k, name.as_bytes())?;
+    }
+    Ok(())
+}
+
+fn push_time(text: &mut Vec<u8>, t: usize) -> Result<(), AllocError> {
     text.push(b'#')?;
     push_small(text, t)?;
     if t > 0 {
         text.push(b'0')?;
     }
     text.push(b'\n')?;
+    Ok(())
+}
+
+fn push_value(text: &mut Vec<u8>, k: usize, digit: u8) -> Result<(), AllocError> {
+    text.push(digit)?;
+    push_identifier(text, k)?;
+    text.push(b'\n')?;
+    Ok(())
+}
+
+// The values at ten times this number.
+fn push_values(text: &mut Vec<u8>, t: usize, digits: &[u8]) -> Result<(), AllocError> {
+    push_time(text, t)?;
     for (k, digit) in digits.iter().enumerate() {
-        text.push(*digit)?;
-        push_identifier(text, k)?;
-        text.push(b'\n')?;
+        push_value(text, k, *digit)?;
     }
     Ok(())
 }
 
-fn front(alloc: Global, property: u8) -> Result<Vec<u8>, Fail> {
-    let mut text = Vec::from_slice(alloc, b"$timescale 1ns $end\n$comment fairlive j")?;
+// The values at each time, and the end.
+fn push_times(text: &mut Vec<u8>, rows: &[&str]) -> Result<(), AllocError> {
+    for (t, row) in rows.iter().enumerate() {
+        push_values(text, t, row.as_bytes())?;
+    }
+    push_time(text, rows.len())
+}
+
+fn push_front(text: &mut Vec<u8>, property: u8) -> Result<(), AllocError> {
+    text.extend_from_slice(b"$timescale 1ns $end\n$comment fairlive j")?;
     text.push(property)?;
     text.extend_from_slice(b" $end\n$scope module fairlive $end\n")?;
-    Ok(text)
+    Ok(())
+}
+
+fn push_middle(text: &mut Vec<u8>) -> Result<(), AllocError> {
+    text.extend_from_slice(b"$upscope $end\n$enddefinitions $end\n")?;
+    Ok(())
 }
 
 /// The dump of wires with these names and values.
-fn dump_of(alloc: Global, property: u8, names: &[&str], rows: &[&str]) -> Result<Vec<u8>, Fail> {
-    let mut text = front(alloc, property)?;
-    for (k, name) in names.iter().enumerate() {
-        push_name(&mut text, k, name.as_bytes())?;
-    }
-    text.extend_from_slice(b"$upscope $end\n$enddefinitions $end\n")?;
-    for (t, row) in rows.iter().enumerate() {
-        push_values(&mut text, t, row.as_bytes())?;
-    }
-    push_values(&mut text, rows.len(), b"")?;
+fn dump_of(alloc: Global, row: &Row) -> Result<Vec<u8>, AllocError> {
+    let (_, _, property, names, rows) = row;
+    let mut text = Vec::new(alloc);
+    push_front(&mut text, *property)?;
+    push_names(&mut text, names)?;
+    push_middle(&mut text)?;
+    push_times(&mut text, rows)?;
     Ok(text)
 }
 
 /// Whether a row is printed so.
-fn is_printed<R: Threads + Wait + Sync>(rt: &R, alloc: Global, row: &Row) -> Result<bool, Fail> {
-    let (model, answer, property, names, rows) = row;
-    let text = dump_of(alloc, *property, names, rows)?;
-    ends_so(rt, alloc, &WORDS, model.as_bytes(), answer, &text, 0)
-}
-
-/// Whether the dumps that are written out whole are printed so.
-fn are_whole<R: Threads + Wait + Sync>(rt: &R, alloc: Global) -> Result<(bool, bool), Fail> {
-    let toggle = ends_so(rt, alloc, &WORDS, TOGGLE, TWICE, TOGGLE_DUMP, 0)?;
-    let nothing = ends_so(
-        rt,
-        alloc,
-        &WORDS,
-        NOTHING,
-        "1\nj0\n\n\n.\n",
-        NOTHING_DUMP,
-        0,
-    )?;
-    Ok((toggle, nothing))
-}
-
-// A hundred inputs and no latch; the property is the first of them.
-fn many_inputs(alloc: Global) -> Result<Vec<u8>, Fail> {
-    let mut text = Vec::from_slice(alloc, b"aag 100 100 0 0 0 0 0 1\n")?;
-    for k in 1..101 {
-        push_small(&mut text, 2 * k)?;
-        text.push(b'\n')?;
-    }
-    text.extend_from_slice(b"1\n2\n")?;
-    Ok(text)
-}
-
-// Every third input is 1, the first among them.
-fn many_values(alloc: Global) -> Result<String, Fail> {
-    let mut text = String::new(alloc);
-    for k in 0..100 {
-        text.push_str(if k % 3 == 0 { "1" } else { "0" })?;
-    }
-    Ok(text)
-}
-
-fn many_dump(alloc: Global, values: &str) -> Result<Vec<u8>, Fail> {
-    let mut text = front(alloc, b'0')?;
-    for k in 0..100 {
-        let mut name = Vec::from_slice(alloc, b"i")?;
-        push_small(&mut name, k)?;
-        push_name(&mut text, k, &name)?;
-    }
-    push_name(&mut text, 100, b"j0.0")?;
-    push_name(&mut text, 101, b"loop")?;
-    text.extend_from_slice(b"$upscope $end\n$enddefinitions $end\n")?;
-    let mut row = Vec::from_slice(alloc, values.as_bytes())?;
-    row.extend_from_slice(b"11")?;
-    for t in 0..2 {
-        push_values(&mut text, t, &row)?;
-    }
-    push_values(&mut text, 2, b"")?;
-    Ok(text)
-}
-
-/// Whether the dump of a hundred wires and two is printed so: it has identifiers of two characters.
-fn many_are_printed<R: Threads + Wait + Sync>(rt: &R, alloc: Global) -> Result<bool, Fail> {
-    let model = many_inputs(alloc)?;
-    let values = many_values(alloc)?;
-    let mut answer = String::from_str(alloc, "1\nj0\n\n")?;
-    answer.push_str(&values)?;
-    answer.push_str("\n.\n")?;
-    let text = many_dump(alloc, &values)?;
-    ends_so(rt, alloc, &WORDS, &model, &answer, &text, 0)
+fn is_printed<R: Threads + Wait + Sync>(
+    rt: &R,
+    alloc: Global,
+    row: &Row,
+) -> Result<bool, AllocError> {
+    let text = dump_of(alloc, row)?;
+    ends_so(rt, alloc, &WORDS, row.0.as_bytes(), row.1, &text, 0)
 }
 
 /// The place of the first row that is not printed so, from 0.
-fn wrong_dump<R: Threads + Wait + Sync>(rt: &R, alloc: Global) -> Result<Option<usize>, Fail> {
-    for (k, row) in DUMPS.iter().enumerate() {
+fn wrong_dump<R: Threads + Wait + Sync>(
+    rt: &R,
+    alloc: Global,
+) -> Result<Option<usize>, AllocError> {
+    for (k, row) in dumps().iter().enumerate() {
         if !is_printed(rt, alloc, row)? {
             return Ok(Some(k));
         }
@@ -230,29 +212,139 @@ fn wrong_dump<R: Threads + Wait + Sync>(rt: &R, alloc: Global) -> Result<Option<
     Ok(None)
 }
 
+// A hundred inputs and no latch; the property is the first of them.
+fn push_inputs(text: &mut Vec<u8>) -> Result<(), AllocError> {
+    for k in 1..101 {
+        push_small(text, 2 * k)?;
+        text.push(b'\n')?;
+    }
+    Ok(())
+}
+
+fn many_inputs(alloc: Global) -> Result<Vec<u8>, AllocError> {
+    let mut text = Vec::from_slice(alloc, b"aag 100 100 0 0 0 0 0 1\n")?;
+    push_inputs(&mut text)?;
+    text.extend_from_slice(b"1\n2\n")?;
+    Ok(text)
+}
+
+// Every third input is 1, the first among them.
+fn push_many_values(text: &mut String) -> Result<(), AllocError> {
+    for k in 0..100 {
+        text.push_str(if k % 3 == 0 { "1" } else { "0" })?;
+    }
+    Ok(())
+}
+
+fn many_answer(alloc: Global) -> Result<String, AllocError> {
+    let mut text = String::from_str(alloc, "1\nj0\n\n")?;
+    push_many_values(&mut text)?;
+    text.push_str("\n.\n")?;
+    Ok(text)
+}
+
+// The values of the inputs, and that the property and the loop are there.
+fn many_row(alloc: Global) -> Result<String, AllocError> {
+    let mut text = String::new(alloc);
+    push_many_values(&mut text)?;
+    text.push_str("11")?;
+    Ok(text)
+}
+
+fn push_many_names(text: &mut Vec<u8>) -> Result<(), AllocError> {
+    for k in 0..100 {
+        push_wire(text, k)?;
+        text.push(b'i')?;
+        push_small(text, k)?;
+        text.extend_from_slice(b" $end\n")?;
+    }
+    push_name(text, 100, b"j0.0")?;
+    push_name(text, 101, b"loop")
+}
+
+fn push_many_times(alloc: Global, text: &mut Vec<u8>) -> Result<(), AllocError> {
+    let row = many_row(alloc)?;
+    push_times(text, &[row.as_str(), row.as_str()])
+}
+
+fn many_dump(alloc: Global) -> Result<Vec<u8>, AllocError> {
+    let mut text = Vec::new(alloc);
+    push_front(&mut text, b'0')?;
+    push_many_names(&mut text)?;
+    push_middle(&mut text)?;
+    push_many_times(alloc, &mut text)?;
+    Ok(text)
+}
+
+fn is_many_dump<R: Threads + Wait + Sync>(
+    rt: &R,
+    alloc: Global,
+    model: &[u8],
+    answer: &str,
+) -> Result<bool, AllocError> {
+    let text = many_dump(alloc)?;
+    ends_so(rt, alloc, &WORDS, model, answer, &text, 0)
+}
+
+/// Whether the dump of a hundred wires and two is printed so: it has identifiers of two characters.
+fn many_are_printed<R: Threads + Wait + Sync>(rt: &R, alloc: Global) -> Result<bool, AllocError> {
+    let model = many_inputs(alloc)?;
+    let answer = many_answer(alloc)?;
+    is_many_dump(rt, alloc, &model, &answer)
+}
+
+/// Whether the dumps that are written out whole, and the one of many wires, are printed so.
+fn are_whole<R: Threads + Wait + Sync>(rt: &R, alloc: Global) -> Result<[bool; 3], AllocError> {
+    Ok([
+        ends_so(rt, alloc, &WORDS, TOGGLE, TWICE, TOGGLE_DUMP, 0)?,
+        ends_so(
+            rt,
+            alloc,
+            &WORDS,
+            NOTHING,
+            "1\nj0\n\n\n.\n",
+            NOTHING_DUMP,
+            0,
+        )?,
+        many_are_printed(rt, alloc)?,
+    ])
+}
+
 /// The waves of small models, as they were worked out.
 #[test]
 fn waves_of_small_models(rt: HostRuntime) -> Result<(), Fail> {
-    let whole = are_whole(&rt, rt.alloc())?;
-    assert_eq!(rt; whole, (true, true));
-    let wrong = wrong_dump(&rt, rt.alloc())?;
-    assert_eq!(rt; wrong, None);
-    let many = many_are_printed(&rt, rt.alloc())?;
-    assert!(rt; many);
+    assert_eq!(rt; are_whole(&rt, rt.alloc())?, [true; 3]);
+    assert_eq!(rt; wrong_dump(&rt, rt.alloc())?, None);
     Ok(())
+}
+
+/// Whether a run wrote a dump where `check` accepts the answer of this row, and else ended as `check` does.
+fn is_end_of(ran: &Outcome, row: &tests::Row) -> bool {
+    let (_, _, text, number) = row;
+    let found = ran.text.as_slice();
+    let is_same = if *number == 0 {
+        found.starts_with(b"$timescale 1ns $end\n")
+    } else {
+        found == text.as_bytes()
+    };
+    is_same && ran.status.number() == *number
+}
+
+fn is_answered<R: Threads + Wait + Sync>(
+    rt: &R,
+    alloc: Global,
+    row: &tests::Row,
+) -> Result<bool, AllocError> {
+    let model = row.0.as_bytes();
+    let ran = run_words(rt, alloc, &WORDS, model, row.1, 1000, &[], &[])?;
+    Ok(is_end_of(&ran, row))
 }
 
 /// The place of the first row of `check` that `wave` does not answer by a dump where it is accepted, and else as `check`
 /// does.
-fn wrong_row<R: Threads + Wait + Sync>(rt: &R, alloc: Global) -> Result<Option<usize>, Fail> {
-    for (k, (model, answer, text, number)) in ROWS.iter().enumerate() {
-        let ran = run_words(rt, alloc, &WORDS, model.as_bytes(), answer, 1000, &[], &[])?;
-        let same = if *number == 0 {
-            ran.text.as_slice().starts_with(b"$timescale 1ns $end\n")
-        } else {
-            ran.text.as_slice() == text.as_bytes()
-        };
-        if !same || ran.status.number() != *number {
+fn wrong_row<R: Threads + Wait + Sync>(rt: &R, alloc: Global) -> Result<Option<usize>, AllocError> {
+    for (k, row) in tests::rows().iter().enumerate() {
+        if !is_answered(rt, alloc, row)? {
             return Ok(Some(k));
         }
     }
@@ -262,9 +354,7 @@ fn wrong_row<R: Threads + Wait + Sync>(rt: &R, alloc: Global) -> Result<Option<u
 /// Answers are refused as `check` refuses them, and good certificates since they have no run.
 #[test]
 fn refusals_of_wave(rt: HostRuntime) -> Result<(), Fail> {
-    let wrong = wrong_row(&rt, rt.alloc())?;
-    assert_eq!(rt; wrong, None);
-    let wrong = says_of_waves(&rt, rt.alloc())?;
-    assert_eq!(rt; wrong, None);
+    assert_eq!(rt; wrong_row(&rt, rt.alloc())?, None);
+    assert_eq!(rt; says_of_waves(&rt, rt.alloc())?, None);
     Ok(())
 }

@@ -4,9 +4,9 @@ ghost use Rattle.std.specs.Prelude.{◌≡◌, []};
 ghost use Rattle.ic3.specs.Searches.{GoesOnFrom};
 ghost use Rattle.ic3_questions.specs.Searching.{IsGoal};
 
-use crate::drawing::{is_in, is_path, meets, reached};
+use crate::drawing::{circuit_of, is_in, is_path, meets, reached};
 use circuit::Circuit;
-use drawn_circuits::{Drawn, circuit_drawn, rest, state_of, text_of};
+use drawn_circuits::{Drawn, circuit_drawn, rest, state_of};
 use edge::Meter;
 use entry::good_lists_grow;
 use ic3::{Goal, ReachEnd, Reached, Search, Start};
@@ -135,25 +135,35 @@ fn agrees_on_all(
     Ok(true)
 }
 
+// Whether a new search does, of which these states are reached.
+fn asks_on(
+    alloc: Global,
+    c: &Arc<Circuit>,
+    d: &Drawn,
+    states: &[bool],
+) -> Result<bool, AllocError> {
+    let mut search = Search::new(alloc, c, Start::Initial)?;
+    let mut meter = Meter::new(4_294_967_295, 4_294_967_295);
+    agrees_on_all(alloc, &**c, &mut search, d, states, &mut meter)
+}
+
 // Whether one search from the initial states does.
 fn asks(alloc: Global, c: &Arc<Circuit>, d: &Drawn) -> Result<bool, AllocError> {
     let states = reached(alloc, d, None)?;
-    let mut search = Search::new(alloc, c, Start::Initial)?;
-    let mut meter = Meter::new(4_294_967_295, 4_294_967_295);
-    agrees_on_all(alloc, &**c, &mut search, d, states.as_slice(), &mut meter)
+    asks_on(alloc, c, d, states.as_slice())
 }
 
 fn asks_drawn(alloc: Global, number: u64) -> Result<bool, AllocError> {
     let d = circuit_drawn(alloc, number)?;
-    let text = text_of(alloc, &d)?;
-    match aiger_ascii::read(alloc, text.as_slice()) {
-        Ok(model) => asks(alloc, &Arc::new(alloc, model.into_circuit())?, &d),
-        Err(_) => Ok(false),
-    }
+    let c = Arc::new(alloc, circuit_of(alloc, &d)?)?;
+    asks(alloc, &c, &d)
 }
 
 /// Whether one search from the initial states of the drawn circuit with a number answers for all states, one after the
 /// other, and for literals between, as a search of all its states does.
 pub(crate) fn agrees_again(alloc: Global, number: u64) -> bool {
-    asks_drawn(alloc, number).unwrap_or(false)
+    match asks_drawn(alloc, number) {
+        Ok(is_right) => is_right,
+        Err(_) => false,
+    }
 }

@@ -7,12 +7,12 @@ ghost use Rattle.entry.specs.CheckedEntries.{viewed};
 ghost use Rattle.entry.specs.Laws.{IsGoodList};
 ghost use Rattle.ic3_questions.specs.Searching.{IsStart, IsGoal};
 
+use crate::searching::lessened;
 use circuit::{Circuit, Position};
 use cnf::{Cube, Lit};
 use edge::Meter;
 use entry::{Checked, good_lists_grow};
-use ic3::{Goal, ReachEnd, Reached, Start, reach};
-use ic3_closing::{ClosedSet, shrink};
+use ic3::{Goal, ReachEnd, Reached, Start};
 use items::Items;
 use std::alloc::{AllocError, Global};
 use std::sync::Arc;
@@ -47,32 +47,6 @@ pub(crate) fn state_of(alloc: Global, text: &str) -> Result<Items<bool>, AllocEr
     Ok(state)
 }
 
-// What a search behind a view answers. A closed set loses what it does not need.
-fn search(
-    alloc: Global,
-    c: &Circuit,
-    view: &[Arc<Checked>],
-    start: &Start,
-    goal: &Goal<'_>,
-    meter: &mut Meter,
-) -> Result<Reached, ReachEnd>
-    requires view { IsGoodList c.now (viewed view.now) }
-    requires start { IsStart c.now start.now }
-    requires goal { IsGoal c.now goal.now }
-{
-    match reach(alloc, c, view, start, goal, meter)? {
-        Reached::Path(positions) => Ok(Reached::Path(positions)),
-        Reached::Closed { clauses, uses } => {
-            let whole = ClosedSet { clauses, uses };
-            let part = shrink(alloc, c, view, start, goal, whole, meter)?;
-            Ok(Reached::Closed {
-                clauses: part.clauses,
-                uses: part.uses,
-            })
-        }
-    }
-}
-
 fn one_cube(alloc: Global, var: u64) -> Result<Cube, AllocError>
     ensures { IfOk result (λ cube. cube ≡ record { var = var; positive = true } ∷ []) }
 {
@@ -105,7 +79,7 @@ fn to_literal_at(
         literal,
         avoid: &cubes,
     };
-    search(alloc, c, view, start, &goal, meter)
+    lessened(alloc, c, view, start, &goal, meter)
 }
 
 fn to_literal(
@@ -126,7 +100,7 @@ fn to_literal(
         literal,
         avoid: &[],
     };
-    search(alloc, c, view, start, &goal, meter)
+    lessened(alloc, c, view, start, &goal, meter)
 }
 
 fn to_state(
@@ -143,7 +117,7 @@ fn to_state(
     if to.len() != c.latches().len() {
         return Err(ReachEnd::Memory);
     }
-    search(alloc, c, view, start, &Goal::State(to), meter)
+    lessened(alloc, c, view, start, &Goal::State(to), meter)
 }
 
 fn to_goal(
@@ -226,20 +200,33 @@ pub(crate) fn answer(
     answer_behind(alloc, c, &[], from, to, meter)
 }
 
-fn is_state(values: &[bool], text: &str) -> bool {
-    values.len() == text.len()
-        && values
-            .iter()
-            .zip(text.as_bytes())
-            .all(|(value, digit)| *value == (*digit == b'1'))
+fn is_state(values: &[bool], text: &[u8]) -> bool {
+    if values.len() != text.len() {
+        return false;
+    }
+    for place in 0..values.len() {
+        if place >= text.len() || values[place] != (text[place] == b'1') {
+            return false;
+        }
+    }
+    true
 }
 
 fn goes_through(positions: &[Position], states: &[&str]) -> bool {
-    positions.len() == states.len()
-        && positions
-            .iter()
-            .zip(states)
-            .all(|(p, state)| is_state(p.latches.as_slice(), state))
+    if positions.len() != states.len() {
+        return false;
+    }
+    for place in 0..positions.len() {
+        if place >= states.len()
+            || !is_state(
+                positions[place].latches.as_slice(),
+                states[place].as_bytes(),
+            )
+        {
+            return false;
+        }
+    }
+    true
 }
 
 /// Whether an answer is the one that is wanted.

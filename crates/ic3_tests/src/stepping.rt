@@ -1,9 +1,9 @@
 //! Steps of small circuits, worked out by hand. A literal over latch numbers is written as twice its latch, and one
 //! more where it is negated.
-ghost use Rattle.std.specs.Prelude.{◌↔◌, IsTrue, length};
-ghost use Rattle.cnf_unroll.specs.Laws.{AreOver};
+ghost use Rattle.std.specs.Prelude.{length};
 ghost use Rattle.ic3_questions.specs.Stepping.{IsOver};
 
+use crate::searching::{are_over, is_over};
 use circuit::{Circuit, Position};
 use cnf::{Clause, Cube, Lit};
 use edge::{Meter, SolveEnd};
@@ -31,13 +31,6 @@ fn literals_of(alloc: Global, codes: &[u64]) -> Result<Vec<Lit>, AllocError> {
     Ok(literals)
 }
 
-fn is_over(c: &Circuit, literals: &[Lit]) -> bool
-    ensures { IsTrue result ↔ IsOver (length c.now.latches) literals.now }
-{
-    let count = c.latches().len() as u64;
-    literals.iter().all(|literal| literal.var < count)
-}
-
 // A step into the cube from a level, under one lemma.
 fn predecessor_of(
     alloc: Global,
@@ -60,28 +53,28 @@ fn predecessor_of(
 // A circuit; a lemma with its level; the level and the cube of a question; the state of the only step, or nothing.
 type Row = (
     &'static str,
-    (u64, &'static [u64]),
+    u64,
+    &'static [u64],
     u64,
     &'static [u64],
     &'static [bool],
 );
 
-// The row with a number; the last one is for all from 11 on.
-fn step_row(number: u8) -> Row {
-    match number {
-        0 => (TURNS, (0, &[0]), 1, &[0], &[false]),
-        1 => (TURNS, (0, &[0]), 1, &[1], &[true]),
-        2 => (TURNS, (1, &[0]), 1, &[0], &[]),
-        3 => (TURNS, (1, &[0]), 2, &[0], &[false]),
-        4 => (TURNS, (2, &[0]), 1, &[0], &[]),
-        5 => (STAYS, (0, &[0]), 1, &[0], &[]),
-        6 => (STAYS, (0, &[0]), 1, &[0, 1], &[]),
-        7 => (COUNTS, (0, &[0]), 1, &[0, 2], &[false, true]),
-        8 => (COUNTS, (0, &[0]), 1, &[2], &[true, false]),
-        9 => (COUNTS, (0, &[0]), 1, &[0, 3], &[false, false]),
-        10 => (COUNTS, (1, &[2]), 1, &[0, 3], &[]),
-        _ => (COUNTS, (1, &[2]), 2, &[0, 3], &[false, false]),
-    }
+fn step_rows() -> &'static [Row] {
+    &[
+        (TURNS, 0, &[0], 1, &[0], &[false]),
+        (TURNS, 0, &[0], 1, &[1], &[true]),
+        (TURNS, 1, &[0], 1, &[0], &[]),
+        (TURNS, 1, &[0], 2, &[0], &[false]),
+        (TURNS, 2, &[0], 1, &[0], &[]),
+        (STAYS, 0, &[0], 1, &[0], &[]),
+        (STAYS, 0, &[0], 1, &[0, 1], &[]),
+        (COUNTS, 0, &[0], 1, &[0, 2], &[false, true]),
+        (COUNTS, 0, &[0], 1, &[2], &[true, false]),
+        (COUNTS, 0, &[0], 1, &[0, 3], &[false, false]),
+        (COUNTS, 1, &[2], 1, &[0, 3], &[]),
+        (COUNTS, 1, &[2], 2, &[0, 3], &[false, false]),
+    ]
 }
 
 fn clause_of(alloc: Global, codes: &[u64]) -> Result<Clause, AllocError> {
@@ -106,13 +99,13 @@ fn leads_as(
     if !is_over(c, clause.as_slice()) || !is_over(c, cube.as_slice()) {
         return Ok(false);
     }
-    let found = predecessor_of(alloc, c, (row.1.0, clause), row.2, cube)?;
-    Ok(is_found(found, row.4))
+    let found = predecessor_of(alloc, c, (row.1, clause), row.3, cube)?;
+    Ok(is_found(found, row.5))
 }
 
 fn steps_on(alloc: Global, c: &Circuit, row: &Row) -> Result<bool, SolveEnd> {
-    let clause = clause_of(alloc, row.1.1)?;
-    let cube = cube_of(alloc, row.3)?;
+    let clause = clause_of(alloc, row.2)?;
+    let cube = cube_of(alloc, row.4)?;
     leads_as(alloc, c, &clause, &cube, row)
 }
 
@@ -124,14 +117,10 @@ fn steps_as(alloc: Global, row: &Row) -> Result<bool, SolveEnd> {
     }
 }
 
-fn steps_in_row(alloc: Global, number: u8) -> Result<bool, SolveEnd> {
-    steps_as(alloc, &step_row(number))
-}
-
 #[test]
 fn steps_lead_where_they_do(rt: HostRuntime) -> Result<(), Fail> {
-    for number in 0..12 {
-        assert!(rt; steps_in_row(rt.alloc(), number)?);
+    for row in step_rows() {
+        assert!(rt; steps_as(rt.alloc(), row)?);
     }
     Ok(())
 }
@@ -163,58 +152,40 @@ fn is_state(found: Option<Position>, wanted: &[bool]) -> bool {
     }
 }
 
-// Whether the only state of the counter for this goal, outside the cube, is this one.
-fn goals_on(
-    alloc: Global,
-    c: &Circuit,
-    literal: u64,
-    avoid: &[u64],
-    wanted: &[bool],
-) -> Result<bool, SolveEnd> {
+// Whether the only state of the counter for the goal of a row, outside the cube, is that one.
+fn goals_on(alloc: Global, c: &Circuit, row: &GoalRow) -> Result<bool, SolveEnd> {
+    let (literal, avoid, wanted) = row;
     let cubes = [cube_of(alloc, avoid)?];
-    let found = goal_in(alloc, c, literal, &cubes)?;
-    Ok(is_state(found, wanted))
+    Ok(is_state(goal_in(alloc, c, *literal, &cubes)?, wanted))
 }
 
-fn goals_as(alloc: Global, literal: u64, avoid: &[u64], wanted: &[bool]) -> Result<bool, SolveEnd> {
+fn goals_as(alloc: Global, row: &GoalRow) -> Result<bool, SolveEnd> {
     match aiger_ascii::read(alloc, COUNTS.as_bytes()) {
-        Ok(model) => goals_on(alloc, model.circuit(), literal, avoid, wanted),
+        Ok(model) => goals_on(alloc, model.circuit(), row),
         Err(_) => Ok(false),
     }
-}
-
-fn are_over(c: &Circuit, cubes: &[Cube]) -> bool
-    ensures { IsTrue result ↔ AreOver (length c.now.latches) cubes.now }
-{
-    cubes.iter().all(|cube| is_over(c, cube.as_slice()))
 }
 
 // An AIGER literal, an avoided cube, and the only state, or nothing.
 type GoalRow = (u64, &'static [u64], &'static [bool]);
 
-// The row with a number; the last one is for all from 7 on.
-fn goal_row(number: u8) -> GoalRow {
-    match number {
-        0 => (4, &[0], &[false, true]),
-        1 => (4, &[2], &[]),
-        2 => (2, &[2], &[true, false]),
-        3 => (6, &[0, 2], &[true, false]),
-        4 => (0, &[0], &[]),
-        5 => (40, &[0], &[]),
-        6 => (8, &[1, 3], &[false, true]),
-        _ => (41, &[], &[]),
-    }
-}
-
-fn goals_in_row(alloc: Global, number: u8) -> Result<bool, SolveEnd> {
-    let (literal, avoid, wanted) = goal_row(number);
-    goals_as(alloc, literal, avoid, wanted)
+fn goal_rows() -> &'static [GoalRow] {
+    &[
+        (4, &[0], &[false, true]),
+        (4, &[2], &[]),
+        (2, &[2], &[true, false]),
+        (6, &[0, 2], &[true, false]),
+        (0, &[0], &[]),
+        (40, &[0], &[]),
+        (8, &[1, 3], &[false, true]),
+        (41, &[], &[]),
+    ]
 }
 
 #[test]
 fn goals_are_met_where_they_are(rt: HostRuntime) -> Result<(), Fail> {
-    for number in 0..8 {
-        assert!(rt; goals_in_row(rt.alloc(), number)?);
+    for row in goal_rows() {
+        assert!(rt; goals_as(rt.alloc(), row)?);
     }
     Ok(())
 }

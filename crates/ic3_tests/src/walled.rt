@@ -96,9 +96,9 @@ fn wall_row(number: u8) -> Row {
     )
 }
 
-// Behind the reach entry of the states with 0 in the first latch: the start itself is reached, and no other state, which
-// one literal that the two differ in tells by the entry, nor a literal, which is met at a step; from inside the entry the
-// step is allowed.
+// Behind the reach entry of the states with 0 in the first latch. From outside it: the start itself, by no step; another
+// state, which a set of one literal excludes that uses the entry; a literal, for which a step would be wanted. From inside
+// it the step is there.
 fn reach_row(number: u8) -> Row {
     let (from, to, wanted) = match number {
         0 => ("10", To::State("10"), Wanted::Path(&[])),

@@ -16,7 +16,7 @@ use std::sync::{Arc, Wait};
 use wall_store::{Board, Finished, Outcome, Posted};
 
 /// A xorshift generator (Marsaglia, 2003).
-#[derive(Debug, Drop)]
+#[derive(Drop)]
 pub struct Draws {
     state: u64,
 }
@@ -78,7 +78,7 @@ impl Draws {
 
 /// What is driven: how many passes there are, two properties or one, how many entries may come, an entry that is given
 /// or none.
-#[derive(Debug, Clone, Copy)]
+#[derive(Clone, Copy)]
 struct Setting {
     passes: u32,
     two: bool,
@@ -132,7 +132,8 @@ struct Pair {
     tally: Tally,
 }
 
-fn shared(alloc: Global, two: bool) -> Result<Arc<Circuit>, AllocError>
+/// The circuit, shared.
+pub fn shared(alloc: Global, two: bool) -> Result<Arc<Circuit>, AllocError>
     ensures { IfOk result (λ c. arc_value c ≡ model two) }
 {
     match circuit(alloc, two) {
@@ -222,33 +223,46 @@ fn is_same(board: &Board, plain: &Plain, setting: Setting) -> bool {
 
 /// How many events went right before the first that did not, whether the ledger's board is at the end as the plain one,
 /// and how often each answer came.
-#[derive(Debug, Clone, Copy, PartialEq, Eq)]
+#[derive(Clone, Copy)]
 pub struct Driven {
     pub right: u32,
     pub ends: bool,
     pub tally: Tally,
 }
 
+// How many of so many drawn events go right before the first that does not.
+fn steps_right<R: Wait>(
+    alloc: Global,
+    rt: &R,
+    setting: Setting,
+    draws: &mut Draws,
+    pair: &mut Pair,
+    events: u32,
+) -> u32 {
+    for k in 0..events {
+        let at = draws.index(setting.passes);
+        let event = draws.event(setting.passes, last_of(&pair.wanted, at));
+        if !step(alloc, rt, pair, at, event) {
+            return k;
+        }
+    }
+    events
+}
+
+fn ends_same(pair: Pair, setting: Setting) -> bool {
+    let Pair { crew, plain, .. } = pair;
+    is_same(&closed(crew), &plain, setting)
+}
+
 /// So many events, drawn by this seed; nothing where memory was refused before them.
 pub fn drive<R: Wait>(alloc: Global, rt: &R, seed: u64, events: u32) -> Option<Driven> {
     let mut draws = Draws::new(seed);
     let setting = Setting::drawn(&mut draws);
-    let mut pair = pair_of(alloc, setting).ok()?;
-    let mut right = 0;
-    for k in 0..events {
-        let at = draws.index(setting.passes);
-        let event = draws.event(setting.passes, last_of(&pair.wanted, at));
-        if !step(alloc, rt, &mut pair, at, event) {
-            break;
-        }
-        right = k + 1;
-    }
-    let Pair {
-        crew,
-        plain,
-        tally,
-        ..
-    } = pair;
-    let ends = is_same(&closed(crew), &plain, setting);
+    let Ok(mut pair) = pair_of(alloc, setting) else {
+        return None;
+    };
+    let right = steps_right(alloc, rt, setting, &mut draws, &mut pair, events);
+    let tally = pair.tally;
+    let ends = ends_same(pair, setting);
     Some(Driven { right, ends, tally })
 }

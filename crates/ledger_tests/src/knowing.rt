@@ -13,14 +13,14 @@ pub const MOST: usize = 8;
 pub const PASSES: usize = 6;
 
 /// By what entries are told apart: one is given, or it has an author, a turn, and the latch that it speaks of.
-#[derive(Debug, Clone, Copy, PartialEq, Eq)]
+#[derive(Clone, Copy, PartialEq, Eq)]
 pub enum Tag {
     Given,
     Found(u32, u32, u64),
 }
 
 /// A list, by the tags of its entries.
-#[derive(Debug, Clone, Copy, PartialEq, Eq)]
+#[derive(Clone, Copy, PartialEq, Eq)]
 pub struct Tags {
     tags: [Tag; MOST],
     count: usize,
@@ -95,7 +95,7 @@ fn tag_of(e: &Checked) -> Tag {
 }
 
 /// What a pass knows.
-#[derive(Debug, Clone, Copy, PartialEq, Eq)]
+#[derive(Clone, Copy, PartialEq, Eq)]
 pub struct Known {
     pub list: Tags,
     pub stamp: u64,
@@ -114,7 +114,7 @@ pub fn known_of(pass: &Pass) -> Known {
 }
 
 /// What the passes are to know, how many turns were taken, and whether property 1 is served too.
-#[derive(Debug, Clone, Copy)]
+#[derive(Clone, Copy)]
 pub struct Wanted {
     passes: [Known; PASSES],
     turns: u64,

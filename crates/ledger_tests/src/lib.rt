@@ -1,7 +1,11 @@
-//! Tests of the ledger: scripts of events of several passes, and events that are drawn, beside a plain board; all driven
-//! by one thread.
+//! Tests of the board, on circuits of one latch, and of the ledger: scripts of events of several passes, and events that
+//! are drawn, beside a plain board; all driven by one thread.
 #![tactic(auto)]
 
+#[cfg(test)]
+mod board_tests;
+#[cfg(test)]
+mod boards;
 #[cfg(test)]
 mod crew;
 #[cfg(test)]

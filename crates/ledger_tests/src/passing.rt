@@ -15,7 +15,7 @@ use wall_store::{Finished, Outcome, Posted};
 
 /// What a pass does: it looks; it posts that a latch stays at 0; it finishes a property by a refutation that uses an
 /// entry, with the one proof or the other; it asks for an open property from a number on; it meets a pass.
-#[derive(Debug, Clone, Copy, PartialEq, Eq)]
+#[derive(Clone, Copy)]
 pub enum Event {
     Look,
     Post(u32),
@@ -25,7 +25,7 @@ pub enum Event {
 }
 
 /// What it is told; nothing where it may not do so.
-#[derive(Debug, Clone, Copy, PartialEq, Eq)]
+#[derive(Clone, Copy, PartialEq, Eq)]
 pub enum Told {
     Seen(usize),
     Posted(Posted),

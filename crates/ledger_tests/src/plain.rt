@@ -8,7 +8,7 @@ use wall_store::{Finished, Posted};
 pub type By = (u32, u8);
 
 /// The list by the tags of its entries, how long it may become, and the outcomes of the properties 0 and 1.
-#[derive(Debug, Clone, Copy, PartialEq, Eq)]
+#[derive(Clone, Copy)]
 pub struct Plain {
     list: Tags,
     limit: usize,

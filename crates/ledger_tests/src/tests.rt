@@ -1,10 +1,9 @@
 //! What passes are told and know, event by event, and the board at the end.
 
 use crate::crew::{Crew, closed, crew_of};
-use crate::driving::{Tally, drive};
-use crate::finds::circuit;
+use crate::driving::{Tally, drive, shared};
 use crate::passing::{Event, Told};
-use entry::{Checked, Origin};
+use entry::{Checked, EntryEnd, Origin};
 use std::alloc::Global;
 use std::sync::{Arc, Wait};
 use std::test::*;
@@ -195,28 +194,31 @@ fn known(pass: &Pass) -> Known {
     )
 }
 
-fn row_is<R: Wait>(alloc: Global, rt: &R, crew: &mut Crew, row: &Row) -> Result<bool, Fail> {
+fn row_is<R: Wait>(alloc: Global, rt: &R, crew: &mut Crew, row: &Row) -> Result<bool, EntryEnd> {
     let (at, event, wanted, then) = row;
     let told = crew.turn(alloc, rt, *at, *event)?;
-    Ok(match crew.passes.get(*at) {
-        Some(pass) => told == *wanted && known(pass) == *then,
-        None => false,
-    })
+    Ok(told == *wanted && knows(crew, *at, *then))
 }
 
-// How many rows are right before the first that is not.
-fn rows_right<R: Wait>(
+fn knows(crew: &Crew, at: usize, then: Known) -> bool {
+    match crew.passes.get(at) {
+        Some(pass) => known(pass) == then,
+        None => false,
+    }
+}
+
+fn rows_are<R: Wait>(
     alloc: Global,
     rt: &R,
     crew: &mut Crew,
     rows: &[Row],
-) -> Result<usize, Fail> {
-    for (k, row) in rows.iter().enumerate() {
+) -> Result<bool, EntryEnd> {
+    for row in rows {
         if !row_is(alloc, rt, crew, row)? {
-            return Ok(k);
+            return Ok(false);
         }
     }
-    Ok(rows.len())
+    Ok(true)
 }
 
 fn author(entries: &[Arc<Checked>]) -> Option<u32> {
@@ -233,91 +235,107 @@ fn first_byte(outcome: Option<&Outcome>) -> Option<u8> {
     }
 }
 
-fn end(board: &Board) -> End {
-    (
-        board.entries().len(),
-        author(board.entries()),
-        [first_byte(board.outcome(0)), first_byte(board.outcome(1))],
-    )
+fn is_end(board: &Board, wanted: End) -> bool {
+    let (count, last, bytes) = wanted;
+    board.entries().len() == count
+        && author(board.entries()) == last
+        && first_byte(board.outcome(0)) == bytes[0]
+        && first_byte(board.outcome(1)) == bytes[1]
 }
 
-// How many rows of a script are right, and whether its end is.
+fn crew_at(alloc: Global, start: Start) -> Result<Crew, EntryEnd> {
+    let (two, numbers, given) = start;
+    crew_of(alloc, shared(alloc, two)?, two, numbers, given)
+}
+
+// Whether each row of a script is right, and its end.
 fn script_is<R: Wait>(
     alloc: Global,
     rt: &R,
     start: Start,
     rows: &[Row],
     wanted: End,
-) -> Result<(usize, bool), Fail> {
-    let (two, numbers, given) = start;
-    let c = Arc::new(alloc, circuit(alloc, two)?)?;
-    let mut crew = crew_of(alloc, c, two, numbers, given)?;
-    let right = rows_right(alloc, rt, &mut crew, rows)?;
-    Ok((right, end(&closed(crew)) == wanted))
+) -> Result<bool, EntryEnd> {
+    let mut crew = crew_at(alloc, start)?;
+    let are_right = rows_are(alloc, rt, &mut crew, rows)?;
+    Ok(are_right && is_end(&closed(crew), wanted))
 }
 
-// The scripts of an empty list.
-fn begun_empty<R: Wait>(alloc: Global, rt: &R) -> Result<[(usize, bool); 5], Fail> {
-    let one = (1, Some(0), [None, None]);
-    let met = (1, Some(0), [Some(b'2'), None]);
-    let none = (0, None, [None, None]);
-    let marked = (1, Some(0), [Some(b'1'), Some(b'2')]);
-    let (both, meet, full, read, marks) = (BOTH_POST, MEET, NO_ROOM, READ_BACK, MARKS);
-    Ok([
-        script_is(alloc, rt, (false, (2, 2), false), &both, one)?,
-        script_is(alloc, rt, (false, (2, 2), false), &meet, met)?,
-        script_is(alloc, rt, (false, (2, 0), false), &full, none)?,
-        script_is(alloc, rt, (false, (3, 2), false), &read, one)?,
-        script_is(alloc, rt, (true, (3, 2), false), &marks, marked)?,
-    ])
+// ---- the scripts of an empty list, and of a list with an entry that is given
+
+fn both_post_is<R: Wait>(alloc: Global, rt: &R) -> Result<bool, EntryEnd> {
+    let end = (1, Some(0), [None, None]);
+    script_is(alloc, rt, (false, (2, 2), false), &BOTH_POST, end)
 }
 
-// The scripts of a list with an entry that is given.
-fn begun_given<R: Wait>(alloc: Global, rt: &R) -> Result<[(usize, bool); 3], Fail> {
-    let held = (2, Some(0), [Some(b'1'), None]);
-    let none = (1, None, [None, None]);
-    let other = (2, Some(1), [None, None]);
-    let (given, full, stale) = (GIVEN, GIVEN_NO_ROOM, GIVEN_STALE);
-    Ok([
-        script_is(alloc, rt, (false, (2, 1), true), &given, held)?,
-        script_is(alloc, rt, (false, (2, 0), true), &full, none)?,
-        script_is(alloc, rt, (false, (3, 2), true), &stale, other)?,
-    ])
+fn meet_is<R: Wait>(alloc: Global, rt: &R) -> Result<bool, EntryEnd> {
+    let end = (1, Some(0), [Some(b'2'), None]);
+    script_is(alloc, rt, (false, (2, 2), false), &MEET, end)
+}
+
+fn no_room_is<R: Wait>(alloc: Global, rt: &R) -> Result<bool, EntryEnd> {
+    let end = (0, None, [None, None]);
+    script_is(alloc, rt, (false, (2, 0), false), &NO_ROOM, end)
+}
+
+fn read_back_is<R: Wait>(alloc: Global, rt: &R) -> Result<bool, EntryEnd> {
+    let end = (1, Some(0), [None, None]);
+    script_is(alloc, rt, (false, (3, 2), false), &READ_BACK, end)
+}
+
+fn marks_is<R: Wait>(alloc: Global, rt: &R) -> Result<bool, EntryEnd> {
+    let end = (1, Some(0), [Some(b'1'), Some(b'2')]);
+    script_is(alloc, rt, (true, (3, 2), false), &MARKS, end)
+}
+
+fn given_is<R: Wait>(alloc: Global, rt: &R) -> Result<bool, EntryEnd> {
+    let end = (2, Some(0), [Some(b'1'), None]);
+    script_is(alloc, rt, (false, (2, 1), true), &GIVEN, end)
+}
+
+fn given_no_room_is<R: Wait>(alloc: Global, rt: &R) -> Result<bool, EntryEnd> {
+    let end = (1, None, [None, None]);
+    script_is(alloc, rt, (false, (2, 0), true), &GIVEN_NO_ROOM, end)
+}
+
+fn given_stale_is<R: Wait>(alloc: Global, rt: &R) -> Result<bool, EntryEnd> {
+    let end = (2, Some(1), [None, None]);
+    script_is(alloc, rt, (false, (3, 2), true), &GIVEN_STALE, end)
 }
 
 #[test]
 fn scripts(rt: HostRuntime) -> Result<(), Fail> {
-    let empty = begun_empty(rt.alloc(), &rt)?;
-    assert_eq!(rt;
-        empty,
-        [(6, true), (6, true), (2, true), (5, true), (11, true)]
-    );
-    let given = begun_given(rt.alloc(), &rt)?;
-    assert_eq!(rt; given, [(5, true), (1, true), (3, true)]);
+    assert!(rt; both_post_is(rt.alloc(), &rt)?);
+    assert!(rt; meet_is(rt.alloc(), &rt)?);
+    assert!(rt; no_room_is(rt.alloc(), &rt)?);
+    assert!(rt; read_back_is(rt.alloc(), &rt)?);
+    assert!(rt; marks_is(rt.alloc(), &rt)?);
+    assert!(rt; given_is(rt.alloc(), &rt)?);
+    assert!(rt; given_no_room_is(rt.alloc(), &rt)?);
+    assert!(rt; given_stale_is(rt.alloc(), &rt)?);
     Ok(())
 }
 
-// The first of these seeds whose events did not all go right, or whose boards differ at the end, and how many went right;
-// and how often each answer came.
-fn drive_all<R: Wait>(
-    alloc: Global,
-    rt: &R,
-    seeds: u64,
-    events: u32,
-) -> (Option<(u64, u32)>, Tally) {
+// How often each answer came, where all events went right and the boards do not differ at the end.
+fn driven_right<R: Wait>(alloc: Global, rt: &R, seed: u64, events: u32) -> Option<Tally> {
+    let driven = drive(alloc, rt, seed, events)?;
+    if driven.right == events && driven.ends {
+        Some(driven.tally)
+    } else {
+        None
+    }
+}
+
+// How often each answer came over so many seeds, where all went right.
+fn tally_of<R: Wait>(alloc: Global, rt: &R, seeds: u64, events: u32) -> Option<Tally> {
     let mut tally: Tally = [0; 11];
     for seed in 0..seeds {
-        let Some(driven) = drive(alloc, rt, seed, events) else {
-            return (Some((seed, 0)), tally);
-        };
-        if driven.right != events || !driven.ends {
-            return (Some((seed, driven.right)), tally);
-        }
+        let came = driven_right(alloc, rt, seed, events)?;
         for k in 0..11 {
-            tally[k] = tally[k].saturating_add(driven.tally[k]);
+            tally[k] = tally[k].saturating_add(came[k]);
         }
     }
-    (None, tally)
+    Some(tally)
 }
 
 // Each answer came.
@@ -332,30 +350,27 @@ fn all_came(tally: Tally) -> bool {
 
 #[test]
 fn drawn(rt: HostRuntime) -> Result<(), Fail> {
-    let (wrong, tally) = drive_all(rt.alloc(), &rt, 24, 200);
-    assert_eq!(rt; wrong, None);
-    assert!(rt; all_came(tally));
+    let tally = tally_of(rt.alloc(), &rt, 24, 200);
+    assert!(rt; tally.is_some());
+    assert!(rt; all_came(tally.unwrap_or([0; 11])));
     Ok(())
 }
 
-// The first number of events after which something is not right, or the board differs, where that many are drawn by the
-// seed and then the passes are closed.
-fn first_wrong<R: Wait>(alloc: Global, rt: &R, seed: u64, events: u32) -> Option<u32> {
-    for count in 0..events {
-        match drive(alloc, rt, seed, count) {
-            Some(driven) if driven.right == count && driven.ends => {}
-            _ => return Some(count),
-        }
-    }
-    None
+// Whether all goes right where so many events are drawn by the seed and then the passes are closed.
+fn is_right_after<R: Wait>(alloc: Global, rt: &R, seed: u64, count: u32) -> bool {
+    driven_right(alloc, rt, seed, count).is_some()
 }
 
 // After each event the closed board is the plain one.
 #[test]
 fn closed_after_each(rt: HostRuntime) -> Result<(), Fail> {
     for seed in 0..6u64 {
-        let wrong = first_wrong(rt.alloc(), &rt, seed, 60);
-        assert_eq!(rt; wrong, None);
+        for count in 0..60u32 {
+            assert!(rt;
+                is_right_after(rt.alloc(), &rt, seed, count),
+                "{count} of {seed}"
+            );
+        }
     }
     Ok(())
 }

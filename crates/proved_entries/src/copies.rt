@@ -57,15 +57,29 @@ pub(crate) fn copied(alloc: Global, view: &[Arc<Checked>]) -> Result<Vec<Arc<Che
     Ok(copy)
 }
 
+fn add_lines(alloc: Global, proof: &Proof, lines: &mut Proof) -> Result<(), AllocError> {
+    for line in proof.as_slice() {
+        lines.push(line.try_copy(alloc)?)?;
+    }
+    Ok(())
+}
+
+fn proof_again(alloc: Global, proof: &Proof) -> Result<Proof, AllocError> {
+    let mut lines = Items::new(alloc);
+    add_lines(alloc, proof, &mut lines)?;
+    Ok(lines)
+}
+
+fn add_proofs(alloc: Global, proofs: &[Proof], copy: &mut Items<Proof>) -> Result<(), AllocError> {
+    for proof in proofs {
+        copy.push(proof_again(alloc, proof)?)?;
+    }
+    Ok(())
+}
+
 fn proofs_again(alloc: Global, proofs: &[Proof]) -> Result<Items<Proof>, AllocError> {
     let mut copy = Items::new(alloc);
-    for proof in proofs {
-        let mut lines = Items::new(alloc);
-        for line in proof.as_slice() {
-            lines.push(line.try_copy(alloc)?)?;
-        }
-        copy.push(lines)?;
-    }
+    add_proofs(alloc, proofs, &mut copy)?;
     Ok(copy)
 }
 

@@ -3,8 +3,8 @@
 use crate::ends::ProvingEnd;
 use cdcl::{Refuted, Solver, are_sized};
 use circuit::Circuit;
-use cnf::{Clause, Proof};
-use cnf_unroll::{Used, broken, shared};
+use cnf::{Clause, Db, Proof};
+use cnf_unroll::{Begun, Used, broken, shared};
 use edge::Meter;
 use entry::{Checked, Listed, Use};
 use items::Items;
@@ -47,6 +47,31 @@ fn add_clause(solver: &mut Solver, clause: Clause) -> Result<(), AllocError> {
     solver.add(clause)
 }
 
+// The clauses that the obligations of an entry share.
+fn shared_clauses(
+    alloc: Global,
+    c: &Circuit,
+    view: &[Arc<Checked>],
+    entry: &Listed,
+) -> Result<Begun, AllocError> {
+    let uses = entry.uses.as_slice();
+    let used = lend(alloc, view, uses)?;
+    shared(alloc, c, used.as_slice(), uses, &entry.set)
+}
+
+fn add_clauses(solver: &mut Solver, clauses: Db) -> Result<(), AllocError> {
+    for clause in clauses.into_vec() {
+        add_clause(solver, clause)?;
+    }
+    Ok(())
+}
+
+fn solver_with(alloc: Global, begun: Begun) -> Result<Solver, AllocError> {
+    let mut solver = Solver::new(alloc)?;
+    add_clauses(&mut solver, begun.clauses)?;
+    Ok(solver)
+}
+
 // A solver of what the obligations of an entry share.
 fn solver_of(
     alloc: Global,
@@ -54,14 +79,8 @@ fn solver_of(
     view: &[Arc<Checked>],
     entry: &Listed,
 ) -> Result<Solver, AllocError> {
-    let uses = entry.uses.as_slice();
-    let used = lend(alloc, view, uses)?;
-    let begun = shared(alloc, c, used.as_slice(), uses, &entry.set)?;
-    let mut solver = Solver::new(alloc)?;
-    for clause in begun.clauses.into_vec() {
-        add_clause(&mut solver, clause)?;
-    }
-    Ok(solver)
+    let begun = shared_clauses(alloc, c, view, entry)?;
+    solver_with(alloc, begun)
 }
 
 // A proof that no step breaks the clause, if there is one.
@@ -82,6 +101,42 @@ fn clause_proof(
     }
 }
 
+fn add_proof(
+    alloc: Global,
+    c: &Circuit,
+    solver: &mut Solver,
+    clause: &Clause,
+    proofs: &mut Items<Proof>,
+) -> Result<(), ProvingEnd> {
+    let proof = clause_proof(alloc, c, solver, clause)?;
+    proofs.push(proof)?;
+    Ok(())
+}
+
+fn add_proofs(
+    alloc: Global,
+    c: &Circuit,
+    solver: &mut Solver,
+    set: &[Clause],
+    proofs: &mut Items<Proof>,
+) -> Result<(), ProvingEnd> {
+    for clause in set {
+        add_proof(alloc, c, solver, clause, proofs)?;
+    }
+    Ok(())
+}
+
+fn proofs_by(
+    alloc: Global,
+    c: &Circuit,
+    solver: &mut Solver,
+    set: &[Clause],
+) -> Result<Items<Proof>, ProvingEnd> {
+    let mut proofs = Items::new(alloc);
+    add_proofs(alloc, c, solver, set, &mut proofs)?;
+    Ok(proofs)
+}
+
 /// A proof for each clause of an entry behind those of the view. `Refused` where a step that its uses allow leaves its set.
 pub(crate) fn proofs_of(
     alloc: Global,
@@ -90,9 +145,5 @@ pub(crate) fn proofs_of(
     entry: &Listed,
 ) -> Result<Items<Proof>, ProvingEnd> {
     let mut solver = solver_of(alloc, c, view, entry)?;
-    let mut proofs = Items::new(alloc);
-    for clause in entry.set.as_slice() {
-        proofs.push(clause_proof(alloc, c, &mut solver, clause)?)?;
-    }
-    Ok(proofs)
+    proofs_by(alloc, c, &mut solver, entry.set.as_slice())
 }

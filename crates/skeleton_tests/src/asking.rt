@@ -1,9 +1,10 @@
 //! What a query answers of a circuit with one latch. The main call is `answers_are`.
 
-ghost use Rattle.std.specs.Prelude.{◌<◌, ◌≤◌, length};
+ghost use Rattle.std.specs.Prelude.{◌≡◌, ◌<◌, ◌≤◌, length};
 ghost use Rattle.std.specs.Arc.{arc_value};
 ghost use Rattle.entry.specs.CheckedEntries.{viewed};
 ghost use Rattle.entry.specs.Laws.{IsGoodList};
+ghost use Rattle.skeleton.specs.Finding.{GoesOnFrom};
 
 use circuit::Circuit;
 use edge::{Meter, SolveEnd};
@@ -73,6 +74,63 @@ fn begins(first: &First, state: bool) -> Option<bool> {
     }
 }
 
+// Whether what the query finds next is what is wanted.
+fn next_is(
+    alloc: Global,
+    c: &Circuit,
+    query: &mut Query,
+    view: &[Arc<Checked>],
+    list: &[Listed],
+    wanted: Wanted,
+    meter: &mut Meter,
+) -> Result<bool, SolveEnd>
+    requires property { 0 < length c.now.justice }
+    requires on { GoesOnFrom query.old.seen (viewed view.now) }
+    requires good { IsGoodList query.old.circuit (viewed view.now) }
+    requires few { length view.now ≤ 1 }
+    ensures circuit { query.new.circuit ≡ query.old.circuit }
+    ensures seen { GoesOnFrom query.new.seen (viewed view.now) }
+{
+    let found = query.next(alloc, view, meter)?;
+    Ok(found_is(alloc, c, list, &found, wanted)?)
+}
+
+// What the query answers of the state of one latch.
+fn begins_at(
+    alloc: Global,
+    query: &mut Query,
+    view: &[Arc<Checked>],
+    state: bool,
+    meter: &mut Meter,
+) -> Result<Option<bool>, SolveEnd>
+    requires on { GoesOnFrom query.old.seen (viewed view.now) }
+    requires good { IsGoodList query.old.circuit (viewed view.now) }
+    requires few { length view.now ≤ 1 }
+    requires one { length query.old.circuit.latches ≡ 1 }
+    ensures circuit { query.new.circuit ≡ query.old.circuit }
+    ensures seen { GoesOnFrom query.new.seen (viewed view.now) }
+{
+    let first = query.with_first(alloc, view, &[state], meter)?;
+    Ok(begins(&first, state))
+}
+
+// What the query answers of both states.
+fn begin_at_both(
+    alloc: Global,
+    query: &mut Query,
+    view: &[Arc<Checked>],
+    meter: &mut Meter,
+) -> Result<(Option<bool>, Option<bool>), SolveEnd>
+    requires on { GoesOnFrom query.old.seen (viewed view.now) }
+    requires good { IsGoodList query.old.circuit (viewed view.now) }
+    requires few { length view.now ≤ 1 }
+    requires one { length query.old.circuit.latches ≡ 1 }
+{
+    let low = begins_at(alloc, query, view, false, meter)?;
+    let high = begins_at(alloc, query, view, true, meter)?;
+    Ok((low, high))
+}
+
 /// Whether the answers of property 0 are these: what is found, and whether a skeleton begins where the latch is 0 and
 /// where it is 1.
 pub(crate) fn answers_are(
@@ -92,9 +150,7 @@ pub(crate) fn answers_are(
     }
     let mut meter = Meter::new(u64::MAX, u64::MAX);
     let mut query = Query::new(alloc, c, 0, 0)?;
-    let found = query.next(alloc, view, &mut meter)?;
-    let low = query.with_first(alloc, view, &[false], &mut meter)?;
-    let high = query.with_first(alloc, view, &[true], &mut meter)?;
-    let as_wanted = found_is(alloc, &**c, list, &found, wanted)?;
-    Ok(as_wanted && begins(&low, false) == Some(firsts.0) && begins(&high, true) == Some(firsts.1))
+    let as_wanted = next_is(alloc, &**c, &mut query, view, list, wanted, &mut meter)?;
+    let (low, high) = begin_at_both(alloc, &mut query, view, &mut meter)?;
+    Ok(as_wanted && low == Some(firsts.0) && high == Some(firsts.1))
 }

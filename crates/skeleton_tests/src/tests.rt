@@ -1,8 +1,14 @@
 //! The table of queries.
 
+ghost use Rattle.std.specs.Prelude.{◌<◌, ◌≤◌, length};
+ghost use Rattle.std.specs.Arc.{arc_value};
+ghost use Rattle.entry.specs.CheckedEntries.{viewed};
+ghost use Rattle.entry.specs.Laws.{IsGoodList};
+
 use crate::asking::{Wanted, answers_are};
 use crate::views::{list_of, view_of};
 use circuit::Circuit;
+use entry::Checked;
 use std::alloc::Global;
 use std::sync::Arc;
 use std::test::Fail;
@@ -29,70 +35,79 @@ const NEVER_STUCK: &str = "aag 1 0 1 0 0 0 0 1 0\n2 2\n1\n0\n";
 const AT_0: Option<(u64, &str)> = Some((3, "6 0 4 2 5 0"));
 
 // A circuit, an entry, what is found, and whether a skeleton begins where the latch is 0 and where it is 1.
-const QUERIES: [(&str, Option<(u64, &str)>, Wanted, (bool, bool)); 7] = [
-    (
-        TOGGLE,
-        None,
-        Wanted::Skeleton(&[(true, false)]),
-        (false, true),
-    ),
-    (
-        FAIR,
-        None,
-        Wanted::Skeleton(&[(true, false), (false, true)]),
-        (false, true),
-    ),
-    (
-        STUCK,
-        None,
-        Wanted::Skeleton(&[(true, true)]),
-        (false, true),
-    ),
-    (STUCK, AT_0, Wanted::Refuted(1), (false, false)),
-    (
-        NO_LITERALS,
-        None,
-        Wanted::Skeleton(&[(false, true)]),
-        (true, false),
-    ),
-    (NEVER, None, Wanted::Refuted(0), (false, false)),
-    (NEVER_STUCK, AT_0, Wanted::Refuted(0), (false, false)),
-];
+type Row = (
+    &'static str,
+    Option<(u64, &'static str)>,
+    Wanted,
+    (bool, bool),
+);
 
-fn tells(
+// The row with a number; the last one is for all from 6 on.
+fn row(number: u8) -> Row {
+    match number {
+        0 => (
+            TOGGLE,
+            None,
+            Wanted::Skeleton(&[(true, false)]),
+            (false, true),
+        ),
+        1 => (
+            FAIR,
+            None,
+            Wanted::Skeleton(&[(true, false), (false, true)]),
+            (false, true),
+        ),
+        2 => (
+            STUCK,
+            None,
+            Wanted::Skeleton(&[(true, true)]),
+            (false, true),
+        ),
+        3 => (STUCK, AT_0, Wanted::Refuted(1), (false, false)),
+        4 => (
+            NO_LITERALS,
+            None,
+            Wanted::Skeleton(&[(false, true)]),
+            (true, false),
+        ),
+        5 => (NEVER, None, Wanted::Refuted(0), (false, false)),
+        _ => (NEVER_STUCK, AT_0, Wanted::Refuted(0), (false, false)),
+    }
+}
+
+// Whether the answers over a view are those of a row.
+fn tells_over(
     alloc: Global,
     c: &Arc<Circuit>,
-    entry: Option<(u64, &str)>,
-    wanted: Wanted,
-    firsts: (bool, bool),
-) -> Result<bool, Fail> {
+    view: &[Arc<Checked>],
+    row: &Row,
+) -> Result<bool, Fail>
+    requires property { 0 < length (arc_value c.now).justice }
+    requires good { IsGoodList (arc_value c.now) (viewed view.now) }
+    requires few { length view.now ≤ 1 }
+{
+    let (_, entry, wanted, firsts) = *row;
+    let list = list_of(alloc, &**c, entry)?;
+    Ok(answers_are(alloc, c, view, list.as_slice(), wanted, firsts)?)
+}
+
+fn tells(alloc: Global, c: &Arc<Circuit>, row: &Row) -> Result<bool, Fail> {
     if c.property_count() == 0 {
         return Ok(false);
     }
-    let view = view_of(alloc, c, entry)?;
-    let list = list_of(alloc, &**c, entry)?;
-    Ok(answers_are(alloc, c, view.as_slice(), list.as_slice(), wanted, firsts)?)
+    let view = view_of(alloc, c, row.1)?;
+    tells_over(alloc, c, view.as_slice(), row)
 }
 
-fn tells_of_text(
-    alloc: Global,
-    text: &str,
-    entry: Option<(u64, &str)>,
-    wanted: Wanted,
-    firsts: (bool, bool),
-) -> Result<bool, Fail> {
-    let model = aiger_ascii::read(alloc, text.as_bytes())?;
-    let c = Arc::new(alloc, model.into_circuit())?;
-    tells(alloc, &c, entry, wanted, firsts)
+fn tells_of_row(alloc: Global, row: &Row) -> Result<bool, Fail> {
+    let model = aiger_ascii::read(alloc, row.0.as_bytes())?;
+    tells(alloc, &Arc::new(alloc, model.into_circuit())?, row)
 }
 
 #[test]
 fn skeletons_of_small_circuits(rt: HostRuntime) -> Result<(), Fail> {
-    for (text, entry, wanted, firsts) in QUERIES {
-        assert!(rt;
-            tells_of_text(rt.alloc(), text, entry, wanted, firsts)?,
-            "of {text:?}"
-        );
+    for number in 0..7 {
+        assert!(rt; tells_of_row(rt.alloc(), &row(number))?, "of row {number}");
     }
     Ok(())
 }

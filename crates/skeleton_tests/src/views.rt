@@ -1,6 +1,6 @@
 //! Views of no entry, and of one whose proof is given.
 
-ghost use Rattle.std.specs.Prelude.{◌≡◌, ◌≤◌, length, IfOk};
+ghost use Rattle.std.specs.Prelude.{◌≡◌, ◌≤◌, ◌∷◌, [], length, IfOk};
 ghost use Rattle.std.specs.Arc.{arc_value};
 ghost use Rattle.cnf_unroll.specs.Laws.{AreOver};
 ghost use Rattle.entry.specs.CheckedEntries.{viewed};
@@ -8,6 +8,7 @@ ghost use Rattle.entry.specs.Laws.{IsGoodList};
 
 use circuit::Circuit;
 use cnf::Proof;
+use cnf_unroll::ClauseSet;
 use entry::{
     Checked, Entry, EntryEnd, Kind, Listed, check_entry, clause_from_aiger, good_lists_grow,
     proved_entries_are_valid,
@@ -16,10 +17,30 @@ use items::Items;
 use std::alloc::{AllocError, Global};
 use std::sync::Arc;
 
-fn proof_of(alloc: Global, line: &str) -> Result<Proof, AllocError> {
-    let mut proof = Items::new(alloc);
-    proof.push(Items::from_slice(alloc, line.as_bytes())?)?;
-    Ok(proof)
+// A list of one element.
+fn only<T: Drop>(alloc: Global, value: T) -> Result<Items<T>, AllocError>
+    ensures { IfOk result (λ list. list ≡ value ∷ []) }
+{
+    let mut list = Items::new(alloc);
+    list.push(value)?;
+    Ok(list)
+}
+
+// The set of one clause of one literal of the model.
+fn set_of(alloc: Global, c: &Circuit, literal: u64) -> Result<ClauseSet, EntryEnd>
+    ensures over { IfOk result (λ set. AreOver (length c.now.latches) set) }
+    ensures one { IfOk result (λ set. length set ≡ 1) }
+{
+    let clause = clause_from_aiger(alloc, c, &[literal])?;
+    Ok(only(alloc, clause)?)
+}
+
+// A proof of one line, alone.
+fn proofs_of(alloc: Global, line: &str) -> Result<Items<Proof>, AllocError>
+    ensures { IfOk result (λ proofs. length proofs ≡ 1) }
+{
+    let proof = only(alloc, Items::from_slice(alloc, line.as_bytes())?)?;
+    only(alloc, proof)
 }
 
 // A reach entry of one clause of one literal of the model, with a proof of one line.
@@ -27,10 +48,8 @@ fn reach(alloc: Global, c: &Circuit, literal: u64, line: &str) -> Result<Entry, 
     ensures over { IfOk result (λ e. AreOver (length c.now.latches) e.set) }
     ensures count { IfOk result (λ e. length e.proofs ≡ length e.set) }
 {
-    let mut set = Items::new(alloc);
-    set.push(clause_from_aiger(alloc, c, &[literal])?)?;
-    let mut proofs = Items::new(alloc);
-    proofs.push(proof_of(alloc, line)?)?;
+    let set = set_of(alloc, c, literal)?;
+    let proofs = proofs_of(alloc, line)?;
     Ok(Entry {
         kind: Kind::Reach,
         set,
@@ -39,23 +58,30 @@ fn reach(alloc: Global, c: &Circuit, literal: u64, line: &str) -> Result<Entry, 
     })
 }
 
+fn listed(alloc: Global, c: &Circuit, literal: u64) -> Result<Listed, EntryEnd> {
+    Ok(Listed {
+        kind: Kind::Reach,
+        set: set_of(alloc, c, literal)?,
+        uses: Items::new(alloc),
+    })
+}
+
+fn list_alone(alloc: Global, entry: Listed) -> Result<Vec<Listed>, AllocError> {
+    let mut list = Vec::new(alloc);
+    list.push(entry)?;
+    Ok(list)
+}
+
 /// The same without its proof, as a list.
 pub(crate) fn list_of(
     alloc: Global,
     c: &Circuit,
     entry: Option<(u64, &str)>,
 ) -> Result<Vec<Listed>, EntryEnd> {
-    let mut list = Vec::new(alloc);
-    if let Some((literal, line)) = entry {
-        let Entry {
-            kind,
-            set,
-            uses,
-            ..
-        } = reach(alloc, c, literal, line)?;
-        list.push(Listed { kind, set, uses })?;
+    match entry {
+        None => Ok(Vec::new(alloc)),
+        Some((literal, _)) => Ok(list_alone(alloc, listed(alloc, c, literal)?)?),
     }
-    Ok(list)
 }
 
 fn checked(

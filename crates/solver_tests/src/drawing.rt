@@ -4,7 +4,7 @@ use crate::session::{FAR, NO_LIMIT, Way};
 use std::alloc::{AllocError, Global};
 
 /// Clauses in two parts, of which the second is added later, and assumptions.
-#[derive(Debug, Drop)]
+#[derive(Drop)]
 pub(crate) struct Drawn {
     pub(crate) first: Vec<i64>,
     pub(crate) second: Vec<i64>,
@@ -29,7 +29,7 @@ pub(crate) fn draw_question(alloc: Global, seed: u64) -> Result<Drawn, AllocErro
 /// A step of a sequence: a clause that is added, with a 0 behind it; a question of a call with its assumptions, or
 /// units, and its limit of conflicts; or a question to `solve` whose assumptions have a variable that no list of values
 /// has a place for, so that memory is refused where there is a model.
-#[derive(Debug, Drop)]
+#[derive(Drop)]
 pub(crate) enum Step {
     Add(Vec<i64>),
     Ask(Way, Vec<i64>, u64),
@@ -37,7 +37,7 @@ pub(crate) enum Step {
 }
 
 /// Eight questions over three to twelve variables, with four clauses a variable between them in all, on the average, and
-/// behind one in four a question to which memory is refused. The same from the same seed.
+/// behind one in four a question whose model cannot be written. The same from the same seed.
 pub(crate) fn draw_sequence(alloc: Global, seed: u64) -> Result<Vec<Step>, AllocError> {
     let mut draws = Draws { state: seed };
     let variables = draws.below(10).saturating_add(3);
@@ -65,7 +65,7 @@ fn draw_steps(
     draw_refused(alloc, draws, variables, steps)
 }
 
-// One in four times a question to which memory is refused.
+// One in four times a question to which memory is refused where it has a model.
 fn draw_refused(
     alloc: Global,
     draws: &mut Draws,
@@ -154,7 +154,7 @@ fn beside(first: i64, second: i64) -> i64 {
 }
 
 /// A linear congruential generator with the constants of Knuth's MMIX. Its first state is the seed.
-#[derive(Debug, Drop)]
+#[derive(Drop)]
 struct Draws {
     state: u64,
 }

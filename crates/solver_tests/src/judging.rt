@@ -1,14 +1,14 @@
 //! An own look at an answer. The main call is `judge`.
 
-use crate::questions::{clauses, has_model, literal, note_numbers};
+use crate::questions::{clauses, has_model, is_at, literal, note_numbers};
 use cdcl::{Answer, Asked, Assignment, Refuted};
 use cnf::{Db, Lit, ProofLine};
 use lrat::Checker;
 use std::alloc::{AllocError, Global};
 use text_grammar::next_field;
 
-/// What the solver said, and was right to say; or what is wrong with it.
-#[derive(Clone, Copy, Debug, PartialEq, Eq)]
+/// What the solver said, and was right to say; or that it is wrong.
+#[derive(Clone, Copy, PartialEq, Eq)]
 pub(crate) enum Said {
     /// There is a model, and the values are one.
     Sat,
@@ -19,32 +19,7 @@ pub(crate) enum Said {
     /// Memory was refused.
     Memory,
     /// The answer is wrong.
-    Wrong(Mistake),
-}
-
-/// What is wrong with an answer.
-#[derive(Clone, Copy, Debug, PartialEq, Eq)]
-pub(crate) enum Mistake {
-    /// A model was said, and there is none.
-    NoModel,
-    /// A clause is false under the values.
-    FalseClause,
-    /// An assumption is false under the values.
-    FalseAssumption,
-    /// No model was said, and there is one.
-    HasModel,
-    /// A literal of the core was not assumed.
-    NotAssumed,
-    /// There is a model under the core.
-    WeakCore,
-    /// The last line of the proof does not add the clause of the core's negations.
-    OtherClause,
-    /// The checker refuses a line of the proof.
-    RefusedLine,
-    /// The core is empty, and the checker saw no empty clause.
-    NotRefuted,
-    /// A line of the proof is not needed for the last one.
-    Needless,
+    Wrong,
 }
 
 /// Whether the answer is right, and `Spent` comes only where it may.
@@ -52,8 +27,12 @@ pub(crate) fn is_right(said: Said, may_be_spent: bool) -> bool {
     match said {
         Said::Sat | Said::Unsat => true,
         Said::Spent => may_be_spent,
-        Said::Memory | Said::Wrong(_) => false,
+        Said::Memory | Said::Wrong => false,
     }
+}
+
+fn unsat_if(is_right: bool) -> Said {
+    if is_right { Said::Unsat } else { Said::Wrong }
 }
 
 /// Holds an answer against a search through all values, and looks at what came with it. The numbers of the core come
@@ -110,15 +89,9 @@ fn judge_values(
     assumed: &[i64],
     values: &[bool],
 ) -> Result<Said, AllocError> {
-    let clauses_true = truths_in(alloc, values, asked)?;
-    let assumed_true = truths_in(alloc, values, assumed)?;
-    judge_truths(
-        alloc,
-        asked,
-        assumed,
-        clauses_true.as_slice(),
-        assumed_true.as_slice(),
-    )
+    let truths = truths_in(alloc, values, asked)?;
+    let holds = all_true_in(values, assumed);
+    judge_truths(alloc, asked, assumed, truths.as_slice(), holds)
 }
 
 fn judge_assignment(
@@ -127,64 +100,81 @@ fn judge_assignment(
     assumed: &[i64],
     assignment: &Assignment,
 ) -> Result<Said, AllocError> {
-    let clauses_true = truths_of(alloc, assignment, asked)?;
-    let assumed_true = truths_of(alloc, assignment, assumed)?;
-    judge_truths(
-        alloc,
-        asked,
-        assumed,
-        clauses_true.as_slice(),
-        assumed_true.as_slice(),
-    )
+    let truths = truths_under(alloc, assignment, asked)?;
+    let holds = all_true_under(assignment, assumed);
+    judge_truths(alloc, asked, assumed, truths.as_slice(), holds)
 }
 
 // Which of the literals are true under values.
 fn truths_in(alloc: Global, values: &[bool], numbers: &[i64]) -> Result<Vec<bool>, AllocError> {
     let mut truths = Vec::new(alloc);
     for number in numbers {
-        truths.push(is_true(values, *number))?;
+        truths.push(is_true_in(values, *number))?;
     }
     Ok(truths)
 }
 
+fn all_true_in(values: &[bool], numbers: &[i64]) -> bool {
+    for number in numbers {
+        if !is_true_in(values, *number) {
+            return false;
+        }
+    }
+    true
+}
+
+// Whether a literal is true where variable v has the value at place v, and is false past the end.
+fn is_true_in(values: &[bool], number: i64) -> bool {
+    is_at(values, number.unsigned_abs() as usize) == (number > 0)
+}
+
 // Which of the literals are true under an assignment.
-fn truths_of(
+fn truths_under(
     alloc: Global,
     assignment: &Assignment,
     numbers: &[i64],
 ) -> Result<Vec<bool>, AllocError> {
     let mut truths = Vec::new(alloc);
     for number in numbers {
-        truths.push(assignment.value(number.unsigned_abs()) == (*number > 0))?;
+        truths.push(is_true_under(assignment, *number))?;
     }
     Ok(truths)
 }
 
+fn all_true_under(assignment: &Assignment, numbers: &[i64]) -> bool {
+    for number in numbers {
+        if !is_true_under(assignment, *number) {
+            return false;
+        }
+    }
+    true
+}
+
+fn is_true_under(assignment: &Assignment, number: i64) -> bool {
+    assignment.value(number.unsigned_abs()) == (number > 0)
+}
+
+// There is a model, each clause has a true literal, and each assumption holds.
 fn judge_truths(
     alloc: Global,
     asked: &[i64],
     assumed: &[i64],
-    clauses_true: &[bool],
-    assumed_true: &[bool],
+    truths: &[bool],
+    holds: bool,
 ) -> Result<Said, AllocError> {
-    if !has_model(alloc, asked, assumed)? {
-        return Ok(Said::Wrong(Mistake::NoModel));
+    if has_model(alloc, asked, assumed)? && are_true(asked, truths) && holds {
+        Ok(Said::Sat)
+    } else {
+        Ok(Said::Wrong)
     }
-    if !are_true(asked, clauses_true) {
-        return Ok(Said::Wrong(Mistake::FalseClause));
-    }
-    if assumed_true.contains(&false) {
-        return Ok(Said::Wrong(Mistake::FalseAssumption));
-    }
-    Ok(Said::Sat)
 }
 
 // Whether each clause has a true literal.
 fn are_true(asked: &[i64], truths: &[bool]) -> bool {
     let mut is_clause_true = false;
-    for (number, truth) in asked.iter().zip(truths) {
-        if *number != 0 {
-            is_clause_true = is_clause_true || *truth;
+    for place in 0..asked.len() {
+        if asked[place] != 0 {
+            is_clause_true = is_clause_true || is_at(truths, place);
             continue;
         }
         if !is_clause_true {
@@ -195,15 +185,6 @@ fn are_true(asked: &[i64], truths: &[bool]) -> bool {
     true
 }
 
-// Whether a literal is true where variable v has the value at place v, and is false past the end.
-fn is_true(values: &[bool], number: i64) -> bool {
-    let value = match usize::try_from(number.unsigned_abs()) {
-        Ok(place) => values.get(place).copied().unwrap_or(false),
-        Err(_) => false,
-    };
-    value == (number > 0)
-}
-
 fn judge_refusal(
     alloc: Global,
     asked: &[i64],
@@ -211,29 +192,24 @@ fn judge_refusal(
     core: &[Lit],
     proof: &[ProofLine],
 ) -> Result<Said, AllocError> {
-    let said = judge_core(alloc, asked, assumed, core)?;
-    if said != Said::Unsat {
-        return Ok(said);
+    if judge_core(alloc, asked, assumed, core)? != Said::Unsat {
+        return Ok(Said::Wrong);
     }
     judge_lines(alloc, asked, core, proof)
 }
 
+// There is no model, each literal of the core was assumed, and there is no model under the core.
 fn judge_core(
     alloc: Global,
     asked: &[i64],
     assumed: &[i64],
     core: &[Lit],
 ) -> Result<Said, AllocError> {
-    if has_model(alloc, asked, assumed)? {
-        return Ok(Said::Wrong(Mistake::HasModel));
+    if has_model(alloc, asked, assumed)? || !are_among(core, assumed) {
+        return Ok(Said::Wrong);
     }
-    if !are_among(core, assumed) {
-        return Ok(Said::Wrong(Mistake::NotAssumed));
-    }
-    if has_model(alloc, asked, kept(alloc, assumed, core)?.as_slice())? {
-        return Ok(Said::Wrong(Mistake::WeakCore));
-    }
-    Ok(Said::Unsat)
+    let kept = kept(alloc, assumed, core)?;
+    Ok(unsat_if(!has_model(alloc, asked, kept.as_slice())?))
 }
 
 fn judge_refutation(
@@ -243,7 +219,7 @@ fn judge_refutation(
     proof: &[ProofLine],
 ) -> Result<Said, AllocError> {
     if has_model(alloc, asked, units)? {
-        return Ok(Said::Wrong(Mistake::HasModel));
+        return Ok(Said::Wrong);
     }
     let listed = with_units(alloc, asked, units)?;
     judge_lines(alloc, listed.as_slice(), &[], proof)
@@ -253,41 +229,62 @@ fn judge_refutation(
 fn with_units(alloc: Global, asked: &[i64], units: &[i64]) -> Result<Vec<i64>, AllocError> {
     let mut listed = Vec::from_slice(alloc, asked)?;
     for unit in units {
-        listed.extend_from_slice(&[*unit, 0])?;
+        listed.push(*unit)?;
+        listed.push(0)?;
     }
     Ok(listed)
 }
 
-// Whether the lines prove the clause of the core's negations, and none is needless.
+// Whether the lines prove the clause of the core's negations, none is needless, and the checker takes each.
 fn judge_lines(
     alloc: Global,
     asked: &[i64],
     core: &[Lit],
     proof: &[ProofLine],
 ) -> Result<Said, AllocError> {
-    if !adds_last(alloc, asked, core, proof)? {
-        return Ok(Said::Wrong(Mistake::OtherClause));
-    }
-    if !are_needed(proof) {
-        return Ok(Said::Wrong(Mistake::Needless));
+    if !are_needed(proof) || !adds_last(alloc, asked, core, proof)? {
+        return Ok(Said::Wrong);
     }
     judge_proof(alloc, asked, core.is_empty(), proof)
 }
 
 // Whether each literal of the core was assumed.
 fn are_among(core: &[Lit], assumed: &[i64]) -> bool {
-    core.iter().all(|one| assumed.iter().any(|number| literal(*number).is(*one)))
+    for one in core {
+        if !is_among(*one, assumed) {
+            return false;
+        }
+    }
+    true
+}
+
+fn is_among(one: Lit, assumed: &[i64]) -> bool {
+    for number in assumed {
+        if literal(*number).is(one) {
+            return true;
+        }
+    }
+    false
 }
 
 // The assumptions that the core has.
 fn kept(alloc: Global, assumed: &[i64], core: &[Lit]) -> Result<Vec<i64>, AllocError> {
     let mut made = Vec::new(alloc);
     for number in assumed {
-        if core.iter().any(|one| literal(*number).is(*one)) {
+        if has_literal(core, literal(*number)) {
             made.push(*number)?;
         }
     }
     Ok(made)
+}
+
+fn has_literal(core: &[Lit], wanted: Lit) -> bool {
+    for one in core {
+        if one.is(wanted) {
+            return true;
+        }
+    }
+    false
 }
 
 // Whether the last line adds the clause of the core's negations. Without a line, whether that is the last of the
@@ -298,14 +295,25 @@ fn adds_last(
     core: &[Lit],
     proof: &[ProofLine],
 ) -> Result<bool, AllocError> {
+    if proof.is_empty() {
+        return Ok(core.is_empty() && ends_empty(asked));
+    }
     let wanted = negations_text(alloc, core)?;
-    let Some(line) = proof.last() else {
-        return Ok(core.is_empty() && (asked == [0i64].as_slice() || asked.ends_with(&[0, 0])));
-    };
-    let (_id, rest) = next_field(line.as_slice());
+    Ok(adds(proof[proof.len() - 1].as_slice(), wanted.as_bytes()))
+}
+
+// Whether the last clause is empty.
+fn ends_empty(asked: &[i64]) -> bool {
+    let count = asked.len();
+    count > 0 && asked[count - 1] == 0 && (count == 1 || asked[count - 2] == 0)
+}
+
+// Whether a line has this text behind its number.
+fn adds(line: &[u8], wanted: &[u8]) -> bool {
+    let (_id, rest) = next_field(line);
     match rest {
-        Some(literals) => Ok(literals.starts_with(wanted.as_bytes())),
-        None => Ok(false),
+        Some(literals) => literals.starts_with(wanted),
+        None => false,
     }
 }
 
@@ -313,19 +321,25 @@ fn adds_last(
 fn negations_text(alloc: Global, core: &[Lit]) -> Result<String, AllocError> {
     let mut text = String::new(alloc);
     for one in core {
-        let sign = if one.positive { "-" } else { "" };
-        let written = format!(in alloc; "{sign}{} ", one.var)?;
-        text.push_str(written.as_str())?;
+        push_negation(alloc, *one, &mut text)?;
     }
     text.push_str("0 ")?;
     Ok(text)
 }
 
+fn push_negation(alloc: Global, literal: Lit, text: &mut String) -> Result<(), AllocError> {
+    if literal.positive {
+        text.push_str("-")?;
+    }
+    let written = format!(in alloc; "{} ", literal.var)?;
+    text.push_str(written.as_str())?;
+    Ok(())
+}
+
 // Whether each line but the last is a hint of a later one.
 fn are_needed(proof: &[ProofLine]) -> bool {
-    for (place, line) in proof.iter().enumerate() {
-        let later = proof.get(place.saturating_add(1)..).unwrap_or(&[]);
-        if !later.is_empty() && !is_needed(line, later) {
+    for place in 1..proof.len() {
+        if !is_needed(&proof[place - 1], &proof[place..]) {
             return false;
         }
     }
@@ -334,25 +348,34 @@ fn are_needed(proof: &[ProofLine]) -> bool {
 
 fn is_needed(line: &ProofLine, later: &[ProofLine]) -> bool {
     let (id, _rest) = next_field(line.as_slice());
-    later.iter().any(|one| is_hint(one.as_slice(), id))
+    for one in later {
+        if is_hint(one.as_slice(), id) {
+            return true;
+        }
+    }
+    false
 }
 
 // Whether the id stands among the hints of a line, which stand behind its first 0.
 fn is_hint(line: &[u8], id: &[u8]) -> bool {
     let mut is_behind = false;
-    let mut rest = Some(line);
+    let mut text = line;
     for _ in 0..line.len() {
-        let Some(text) = rest else {
-            return false;
-        };
         let (field, more) = next_field(text);
         if is_behind && field == id {
             return true;
         }
-        is_behind = is_behind || field == b"0".as_slice();
-        rest = more;
+        is_behind = is_behind || is_zero(field);
+        match more {
+            Some(rest) => text = rest,
+            None => return false,
+        }
     }
     false
+}
+
+fn is_zero(field: &[u8]) -> bool {
+    field.len() == 1 && field[0] == b'0'
 }
 
 // Whether the checker takes each line, and the empty clause is proved where the core is empty.
@@ -362,14 +385,14 @@ fn judge_proof(
     is_refuted: bool,
     proof: &[ProofLine],
 ) -> Result<Said, AllocError> {
-    let mut checker = Checker::new(alloc, Db::from_vec(clauses(alloc, asked)?))?;
-    if !takes_all(&mut checker, proof) {
-        return Ok(Said::Wrong(Mistake::RefusedLine));
-    }
-    if is_refuted && !checker.proved_empty() {
-        return Ok(Said::Wrong(Mistake::NotRefuted));
-    }
-    Ok(Said::Unsat)
+    let mut checker = checker_of(alloc, asked)?;
+    let takes_all = takes_all(&mut checker, proof);
+    Ok(unsat_if(takes_all && (!is_refuted || checker.proved_empty())))
+}
+
+fn checker_of(alloc: Global, asked: &[i64]) -> Result<Checker, AllocError> {
+    let given = clauses(alloc, asked)?;
+    Checker::new(alloc, Db::from_vec(given))
 }
 
 fn takes_all(checker: &mut Checker, proof: &[ProofLine]) -> bool {

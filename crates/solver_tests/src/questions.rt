@@ -11,6 +11,11 @@ pub(crate) fn literal(number: i64) -> Lit {
     }
 }
 
+/// The value at a place; false past the end.
+pub(crate) fn is_at(values: &[bool], place: usize) -> bool {
+    place < values.len() && values[place]
+}
+
 /// The literals of numbers.
 pub(crate) fn literals(alloc: Global, numbers: &[i64]) -> Result<Vec<Lit>, AllocError> {
     let mut made = Vec::new(alloc);
@@ -40,14 +45,23 @@ fn number_of(literal: Lit) -> i64 {
 /// The clauses of numbers, with a 0 behind each clause.
 pub(crate) fn clauses(alloc: Global, numbers: &[i64]) -> Result<Vec<Clause>, AllocError> {
     let mut made = Vec::new(alloc);
-    let mut clause = Clause::new(alloc);
-    for number in numbers {
-        if *number != 0 {
-            clause.push(literal(*number))?;
-            continue;
+    let mut begin = 0;
+    for place in 0..numbers.len() {
+        if numbers[place] == 0 {
+            made.push(clause(alloc, numbers, begin, place)?)?;
+            begin = place + 1;
         }
-        made.push(clause)?;
-        clause = Clause::new(alloc);
+    }
+    Ok(made)
+}
+
+// The clause of the numbers from a place to another.
+fn clause(alloc: Global, numbers: &[i64], begin: usize, end: usize) -> Result<Clause, AllocError> {
+    let mut made = Clause::new(alloc);
+    for place in begin..end {
+        if place < numbers.len() {
+            made.push(literal(numbers[place]))?;
+        }
     }
     Ok(made)
 }
@@ -61,13 +75,17 @@ pub(crate) fn has_model(
     let mut variables = Vec::new(alloc);
     note_variables(clauses, &mut variables)?;
     note_variables(assumed, &mut variables)?;
+    Ok(has_model_over(variables.as_slice(), clauses, assumed))
+}
+
+fn has_model_over(variables: &[u64], clauses: &[i64], assumed: &[i64]) -> bool {
     let choices = 1u64 << (variables.len() % 64);
     for choice in 0..choices {
-        if is_model(&variables, choice, clauses, assumed) {
-            return Ok(true);
+        if is_model(variables, choice, clauses) && all_hold(variables, choice, assumed) {
+            return true;
         }
     }
-    Ok(false)
+    false
 }
 
 // Puts the variables of the numbers behind those that are there, none twice.
@@ -81,8 +99,8 @@ fn note_variables(numbers: &[i64], variables: &mut Vec<u64>) -> Result<(), Alloc
     Ok(())
 }
 
-// Whether the values of a choice, whose bit at a place is the value of the variable there, make all true.
-fn is_model(variables: &[u64], choice: u64, clauses: &[i64], assumed: &[i64]) -> bool {
+// Whether the values of a choice, whose bit at a place is the value of the variable there, make all clauses true.
+fn is_model(variables: &[u64], choice: u64, clauses: &[i64]) -> bool {
     let mut is_true = false;
     for number in clauses {
         if *number != 0 {
@@ -94,9 +112,16 @@ fn is_model(variables: &[u64], choice: u64, clauses: &[i64], assumed: &[i64]) ->
         }
         is_true = false;
     }
-    assumed
-        .iter()
-        .all(|number| holds(variables, choice, *number))
+    true
+}
+
+fn all_hold(variables: &[u64], choice: u64, assumed: &[i64]) -> bool {
+    for number in assumed {
+        if !holds(variables, choice, *number) {
+            return false;
+        }
+    }
+    true
 }
 
 // Whether a literal is true under a choice.

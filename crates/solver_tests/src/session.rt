@@ -14,7 +14,7 @@ pub(crate) const NO_LIMIT: u64 = 4_294_967_295;
 pub(crate) const FAR: i64 = 4_611_686_018_427_387_904;
 
 /// The call that a question goes to.
-#[derive(Clone, Copy, Debug, PartialEq, Eq)]
+#[derive(Clone, Copy)]
 pub(crate) enum Way {
     /// `solve`.
     Solve,
@@ -24,11 +24,22 @@ pub(crate) enum Way {
     Refute,
 }
 
-/// All of them.
+impl Way {
+    /// Its name.
+    pub(crate) fn name(self) -> &'static str {
+        match self {
+            Way::Solve => "solve",
+            Way::Ask => "ask",
+            Way::Refute => "refute",
+        }
+    }
+}
+
+/// The three calls.
 pub(crate) const WAYS: [Way; 3] = [Way::Solve, Way::Ask, Way::Refute];
 
 /// A solver, and the clauses that were added to it.
-#[derive(Debug, Drop)]
+#[derive(Drop)]
 pub(crate) struct Session {
     alloc: Global,
     way: Way,

@@ -4,68 +4,86 @@ use std::alloc::{AllocError, Global};
 
 /// What steps are tried on.
 pub(crate) trait Trial {
-    /// The place of the first step that goes wrong.
-    fn first_wrong(&self, alloc: Global, steps: &[&Step]) -> Result<Option<usize>, AllocError>;
+    /// The place of the first step that goes wrong where these are kept, and the others left out.
+    fn first_wrong(
+        &self,
+        alloc: Global,
+        steps: &[Step],
+        kept: &[bool],
+    ) -> Result<Option<usize>, AllocError>;
 }
 
-/// The steps up to the first that goes wrong, less those that it still goes wrong without, one by one: without any one of
-/// those that are left none does. No steps where none goes wrong.
-pub(crate) fn shortened<'a, T: Trial>(
+/// Which steps are kept: those up to the first that goes wrong, less those that it still goes wrong without, one by one:
+/// without any one of those that are left none does. No step where none goes wrong.
+pub(crate) fn shortened<T: Trial>(
     alloc: Global,
     trial: &T,
-    steps: &'a [Step],
-) -> Result<Vec<&'a Step>, AllocError> {
-    let mut kept = referred(alloc, steps)?;
-    match trial.first_wrong(alloc, kept.as_slice())? {
-        Some(place) => kept.truncate(place.saturating_add(1)),
-        None => kept.clear(),
-    }
-    for _ in 0..kept.len() {
-        let count = kept.len();
-        kept = lessened(alloc, trial, kept)?;
-        if kept.len() == count {
+    steps: &[Step],
+) -> Result<Vec<bool>, AllocError> {
+    let mut kept = vec![in alloc; true; steps.len()]?;
+    shorten(alloc, trial, steps, kept.as_mut_slice())?;
+    Ok(kept)
+}
+
+fn shorten<T: Trial>(
+    alloc: Global,
+    trial: &T,
+    steps: &[Step],
+    kept: &mut [bool],
+) -> Result<(), AllocError> {
+    let first = trial.first_wrong(alloc, steps, kept)?;
+    leave_out_behind(kept, first);
+    for _ in 0..steps.len() {
+        if !lessen(alloc, trial, steps, kept)? {
             break;
         }
     }
-    Ok(kept)
+    Ok(())
 }
 
-// The steps, each by a reference.
-fn referred<'a>(alloc: Global, steps: &'a [Step]) -> Result<Vec<&'a Step>, AllocError> {
-    let mut kept = Vec::new(alloc);
-    for step in steps {
-        kept.push(step)?;
+// Leaves out the steps behind a place, or all.
+fn leave_out_behind(kept: &mut [bool], last: Option<usize>) {
+    for place in 0..kept.len() {
+        if is_behind(place, last) {
+            kept[place] = false;
+        }
     }
-    Ok(kept)
 }
 
-// Less the steps, from the last one on, without which it still goes wrong.
-fn lessened<'a, T: Trial>(
+fn is_behind(place: usize, last: Option<usize>) -> bool {
+    match last {
+        Some(end) => place > end,
+        None => true,
+    }
+}
+
+// Leaves out the steps, from the last one on, without which it still goes wrong. Whether there was one.
+fn lessen<T: Trial>(
     alloc: Global,
     trial: &T,
-    steps: Vec<&'a Step>,
-) -> Result<Vec<&'a Step>, AllocError> {
-    let mut kept = steps;
+    steps: &[Step],
+    kept: &mut [bool],
+) -> Result<bool, AllocError> {
+    let mut is_less = false;
     for place in (0..kept.len()).rev() {
-        let fewer = without(alloc, kept.as_slice(), place)?;
-        if trial.first_wrong(alloc, fewer.as_slice())?.is_some() {
-            kept = fewer;
-        }
+        is_less = leave_out(alloc, trial, steps, kept, place)? || is_less;
     }
-    Ok(kept)
+    Ok(is_less)
 }
 
-/// The steps without the one at a place.
-pub(crate) fn without<'a>(
+// Leaves out the step at a place, if it is kept and it still goes wrong then.
+fn leave_out<T: Trial>(
     alloc: Global,
-    steps: &[&'a Step],
+    trial: &T,
+    steps: &[Step],
+    kept: &mut [bool],
     place: usize,
-) -> Result<Vec<&'a Step>, AllocError> {
-    let mut fewer = Vec::new(alloc);
-    for (other, step) in steps.iter().enumerate() {
-        if other != place {
-            fewer.push(*step)?;
-        }
+) -> Result<bool, AllocError> {
+    if place >= kept.len() || !kept[place] {
+        return Ok(false);
     }
-    Ok(fewer)
+    kept[place] = false;
+    let is_wrong = trial.first_wrong(alloc, steps, kept)?.is_some();
+    kept[place] = !is_wrong;
+    Ok(is_wrong)
 }

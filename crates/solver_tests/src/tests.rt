@@ -40,14 +40,18 @@ fn are_right_by(alloc: Global, way: Way, seed: u64) -> Result<bool, AllocError> 
 fn drawn_questions(rt: HostRuntime) -> Result<(), Fail> {
     for seed in 0..200u64 {
         for way in WAYS {
-            assert!(rt; are_right_by(rt.alloc(), way, seed)?, "{way:?} of {seed}");
+            assert!(rt;
+                are_right_by(rt.alloc(), way, seed)?,
+                "{} of {seed}",
+                way.name()
+            );
         }
     }
     Ok(())
 }
 
 /// How many drawn questions have a model under their assumptions, how many have none, and how many need a conflict.
-#[derive(Clone, Copy, Debug)]
+#[derive(Clone, Copy)]
 struct Kinds {
     sat: u64,
     unsat: u64,
@@ -82,7 +86,10 @@ fn drawn_questions_are_of_each_kind(rt: HostRuntime) -> Result<(), Fail> {
     let kinds = kinds_of_drawn(rt.alloc())?;
     assert!(rt;
         kinds.sat >= 50 && kinds.unsat >= 50 && kinds.spent >= 20,
-        "{kinds:?}"
+        "{} {} {}",
+        kinds.sat,
+        kinds.unsat,
+        kinds.spent
     );
     Ok(())
 }
@@ -103,18 +110,21 @@ fn ask_far_by(alloc: Global, way: Way) -> Result<[Said; 4], AllocError> {
     ask_far(&mut session)
 }
 
+// What is said where there is a model is given: `solve` has to write it, the other calls do not.
+fn far_is_answered(alloc: Global, way: Way, with_model: Said) -> Result<bool, AllocError> {
+    let [needed, refused, again, added] = ask_far_by(alloc, way)?;
+    Ok(
+        needed == with_model
+            && refused == Said::Unsat
+            && again == with_model
+            && added == Said::Unsat,
+    )
+}
+
 #[test]
 fn a_variable_without_room(rt: HostRuntime) -> Result<(), Fail> {
-    assert_eq!(rt;
-        ask_far_by(rt.alloc(), Way::Solve)?,
-        [Said::Memory, Said::Unsat, Said::Memory, Said::Unsat]
-    );
-    // its value is read alone
-    for way in [Way::Ask, Way::Refute] {
-        assert_eq!(rt;
-            ask_far_by(rt.alloc(), way)?,
-            [Said::Sat, Said::Unsat, Said::Sat, Said::Unsat]
-        );
-    }
+    assert!(rt; far_is_answered(rt.alloc(), Way::Solve, Said::Memory)?);
+    assert!(rt; far_is_answered(rt.alloc(), Way::Ask, Said::Sat)?);
+    assert!(rt; far_is_answered(rt.alloc(), Way::Refute, Said::Sat)?);
     Ok(())
 }

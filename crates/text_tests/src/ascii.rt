@@ -1,5 +1,6 @@
 //! ASCII texts of models: faults and places worked out by hand from the format, and texts of small models.
 use aiger_ascii::{ascii_laws, read, write};
+use aiger_names::Model;
 use circuit::{ModelEnd, ModelFault};
 use std::alloc::{AllocError, Global};
 use std::test::*;
@@ -88,12 +89,18 @@ fn edited(alloc: Global, at: usize, cut: usize, put: &str) -> Result<Vec<u8>, Al
     Ok(text)
 }
 
+// The calls, in functions without a contract: no clause of them is wanted here.
+fn model_of(alloc: Global, text: &[u8]) -> Result<Model, ModelEnd> {
+    read(alloc, text)
+}
+
+fn text_of(alloc: Global, model: &Model) -> Result<Vec<u8>, AllocError> {
+    write(alloc, model)
+}
+
 // Whether the text has this fault.
 fn has_fault(alloc: Global, text: &[u8], wanted: ModelFault) -> bool {
-    match read(alloc, text) {
-        Err(ModelEnd::Fault(found)) => found == wanted,
-        _ => false,
-    }
+    model_of(alloc, text).err() == Some(ModelEnd::Fault(wanted))
 }
 
 fn is_faulty(
@@ -107,15 +114,24 @@ fn is_faulty(
     Ok(has_fault(alloc, text.as_slice(), wanted))
 }
 
+// The place of the first row with another fault, from 0.
+fn wrong_fault(alloc: Global, rows: &[Fault]) -> Result<Option<usize>, AllocError> {
+    for (k, (at, cut, put, wanted)) in rows.iter().enumerate() {
+        if !is_faulty(alloc, *at, *cut, put, *wanted)? {
+            return Ok(Some(k));
+        }
+    }
+    Ok(None)
+}
+
 #[test]
 fn faults(rt: HostRuntime) -> Result<(), Fail> {
     ascii_laws();
-    for rows in [faults_of_header_and_numbers(), other_faults()] {
-        for (at, cut, put, wanted) in rows {
-            let is_found = is_faulty(rt.alloc(), *at, *cut, put, *wanted)?;
-            assert!(rt; is_found, "{put} at {at}");
-        }
-    }
+    assert_eq!(rt;
+        wrong_fault(rt.alloc(), faults_of_header_and_numbers())?,
+        None
+    );
+    assert_eq!(rt; wrong_fault(rt.alloc(), other_faults())?, None);
     Ok(())
 }
 
@@ -147,19 +163,31 @@ fn all_models() -> &'static [Written] {
     ]
 }
 
+fn is_text(alloc: Global, model: &Model, wanted: &[u8]) -> Result<bool, AllocError> {
+    let text = text_of(alloc, model)?;
+    Ok(text.as_slice() == wanted)
+}
+
 // Whether a model is read, and has this text.
 fn is_written(alloc: Global, text: &[u8], wanted: &[u8]) -> Result<bool, AllocError> {
-    let Ok(model) = read(alloc, text) else {
-        return Ok(false);
-    };
-    let written = write(alloc, &model)?;
-    Ok(written.as_slice() == wanted)
+    match model_of(alloc, text) {
+        Ok(model) => is_text(alloc, &model, wanted),
+        Err(_) => Ok(false),
+    }
+}
+
+// The place of the first text that is read or written otherwise, from 0.
+fn wrong_model(alloc: Global) -> Result<Option<usize>, AllocError> {
+    for (k, (text, wanted)) in all_models().iter().enumerate() {
+        if !is_written(alloc, text, wanted)? {
+            return Ok(Some(k));
+        }
+    }
+    Ok(None)
 }
 
 #[test]
 fn models(rt: HostRuntime) -> Result<(), Fail> {
-    for (text, wanted) in all_models() {
-        assert!(rt; is_written(rt.alloc(), text, wanted)?, "of {text:?}");
-    }
+    assert_eq!(rt; wrong_model(rt.alloc())?, None);
     Ok(())
 }

@@ -14,11 +14,11 @@ fn refusal() -> io::Error {
 }
 
 /// Files in memory by two names. No read of them gives more than three bytes. A move in `stream` fails.
-#[derive(Debug, Clone, Copy)]
+#[derive(Clone, Copy)]
 pub(crate) struct FakeFiles;
 
 /// A file of `FakeFiles`.
-#[derive(Debug, Drop)]
+#[derive(Drop)]
 pub(crate) struct FakeFile {
     text: &'static [u8],
     at: usize,
@@ -26,7 +26,7 @@ pub(crate) struct FakeFile {
 }
 
 /// A folder, which is never opened.
-#[derive(Debug, Drop)]
+#[derive(Drop)]
 pub(crate) struct FakeDir;
 
 impl Read for FakeDir {
@@ -145,7 +145,7 @@ impl Files for FakeFiles {
 
 /// An output whose calls take so many bytes at most, and which counts those that it took. Where `most` is 0 it takes
 /// none of any piece; where that is 100, it fails.
-#[derive(Debug, Drop)]
+#[derive(Drop)]
 pub(crate) struct FakePrint {
     most: usize,
     pub(crate) taken: Cell<usize>,

@@ -16,26 +16,44 @@ fn shelf(alloc: Global, text: &[u8], most: u64, failing: &[u64]) -> Result<MemSh
     Ok(MemShelf::new(texts, most.max(1), failing.to_vec(alloc)?))
 }
 
+// The calls on lines, in functions without a contract: no clause of them is wanted here.
+fn has_next(lines: &mut Lines, shelf: &mut MemShelf) -> Result<bool, LinesEnd> {
+    lines.next(shelf, "answer")
+}
+
+fn push_line(lines: &Lines, given: &mut Vec<u8>) -> Result<(), AllocError> {
+    given.extend_from_slice(lines.line())?;
+    given.push(b'|')?;
+    Ok(())
+}
+
 /// Adds the lines that are given to `given`, with a bar behind each, until there is none or one is refused.
 fn add_lines(lines: &mut Lines, shelf: &mut MemShelf, given: &mut Vec<u8>) -> Result<(), LinesEnd> {
     for _ in 0..1000 {
-        if !lines.next(shelf, "answer")? {
+        if !has_next(lines, shelf)? {
             break;
         }
-        given.extend_from_slice(lines.line())?;
-        given.extend_from_slice(b"|")?;
+        push_line(lines, given)?;
     }
     Ok(())
+}
+
+fn add_twice(lines: &mut Lines, shelf: &mut MemShelf, given: &mut Vec<u8>) -> Result<(), LinesEnd> {
+    add_lines(lines, shelf, given)?;
+    add_lines(lines, shelf, given)
+}
+
+fn barred_of(alloc: Global, shelf: &mut MemShelf) -> Result<Vec<u8>, LinesEnd> {
+    let mut lines = Lines::new(alloc)?;
+    let mut given = Vec::new(alloc);
+    add_twice(&mut lines, shelf, &mut given)?;
+    Ok(given)
 }
 
 /// The lines of a text with a bar behind each.
 fn barred(alloc: Global, text: &[u8], most: u64) -> Result<Vec<u8>, LinesEnd> {
     let mut shelf = shelf(alloc, text, most, &[])?;
-    let mut lines = Lines::new(alloc)?;
-    let mut given = Vec::new(alloc);
-    add_lines(&mut lines, &mut shelf, &mut given)?;
-    add_lines(&mut lines, &mut shelf, &mut given)?;
-    Ok(given)
+    barred_of(alloc, &mut shelf)
 }
 
 /// How many lines a text has: what a loop over `next` may count on.
@@ -50,33 +68,64 @@ fn count_lines<H: Shelf>(alloc: Global, shelf: &mut H, name: &str) -> Result<u64
     Ok(count)
 }
 
+// The letters a to y, round and round.
+fn next_letter(letter: u8) -> u8 {
+    if letter >= b'y' { b'a' } else { letter + 1 }
+}
+
+// So many letters from this one on; the next one.
+fn push_letters(text: &mut Vec<u8>, first: u8, count: usize) -> Result<u8, AllocError> {
+    let mut letter = first;
+    for _ in 0..count {
+        text.push(letter)?;
+        letter = next_letter(letter);
+    }
+    Ok(letter)
+}
+
+fn push_spelled(text: &mut Vec<u8>, lengths: &[usize], end: u8) -> Result<(), AllocError> {
+    let mut letter = b'a';
+    for length in lengths {
+        letter = push_letters(text, letter, *length)?;
+        text.push(end)?;
+    }
+    Ok(())
+}
+
 /// Lines of these lengths, with the byte `end` behind each.
 fn spelled(alloc: Global, lengths: &[usize], end: u8) -> Result<Vec<u8>, AllocError> {
     let mut text = Vec::new(alloc);
-    let mut byte = b'a';
-    for length in lengths {
-        for _ in 0..*length {
-            text.push(byte)?;
-            byte = if byte >= b'y' { b'a' } else { byte + 1 };
-        }
-        text.push(end)?;
-    }
+    push_spelled(&mut text, lengths, end)?;
     Ok(text)
+}
+
+fn push_last(lines: &Lines, lasts: &mut Vec<u8>) -> Result<(), AllocError> {
+    let byte = if lines.is_last() { b'l' } else { b'-' };
+    lasts.push(byte)?;
+    Ok(())
+}
+
+fn add_lasts(lines: &mut Lines, shelf: &mut MemShelf, lasts: &mut Vec<u8>) -> Result<(), LinesEnd> {
+    for _ in 0..1000 {
+        if !has_next(lines, shelf)? {
+            break;
+        }
+        push_last(lines, lasts)?;
+    }
+    Ok(())
+}
+
+fn lasts_of(alloc: Global, shelf: &mut MemShelf) -> Result<Vec<u8>, LinesEnd> {
+    let mut lines = Lines::new(alloc)?;
+    let mut lasts = Vec::new(alloc);
+    add_lasts(&mut lines, shelf, &mut lasts)?;
+    Ok(lasts)
 }
 
 /// A byte for each line of a text: l where it is said to be the last, and else a dash.
 fn lasts(alloc: Global, text: &[u8]) -> Result<Vec<u8>, LinesEnd> {
     let mut shelf = shelf(alloc, text, 2, &[])?;
-    let mut lines = Lines::new(alloc)?;
-    let mut lasts = Vec::new(alloc);
-    for _ in 0..1000 {
-        if !lines.next(&mut shelf, "answer")? {
-            break;
-        }
-        let byte = if lines.is_last() { b'l' } else { b'-' };
-        lasts.extend_from_slice(&[byte])?;
-    }
-    Ok(lasts)
+    lasts_of(alloc, &mut shelf)
 }
 
 fn are_last(alloc: Global, text: &str, want: &str) -> Result<bool, LinesEnd> {
@@ -84,18 +133,32 @@ fn are_last(alloc: Global, text: &str, want: &str) -> Result<bool, LinesEnd> {
     Ok(given.as_slice() == want.as_bytes())
 }
 
-#[test]
-fn says_that_a_line_is_last(rt: HostRuntime) -> Result<(), Fail> {
-    let cases = [
+// A text, and what is made of it.
+type Case = (&'static str, &'static str);
+
+fn last_cases() -> &'static [Case] {
+    &[
         ("", ""),
         ("a", "l"),
         ("a\n", "-"),
         ("a\n\nbc", "--l"),
         ("a\n\nbc\n", "---"),
-    ];
-    for (text, want) in cases {
-        assert!(rt; are_last(rt.alloc(), text, want)?, "{text:?}");
+    ]
+}
+
+// The place of the first text of which something else is said, from 0.
+fn wrong_last(alloc: Global) -> Result<Option<usize>, LinesEnd> {
+    for (k, (text, want)) in last_cases().iter().enumerate() {
+        if !are_last(alloc, text, want)? {
+            return Ok(Some(k));
+        }
     }
+    Ok(None)
+}
+
+#[test]
+fn says_that_a_line_is_last(rt: HostRuntime) -> Result<(), Fail> {
+    assert_eq!(rt; wrong_last(rt.alloc())?, None);
     Ok(())
 }
 
@@ -104,9 +167,8 @@ fn are_given(alloc: Global, text: &[u8], want: &[u8], most: u64) -> Result<bool,
     Ok(given.as_slice() == want)
 }
 
-#[test]
-fn gives_the_lines_of_short_texts(rt: HostRuntime) -> Result<(), Fail> {
-    let cases = [
+fn short_cases() -> &'static [Case] {
+    &[
         ("", ""),
         ("a", "a|"),
         ("a\n", "a|"),
@@ -115,55 +177,73 @@ fn gives_the_lines_of_short_texts(rt: HostRuntime) -> Result<(), Fail> {
         ("a\n\nbc", "a||bc|"),
         ("a\n\nbc\n", "a||bc|"),
         ("a\r\n b\n\n", "a\r| b||"),
-    ];
-    for most in [1, 7, 5000] {
-        for (text, want) in cases {
-            let given = are_given(rt.alloc(), text.as_bytes(), want.as_bytes(), most)?;
-            assert!(rt; given, "{text:?} by {most}");
+    ]
+}
+
+// The place of the first short text whose lines are not given so, from 0.
+fn wrong_short(alloc: Global, most: u64) -> Result<Option<usize>, LinesEnd> {
+    for (k, (text, want)) in short_cases().iter().enumerate() {
+        if !are_given(alloc, text.as_bytes(), want.as_bytes(), most)? {
+            return Ok(Some(k));
         }
+    }
+    Ok(None)
+}
+
+#[test]
+fn gives_the_lines_of_short_texts(rt: HostRuntime) -> Result<(), Fail> {
+    for most in [1, 7, 5000] {
+        assert_eq!(rt; wrong_short(rt.alloc(), most)?, None);
     }
     Ok(())
 }
 
-// The lines of the text, and of the text without its last line feed.
-fn are_both_given(
-    alloc: Global,
-    text: &[u8],
-    want: &[u8],
-    most: u64,
-) -> Result<[bool; 2], LinesEnd> {
-    let cut = text.split_last().map_or(text, |(_, cut)| cut);
-    Ok([
-        are_given(alloc, text, want, most)?,
-        are_given(alloc, cut, want, most)?,
-    ])
+fn without_last(text: &[u8]) -> &[u8] {
+    match text.split_last() {
+        Some((_, cut)) => cut,
+        None => text,
+    }
 }
 
-fn are_across(alloc: Global, lengths: &[usize], most: u64) -> Result<[bool; 2], LinesEnd> {
+// Whether the lines of the text, and of the text without its last line feed, are given so.
+fn are_both_given(alloc: Global, text: &[u8], want: &[u8], most: u64) -> Result<bool, LinesEnd> {
+    if !are_given(alloc, text, want, most)? {
+        return Ok(false);
+    }
+    are_given(alloc, without_last(text), want, most)
+}
+
+fn are_across(alloc: Global, lengths: &[usize], most: u64) -> Result<bool, LinesEnd> {
     let text = spelled(alloc, lengths, b'\n')?;
     let want = spelled(alloc, lengths, b'|')?;
     are_both_given(alloc, &text, &want, most)
 }
 
-#[test]
-fn gives_lines_across_pieces(rt: HostRuntime) -> Result<(), Fail> {
-    let cases: [&[usize]; 6] = [
+fn lengths() -> &'static [&'static [usize]] {
+    &[
         &[10000],
         &[4095, 4096, 4097],
         &[4096, 0, 3],
         &[4094, 0, 0, 5],
         &[4090, 10, 10000, 1],
         &[8191, 8192],
-    ];
-    for most in [1, 7, 5000] {
-        for lengths in cases {
-            let given = are_across(rt.alloc(), lengths, most)?;
-            assert_eq!(rt;
-                given,
-                [true; 2],
-                "{lengths:?} by {most}, and without the last line feed"
-            );
+    ]
+}
+
+// The place of the first lengths whose lines are not given so, from 0.
+fn wrong_across(alloc: Global, most: u64) -> Result<Option<usize>, LinesEnd> {
+    for (k, lengths) in lengths().iter().enumerate() {
+        if !are_across(alloc, lengths, most)? {
+            return Ok(Some(k));
         }
+    }
+    Ok(None)
+}
+
+#[test]
+fn gives_lines_across_pieces(rt: HostRuntime) -> Result<(), Fail> {
+    for most in [1, 7, 5000] {
+        assert_eq!(rt; wrong_across(rt.alloc(), most)?, None);
     }
     Ok(())
 }

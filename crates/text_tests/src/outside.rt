@@ -9,19 +9,40 @@ use edge::{
     Sink, SolveEnd, Spending, Spent, StdSink, read_text, write_all,
 };
 use std::alloc::{AllocError, Global};
-use std::fs;
+use std::rt::Files;
 use std::test::Fail;
+use std::{fs, io};
 
-/// A shelf with a text of six bytes, an empty one, and another text under the first name.
-fn shelf(alloc: Global, most: u64, failing: &[u64]) -> Result<MemShelf, AllocError> {
+fn named(alloc: Global, name: &str, text: &[u8]) -> Result<(String, Vec<u8>), AllocError> {
+    let text = text.to_vec(alloc)?;
+    Ok((String::from_str(alloc, name)?, text))
+}
+
+fn push_text(
+    alloc: Global,
+    texts: &mut Vec<(String, Vec<u8>)>,
+    name: &str,
+    text: &[u8],
+) -> Result<(), AllocError> {
+    let pair = named(alloc, name, text)?;
+    texts.push(pair)?;
+    Ok(())
+}
+
+// A text of six bytes, an empty one, and another text under the first name.
+fn named_texts(alloc: Global) -> Result<Vec<(String, Vec<u8>)>, AllocError> {
     let mut texts = Vec::new(alloc);
-    for (name, text) in [("model", "answer"), ("empty", ""), ("model", "second")] {
-        texts.push((
-            String::from_str(alloc, name)?,
-            text.as_bytes().to_vec(alloc)?,
-        ))?;
-    }
-    Ok(MemShelf::new(texts, most.max(1), failing.to_vec(alloc)?))
+    push_text(alloc, &mut texts, "model", b"answer")?;
+    push_text(alloc, &mut texts, "empty", b"")?;
+    push_text(alloc, &mut texts, "model", b"second")?;
+    Ok(texts)
+}
+
+/// A shelf with these texts.
+fn shelf(alloc: Global, most: u64, failing: &[u64]) -> Result<MemShelf, AllocError> {
+    let failing = failing.to_vec(alloc)?;
+    let texts = named_texts(alloc)?;
+    Ok(MemShelf::new(texts, most.max(1), failing))
 }
 
 // A name, a limit, and the text that is read to it and one byte more.
@@ -36,17 +57,19 @@ fn limits() -> &'static [(&'static str, u32, &'static str)] {
     ]
 }
 
-/// Whether this is read of a name to a limit; nothing where the read fails.
-fn is_read<H: Shelf>(
-    alloc: Global,
-    shelf: &mut H,
-    name: &str,
-    limit: u32,
-    want: Option<&str>,
-) -> bool {
+// Whether this is the one text that is wanted.
+fn is_text(found: &[u8], want: &[&str]) -> bool {
+    match want.first() {
+        Some(text) => found == text.as_bytes(),
+        None => false,
+    }
+}
+
+/// Whether this one text is read of a name to a limit; where there is none, whether the read fails.
+fn is_read<H: Shelf>(alloc: Global, shelf: &mut H, name: &str, limit: u32, want: &[&str]) -> bool {
     match read_text(alloc, shelf, name, u64::from(limit)) {
-        Ok(text) => Some(text.as_slice()) == want.map(|text| text.as_bytes()),
-        Err(end) => end == ReadEnd::Failed && want.is_none(),
+        Ok(text) => is_text(text.as_slice(), want),
+        Err(end) => end == ReadEnd::Failed && want.is_empty(),
     }
 }
 
@@ -54,48 +77,63 @@ fn is_read<H: Shelf>(
 fn count_limits(alloc: Global, shelf: &mut MemShelf) -> usize {
     let mut count = 0usize;
     for (name, limit, want) in limits() {
-        if is_read(alloc, shelf, name, *limit, Some(*want)) {
+        if is_read(alloc, shelf, name, *limit, &[want]) {
             count = count.saturating_add(1);
         }
     }
     count
 }
 
-fn count_limits_by(alloc: Global, most: u64) -> Result<(usize, bool), AllocError> {
+fn are_read_by(alloc: Global, most: u64) -> Result<bool, AllocError> {
     let mut shelf = shelf(alloc, most, &[])?;
     let count = count_limits(alloc, &mut shelf);
-    Ok((count, is_read(alloc, &mut shelf, "missing", 7, None)))
+    Ok(count == 6 && is_read(alloc, &mut shelf, "missing", 7, &[]))
+}
+
+fn are_read_by_each(alloc: Global) -> Result<[bool; 3], AllocError> {
+    Ok([
+        are_read_by(alloc, 1)?,
+        are_read_by(alloc, 4)?,
+        are_read_by(alloc, 100)?,
+    ])
 }
 
 #[test]
 fn reads_to_the_limit_and_one_byte_more(rt: HostRuntime) -> Result<(), Fail> {
-    for most in [1, 4, 100] {
-        assert_eq!(rt; count_limits_by(rt.alloc(), most)?, (6, true), "by {most}");
-    }
+    assert_eq!(rt; are_read_by_each(rt.alloc())?, [true; 3]);
     Ok(())
 }
 
+// The text, or none where its read fails.
+fn wanted(is_read: bool) -> &'static [&'static str] {
+    if is_read { &["answer"] } else { &[] }
+}
+
+fn are_read(alloc: Global, shelf: &mut MemShelf, failing: u64) -> bool {
+    is_read(alloc, shelf, "model", 100, wanted(failing > 7))
+        && is_read(alloc, shelf, "model", 100, wanted(failing <= 7))
+}
+
 // Whether the first text fails where a read of it does, and the second one where that is a later read.
-fn fails_once(alloc: Global, failing: u64) -> Result<[bool; 2], AllocError> {
-    let first = (failing > 7).then_some("answer");
-    let second = (failing <= 7).then_some("answer");
+fn fails_once(alloc: Global, failing: u64) -> Result<bool, AllocError> {
     let mut shelf = shelf(alloc, 1, &[failing])?;
-    Ok([
-        is_read(alloc, &mut shelf, "model", 100, first),
-        is_read(alloc, &mut shelf, "model", 100, second),
-    ])
+    Ok(are_read(alloc, &mut shelf, failing))
+}
+
+// The number of the first call that fails otherwise.
+fn first_other(alloc: Global) -> Result<Option<u64>, AllocError> {
+    for failing in 1..9 {
+        if !fails_once(alloc, failing)? {
+            return Ok(Some(failing));
+        }
+    }
+    Ok(None)
 }
 
 /// The text is six reads of a byte and one that finds its end.
 #[test]
 fn one_failing_read_fails_one_text(rt: HostRuntime) -> Result<(), Fail> {
-    for failing in 1..=8 {
-        assert_eq!(rt;
-            fails_once(rt.alloc(), failing)?,
-            [true; 2],
-            "call {failing}"
-        );
-    }
+    assert_eq!(rt; first_other(rt.alloc())?, None);
     Ok(())
 }
 
@@ -113,18 +151,23 @@ fn failing_writes() -> &'static [(u64, u64, &'static str)] {
     ]
 }
 
+// One call; no clause of it is wanted here.
+fn is_all_taken(sink: &mut MemSink, text: &[u8]) -> bool {
+    write_all(sink, text).is_ok()
+}
+
 // Whether so much is taken, and the text is said to be written where that is all of it.
 fn is_taken(alloc: Global, most: u64, failing: u64, want: &str) -> Result<bool, AllocError> {
     let mut sink = MemSink::new(alloc, most.max(1), [failing].to_vec(alloc)?);
-    let written = write_all(&mut sink, b"answer");
-    Ok(written.is_ok() == (want == "answer") && sink.taken() == want.as_bytes())
+    let is_whole = is_all_taken(&mut sink, b"answer");
+    Ok(is_whole == (want == "answer") && sink.taken() == want.as_bytes())
 }
 
 fn is_taken_in_parts(alloc: Global) -> bool {
     let mut sink = MemSink::new(alloc, 1, Vec::new(alloc));
-    write_all(&mut sink, b"an").is_ok()
-        && write_all(&mut sink, b"").is_ok()
-        && write_all(&mut sink, b"swer").is_ok()
+    is_all_taken(&mut sink, b"an")
+        && is_all_taken(&mut sink, b"")
+        && is_all_taken(&mut sink, b"swer")
         && sink.taken() == b"answer".as_slice()
 }
 
@@ -138,16 +181,21 @@ fn a_failing_write_ends_the_text(rt: HostRuntime) -> Result<(), Fail> {
     Ok(())
 }
 
+// A name, and the text that is read of it; none where the read fails.
+fn texts() -> &'static [(&'static str, &'static [&'static str])] {
+    &[
+        ("model", &["answer"]),
+        ("missing", &[]),
+        ("other", &["second"]),
+        ("folder", &[]),
+        ("model", &["answer"]),
+    ]
+}
+
 // How many of five texts are read as they must be, one after another.
 fn count_texts<H: Shelf>(alloc: Global, shelf: &mut H) -> usize {
     let mut count = 0usize;
-    for (name, want) in [
-        ("model", Some("answer")),
-        ("missing", None),
-        ("other", Some("second")),
-        ("folder", None),
-        ("model", Some("answer")),
-    ] {
+    for (name, want) in texts() {
         if is_read(alloc, shelf, name, 100, want) {
             count = count.saturating_add(1);
         }
@@ -155,25 +203,27 @@ fn count_texts<H: Shelf>(alloc: Global, shelf: &mut H) -> usize {
     count
 }
 
-// What is read of a name from a place: the bytes, or nothing where the read fails.
-fn read_of<'a, H: Shelf>(
-    shelf: &mut H,
-    name: &str,
-    from: u64,
-    buf: &'a mut [u8],
-) -> Option<&'a [u8]> {
-    let count = shelf.read_at(name, from, buf).ok()?;
-    buf.get(..count)
+// How many bytes are read of a name from a place; nothing where the read fails.
+fn count_of<H: Shelf>(shelf: &mut H, name: &str, from: u64, buf: &mut [u8]) -> Option<usize> {
+    shelf.read_at(name, from, buf).ok()
 }
 
-// Reads one after another: a name, a place, the room, and what is read.
-type Reading = (&'static str, u64, usize, Option<&'static str>);
+// Whether the first so many bytes are this one text; where there is none, whether the read fails.
+fn is_front(buf: &[u8], count: Option<usize>, want: &[&str]) -> bool {
+    match count {
+        Some(count) => count <= buf.len() && is_text(&buf[..count], want),
+        None => want.is_empty(),
+    }
+}
+
+// A name, a place, the room, and the text that is read; none where the read fails.
+type Reading = (&'static str, u64, usize, &'static [&'static str]);
 
 fn is_part<H: Shelf>(alloc: Global, shelf: &mut H, row: &Reading) -> Result<bool, AllocError> {
     let (name, from, room, want) = row;
     let mut buf = vec![in alloc; 0u8; *room]?;
-    let read = read_of(shelf, name, *from, &mut buf);
-    Ok(read == want.map(|text| text.as_bytes()))
+    let count = count_of(shelf, name, *from, &mut buf);
+    Ok(is_front(&buf, count, want))
 }
 
 // How many of the reads are as they must be.
@@ -191,50 +241,66 @@ fn count_parts<H: Shelf>(
     Ok(count)
 }
 
-const PARTS_OF_FILES: [Reading; 4] = [
-    ("model", 3, 3, Some("wer")),
-    ("model", 0, 3, Some("ans")),
-    ("other", 4, 3, Some("nd")),
-    ("model", 6, 3, Some("")),
-];
+fn parts_of_files() -> &'static [Reading] {
+    &[
+        ("model", 3, 3, &["wer"]),
+        ("model", 0, 3, &["ans"]),
+        ("other", 4, 3, &["nd"]),
+        ("model", 6, 3, &[""]),
+    ]
+}
 
 fn read_files<H: Shelf>(alloc: Global, shelf: &mut H) -> Result<(usize, usize), AllocError> {
     let texts = count_texts(alloc, shelf);
-    Ok((texts, count_parts(alloc, shelf, &PARTS_OF_FILES)?))
+    Ok((texts, count_parts(alloc, shelf, parts_of_files())?))
+}
+
+fn lay_files<R: Files>(files: &R) -> io::Result<()> {
+    fs::write(files, "model", "answer")?;
+    fs::write(files, "other", "second")?;
+    fs::create_dir(files, "folder")
+}
+
+fn read_by_paths<R: Files>(alloc: Global, files: &R) -> Result<(usize, usize), AllocError> {
+    let mut shelf = FileShelf::new(alloc, files);
+    read_files(alloc, &mut shelf)
 }
 
 #[test]
 fn files_are_read_by_their_paths(rt: HostRuntime) -> Result<(), Fail> {
-    fs::write(&rt, "model", "answer")?;
-    fs::write(&rt, "other", "second")?;
-    fs::create_dir(&rt, "folder")?;
-    let read = read_files(rt.alloc(), &mut FileShelf::new(rt.alloc(), &rt))?;
-    assert_eq!(rt; read, (5, 4));
+    lay_files(&rt)?;
+    assert_eq!(rt; read_by_paths(rt.alloc(), &rt)?, (5, 4));
     Ok(())
 }
 
 // The file `stream` has no place but the one where its last read ended.
-const PARTS_IN_ANY_ORDER: [Reading; 14] = [
-    ("model", 0, 2, Some("01")),
-    ("model", 2, 9, Some("234")),
-    ("model", 7, 9, Some("789")),
-    ("model", 1, 1, Some("1")),
-    ("model", 1, 1, Some("1")),
-    ("model", 10, 9, Some("")),
-    ("stream", 0, 4, Some("str")),
-    ("stream", 3, 2, Some("ea")),
-    ("stream", 5, 2, Some("m ")),
-    ("model", 7, 1, Some("7")),
-    // the file was opened anew, and does not move to where it stood
-    ("stream", 7, 2, None),
-    ("stream", 0, 2, Some("st")),
-    ("missing", 0, 2, None),
-    ("model", 4, 2, Some("45")),
-];
+fn parts_in_any_order() -> &'static [Reading] {
+    &[
+        ("model", 0, 2, &["01"]),
+        ("model", 2, 9, &["234"]),
+        ("model", 7, 9, &["789"]),
+        ("model", 1, 1, &["1"]),
+        ("model", 1, 1, &["1"]),
+        ("model", 10, 9, &[""]),
+        ("stream", 0, 4, &["str"]),
+        ("stream", 3, 2, &["ea"]),
+        ("stream", 5, 2, &["m "]),
+        ("model", 7, 1, &["7"]),
+        // the file was opened anew, and does not move to where it stood
+        ("stream", 7, 2, &[]),
+        ("stream", 0, 2, &["st"]),
+        ("missing", 0, 2, &[]),
+        ("model", 4, 2, &["45"]),
+    ]
+}
+
+fn count_in_any_order<H: Shelf>(alloc: Global, shelf: &mut H) -> Result<usize, AllocError> {
+    count_parts(alloc, shelf, parts_in_any_order())
+}
 
 fn read_in_any_order(alloc: Global) -> Result<usize, AllocError> {
     let mut shelf = FileShelf::new(alloc, FakeFiles);
-    count_parts(alloc, &mut shelf, &PARTS_IN_ANY_ORDER)
+    count_in_any_order(alloc, &mut shelf)
 }
 
 #[test]
@@ -259,17 +325,29 @@ fn taken_of_all(most: usize) -> Option<usize> {
 
 // How many bytes a call of the output takes at most, how many of seven are taken in one call, and how many of
 // them when all are written; nothing where that fails.
-#[test]
-fn writes_of_few_bytes(rt: HostRuntime) {
-    for (most, one, all) in [
+fn few_bytes() -> &'static [(usize, Option<usize>, Option<usize>)] {
+    &[
         (3, Some(3), Some(7)),
         (9, Some(7), Some(7)),
         (0, None, None),
         (100, None, None),
-    ] {
-        assert_eq!(rt; taken_at_once(most), one, "by {most}");
-        assert_eq!(rt; taken_of_all(most), all, "by {most}");
+    ]
+}
+
+// How many of the rows are as they must be.
+fn count_few_bytes() -> usize {
+    let mut count = 0usize;
+    for (most, one, all) in few_bytes() {
+        if taken_at_once(*most) == *one && taken_of_all(*most) == *all {
+            count = count.saturating_add(1);
+        }
     }
+    count
+}
+
+#[test]
+fn writes_of_few_bytes(rt: HostRuntime) {
+    assert_eq!(rt; count_few_bytes(), 4);
 }
 
 // What workers share or keep may go to another thread.

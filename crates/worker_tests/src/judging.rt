@@ -5,9 +5,9 @@ use crate::drawing::{model_text, schedule};
 use crate::running::{Numbers, limits, run, with_property};
 use crate::searching::{Step, has_fair_lasso, leaves_a_skeleton, literal_count, steps_of};
 use certificate::{Accepted, check_answer};
-use circuit::{Circuit, Lasso, Stimulus};
+use circuit::{Circuit, Lasso, ModelEnd, Stimulus};
 use edge::{MemShelf, Spending};
-use entry::Origin;
+use entry::{Checked, Origin};
 use fair_workers::{Board, Ended, Report};
 use items::Items;
 use std::alloc::{AllocError, Global};
@@ -17,7 +17,7 @@ use wall_store::Outcome;
 const NO_LIMIT: u64 = 4_294_967_295;
 
 /// How a run ended, all of which was seen to be right; or that something was not.
-#[derive(Debug, Clone, Copy, PartialEq, Eq)]
+#[derive(Clone, Copy, PartialEq, Eq)]
 enum End {
     Verdict,
     Report,
@@ -34,30 +34,51 @@ struct SearchedCircuit {
 
 // ---- the text of an outcome
 
-fn stimulus_of(alloc: Global, lasso: &Lasso) -> Result<Stimulus, AllocError> {
+fn inputs_of(alloc: Global, lasso: &Lasso) -> Result<Items<Items<bool>>, AllocError> {
     let mut inputs = Items::new(alloc);
     for values in lasso.inputs.as_slice() {
         inputs.push(values.try_copy(alloc)?)?;
     }
+    Ok(inputs)
+}
+
+fn stimulus_of(alloc: Global, lasso: &Lasso) -> Result<Stimulus, AllocError> {
+    let inputs = inputs_of(alloc, lasso)?;
     Ok(Stimulus {
         latches: lasso.start.try_copy(alloc)?,
         inputs,
     })
 }
 
+fn lasso_text(alloc: Global, lasso: &Lasso) -> Result<Vec<u8>, AllocError> {
+    let made = stimulus_of(alloc, lasso)?;
+    stimulus::write(alloc, 0, &made)
+}
+
 fn answer_text(alloc: Global, board: &Board, outcome: &Outcome) -> Result<Vec<u8>, AllocError> {
     match outcome {
-        Outcome::Lasso(lasso) => stimulus::write(alloc, 0, &stimulus_of(alloc, lasso)?),
+        Outcome::Lasso(lasso) => lasso_text(alloc, lasso),
         Outcome::Holds(refutation) => certificate::write(alloc, 0, board.entries(), refutation),
     }
 }
 
+// A shelf that holds this text as `a`.
+fn shelf_of(alloc: Global, text: Vec<u8>) -> Result<MemShelf, AllocError> {
+    let name = String::from_str(alloc, "a")?;
+    let mut texts = Vec::new(alloc);
+    texts.push((name, text))?;
+    Ok(MemShelf::new(texts, 100, Vec::new(alloc)))
+}
+
+// One call; no clause of it is wanted here.
+fn judged_text(alloc: Global, c: &Circuit, shelf: &mut MemShelf) -> Option<Accepted> {
+    check_answer(alloc, c, shelf, "a").ok()
+}
+
 // What `check_answer` answers on a text, if it accepts it.
 fn accepted(alloc: Global, c: &Circuit, text: Vec<u8>) -> Result<Option<Accepted>, AllocError> {
-    let mut texts = Vec::new(alloc);
-    texts.push((String::from_str(alloc, "a")?, text))?;
-    let mut shelf = MemShelf::new(texts, 100, Vec::new(alloc));
-    Ok(check_answer(alloc, c, &mut shelf, "a").ok())
+    let mut shelf = shelf_of(alloc, text)?;
+    Ok(judged_text(alloc, c, &mut shelf))
 }
 
 // Whether an answer of property 0 that was accepted says what the search of all states says.
@@ -82,15 +103,17 @@ fn is_right_outcome(
 
 // ---- boards and reports
 
+fn is_by_one(entry: &Checked, workers: u32) -> bool {
+    match entry.origin() {
+        Origin::Worker(work) => work.author < workers,
+        Origin::Given => false,
+    }
+}
+
 fn is_by_workers(board: &Board, workers: u32) -> bool {
     for entry in board.entries() {
-        match entry.origin() {
-            Origin::Worker(work) => {
-                if work.author >= workers {
-                    return false;
-                }
-            }
-            Origin::Given => return false,
+        if !is_by_one(&**entry, workers) {
+            return false;
         }
     }
     true
@@ -208,17 +231,29 @@ fn is_right_report(
 
 // ---- runs
 
+fn end_of_outcome(
+    alloc: Global,
+    searched: &SearchedCircuit,
+    board: &Board,
+    outcome: &Outcome,
+) -> Result<End, AllocError> {
+    let is_right = is_right_outcome(alloc, searched, board, outcome)?;
+    Ok(if is_right { End::Verdict } else { End::Wrong })
+}
+
 fn end_of_board(
     alloc: Global,
     searched: &SearchedCircuit,
     n: &Numbers,
     board: &Board,
 ) -> Result<End, AllocError> {
-    let is_right = match board.outcome(0) {
-        Some(outcome) => is_board(board, n) && is_right_outcome(alloc, searched, board, outcome)?,
-        None => false,
-    };
-    Ok(if is_right { End::Verdict } else { End::Wrong })
+    if !is_board(board, n) {
+        return Ok(End::Wrong);
+    }
+    match board.outcome(0) {
+        Some(outcome) => end_of_outcome(alloc, searched, board, outcome),
+        None => Ok(End::Wrong),
+    }
 }
 
 fn end_of_report(
@@ -232,7 +267,8 @@ fn end_of_report(
 }
 
 fn run_by(alloc: Global, c: &Arc<Circuit>, n: &Numbers, turns: &[u32]) -> Result<Board, Ended> {
-    match with_property(Arc::try_clone(c)?) {
+    let c = Arc::try_clone(c)?;
+    match with_property(c) {
         Some(c) => run(alloc, &c, limits(n), turns),
         None => Err(Ended::Memory),
     }
@@ -263,22 +299,50 @@ fn end_of(
     judged(alloc, searched, n, ended)
 }
 
-// The circuit of the drawn model with a number, which is always read.
-fn circuit_drawn(alloc: Global, number: u64) -> Result<Option<Arc<Circuit>>, AllocError> {
-    let text = model_text(alloc, number)?;
-    match aiger_ascii::read(alloc, &text) {
-        Ok(model) => Ok(Some(Arc::new(alloc, model.into_circuit())?)),
+// The call on a text; no clause of its contract is wanted here.
+fn circuit_in(alloc: Global, text: &[u8]) -> Result<Circuit, ModelEnd> {
+    let model = aiger_ascii::read(alloc, text)?;
+    Ok(model.into_circuit())
+}
+
+/// The circuit of an ASCII text.
+pub(crate) fn circuit_of(alloc: Global, text: &[u8]) -> Result<Option<Arc<Circuit>>, AllocError> {
+    match circuit_in(alloc, text) {
+        Ok(circuit) => Ok(Some(Arc::new(alloc, circuit)?)),
         Err(_) => Ok(None),
     }
 }
 
+// The circuit of the drawn model with a number, which is always read.
+fn circuit_drawn(alloc: Global, number: u64) -> Result<Option<Arc<Circuit>>, AllocError> {
+    let text = model_text(alloc, number)?;
+    circuit_of(alloc, text.as_slice())
+}
+
 fn searched(alloc: Global, circuit: Arc<Circuit>) -> Result<SearchedCircuit, AllocError> {
     let steps = steps_of(alloc, &*circuit)?;
+    let has_lasso = has_fair_lasso(alloc, &*circuit, &steps)?;
     Ok(SearchedCircuit {
-        has_lasso: has_fair_lasso(alloc, &*circuit, &steps)?,
         circuit,
         steps,
+        has_lasso,
     })
+}
+
+fn is_decided_by(
+    alloc: Global,
+    searched: &SearchedCircuit,
+    number: u64,
+    k: u32,
+) -> Result<bool, AllocError> {
+    let n = Numbers {
+        workers: (k / 2).saturating_add(1),
+        conflicts: NO_LIMIT,
+        steps: NO_LIMIT,
+        skeletons: 65_536,
+    };
+    let drawn = number.saturating_mul(8).saturating_add(u64::from(k));
+    Ok(end_of(alloc, searched, &n, drawn)? == End::Verdict)
 }
 
 // Whether 1 to 4 workers without limits decide the circuit, each number of them by two schedules.
@@ -288,43 +352,45 @@ fn is_decided_by_all(
     number: u64,
 ) -> Result<bool, AllocError> {
     for k in 0..8 {
-        let n = Numbers {
-            workers: k / 2 + 1,
-            conflicts: NO_LIMIT,
-            steps: NO_LIMIT,
-            skeletons: 65_536,
-        };
-        let drawn = number.saturating_mul(8).saturating_add(u64::from(k));
-        if end_of(alloc, searched, &n, drawn)? != End::Verdict {
+        if !is_decided_by(alloc, searched, number, k)? {
             return Ok(false);
         }
     }
     Ok(true)
 }
 
+fn is_circuit_decided(
+    alloc: Global,
+    circuit: Arc<Circuit>,
+    number: u64,
+) -> Result<bool, AllocError> {
+    let searched = searched(alloc, circuit)?;
+    is_decided_by_all(alloc, &searched, number)
+}
+
 /// Whether the drawn model with a number is decided rightly by 1 to 4 workers, by drawn schedules.
 pub(crate) fn is_decided(alloc: Global, number: u64) -> Result<bool, AllocError> {
     match circuit_drawn(alloc, number)? {
-        Some(circuit) => is_decided_by_all(alloc, &searched(alloc, circuit)?, number),
+        Some(circuit) => is_circuit_decided(alloc, circuit, number),
         None => Ok(false),
+    }
+}
+
+// The limit, where the kind is this one or that of all three.
+fn limit_where(kind: u32, own: u32, limit: u32) -> u64 {
+    if kind == own || kind == 3 {
+        u64::from(limit)
+    } else {
+        NO_LIMIT
     }
 }
 
 // So many of one kind: of entries, conflicts, steps, or of all three.
 fn numbers_of(kind: u32, workers: u32, limit: u32) -> Numbers {
-    let units = u64::from(limit);
     Numbers {
         workers,
-        conflicts: if kind == 1 || kind == 3 {
-            units
-        } else {
-            NO_LIMIT
-        },
-        steps: if kind == 2 || kind == 3 {
-            units
-        } else {
-            NO_LIMIT
-        },
+        conflicts: limit_where(kind, 1, limit),
+        steps: limit_where(kind, 2, limit),
         skeletons: if kind == 0 || kind == 3 {
             limit
         } else {
@@ -342,6 +408,20 @@ fn next_limit(limit: u32) -> u32 {
     }
 }
 
+fn end_with_limit(
+    alloc: Global,
+    searched: &SearchedCircuit,
+    number: u64,
+    kind: u32,
+    limit: u32,
+    turn: u64,
+) -> Result<End, AllocError> {
+    let workers = (number % 4) as u32 + 1;
+    let n = numbers_of(kind, workers, limit);
+    let drawn = number.saturating_mul(28).saturating_add(turn);
+    end_of(alloc, searched, &n, drawn)
+}
+
 // Whether runs end rightly with each limit of a kind in turn, up to one that is not spent.
 fn ends_by_kind(
     alloc: Global,
@@ -349,16 +429,13 @@ fn ends_by_kind(
     number: u64,
     kind: u32,
 ) -> Result<bool, AllocError> {
-    let workers = (number % 4) as u32 + 1;
     let mut limit = 0;
     for turn in 0..28 {
-        let n = numbers_of(kind, workers, limit);
-        let drawn = number.saturating_mul(28).saturating_add(turn);
-        match end_of(alloc, searched, &n, drawn)? {
-            End::Verdict => return Ok(true),
-            End::Report => limit = next_limit(limit),
-            End::Wrong => return Ok(false),
+        let end = end_with_limit(alloc, searched, number, kind, limit, turn)?;
+        if end != End::Report {
+            return Ok(end == End::Verdict);
         }
+        limit = next_limit(limit);
     }
     Ok(false)
 }
@@ -372,11 +449,20 @@ fn ends_by_all(alloc: Global, searched: &SearchedCircuit, number: u64) -> Result
     Ok(true)
 }
 
+fn circuit_ends_within(
+    alloc: Global,
+    circuit: Arc<Circuit>,
+    number: u64,
+) -> Result<bool, AllocError> {
+    let searched = searched(alloc, circuit)?;
+    ends_by_all(alloc, &searched, number)
+}
+
 /// Whether 1 to 4 workers end rightly on the drawn model with a number, by drawn schedules, with limits of entries, of
 /// conflicts and of steps, and of all three: 0, 1, 2, .. until none is spent.
 pub(crate) fn ends_within(alloc: Global, number: u64) -> Result<bool, AllocError> {
     match circuit_drawn(alloc, number)? {
-        Some(circuit) => ends_by_all(alloc, &searched(alloc, circuit)?, number),
+        Some(circuit) => circuit_ends_within(alloc, circuit, number),
         None => Ok(false),
     }
 }

@@ -22,7 +22,7 @@ pub fn with_property(c: Arc<Circuit>) -> Option<Arc<Circuit>>
 
 /// How many workers there are, how many conflicts and steps each of them may count, and by how many entries their list
 /// may grow.
-#[derive(Debug, Clone, Copy)]
+#[derive(Clone, Copy)]
 pub struct Numbers {
     pub workers: u32,
     pub conflicts: u64,

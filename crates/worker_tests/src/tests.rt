@@ -1,10 +1,11 @@
 //! What workers come to on small models, for several schedules and limits.
 
-use crate::judging::{ends_within, is_decided};
+use crate::judging::{circuit_of, ends_within, is_decided};
 use crate::running::{Numbers, limits, run, with_property};
+use circuit::Circuit;
 use entry::{Checked, Origin};
 use fair_workers::{Board, Ended};
-use std::alloc::Global;
+use std::alloc::{AllocError, Global};
 use std::sync::Arc;
 use std::test::*;
 use wall_store::Outcome;
@@ -22,7 +23,7 @@ const INPUT: &str = "aag 1 1 0 0 0 0 0 1 0\n2\n1\n2\n";
 const NEVER: &str = "aag 1 0 1 0 0 0 0 1 0\n2 3\n1\n0\n";
 
 // How a run ended.
-#[derive(Debug, Clone, Copy, PartialEq, Eq)]
+#[derive(Clone, Copy, PartialEq, Eq)]
 enum End {
     Lasso,
     Holds,
@@ -42,6 +43,11 @@ fn first_author(entries: &[Arc<Checked>]) -> Option<u32> {
     }
 }
 
+fn answer_with(end: End, board: &Board) -> Answer {
+    let entries = board.entries();
+    (end, entries.len(), first_author(entries))
+}
+
 fn end_of(board: &Board) -> End {
     match board.outcome(0) {
         Some(Outcome::Lasso(_)) => End::Lasso,
@@ -52,45 +58,24 @@ fn end_of(board: &Board) -> End {
 
 fn answer_of(ended: Result<Board, Ended>) -> Answer {
     match ended {
-        Ok(board) => (
-            end_of(&board),
-            board.entries().len(),
-            first_author(board.entries()),
-        ),
-        Err(Ended::Spent(report)) => (
-            End::Spent,
-            report.board.entries().len(),
-            first_author(report.board.entries()),
-        ),
+        Ok(board) => answer_with(end_of(&board), &board),
+        Err(Ended::Spent(report)) => answer_with(End::Spent, &report.board),
         Err(Ended::Memory) => (End::Memory, 0, None),
     }
 }
 
-// The answer of so many workers on a model, each with so many steps, whose list may have so many entries.
-fn answer(
-    alloc: Global,
-    text: &str,
-    numbers: (u32, u64, u32),
-    schedule: &[u32],
-) -> Result<Answer, Fail> {
-    let model = aiger_ascii::read(alloc, text.as_bytes())?;
-    let c = Arc::new(alloc, model.into_circuit())?;
-    let (workers, steps, skeletons) = numbers;
-    let n = Numbers {
-        workers,
-        conflicts: ENOUGH,
-        steps,
-        skeletons,
-    };
-    Ok(match with_property(c) {
-        Some(c) => answer_of(run(alloc, &c, limits(&n), schedule)),
+fn answer_by(alloc: Global, c: Arc<Circuit>, n: &Numbers, schedule: &[u32]) -> Answer {
+    match with_property(c) {
+        Some(c) => answer_of(run(alloc, &c, limits(n), schedule)),
         None => (End::Memory, 0, None),
-    })
+    }
 }
 
 // A model, workers, steps of each, entries, a schedule; and the answer. A number of the schedule that is no worker's is
 // skipped. The second of two workers that find the same entry is told that its own is stale.
-const ROWS: [(&str, u32, u64, u32, &[u32], Answer); 12] = [
+type Row = (&'static str, u32, u64, u32, &'static [u32], Answer);
+
+const ROWS: [Row; 12] = [
     (STUCK, 2, ENOUGH, 9, &[0, 1, 0, 1], (End::Holds, 1, Some(0))),
     (STUCK, 2, ENOUGH, 9, &[0, 0, 1, 1], (End::Holds, 1, Some(0))),
     (STUCK, 2, ENOUGH, 9, &[1, 1], (End::Holds, 1, Some(1))),
@@ -105,33 +90,70 @@ const ROWS: [(&str, u32, u64, u32, &[u32], Answer); 12] = [
     (NEVER, 2, ENOUGH, 9, &[1], (End::Holds, 0, None)),
 ];
 
-fn row_is(alloc: Global, row: &(&str, u32, u64, u32, &[u32], Answer)) -> Result<bool, Fail> {
-    let (text, workers, steps, skeletons, schedule, wanted) = row;
-    let found = answer(alloc, text, (*workers, *steps, *skeletons), schedule)?;
-    Ok(found == *wanted)
+fn all_rows() -> &'static [Row] {
+    &ROWS
+}
+
+// The answer of so many workers on a model, each with so many steps, whose list may have so many entries.
+fn answer(alloc: Global, row: &Row) -> Result<Answer, AllocError> {
+    let (text, workers, steps, skeletons, schedule, _) = row;
+    let n = Numbers {
+        workers: *workers,
+        conflicts: ENOUGH,
+        steps: *steps,
+        skeletons: *skeletons,
+    };
+    match circuit_of(alloc, text.as_bytes())? {
+        Some(c) => Ok(answer_by(alloc, c, &n, schedule)),
+        None => Ok((End::Memory, 0, None)),
+    }
+}
+
+// The place of the first row that is not answered so, from 0.
+fn wrong_row(alloc: Global) -> Result<Option<usize>, AllocError> {
+    for (k, row) in all_rows().iter().enumerate() {
+        if answer(alloc, row)? != row.5 {
+            return Ok(Some(k));
+        }
+    }
+    Ok(None)
 }
 
 #[test]
 fn rows(rt: HostRuntime) -> Result<(), Fail> {
-    for row in &ROWS {
-        assert!(rt; row_is(rt.alloc(), row)?, "{}", row.0);
-    }
+    assert_eq!(rt; wrong_row(rt.alloc())?, None);
     Ok(())
+}
+
+// The number of the first drawn model that is not decided rightly.
+fn first_undecided(alloc: Global) -> Result<Option<u64>, AllocError> {
+    for number in 0..300 {
+        if !is_decided(alloc, number)? {
+            return Ok(Some(number));
+        }
+    }
+    Ok(None)
 }
 
 #[test]
 fn drawn_models_are_decided(rt: HostRuntime) -> Result<(), Fail> {
-    for number in 0..300 {
-        assert!(rt; is_decided(rt.alloc(), number)?, "{number}");
-    }
+    assert_eq!(rt; first_undecided(rt.alloc())?, None);
     Ok(())
+}
+
+// The number of the first drawn model that does not end rightly under limits.
+fn first_wrong_end(alloc: Global) -> Result<Option<u64>, AllocError> {
+    for number in 0..300 {
+        if !ends_within(alloc, number)? {
+            return Ok(Some(number));
+        }
+    }
+    Ok(None)
 }
 
 /// Limits of 0, 1, 2, .., until none is spent.
 #[test]
 fn drawn_models_under_limits(rt: HostRuntime) -> Result<(), Fail> {
-    for number in 0..300 {
-        assert!(rt; ends_within(rt.alloc(), number)?, "{number}");
-    }
+    assert_eq!(rt; first_wrong_end(rt.alloc())?, None);
     Ok(())
 }

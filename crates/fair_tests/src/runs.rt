@@ -1,0 +1,188 @@
+//! One run of the program over a shelf and a sink in memory. The main calls are `run_words` and `ends_so`.
+
+use edge::{FreeGate, MemShelf, MemSink};
+use fair_top::{Status, run};
+use std::alloc::{AllocError, Global};
+use std::sync::Wait;
+use std::thread::Threads;
+
+pub(crate) const USAGE: &str =
+    "usage: fairlive solve MODEL [--property N] [--workers W] [--conflicts C] [--steps S] [--skeletons K]\n       fairlive check MODEL ANSWER\n       fairlive gen KIND SEED SIZE [--binary]\n       fairlive demo SEED SIZE\n       fairlive wave MODEL ANSWER\n";
+
+/// What a run answered, and what it wrote.
+#[derive(Drop)]
+pub(crate) struct Outcome {
+    pub(crate) status: Status,
+    pub(crate) text: Vec<u8>,
+}
+
+fn push_word(alloc: Global, list: &mut Vec<String>, word: &str) -> Result<(), AllocError> {
+    let word = String::from_str(alloc, word)?;
+    list.push(word)?;
+    Ok(())
+}
+
+fn owned_words(alloc: Global, words: &[&str]) -> Result<Vec<String>, AllocError> {
+    let mut list = Vec::new(alloc);
+    for word in words {
+        push_word(alloc, &mut list, word)?;
+    }
+    Ok(list)
+}
+
+fn named(alloc: Global, name: &str, text: &[u8]) -> Result<(String, Vec<u8>), AllocError> {
+    let text = Vec::from_slice(alloc, text)?;
+    Ok((String::from_str(alloc, name)?, text))
+}
+
+fn push_text(
+    alloc: Global,
+    texts: &mut Vec<(String, Vec<u8>)>,
+    name: &str,
+    text: &[u8],
+) -> Result<(), AllocError> {
+    let pair = named(alloc, name, text)?;
+    texts.push(pair)?;
+    Ok(())
+}
+
+fn named_texts(
+    alloc: Global,
+    model: &[u8],
+    answer: &str,
+) -> Result<Vec<(String, Vec<u8>)>, AllocError> {
+    let mut texts = Vec::new(alloc);
+    push_text(alloc, &mut texts, "m", model)?;
+    push_text(alloc, &mut texts, "a", answer.as_bytes())?;
+    Ok(texts)
+}
+
+/// A shelf that holds the model as `m` and the answer as `a`, with at most `most` bytes a call, and with these calls failing.
+pub(crate) fn shelf_of(
+    alloc: Global,
+    model: &[u8],
+    answer: &str,
+    most: u64,
+    failing: &[u64],
+) -> Result<MemShelf, AllocError> {
+    let failing = Vec::from_slice(alloc, failing)?;
+    let texts = named_texts(alloc, model, answer)?;
+    Ok(MemShelf::new(texts, most.max(1), failing))
+}
+
+fn sink_of(alloc: Global, most: u64, failing: &[u64]) -> Result<MemSink, AllocError> {
+    let failing = Vec::from_slice(alloc, failing)?;
+    Ok(MemSink::new(alloc, most.max(1), failing))
+}
+
+// The program's call; no clause of its contract is wanted here.
+fn run_into<R: Threads + Wait + Sync>(
+    rt: &R,
+    alloc: Global,
+    list: &[String],
+    shelf: &mut MemShelf,
+    sink: &mut MemSink,
+) -> Status {
+    run(rt, alloc, list, shelf, sink, &FreeGate)
+}
+
+fn taken(alloc: Global, status: Status, sink: &MemSink) -> Result<Outcome, AllocError> {
+    let text = Vec::from_slice(alloc, sink.taken())?;
+    Ok(Outcome { status, text })
+}
+
+fn run_over<R: Threads + Wait + Sync>(
+    rt: &R,
+    alloc: Global,
+    list: &[String],
+    shelf: &mut MemShelf,
+    most: u64,
+    writes: &[u64],
+) -> Result<Outcome, AllocError> {
+    let mut sink = sink_of(alloc, most, writes)?;
+    let status = run_into(rt, alloc, list, shelf, &mut sink);
+    taken(alloc, status, &sink)
+}
+
+fn run_list<R: Threads + Wait + Sync>(
+    rt: &R,
+    alloc: Global,
+    list: &[String],
+    model: &[u8],
+    answer: &str,
+    most: u64,
+    reads: &[u64],
+    writes: &[u64],
+) -> Result<Outcome, AllocError> {
+    let mut shelf = shelf_of(alloc, model, answer, most, reads)?;
+    run_over(rt, alloc, list, &mut shelf, most, writes)
+}
+
+/// Runs these words over a shelf that holds the model as `m` and the answer as `a`, with at most `most` bytes a call, and
+/// with these calls failing.
+pub(crate) fn run_words<R: Threads + Wait + Sync>(
+    rt: &R,
+    alloc: Global,
+    words: &[&str],
+    model: &[u8],
+    answer: &str,
+    most: u64,
+    reads: &[u64],
+    writes: &[u64],
+) -> Result<Outcome, AllocError> {
+    let list = owned_words(alloc, words)?;
+    run_list(rt, alloc, &list, model, answer, most, reads, writes)
+}
+
+/// Whether a run wrote this text and ended with this number.
+pub(crate) fn is_end(ran: &Outcome, text: &[u8], number: u8) -> bool {
+    ran.status.number() == number && ran.text.as_slice() == text
+}
+
+fn ends_by<R: Threads + Wait + Sync>(
+    rt: &R,
+    alloc: Global,
+    words: &[&str],
+    model: &[u8],
+    answer: &str,
+    text: &[u8],
+    number: u8,
+    most: u64,
+) -> Result<bool, AllocError> {
+    let ran = run_words(rt, alloc, words, model, answer, most, &[], &[])?;
+    Ok(is_end(&ran, text, number))
+}
+
+/// Whether a run of these words over these texts writes this text and ends with this number, at once and at one byte a
+/// call alike.
+pub(crate) fn ends_so<R: Threads + Wait + Sync>(
+    rt: &R,
+    alloc: Global,
+    words: &[&str],
+    model: &[u8],
+    answer: &str,
+    text: &[u8],
+    number: u8,
+) -> Result<bool, AllocError> {
+    if !ends_by(rt, alloc, words, model, answer, text, number, 1000)? {
+        return Ok(false);
+    }
+    ends_by(rt, alloc, words, model, answer, text, number, 1)
+}
+
+/// The place of the first of these lists of words that is not refused by the usage text, from 0.
+pub(crate) fn first_taken<R: Threads + Wait + Sync>(
+    rt: &R,
+    alloc: Global,
+    lists: &[&[&str]],
+    model: &str,
+    answer: &str,
+) -> Result<Option<usize>, AllocError> {
+    let model = model.as_bytes();
+    for (k, words) in lists.iter().enumerate() {
+        if !ends_so(rt, alloc, words, model, answer, USAGE.as_bytes(), 64)? {
+            return Ok(Some(k));
+        }
+    }
+    Ok(None)
+}
