@@ -3,15 +3,16 @@
 
 ghost use Rattle.std.specs.Prelude.{◌≡◌, [], IfOk};
 ghost use Rattle.std.specs.Arc.{arc_value};
+ghost use Rattle.entry.specs.Listing.{entry_of};
 ghost use Rattle.entry.specs.Proved.{IsProved};
 ghost use Rattle.certify.specs.Claims.{claimed};
 
 use crate::failure::Failure;
-use crate::outside::{print_text, read_file};
-use crate::rewrite_run::read_model;
+use crate::models::circuit_in;
+use crate::outside::print_text;
 use crate::sat_run::NO_LIMIT;
 use crate::stamps::{Stamp, print_time};
-use aig_semantics::{MAX_MODEL_BYTES, Position};
+use aig_semantics::Position;
 use certify::Claim;
 use circuit::Circuit;
 use cnf::{Clause, Lit};
@@ -20,7 +21,7 @@ use edge::Meter;
 use entry::{Checked, Entry, Kind, Listed, good_lists_grow};
 use fair_semantics::{Situation, Skeleton};
 use items::Items;
-use proved_entries::{certified, claim_of, entry_again, judge, proved};
+use proved_entries::{ProvingEnd, certified, claim_of, entry_again, judge, proved};
 use std::alloc::{AllocError, Global};
 use std::sync::Arc;
 
@@ -28,21 +29,13 @@ use std::sync::Arc;
 /// entry that comes of it. Writes how many clauses it has and after how many conflicts; what both took goes to standard
 /// error. Gives 0, the number with which the program ends.
 pub(crate) fn run_certify(rt: &HostRuntime, name: &str) -> Result<u8, Failure> {
-    let bytes = read_file(rt, name, MAX_MODEL_BYTES)?;
-    certify_text(rt, &bytes)
-}
-
-fn certify_text(rt: &HostRuntime, bytes: &[u8]) -> Result<u8, Failure> {
-    let model = read_model(rt.alloc(), bytes)?;
-    let shared = Arc::new(rt.alloc(), model.into_circuit())?;
+    let shared = circuit_in(rt, name)?;
     certify_model(rt, &shared)
 }
 
 fn certify_model(rt: &HostRuntime, shared: &Arc<Circuit>) -> Result<u8, Failure> {
     let known = known_of(rt.alloc(), shared)?;
-    let skeleton = rising(rt.alloc(), &**shared)?;
-    let claim = claim_of(rt.alloc(), known.listed(), skeleton)?;
-    certify_timed(rt, shared, known, claim)
+    certify_known(rt, shared, known)
 }
 
 // The entry, checked behind no entries, with proofs of a solver of its own.
@@ -56,20 +49,31 @@ fn known_of(alloc: Global, shared: &Arc<Circuit>) -> Result<Checked, Failure>
 
 // The reach entry that each latch is 0.
 fn entry_at_zero(alloc: Global, c: &Circuit) -> Result<Listed, AllocError> {
-    Ok(Listed {
+    let set = zeros(alloc, c.latches().len() as u64)?;
+    Ok(reach_entry(alloc, set))
+}
+
+// A reach entry without uses.
+fn reach_entry(alloc: Global, set: ClauseSet) -> Listed {
+    Listed {
         kind: Kind::Reach,
-        set: zeros(alloc, c.latches().len() as u64)?,
+        set,
         uses: Items::new(alloc),
-    })
+    }
 }
 
 // For each of so many latches the clause that it is 0.
 fn zeros(alloc: Global, count: u64) -> Result<ClauseSet, AllocError> {
     let mut set = Items::new(alloc);
+    add_zeros(alloc, count, &mut set)?;
+    Ok(set)
+}
+
+fn add_zeros(alloc: Global, count: u64, set: &mut ClauseSet) -> Result<(), AllocError> {
     for latch in 0..count {
         set.push(zero(alloc, latch)?)?;
     }
-    Ok(set)
+    Ok(())
 }
 
 fn zero(alloc: Global, latch: u64) -> Result<Clause, AllocError> {
@@ -82,28 +86,58 @@ fn zero(alloc: Global, latch: u64) -> Result<Clause, AllocError> {
 
 // A skeleton in which the latches are 0 and then 1.
 fn rising(alloc: Global, c: &Circuit) -> Result<Skeleton, AllocError> {
+    let situation = rise(alloc, c)?;
+    skeleton_of(alloc, situation)
+}
+
+// A skeleton of one situation.
+fn skeleton_of(alloc: Global, situation: Situation) -> Result<Skeleton, AllocError> {
     let mut situations = Items::new(alloc);
-    situations.push(rise(alloc, c)?)?;
+    situations.push(situation)?;
     Ok(Skeleton { situations })
 }
 
 fn rise(alloc: Global, c: &Circuit) -> Result<Situation, AllocError> {
-    let count = c.latches().len();
-    let latches = values(alloc, count, false)?;
-    let inputs = values(alloc, c.inputs().len(), false)?;
-    let successor = values(alloc, count, true)?;
+    let position = zero_position(alloc, c)?;
+    let successor = values(alloc, c.latches().len(), true)?;
     Ok(Situation {
-        position: Position { latches, inputs },
+        position,
         successor,
     })
 }
 
+fn zero_position(alloc: Global, c: &Circuit) -> Result<Position, AllocError> {
+    let latches = values(alloc, c.latches().len(), false)?;
+    let inputs = values(alloc, c.inputs().len(), false)?;
+    Ok(Position { latches, inputs })
+}
+
 fn values(alloc: Global, count: usize, value: bool) -> Result<Items<bool>, AllocError> {
     let mut values = Items::new(alloc);
+    add_values(count, value, &mut values)?;
+    Ok(values)
+}
+
+fn add_values(count: usize, value: bool, values: &mut Items<bool>) -> Result<(), AllocError> {
     for _place in 0..count {
         values.push(value)?;
     }
-    Ok(values)
+    Ok(())
+}
+
+fn certify_known(rt: &HostRuntime, shared: &Arc<Circuit>, known: Checked) -> Result<u8, Failure>
+    requires { IsProved (arc_value shared.now) [] known.entry known.proofs }
+{
+    let claim = rising_claim(rt.alloc(), &**shared, known.listed())?;
+    certify_timed(rt, shared, known, claim)
+}
+
+// The claim of an entry for a skeleton in which the latches rise.
+fn rising_claim(alloc: Global, c: &Circuit, listed: &Listed) -> Result<Claim, AllocError>
+    ensures { IfOk result (λ claim. claimed claim ≡ entry_of listed.now) }
+{
+    let skeleton = rising(alloc, c)?;
+    claim_of(alloc, listed, skeleton)
 }
 
 fn certify_timed(
@@ -116,10 +150,37 @@ fn certify_timed(
     requires same { claimed claim ≡ known.entry }
 {
     let start = Stamp::now(rt)?;
+    certify_since(rt, shared, known, claim, start)
+}
+
+fn certify_since(
+    rt: &HostRuntime,
+    shared: &Arc<Circuit>,
+    known: Checked,
+    claim: Claim,
+    start: Stamp,
+) -> Result<u8, Failure>
+    requires proved { IsProved (arc_value shared.now) [] known.entry known.proofs }
+    requires same { claimed claim ≡ known.entry }
+{
     let mut meter = Meter::new(NO_LIMIT, 0);
-    good_lists_grow(&**shared);
-    let checked = certified(rt.alloc(), shared, &[], known, claim, &mut meter)?;
+    let checked = certified_alone(rt.alloc(), shared, known, claim, &mut meter)?;
     check_certified(rt, &**shared, &checked, start, meter.spending().conflicts())
+}
+
+// The claim certified, behind no entries.
+fn certified_alone(
+    alloc: Global,
+    shared: &Arc<Circuit>,
+    known: Checked,
+    claim: Claim,
+    meter: &mut Meter,
+) -> Result<Checked, ProvingEnd>
+    requires proved { IsProved (arc_value shared.now) [] known.entry known.proofs }
+    requires same { claimed claim ≡ known.entry }
+{
+    good_lists_grow(&**shared);
+    certified(alloc, shared, &[], known, claim, meter)
 }
 
 // Tells what certifying took, and checks the entry as it could be read from a certificate.
@@ -131,6 +192,15 @@ fn check_certified(
     conflicts: u64,
 ) -> Result<u8, Failure> {
     print_time(rt, "certifying", start)?;
+    check_again(rt, c, checked, conflicts)
+}
+
+fn check_again(
+    rt: &HostRuntime,
+    c: &Circuit,
+    checked: &Checked,
+    conflicts: u64,
+) -> Result<u8, Failure> {
     let e = entry_again(rt.alloc(), checked)?;
     judge_timed(rt, c, &e, conflicts)
 }

@@ -3,12 +3,13 @@
 use circuit::ModelEnd;
 use edge::{Failed, ReadEnd, SolveEnd};
 use entry::EntryEnd;
+use ic3_questions::ReachEnd;
 use proved_entries::ProvingEnd;
 use std::alloc::{AllocError, AllocFailed};
 use std::io;
 
 /// Why a run ends without a verdict.
-#[derive(Clone, Copy, Debug, PartialEq, Eq)]
+#[derive(Clone, Copy)]
 pub(crate) enum Failure {
     /// A text is not in its form: clauses in DIMACS form, or a model.
     BadInput,
@@ -94,6 +95,15 @@ impl From<ProvingEnd> for Failure {
         match end {
             ProvingEnd::Refused => Failure::WrongAnswer,
             ProvingEnd::Memory => Failure::Memory,
+        }
+    }
+}
+
+impl From<ReachEnd> for Failure {
+    fn from(end: ReachEnd) -> Failure {
+        match end {
+            ReachEnd::SpentConflicts | ReachEnd::SpentSteps => Failure::Spent,
+            ReachEnd::Memory => Failure::Memory,
         }
     }
 }

@@ -16,14 +16,20 @@ const GREATEST: u64 = 9_223_372_036_854_775_807;
 /// not as many clauses as its heading says.
 pub(crate) fn read_formula(alloc: Global, text: &[u8]) -> Result<Db, Failure> {
     let mut clauses = Db::new(alloc);
-    let mut heading: Option<u64> = None;
-    for line in Lines(text) {
-        take_line(alloc, line, &mut heading, &mut clauses)?;
-    }
-    if heading != Some(clauses.len() as u64) {
+    let said = take_lines(alloc, text, &mut clauses)?;
+    if said != Some(clauses.len() as u64) {
         return Err(Failure::BadInput);
     }
     Ok(clauses)
+}
+
+// Takes each line, and answers how many clauses the heading says, if there is one.
+fn take_lines(alloc: Global, text: &[u8], clauses: &mut Db) -> Result<Option<u64>, Failure> {
+    let mut heading: Option<u64> = None;
+    for line in Lines(text) {
+        take_line(alloc, line, &mut heading, clauses)?;
+    }
+    Ok(heading)
 }
 
 // The first line that is no comment is the heading, and each later one a clause.
@@ -59,26 +65,32 @@ fn clauses_said(line: &[u8]) -> Option<u64> {
 // The clause of a line: literals, 0, and no more.
 fn read_clause(alloc: Global, line: &[u8]) -> Result<Clause, Failure> {
     let mut clause = Clause::new(alloc);
-    if !take_fields(line, &mut clause)? {
-        return Err(Failure::BadInput);
-    }
+    take_fields(line, &mut clause)?;
     Ok(clause)
 }
 
-// Whether there was a 0, behind which nothing may stand.
-fn take_fields(line: &[u8], clause: &mut Clause) -> Result<bool, Failure> {
+fn take_fields(line: &[u8], clause: &mut Clause) -> Result<(), Failure> {
     let mut is_ended = false;
     for field in line.split(|byte| *byte == b' ') {
         if is_ended {
             return Err(Failure::BadInput);
         }
-        if field == b"0".as_slice() {
-            is_ended = true;
-        } else {
-            clause.push(signed(field).ok_or(Failure::BadInput)?)?;
-        }
+        is_ended = take_field(field, clause)?;
     }
-    Ok(is_ended)
+    if is_ended {
+        Ok(())
+    } else {
+        Err(Failure::BadInput)
+    }
+}
+
+// Whether the field is the 0 that ends a clause. Any other is a literal.
+fn take_field(field: &[u8], clause: &mut Clause) -> Result<bool, Failure> {
+    if field == b"0".as_slice() {
+        return Ok(true);
+    }
+    clause.push(signed(field).ok_or(Failure::BadInput)?)?;
+    Ok(false)
 }
 
 // The literal that is the whole field.

@@ -5,7 +5,7 @@ ghost use Rattle.text_grammar.specs.Lines.{lines_of};
 use text_grammar::next_line;
 
 /// The lines of a text, without their line feeds.
-#[derive(Debug, Drop)]
+#[derive(Drop)]
 pub(crate) struct Lines<'a>(pub(crate) &'a [u8]);
 
 impl<'a> Iterator for Lines<'a> {

@@ -8,10 +8,11 @@ use crate::sat_run::MAX_BYTES;
 use crate::stamps::Stamp;
 use crate::verdict::{Verdict, judge_lines, verdict_text};
 use lrat::Checker;
+use std::alloc::Global;
 use std::io;
 
 /// What the checker said, and when it began and ended.
-#[derive(Clone, Copy, Debug)]
+#[derive(Clone, Copy)]
 struct Checked {
     verdict: Verdict,
     proved_empty: bool,
@@ -28,8 +29,18 @@ pub(crate) fn run_lrat(rt: &HostRuntime, formula: &str, proof: &str) -> Result<u
 }
 
 fn check_texts(rt: &HostRuntime, formula: &[u8], proof: &[u8]) -> Result<u8, Failure> {
-    let mut checker = Checker::new(rt.alloc(), read_formula(rt.alloc(), formula)?)?;
-    let checked = check_timed(rt, &mut checker, proof)?;
+    let mut checker = checker_of(rt.alloc(), formula)?;
+    check_proof(rt, &mut checker, proof)
+}
+
+// A checker of the clauses in a text.
+fn checker_of(alloc: Global, formula: &[u8]) -> Result<Checker, Failure> {
+    let clauses = read_formula(alloc, formula)?;
+    Ok(Checker::new(alloc, clauses)?)
+}
+
+fn check_proof(rt: &HostRuntime, checker: &mut Checker, proof: &[u8]) -> Result<u8, Failure> {
+    let checked = check_timed(rt, checker, proof)?;
     say_checked(rt, checked, count_hints(proof))
 }
 

@@ -8,6 +8,7 @@ mod formula;
 mod hints;
 mod lines;
 mod lrat_run;
+mod models;
 mod outside;
 mod questions_run;
 mod reach_run;
@@ -20,7 +21,7 @@ use crate::certify_run::run_certify;
 use crate::failure::Failure;
 use crate::lrat_run::run_lrat;
 use crate::outside::print_text;
-use crate::questions_run::{run_own_questions, run_questions};
+use crate::questions_run::{run_bringing_questions, run_questions};
 use crate::reach_run::run_reach;
 use crate::rewrite_run::run_rewrite;
 use crate::sat_run::run_sat;
@@ -104,7 +105,7 @@ fn run_three(
     third: &str,
 ) -> Result<u8, Failure> {
     if command == "questions" {
-        return run_own_questions(rt, first, second, third);
+        return run_bringing_questions(rt, first, second, third);
     }
     print_usage(rt)
 }

@@ -1,5 +1,5 @@
 //! The subcommand `questions`: asks one solver many questions under assumptions, and measures them. The main calls
-//! are `run_questions` and `run_own_questions`.
+//! are `run_questions` and `run_bringing_questions`.
 
 use crate::failure::Failure;
 use crate::formula::read_formula;
@@ -9,15 +9,36 @@ use crate::stamps::Stamp;
 use cdcl::{Asked, Solver, are_sized, has_opposites};
 use cnf::{Clause, Db, Lit};
 use edge::Meter;
-use std::alloc::Global;
+use std::alloc::{AllocError, Global};
 use std::io;
+use std::marker::Model;
 
 /// How many questions were answered each way, and after how many conflicts.
-#[derive(Clone, Copy, Debug)]
+#[derive(Clone, Copy)]
 struct Tally {
     sat: u64,
     unsat: u64,
     conflicts: u64,
+}
+
+/// The assumptions of a question that a solver may be asked: no literal is the negation of another, and each variable is from
+/// 1 to 2^63 - 1.
+#[derive(Drop)]
+struct Asking {
+    literals: Clause,
+}
+
+impl Model for Asking {
+    ghost use Rattle.std.specs.Prelude.{◌≡◌, List, false};
+    ghost use Rattle.proof_semantics.specs.Clauses.{has_opposites};
+    ghost use Rattle.proof_semantics.specs.Lines.{AreSized};
+    ghost use Rattle.proof_semantics.specs.declared.literals.Lit.{Lit};
+
+    ghost Value = { List Lit };
+
+    ghost view = { λ s. s.literals };
+
+    ghost invariant = { λ s. (has_opposites s.literals ≡ false) × AreSized s.literals };
 }
 
 /// Asks a solver of the clauses in one file the questions in another, whose clauses are lists of assumptions, one
@@ -28,27 +49,64 @@ pub(crate) fn run_questions(
     clauses: &str,
     questions: &str,
 ) -> Result<u8, Failure> {
-    let mut solver = solver_of(rt.alloc(), formula_in(rt, clauses)?)?;
-    let lists = formula_in(rt, questions)?;
-    ask_timed(rt, &mut solver, &lists, &Db::new(rt.alloc()))
+    let mut solver = solver_in(rt, clauses)?;
+    ask_file(rt, &mut solver, questions)
 }
 
-/// The same questions, each of which brings a clause of its own: that with its number in a third file is added before it
-/// is asked. Behind the answer the clause is retired: its last literal, which stands in no other clause and whose
+/// The same questions, each of which brings a clause of its own: the clause with its number in a third file is added before
+/// it is asked. Behind the answer the clause is retired: its last literal, which stands in no other clause and whose
 /// negation is assumed, becomes a unit clause.
-pub(crate) fn run_own_questions(
+pub(crate) fn run_bringing_questions(
     rt: &HostRuntime,
     clauses: &str,
     questions: &str,
     own: &str,
 ) -> Result<u8, Failure> {
-    let mut solver = solver_of(rt.alloc(), formula_in(rt, clauses)?)?;
-    let lists = formula_in(rt, questions)?;
+    let mut solver = solver_in(rt, clauses)?;
+    ask_file_bringing(rt, &mut solver, questions, own)
+}
+
+// A solver of the clauses in a file.
+fn solver_in(rt: &HostRuntime, name: &str) -> Result<Solver, Failure> {
+    solver_of(rt.alloc(), formula_in(rt, name)?)
+}
+
+fn ask_file(rt: &HostRuntime, solver: &mut Solver, questions: &str) -> Result<u8, Failure> {
+    let askings = askings_in(rt, questions)?;
+    ask_timed(rt, solver, &askings, &[])
+}
+
+fn ask_file_bringing(
+    rt: &HostRuntime,
+    solver: &mut Solver,
+    questions: &str,
+    own: &str,
+) -> Result<u8, Failure> {
+    let askings = askings_in(rt, questions)?;
+    ask_bringing(rt, solver, &askings, own)
+}
+
+fn ask_bringing(
+    rt: &HostRuntime,
+    solver: &mut Solver,
+    askings: &[Asking],
+    own: &str,
+) -> Result<u8, Failure> {
     let brought = formula_in(rt, own)?;
-    if brought.len() != lists.len() {
+    ask_alike(rt, solver, askings, brought.as_slice())
+}
+
+// Asks if each question has a clause.
+fn ask_alike(
+    rt: &HostRuntime,
+    solver: &mut Solver,
+    askings: &[Asking],
+    brought: &[Clause],
+) -> Result<u8, Failure> {
+    if brought.len() != askings.len() {
         return Err(Failure::BadInput);
     }
-    ask_timed(rt, &mut solver, &lists, &brought)
+    ask_timed(rt, solver, askings, brought)
 }
 
 // The clauses in a file.
@@ -57,32 +115,85 @@ fn formula_in(rt: &HostRuntime, name: &str) -> Result<Db, Failure> {
     read_formula(rt.alloc(), &text)
 }
 
+// The questions in a file.
+fn askings_in(rt: &HostRuntime, name: &str) -> Result<Vec<Asking>, Failure> {
+    askings_of(rt.alloc(), formula_in(rt, name)?)
+}
+
+fn askings_of(alloc: Global, lists: Db) -> Result<Vec<Asking>, Failure> {
+    let mut askings = Vec::new(alloc);
+    take_lists(lists, &mut askings)?;
+    Ok(askings)
+}
+
+fn take_lists(lists: Db, askings: &mut Vec<Asking>) -> Result<(), Failure> {
+    for list in lists.into_vec() {
+        take_list(list, askings)?;
+    }
+    Ok(())
+}
+
+fn take_list(list: Clause, askings: &mut Vec<Asking>) -> Result<(), Failure> {
+    askings.push(asking_of(list)?)?;
+    Ok(())
+}
+
+fn asking_of(literals: Clause) -> Result<Asking, Failure> {
+    if has_opposites(literals.as_slice()) || !are_sized(literals.as_slice()) {
+        return Err(Failure::BadInput);
+    }
+    Ok(Asking { literals })
+}
+
 fn ask_timed(
     rt: &HostRuntime,
     solver: &mut Solver,
-    lists: &Db,
-    brought: &Db,
+    askings: &[Asking],
+    brought: &[Clause],
 ) -> Result<u8, Failure> {
     let start = Stamp::now(rt)?;
-    let tally = ask_all(rt.alloc(), solver, lists, brought)?;
+    let tally = ask_all(rt.alloc(), solver, askings, brought)?;
     let end = Stamp::now(rt)?;
     print_costs(rt, tally, start, end)?;
     print_tally(rt, tally)?;
     Ok(0)
 }
 
-fn ask_all(alloc: Global, solver: &mut Solver, lists: &Db, brought: &Db) -> Result<Tally, Failure> {
+fn ask_all(
+    alloc: Global,
+    solver: &mut Solver,
+    askings: &[Asking],
+    brought: &[Clause],
+) -> Result<Tally, Failure> {
+    let mut meter = Meter::new(NO_LIMIT, 0);
+    let mut tally = ask_each(alloc, solver, askings, brought, &mut meter)?;
+    tally.conflicts = meter.spending().conflicts();
+    Ok(tally)
+}
+
+// Asks each question, and counts no conflicts.
+fn ask_each(
+    alloc: Global,
+    solver: &mut Solver,
+    askings: &[Asking],
+    brought: &[Clause],
+    meter: &mut Meter,
+) -> Result<Tally, Failure> {
     let mut tally = Tally {
         sat: 0,
         unsat: 0,
         conflicts: 0,
     };
-    let mut meter = Meter::new(NO_LIMIT, 0);
-    for (number, list) in lists.as_slice().iter().enumerate() {
-        let own = brought.as_slice().get(number);
-        ask_with(alloc, solver, own, list.as_slice(), &mut meter, &mut tally)?;
+    for (number, asking) in askings.iter().enumerate() {
+        ask_with(
+            alloc,
+            solver,
+            brought.get(number),
+            asking,
+            meter,
+            &mut tally,
+        )?;
     }
-    tally.conflicts = meter.spending().conflicts();
     Ok(tally)
 }
 
@@ -91,18 +202,27 @@ fn ask_with(
     alloc: Global,
     solver: &mut Solver,
     own: Option<&Clause>,
-    assumptions: &[Lit],
+    asking: &Asking,
     meter: &mut Meter,
     tally: &mut Tally,
 ) -> Result<(), Failure> {
     match own {
-        Some(clause) => {
-            bring(alloc, solver, clause)?;
-            ask_one(alloc, solver, assumptions, meter, tally)?;
-            retire(alloc, solver, clause)
-        }
-        None => ask_one(alloc, solver, assumptions, meter, tally),
+        Some(clause) => ask_beside(alloc, solver, clause, asking, meter, tally),
+        None => ask_one(alloc, solver, asking, meter, tally),
     }
+}
+
+fn ask_beside(
+    alloc: Global,
+    solver: &mut Solver,
+    own: &Clause,
+    asking: &Asking,
+    meter: &mut Meter,
+    tally: &mut Tally,
+) -> Result<(), Failure> {
+    bring(alloc, solver, own)?;
+    ask_one(alloc, solver, asking, meter, tally)?;
+    retire(alloc, solver, own)
 }
 
 fn bring(alloc: Global, solver: &mut Solver, clause: &Clause) -> Result<(), Failure> {
@@ -112,22 +232,23 @@ fn bring(alloc: Global, solver: &mut Solver, clause: &Clause) -> Result<(), Fail
 // The clause of a question is true for good by its last literal.
 fn retire(alloc: Global, solver: &mut Solver, clause: &Clause) -> Result<(), Failure> {
     let literal = *clause.as_slice().last().ok_or(Failure::BadInput)?;
+    add_one(solver, unit_of(alloc, literal)?)
+}
+
+fn unit_of(alloc: Global, literal: Lit) -> Result<Clause, AllocError> {
     let mut unit = Clause::new(alloc);
     unit.push(literal)?;
-    add_one(solver, unit)
+    Ok(unit)
 }
 
 fn ask_one(
     alloc: Global,
     solver: &mut Solver,
-    assumptions: &[Lit],
+    asking: &Asking,
     meter: &mut Meter,
     tally: &mut Tally,
 ) -> Result<(), Failure> {
-    if has_opposites(assumptions) || !are_sized(assumptions) {
-        return Err(Failure::BadInput);
-    }
-    let answer = solver.ask(alloc, assumptions, meter)?;
+    let answer = solver.ask(alloc, asking.literals.as_slice(), meter)?;
     count_answer(&answer, tally);
     Ok(())
 }

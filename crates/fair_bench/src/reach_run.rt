@@ -2,15 +2,15 @@
 //! `run_reach`.
 
 ghost use Rattle.std.specs.Prelude.{◌≡◌, true, []};
+ghost use Rattle.std.specs.Arc.{arc_value};
 ghost use Rattle.ic3.specs.Searches.{GoesOnFrom};
 ghost use Rattle.ic3_questions.specs.Searching.{IsStart, IsGoal};
 
 use crate::failure::Failure;
-use crate::outside::{print_text, read_file};
-use crate::rewrite_run::read_model;
+use crate::models::circuit_in;
+use crate::outside::print_text;
 use crate::sat_run::NO_LIMIT;
 use crate::stamps::Stamp;
-use aig_semantics::MAX_MODEL_BYTES;
 use circuit::{Circuit, Position};
 use edge::Meter;
 use entry::good_lists_grow;
@@ -21,14 +21,14 @@ use std::io;
 use std::sync::Arc;
 
 /// What a search answered: the positions of a path and the state of its last one, or how many clauses a closed set has.
-#[derive(Debug, Drop)]
+#[derive(Drop)]
 enum Answer {
     Path { positions: usize, last: Items<bool> },
     Closed { clauses: usize },
 }
 
 /// What a search answered, how many questions its solver was asked, and how many frames it came to.
-#[derive(Debug, Drop)]
+#[derive(Drop)]
 struct Told {
     answer: Answer,
     questions: u64,
@@ -39,62 +39,85 @@ struct Told {
 /// each literal of each property and of fairness; and from the last state of the first path to each of them. Writes what
 /// each search found; what it took goes to standard error. Gives 0, the number with which the program ends.
 pub(crate) fn run_reach(rt: &HostRuntime, name: &str) -> Result<u8, Failure> {
-    let bytes = read_file(rt, name, MAX_MODEL_BYTES)?;
-    search_text(rt, &bytes)
-}
-
-fn search_text(rt: &HostRuntime, bytes: &[u8]) -> Result<u8, Failure> {
-    let model = read_model(rt.alloc(), bytes)?;
-    let shared = Arc::new(rt.alloc(), model.into_circuit())?;
+    let shared = circuit_in(rt, name)?;
     search_circuit(rt, &shared)
 }
 
 fn search_circuit(rt: &HostRuntime, c: &Arc<Circuit>) -> Result<u8, Failure> {
     let goals = goals_of(rt.alloc(), &**c)?;
-    search_twice(rt, c, goals.as_slice())
+    search_twice(rt, c, &goals)
 }
 
 fn search_twice(rt: &HostRuntime, c: &Arc<Circuit>, goals: &[u64]) -> Result<u8, Failure> {
-    match search_all(rt, c, &Start::Initial, "initial", goals)? {
-        Some(state) => search_from(rt, c, state, goals),
+    let mut first = None;
+    search_all(rt, c, &Start::Initial, "initial", goals, &mut first)?;
+    search_from(rt, c, first, goals)
+}
+
+// Searches from a state, if there is one.
+fn search_from(
+    rt: &HostRuntime,
+    c: &Arc<Circuit>,
+    state: Option<Items<bool>>,
+    goals: &[u64],
+) -> Result<u8, Failure> {
+    match state {
+        Some(state) => search_from_state(rt, c, state, goals),
         None => Ok(0),
     }
 }
 
-fn search_from(
+fn search_from_state(
     rt: &HostRuntime,
     c: &Arc<Circuit>,
     state: Items<bool>,
     goals: &[u64],
 ) -> Result<u8, Failure> {
-    search_all(rt, c, &Start::State(state), "state", goals)?;
+    let mut first = None;
+    search_all(rt, c, &Start::State(state), "state", goals, &mut first)?;
     Ok(0)
 }
 
 /// The literals of the properties and of fairness, in their order.
-fn goals_of(alloc: Global, c: &Circuit) -> Result<Vec<u64>, Failure> {
+fn goals_of(alloc: Global, c: &Circuit) -> Result<Vec<u64>, AllocError> {
     let mut goals = Vec::new(alloc);
-    for j in 0..c.property_count() {
-        goals.extend_from_slice(c.property(j))?;
-    }
-    goals.extend_from_slice(c.fairness())?;
+    add_goals(c, &mut goals)?;
     Ok(goals)
 }
 
-// Searches for each literal in turn, and answers the last state of the first path.
+fn add_goals(c: &Circuit, goals: &mut Vec<u64>) -> Result<(), AllocError> {
+    for j in 0..c.property_count() {
+        goals.extend_from_slice(c.property(j))?;
+    }
+    goals.extend_from_slice(c.fairness())
+}
+
+// Searches for each literal in turn, and keeps the last state of the first path.
 fn search_all(
     rt: &HostRuntime,
     c: &Arc<Circuit>,
     start: &Start,
     from: &str,
     goals: &[u64],
-) -> Result<Option<Items<bool>>, Failure> {
-    let mut first = None;
+    first: &mut Option<Items<bool>>,
+) -> Result<(), Failure> {
     for literal in goals {
-        let found = search(rt, c, start, from, *literal)?;
-        keep_first(&mut first, found);
+        search_next(rt, c, start, from, *literal, first)?;
     }
-    Ok(first)
+    Ok(())
+}
+
+fn search_next(
+    rt: &HostRuntime,
+    c: &Arc<Circuit>,
+    start: &Start,
+    from: &str,
+    literal: u64,
+    first: &mut Option<Items<bool>>,
+) -> Result<(), Failure> {
+    let found = search(rt, c, start, from, literal)?;
+    keep_first(first, found);
+    Ok(())
 }
 
 fn keep_first(first: &mut Option<Items<bool>>, found: Option<Items<bool>>) {
@@ -112,6 +135,16 @@ fn search(
     literal: u64,
 ) -> Result<Option<Items<bool>>, Failure> {
     let answer = answer_timed(rt, c, start, literal)?;
+    say_answer(rt, from, literal, answer)
+}
+
+// Writes an answer, and gives the state that it came to.
+fn say_answer(
+    rt: &HostRuntime,
+    from: &str,
+    literal: u64,
+    answer: Answer,
+) -> Result<Option<Items<bool>>, Failure> {
     print_answer(rt, from, literal, &answer)?;
     Ok(last_of(answer))
 }
@@ -125,7 +158,17 @@ fn answer_timed(
     let mut meter = Meter::new(NO_LIMIT, NO_LIMIT);
     let before = Stamp::now(rt)?;
     let told = told_of(rt.alloc(), c, start, literal, &mut meter)?;
-    print_costs(rt, &meter, before, &told)?;
+    say_costs(rt, &meter, before, told)
+}
+
+// Tells what a search took, and gives its answer.
+fn say_costs(
+    rt: &HostRuntime,
+    meter: &Meter,
+    before: Stamp,
+    told: Told,
+) -> Result<Answer, Failure> {
+    print_costs(rt, meter, before, &told)?;
     Ok(told.answer)
 }
 
@@ -172,17 +215,65 @@ fn told_of(
     meter: &mut Meter,
 ) -> Result<Told, Failure> {
     let from = copy_of(alloc, start)?;
+    told_from(alloc, c, from, literal, meter)
+}
+
+fn told_from(
+    alloc: Global,
+    c: &Arc<Circuit>,
+    from: Start,
+    literal: u64,
+    meter: &mut Meter,
+) -> Result<Told, Failure> {
     if !is_start(&**c, &from) {
         return Err(Failure::BadInput);
     }
+    told_at(alloc, c, from, literal, meter)
+}
+
+fn told_at(
+    alloc: Global,
+    c: &Arc<Circuit>,
+    from: Start,
+    literal: u64,
+    meter: &mut Meter,
+) -> Result<Told, Failure>
+    requires { IsStart (arc_value c.now) from }
+{
     let mut search = Search::new(alloc, c, from)?;
-    let reached = ask_literal(alloc, &**c, &mut search, literal, meter)?;
-    let answer = answer_in(alloc, &reached)?;
+    told_by(alloc, &**c, &mut search, literal, meter)
+}
+
+fn told_by(
+    alloc: Global,
+    c: &Circuit,
+    search: &mut Search,
+    literal: u64,
+    meter: &mut Meter,
+) -> Result<Told, Failure>
+    requires circuit { search.old.circuit ≡ c.now }
+    requires on { GoesOnFrom search.old.view [] }
+{
+    let answer = answer_of(alloc, c, search, literal, meter)?;
     Ok(Told {
         answer,
-        questions: search.asked(),
+        questions: search.solver_questions(),
         frames: search.frames(),
     })
+}
+
+fn answer_of(
+    alloc: Global,
+    c: &Circuit,
+    search: &mut Search,
+    literal: u64,
+    meter: &mut Meter,
+) -> Result<Answer, Failure>
+    requires circuit { search.old.circuit ≡ c.now }
+    requires on { GoesOnFrom search.old.view [] }
+{
+    let reached = ask_literal(alloc, c, search, literal, meter)?;
+    answer_in(alloc, &reached)
 }
 
 fn copy_of(alloc: Global, start: &Start) -> Result<Start, AllocError> {
@@ -225,10 +316,7 @@ fn ask_literal(
         literal,
         avoid: &[],
     };
-    match ask(alloc, c, search, &goal, meter) {
-        Ok(reached) => Ok(reached),
-        Err(end) => Err(failure_at(end)),
-    }
+    Ok(ask(alloc, c, search, &goal, meter)?)
 }
 
 fn answer_in(alloc: Global, reached: &Reached) -> Result<Answer, Failure> {
@@ -237,13 +325,6 @@ fn answer_in(alloc: Global, reached: &Reached) -> Result<Answer, Failure> {
         Reached::Closed { clauses, uses: _ } => Ok(Answer::Closed {
             clauses: clauses.len(),
         }),
-    }
-}
-
-fn failure_at(end: ReachEnd) -> Failure {
-    match end {
-        ReachEnd::Memory => Failure::Memory,
-        ReachEnd::SpentConflicts | ReachEnd::SpentSteps => Failure::Spent,
     }
 }
 

@@ -2,17 +2,17 @@
 //! over the same text. The main call is `run_rewrite`.
 
 use crate::failure::Failure;
+use crate::models::read_model;
 use crate::outside::{print_text, read_file};
 use crate::stamps::Stamp;
 use aig_semantics::MAX_MODEL_BYTES;
 use aiger_names::Model;
-use circuit::ModelEnd;
 use std::alloc::Global;
 use std::io;
 
 /// The length of a text, and the nanoseconds of processor time that reading or writing it took, and that a plain loop
 /// over it took.
-#[derive(Clone, Copy, Debug)]
+#[derive(Clone, Copy)]
 struct Measured {
     bytes: u64,
     work: u64,
@@ -22,7 +22,7 @@ struct Measured {
 
 /// What was measured of reading, of writing in ASCII, and of writing in binary, where the model has a binary text as it
 /// stands.
-#[derive(Clone, Copy, Debug)]
+#[derive(Clone, Copy)]
 struct Report {
     reading: Measured,
     ascii: Measured,
@@ -79,15 +79,30 @@ fn sum_of_numbers(bytes: &[u8]) -> u64 {
 fn measure_model(rt: &HostRuntime, bytes: &[u8], plain: Measured) -> Result<Report, Failure> {
     let start = Stamp::now(rt)?;
     let model = read_model(rt.alloc(), bytes)?;
+    measure_both(rt, &model, start, plain)
+}
+
+// Measures the reading of a model that began at the start, and then its writing.
+fn measure_both(
+    rt: &HostRuntime,
+    model: &Model,
+    start: Stamp,
+    plain: Measured,
+) -> Result<Report, Failure> {
     let reading = measure_work(rt, start, plain)?;
-    measure_writing(rt, &model, reading)
+    measure_writing(rt, model, reading)
 }
 
 // What was measured of the plain loop, with the work since the start.
 fn measure_work(rt: &HostRuntime, start: Stamp, plain: Measured) -> Result<Measured, Failure> {
     let end = Stamp::now(rt)?;
-    let work = start.processor_to(end);
-    Ok(Measured { work, ..plain })
+    Ok(with_work(plain, start.processor_to(end)))
+}
+
+fn with_work(plain: Measured, work: u64) -> Measured {
+    let mut measured = plain;
+    measured.work = work;
+    measured
 }
 
 fn measure_writing(rt: &HostRuntime, model: &Model, reading: Measured) -> Result<Report, Failure> {
@@ -98,14 +113,6 @@ fn measure_writing(rt: &HostRuntime, model: &Model, reading: Measured) -> Result
         ascii,
         binary,
     })
-}
-
-/// The model of a text in either form, by its first two bytes.
-pub(crate) fn read_model(alloc: Global, bytes: &[u8]) -> Result<Model, ModelEnd> {
-    if bytes.starts_with(b"ai") {
-        return aiger_binary::read(alloc, bytes);
-    }
-    aiger_ascii::read(alloc, bytes)
 }
 
 fn measure_ascii(rt: &HostRuntime, model: &Model) -> Result<Measured, Failure> {
@@ -138,9 +145,8 @@ fn write_binary(alloc: Global, model: &Model) -> Result<Vec<u8>, Failure> {
 // What a text took that was begun at the start, and a plain loop over it.
 fn measure_text(rt: &HostRuntime, start: Stamp, text: &[u8]) -> Result<Measured, Failure> {
     let end = Stamp::now(rt)?;
-    let work = start.processor_to(end);
     let plain = measure_loop(rt, text)?;
-    Ok(Measured { work, ..plain })
+    Ok(with_work(plain, start.processor_to(end)))
 }
 
 fn print_lengths(rt: &HostRuntime, report: Report) -> Result<(), Failure> {

@@ -28,15 +28,33 @@ pub(crate) fn run_sat(rt: &HostRuntime, name: &str) -> Result<u8, Failure> {
 
 fn solve_text(rt: &HostRuntime, text: &[u8]) -> Result<u8, Failure> {
     let answer = solve_timed(rt, read_formula(rt.alloc(), text)?)?;
-    say_answer(rt, read_formula(rt.alloc(), text)?, &answer)
+    say_text(rt, text, &answer)
+}
+
+fn say_text(rt: &HostRuntime, text: &[u8], answer: &Answer) -> Result<u8, Failure> {
+    say_answer(rt, read_formula(rt.alloc(), text)?, answer)
 }
 
 fn solve_timed(rt: &HostRuntime, clauses: Db) -> Result<Answer, Failure> {
     let start = Stamp::now(rt)?;
+    solve_since(rt, clauses, start)
+}
+
+fn solve_since(rt: &HostRuntime, clauses: Db, start: Stamp) -> Result<Answer, Failure> {
     let mut meter = Meter::new(NO_LIMIT, 0);
     let mut solver = decided(rt.alloc(), clauses, &mut meter)?;
-    print_cost(rt, start, meter.spending().conflicts())?;
-    answer_timed(rt, &mut solver)
+    answer_since(rt, &mut solver, start, meter.spending().conflicts())
+}
+
+// Tells what solving took, and then makes the answer.
+fn answer_since(
+    rt: &HostRuntime,
+    solver: &mut Solver,
+    start: Stamp,
+    conflicts: u64,
+) -> Result<Answer, Failure> {
+    print_cost(rt, start, conflicts)?;
+    answer_timed(rt, solver)
 }
 
 // A solver that has found out, without a proof, whether the clauses have a model.
@@ -58,10 +76,15 @@ fn answer_timed(rt: &HostRuntime, solver: &mut Solver) -> Result<Answer, Failure
 /// A solver with these clauses.
 pub(crate) fn solver_of(alloc: Global, clauses: Db) -> Result<Solver, Failure> {
     let mut solver = Solver::new(alloc)?;
-    for clause in clauses.into_vec() {
-        add_one(&mut solver, clause)?;
-    }
+    add_all(&mut solver, clauses)?;
     Ok(solver)
+}
+
+fn add_all(solver: &mut Solver, clauses: Db) -> Result<(), Failure> {
+    for clause in clauses.into_vec() {
+        add_one(solver, clause)?;
+    }
+    Ok(())
 }
 
 /// Adds a clause of a file.
@@ -106,16 +129,30 @@ fn say_model(rt: &HostRuntime, clauses: &Db, values: &[bool]) -> Result<u8, Fail
     Ok(10)
 }
 
-// The literals that are true, of the variables up to the last that is.
+// The value of each variable, as a signed number.
 fn model_text(alloc: Global, values: &[bool]) -> Result<String, AllocError> {
     let mut text = String::from_str(alloc, "sat\nv")?;
-    for (variable, value) in values.iter().enumerate().skip(1) {
-        let sign = if *value { "" } else { "-" };
-        let literal = format!(in alloc; " {sign}{variable}")?;
-        text.push_str(literal.as_str())?;
-    }
+    add_values(alloc, values, &mut text)?;
     text.push_str(" 0\n")?;
     Ok(text)
+}
+
+fn add_values(alloc: Global, values: &[bool], text: &mut String) -> Result<(), AllocError> {
+    for (variable, value) in values.iter().enumerate().skip(1) {
+        add_value(alloc, variable, *value, text)?;
+    }
+    Ok(())
+}
+
+fn add_value(
+    alloc: Global,
+    variable: usize,
+    value: bool,
+    text: &mut String,
+) -> Result<(), AllocError> {
+    let sign = if value { "" } else { "-" };
+    let literal = format!(in alloc; " {sign}{variable}")?;
+    text.push_str(literal.as_str())
 }
 
 fn say_refutation(rt: &HostRuntime, clauses: Db, proof: &[ProofLine]) -> Result<u8, Failure> {
@@ -137,10 +174,14 @@ fn is_refuted_timed(rt: &HostRuntime, clauses: Db, proof: &[ProofLine]) -> Resul
 // Whether the checker takes every line, and an empty clause is proved.
 fn is_refuted(alloc: Global, clauses: Db, proof: &[ProofLine]) -> Result<bool, AllocError> {
     let mut checker = Checker::new(alloc, clauses)?;
+    Ok(takes_all(&mut checker, proof) && checker.proved_empty())
+}
+
+fn takes_all(checker: &mut Checker, proof: &[ProofLine]) -> bool {
     for line in proof {
         if checker.step(line.as_slice()).is_err() {
-            return Ok(false);
+            return false;
         }
     }
-    Ok(checker.proved_empty())
+    true
 }

@@ -4,7 +4,7 @@ use std::io;
 use std::time::{CpuClock, Duration, Instant};
 
 /// A reading of the clock, and of the processor time that this thread has used.
-#[derive(Clone, Copy, Debug)]
+#[derive(Clone, Copy)]
 pub(crate) struct Stamp {
     clock: Instant,
     processor: Duration,

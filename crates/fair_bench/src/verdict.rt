@@ -7,7 +7,7 @@ use lrat::{Checker, LratEnd, LratFault};
 use std::alloc::{AllocError, Global};
 
 /// What the checker says of the lines of a proof.
-#[derive(Clone, Copy, Debug)]
+#[derive(Clone, Copy)]
 pub(crate) enum Verdict {
     /// All lines were accepted, so many.
     Accepted(u64),
@@ -64,13 +64,21 @@ pub(crate) fn verdict_text(
 }
 
 fn fault_text(alloc: Global, fault: LratFault) -> Result<String, AllocError> {
+    let words = fault_words(fault);
     match fault {
-        LratFault::BadLine => String::from_str(alloc, "bad line"),
-        LratFault::IdOrder => String::from_str(alloc, "id order"),
-        LratFault::NoClause(id) => format!(in alloc; "no clause {id}"),
-        LratFault::NotUnit(id) => format!(in alloc; "not unit {id}"),
-        LratFault::NoConflict => String::from_str(alloc, "no conflict"),
-        LratFault::RatRefused => String::from_str(alloc, "rat refused"),
-        LratFault::Unfinished => String::from_str(alloc, "unfinished"),
+        LratFault::NoClause(id) | LratFault::NotUnit(id) => format!(in alloc; "{words} {id}"),
+        _ => String::from_str(alloc, words),
+    }
+}
+
+fn fault_words(fault: LratFault) -> &'static str {
+    match fault {
+        LratFault::BadLine => "bad line",
+        LratFault::IdOrder => "id order",
+        LratFault::NoClause(_) => "no clause",
+        LratFault::NotUnit(_) => "not unit",
+        LratFault::NoConflict => "no conflict",
+        LratFault::RatRefused => "rat refused",
+        LratFault::Unfinished => "unfinished",
     }
 }
