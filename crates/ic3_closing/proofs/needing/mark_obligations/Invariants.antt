@@ -1,5 +1,0 @@
-use Rattle.edge.specs.Ends.{CountsConflicts}
-use Rattle.ic3_closing.proofs.needing.mark_obligations.Given as goal
-
-abbrev pub invariant-loop-turn : goal.invariant-loop-turn
-invariant-loop-turn l = CountsConflicts l.fn.meter l.meter
