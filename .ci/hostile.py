@@ -122,6 +122,9 @@ REFUSED = [
     (f"{GREATEST} {GREATEST} {GREATEST} 0 1", "header"),
 ]
 
+# an input, a latch and a gate, whose first delta begins at 28
+SMALL = b"aig 3 1 1 0 1 0 0 1 0\n6\n1\n4\n"
+
 SHORT = [
     *[cut(word, numbers) for numbers in ANNOUNCED for word in ("aag", "aig")],
     *[header(word, numbers, wanted) for numbers, wanted in REFUSED for word in ("aag", "aig")],
@@ -133,6 +136,10 @@ SHORT = [
     ("a binary property past its limit", "aig 0 0 0 0 0 0 0 1 0\n257\n", "model refused limit 22\n"),
     ("a binary property at its limit", "aig 0 0 0 0 0 0 0 1 0\n256\n", "model refused truncated 26\n"),
     ("a property past its limit by fairness", "aig 0 0 0 0 0 0 0 1 1\n256\n", "model refused limit 22\n"),
+    ("a delta that is cut off", SMALL + b"\x82", "model refused truncated 29\n"),
+    ("a delta of ten groups", SMALL + b"\xff" * 10, "model refused number 28\n"),
+    ("a delta whose last group is 0", SMALL + b"\x82\0", "model refused number 28\n"),
+    ("a first delta of 0", SMALL + b"\0\2", "model refused range 28\n"),
 ]
 
 # Models with an element in each section; where their gates end, and where their symbol ends.
