@@ -73,6 +73,8 @@ class Cases:
 
     def __init__(self, folder):
         self.folder, self.wrong, self.answers, self.reports = folder, [], 0, 0
+        # reports with two workers whose counts differ, and those of a full list in which steps were taken
+        self.unlike, self.full = 0, 0
 
     def path(self, name, text):
         path = os.path.join(self.folder, name)
@@ -109,6 +111,11 @@ def compare_known(cases, place, row):
             cases.complain(f"its answer {said[:300]!r} is not accepted", model, words)
 
 
+def counts(text):
+    """What each worker of a report has spent: conflicts and steps."""
+    return [(int(c), int(s)) for c, s in re.findall(r"^c worker \d+ conflicts (\d+) of \d+ steps (\d+) of", text, re.M)]
+
+
 def is_report(text, workers, conflicts, steps, entries):
     """Whether a report has its form, and each worker has spent its conflicts or its steps, or the list is full."""
     lines = text.split("\n")
@@ -138,6 +145,9 @@ def is_spent(cases, name, model, workers, limits, is_broken):
     said, code = cases.solve(name, model, options)
     if code == 2:
         cases.reports += 1
+        spent = counts(said)
+        cases.unlike += len(set(spent)) > 1
+        cases.full += f"\nc entries {limits['skeletons']} of " in said and any(0 < steps < limits["steps"] for _, steps in spent)
         if not is_report(said, workers, limits["conflicts"], limits["steps"], limits["skeletons"]):
             cases.complain(f"the report {said!r}", model, options)
         return True
@@ -177,6 +187,8 @@ def main(words):
                 run.result()
             runs = [pool.submit(compare_drawn, cases, seed, number, deadline) for number in range(circuits)]
             done = sum(run.result() for run in runs)
+    if cases.reports and not (cases.unlike and cases.full):
+        cases.wrong.append(f"of the reports {cases.unlike} have unlike counts, and {cases.full} a full list and steps")
     for wrong in cases.wrong[:10]:
         print(wrong)
     if cases.wrong or done < min(circuits, FEWEST):
