@@ -1,4 +1,4 @@
--- Scaffolding of inner functions. What a conflict is traced back to. After MiniSat (Eén, Sörensson, 2003).
+-- What a conflict is traced back to. After MiniSat (Eén, Sörensson, 2003).
 use Rattle.std.specs.Prelude.{Bool, ◌&&◌, List, is_none}
 use Rattle.std.specs.List.{list_any}
 use Rattle.proof_semantics.specs.Clauses.{lit_eq}

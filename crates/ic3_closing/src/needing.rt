@@ -144,6 +144,7 @@ fn mark_open(
     Ok(())
 }
 
+// The same of all that are marked.
 fn mark_obligations(
     alloc: Global,
     c: &Circuit,
