@@ -20,7 +20,7 @@ use Rattle.certificate.specs.Answers.{property_line, HasStimulus, IsGood}
 use Rattle.certificate.specs.Ends.{IsGoodAtEnd}
 use Rattle.certificate.specs.Lines.{Numbered, bare, kept_in, kept_from, readable, kept_readable}
 use Rattle.certificate.specs.Reading.{HasLasso, State, Status, Property, Latches, Rows, Dotted, Stepped, property_in, property_step, claimed, latches_step, row_step, values_in, step, and_then, read_lines}
-use Rattle.certificate.specs.Lassos.{lasso_of, HasGoodLasso, KeepsLasso, IsLassoAtEnd}
+use Rattle.certificate.specs.Lassos.{lasso_of, HasGoodLasso, KeepsLasso, UnlessStimulus, IsLassoAtEnd}
 use Rattle.certificate.proofs.CompletingProofs.{heads}
 use Rattle.certificate.proofs.CompletingTexts.{values_back, dot_has_none, no_dot, named}
 use Rattle.certificate.proofs.GoodRead.{all_readable, good_from_reads}
@@ -105,6 +105,11 @@ stimulus_is_read c n s (line ∷ lines) rows small there e f =
 
 -- ---- what is kept
 
+pub in_any_case : (result : Result Accepted AnswerEnd) (P : Type 0) → P → UnlessStimulus result P
+in_any_case (Ok (Lasso n positions from)) P h = tt
+in_any_case (Ok (Holds n entries)) P h = h
+in_any_case (Err end) P h = h
+
 same_state : (s t : State) (r : Stepped) → r ≡ Ok s → r ≡ Ok t → s ≡ t
 same_state s t r e f = cc (e, f)
 
@@ -131,6 +136,8 @@ good_kept c told text s kept (Lasso n positions from) may read (there, short, st
         subst (λ k. StandsFor c n stimulus k from) (sym many) stands,
         ap (λ k. lasso_of stimulus k from) (sym many),
       ),
+      many,
+      refl,
     )
 
 pub kept_at_end : (c : Circuit) (told : Option (List ℕ)) (r : Reading) (s : State) (number : ℕ) (kept : Option LassoOf) (result : Result Accepted AnswerEnd)

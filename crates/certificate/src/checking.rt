@@ -9,7 +9,7 @@ ghost use Rattle.text_grammar.specs.Pieces.{Lacks};
 ghost use Rattle.answer_lines.specs.Left.{at_start, left_of, most_bytes, Took};
 ghost use Rattle.certificate.specs.Answers.{Shows};
 ghost use Rattle.certificate.specs.Ends.{DecidesEnd, CheckSays, EndsWith, ReadsAs, has_unread};
-ghost use Rattle.certificate.specs.Lassos.{KeepsLasso};
+ghost use Rattle.certificate.specs.Lassos.{KeepsLasso, UnlessStimulus};
 ghost use Rattle.certificate.specs.Lines.{kept_from};
 ghost use Rattle.certificate.specs.Reading.{read_lines};
 ghost use Rattle.certificate.specs.Seen.{seen, IsKept};
@@ -55,7 +55,9 @@ pub fn check_answer<H: Shelf>(
     check_with_lasso(alloc, circuit, shelf, name, &mut kept)
 }
 
-/// The same, and where a stimulus is accepted the lasso that it stands for is left in `kept`.
+/// The same, and where a stimulus is accepted the lasso that it stands for is left in `kept`: as many positions as
+/// `Accepted` says, the last of which steps back to its `from`. Where a certificate is accepted, or nothing is, `kept` stays
+/// as it was.
 pub fn check_with_lasso<H: Shelf>(
     alloc: Global,
     circuit: &Circuit,
@@ -75,6 +77,7 @@ pub fn check_with_lasso<H: Shelf>(
     ensures counts { NoneFell (H.faults shelf.old) (H.faults shelf.new) }
     ensures kept { KeepsTexts (H.held shelf.old) (H.held shelf.new) }
     ensures lasso { IfOk result (λ accepted. KeepsLasso circuit.now (H.held shelf.old name.now) accepted kept.new) }
+    ensures untouched { UnlessStimulus result (kept.new ≡ kept.old) }
 {
     good_answers_are_true(circuit);
     read_answer(alloc, circuit, shelf, name, kept)
@@ -96,6 +99,7 @@ fn read_answer<H: Shelf>(
     ensures counts { NoneFell (H.faults shelf.old) (H.faults shelf.new) }
     ensures kept { KeepsTexts (H.held shelf.old) (H.held shelf.new) }
     ensures lasso { IfOk result (λ accepted. KeepsLasso circuit.now (H.held shelf.old name.now) accepted kept.new) }
+    ensures untouched { UnlessStimulus result (kept.new ≡ kept.old) }
 {
     let mut lines = Lines::new(alloc)?;
     let mut state = State::Status;
@@ -124,6 +128,7 @@ fn read_on<H: Shelf>(
     ensures counts { NoneFell (H.faults shelf.old) (H.faults shelf.new) }
     ensures kept { KeepsTexts (H.held shelf.old) (H.held shelf.new) }
     ensures lasso { IfOk result (λ accepted. KeepsLasso circuit.now (H.held shelf.old name.now) accepted kept.new) }
+    ensures untouched { UnlessStimulus result (kept.new ≡ kept.old) }
 {
     let mut number = 1;
     'lines: while next_line(lines, shelf, name)? {

@@ -1,7 +1,7 @@
 //! How an answer ends behind its last line.
 
-ghost use Rattle.std.specs.Prelude.{ℕ, Ok, IfOk};
-ghost use Rattle.certificate.specs.Lassos.{IsLassoAtEnd};
+ghost use Rattle.std.specs.Prelude.{◌≡◌, ℕ, Ok, IfOk};
+ghost use Rattle.certificate.specs.Lassos.{IsLassoAtEnd, UnlessStimulus};
 ghost use Rattle.certificate.specs.Reading.State.{Dotted as DottedOf};
 ghost use Rattle.certificate.specs.Seen.{seen, IsKept};
 ghost use Rattle.certificate.specs.Steps.{TellsEnd};
@@ -23,6 +23,7 @@ fn replay_stimulus(
 ) -> Result<Accepted, AnswerEnd>
     ensures tells { (number : ℕ) → TellsEnd circuit.now (DottedOf property stimulus.now) number result }
     ensures lasso { IfOk result (λ accepted. IsLassoAtEnd (DottedOf property stimulus.now) accepted kept.new) }
+    ensures untouched { UnlessStimulus result (kept.new ≡ kept.old) }
 {
     match replay(alloc, circuit, property, stimulus) {
         Ok(lasso) => {
@@ -62,6 +63,7 @@ pub(crate) fn end_in(
     requires { IsKept circuit.now state.now }
     ensures tells { TellsEnd circuit.now (seen state.now) number result }
     ensures lasso { IfOk result (λ accepted. IsLassoAtEnd (seen state.now) accepted kept.new) }
+    ensures untouched { UnlessStimulus result (kept.new ≡ kept.old) }
 {
     match state {
         State::Dotted(property, stimulus) => {

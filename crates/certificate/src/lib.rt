@@ -3,7 +3,7 @@
 //! | Call | What it does |
 //! |---|---|
 //! | `check_answer` | judges the answer that a shelf holds: a stimulus, or a certificate of version 1 or 2 |
-//! | `check_with_lasso` | the same, and keeps the lasso of a stimulus |
+//! | `check_with_lasso` | the same, and keeps the lasso of an accepted stimulus |
 //! | `write` | writes the answer with the certificate of checked entries and a refutation |
 //! | `answers_are_read_as_good` | a law: what is read as a good answer is one, and every good answer is so read |
 //! | `good_answers_are_true` | a law: a good answer shows a fair lasso, or that there is none |

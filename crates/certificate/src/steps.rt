@@ -4,7 +4,7 @@ ghost use Rattle.std.specs.Prelude.{◌≡◌, ◌<◌, ◌^◌, Ok, Err, IfOk, 
 ghost use Rattle.unless_memory.specs.Answers.{Gives};
 ghost use Rattle.certificate.specs.declared.ends.Accepted.{Accepted as AcceptedOf};
 ghost use Rattle.certificate.specs.declared.ends.AnswerFault.{AnswerFault as FaultOf};
-ghost use Rattle.certificate.specs.Lassos.{IsLassoAtEnd};
+ghost use Rattle.certificate.specs.Lassos.{IsLassoAtEnd, UnlessStimulus};
 ghost use Rattle.certificate.specs.Reading.{Stepped, step, certificate_step};
 ghost use Rattle.certificate.specs.Ends.{IsGoodAtEnd, IsFaultAtEnd};
 ghost use Rattle.certificate.specs.Seen.{seen, seen_body, seen_wanted, IsKept};
@@ -141,6 +141,7 @@ pub(crate) fn finish(
     ensures each_fault { (fault : FaultOf) → IsFaultAtEnd circuit.now (seen state.now) number fault
         → Gives (Err AnswerEnd.Memory) (Err (AnswerEnd.Refused fault)) result }
     ensures lasso { IfOk result (λ accepted. IsLassoAtEnd (seen state.now) accepted kept.new) }
+    ensures untouched { UnlessStimulus result (kept.new ≡ kept.old) }
 {
     end_in(alloc, circuit, state, number, kept)
 }

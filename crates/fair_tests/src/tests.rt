@@ -1,11 +1,14 @@
 //! Runs of the program over a shelf and a sink in memory: tables of words and texts with what must be answered.
 
+use crate::certificates::{RISES, WALL};
 use crate::dumps::model_of;
 use crate::runs::{Outcome, ends_so, first_taken, is_end, run_words, shelf_of};
-use certificate::{Accepted, AnswerEnd, AnswerFault, check_answer};
+use aig_semantics::Lasso;
+use certificate::{Accepted, AnswerEnd, AnswerFault, check_answer, check_with_lasso};
 use circuit::Circuit;
 use edge::MemShelf;
 use fair_top::{Done, Status};
+use items::Items;
 use std::alloc::{AllocError, Global};
 use std::sync::Wait;
 use std::test::Fail;
@@ -349,6 +352,62 @@ fn are_judged_of_toggle(alloc: Global) -> Result<[bool; 3], AllocError> {
 #[test]
 fn answers_alone(rt: HostRuntime) -> Result<(), Fail> {
     assert_eq!(rt; are_judged_of_toggle(rt.alloc())?, [true; 3]);
+    Ok(())
+}
+
+// The call on an answer alone, and the lasso that is kept behind it; no clause of its contract is wanted here.
+fn kept_behind(
+    alloc: Global,
+    c: &Circuit,
+    shelf: &mut MemShelf,
+    name: &str,
+    before: Lasso,
+) -> (bool, Option<Lasso>) {
+    let mut kept = Some(before);
+    let accepted = check_with_lasso(alloc, c, shelf, name, &mut kept).is_ok();
+    (accepted, kept)
+}
+
+fn positions_and_place(kept: &Option<Lasso>) -> Option<(usize, u64)> {
+    match kept {
+        Some(lasso) => Some((lasso.inputs.len(), lasso.from)),
+        None => None,
+    }
+}
+
+/// Whether an answer is accepted or not, as wanted, and behind it a lasso is kept with so many positions and this place,
+/// where one with no position and place 7 was kept before.
+fn keeps(
+    alloc: Global,
+    model: &str,
+    answer: (&str, &str),
+    accepted: bool,
+    wanted: (usize, u64),
+) -> Result<bool, AllocError> {
+    let model = model_of(alloc, model.as_bytes())?;
+    let mut shelf = shelf_of(alloc, b"", answer.1, 1000, &[])?;
+    let before = Lasso {
+        start: Items::new(alloc),
+        inputs: Items::new(alloc),
+        from: 7,
+    };
+    let (was, kept) = kept_behind(alloc, model.circuit(), &mut shelf, answer.0, before);
+    Ok(was == accepted && positions_and_place(&kept) == Some(wanted))
+}
+
+// A good stimulus that goes on behind its lasso, a bad one, one that is not there, and a good certificate.
+fn all_keep(alloc: Global) -> Result<[bool; 4], AllocError> {
+    Ok([
+        keeps(alloc, TOGGLE, ("a", "1\nj0\n0\n\n\n\n.\n"), true, (2, 0))?,
+        keeps(alloc, TOGGLE, ("a", "1\nj0\n1\n\n.\n"), false, (0, 7))?,
+        keeps(alloc, TOGGLE, ("none", TWO_POSITIONS), false, (0, 7))?,
+        keeps(alloc, RISES, ("a", WALL), true, (0, 7))?,
+    ])
+}
+
+#[test]
+fn lassos_that_are_kept(rt: HostRuntime) -> Result<(), Fail> {
+    assert_eq!(rt; all_keep(rt.alloc())?, [true; 4]);
     Ok(())
 }
 

@@ -67,7 +67,7 @@ written_status (Err other) status text h = inr h
 -- where a stimulus is accepted its lasso was kept
 pub carries : (c : Circuit) (m : Model) (told : Option (List ℕ)) (end : End) (kept : Option LassoOf) → c ≡ m.circuit
     → IfOk end (λ accepted. KeepsLasso c told accepted kept) → CarriesLasso m end kept
-carries c m told (Ok (Lasso n positions from)) kept same (text, may, lasso, is, good) =
+carries c m told (Ok (Lasso n positions from)) kept same (text, may, lasso, is, good, many, place) =
     (lasso, is, (text, subst (λ (k : Circuit). HasGoodLasso k text n lasso) same good))
 carries c m told (Ok (Holds n entries)) kept same h = tt
 carries c m told (Err end) kept same h = tt
@@ -87,7 +87,7 @@ waved_status m (Err ends.Memory) kept result c h = inl (ap status_in h)
 of_answer : (m : Model) (answer : Option (List ℕ)) (end : End) (kept : Option LassoOf) (outcome : Outcome) → CheckSays m.circuit answer end
     → IfOk end (λ accepted. KeepsLasso m.circuit answer accepted kept) → IsWaved m end kept (Ok outcome)
     → OfSomeText answer (λ claimed. EndsWave m claimed outcome.status outcome.text.items)
-of_answer m answer (Ok (Lasso n positions from)) kept outcome says (text, may, lasso, is, good) h = (text, may, inl (n, lasso, good, (h lasso is).0, (h lasso is).1))
+of_answer m answer (Ok (Lasso n positions from)) kept outcome says (text, may, lasso, is, good, many, place) h = (text, may, inl (n, lasso, good, (h lasso is).0, (h lasso is).1))
 of_answer m answer (Ok (Holds n entries)) kept outcome (inl (inr (text, may, good))) keeps h =
     (text, may, inr (UnknownStatus, inr (refl, n, entries, good), h.0, h.1 ∙ sym (ap text_of h.0)))
 of_answer m answer (Ok (Holds n entries)) kept outcome (inl (inl wrong)) keeps h = absurd (cc wrong)
