@@ -58,7 +58,7 @@ const ENOUGH: &[&str] = &["--conflicts", "1000", "--steps", "1000"];
 /// certificate and of a report how it begins.
 type Row = (&'static [u8], &'static [&'static str], u8, &'static str);
 
-const ROWS: [Row; 40] = [
+const ROWS: [Row; 42] = [
     (TOGGLE, ENOUGH, 0, TWICE),
     (TOGGLE, &[], 0, TWICE),
     (STUCK, ENOUGH, 0, CERTIFICATE),
@@ -85,6 +85,8 @@ const ROWS: [Row; 40] = [
     (STUCK, &["--workers", "3"], 0, CERTIFICATE),
     (NEVER, &["--conflicts", "0"], 0, CERTIFICATE),
     (TOGGLE, &["--skeletons", "0"], 0, TWICE),
+    (NEVER, &["--skeletons", "0"], 0, CERTIFICATE),
+    (STUCK, &["--skeletons", "1"], 0, CERTIFICATE),
     (
         STUCK,
         &["--skeletons", "0"],

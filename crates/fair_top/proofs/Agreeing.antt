@@ -40,7 +40,7 @@ one_line c agree text written (accepted.Holds n entries) (accepted.Holds m count
 
 pub agreed : HasOneModel → BinaryHasOneModel → (c : Circuit) → VerdictsAgree c → RunsAgree c
 agreed ascii binary_one c agree bytes a b status other text written (m, form, is) same
-    (found, _, of_a, (read, told, (n, n_form, (n_good, n_spelled)))) (second, _, of_b, (again, told_again, (k, k_form, (k_good, k_spelled)))) =
+    (found, _, of_a, _, (read, told, (n, n_form, (n_good, n_spelled)))) (second, _, of_b, _, (again, told_again, (k, k_form, (k_good, k_spelled)))) =
     let first_is : n.circuit ≡ c = same_circuit ascii binary_one c m n bytes read form is (told bytes refl) n_form in
     let second_is : k.circuit ≡ c = same_circuit ascii binary_one c m k bytes again form is (told_again bytes refl) k_form in
     begins n.circuit text found n_spelled

@@ -1,6 +1,7 @@
 -- What `solve` gives, from the model and from what it comes to for the circuit.
-use Rattle.std.proofs.Common.{◌≡◌, ◌⊎◌, ◌<◌, ◌≤◌, ◌^◌, ℕ, List, [], ◌∷◌, ◌++◌, map, length, take, refl, sym, ◌∙◌, ap, ap₂, subst, Bool, inl, inr, arith, Ok, Err}
-use Rattle.std.specs.Prelude.{Option, Result, IfOk, IfErr}
+use Rattle.std.proofs.Common.{◌≡◌, ◌⊎◌, ◌<◌, ◌≤◌, ◌^◌, ℕ, List, [], ◌∷◌, ◌++◌, ◌+◌, map, length, take, refl, sym, ◌∙◌, ap, ap₂, subst, Bool, inl, inr, arith, Ok, Err}
+use Rattle.std.specs.Prelude.{Option, Result, IfOk, IfErr, min}
+use Rattle.std.proofs.Math.Nat.{min-le_left}
 use Rattle.std.proofs.lemmas.List.{map-append, append_assoc, length-map}
 use Rattle.aig_semantics.specs.Circuits.{Circuit}
 use Rattle.aiger_grammar.specs.Models.{Model}
@@ -61,7 +62,7 @@ same_accepted (accepted.Holds j n) (accepted.Holds k o) e = cc
 shows : (c : Circuit) (request : SolveRequest) (status : Status) (text : List ℕ) (found : Accepted) → EndsFor c request status text
     → status ≡ statuses.Done (done_of found) → Shows c found
 shows c request status text found (inl (without, e)) is = let wrong : statuses.NoProperty request.property ≡ statuses.Done (done_of found) = sym without.0 ∙ is in cc
-shows c request status text found (inr (inl p)) is = subst (λ (a : Accepted). Shows c a) (same_accepted p.0 found (sym p.1 ∙ is)) p.5
+shows c request status text found (inr (inl p)) is = subst (λ (a : Accepted). Shows c a) (same_accepted p.0 found (sym p.1 ∙ is)) p.6
 shows c request status text found (inr (inr (r, e))) is = let wrong : statuses.Unknown r.0 ≡ statuses.Done (done_of found) = sym r.1 ∙ is in cc
 
 gives : (c : Circuit) (m : Model) (told : Option (List ℕ)) (request : SolveRequest) (status : Status) (text : List ℕ) → c ≡ m.circuit → IsModelOf told m
@@ -73,7 +74,8 @@ gives c m told request status text same h (inr (inl p)) =
       p.0,
       p.1,
       p.2,
-      (h.text.0, h.text.1, (m, h.text.2, (subst (λ (k : Circuit). IsGood k text p.0) same p.3, subst (λ (k : Circuit). IsWrittenAs k text p.0) same p.4))),
+      p.3,
+      (h.text.0, h.text.1, (m, h.text.2, (subst (λ (k : Circuit). IsGood k text p.0) same p.4, subst (λ (k : Circuit). IsWrittenAs k text p.0) same p.5))),
     )))
 gives c m told request status text same h (inr (inr (r, e))) =
     inr (inr (inr (
@@ -147,20 +149,26 @@ without_asked told request (statuses.NoProperty n) result ends (inl same) asked 
 
 -- What is printed.
 
-pub good_stimulus : (c : Circuit) (j : ℕ) (s : Stimulus) (positions from : ℕ) (text : List ℕ) → WrittenIsGood c → GoodIsTrue c → j < 2 ^ 63
-    → length s.inputs ≡ positions → StandsFor c j s positions from → text ≡ answer_text j s → length text ≤ most_bytes
-    → IsPrinted c j (statuses.Done (dones.Lasso j positions from)) text
-good_stimulus c j s positions from text written true_one small all stands same short =
+pub good_stimulus : (c : Circuit) (request : SolveRequest) (s : Stimulus) (positions from : ℕ) (text : List ℕ) → WrittenIsGood c → GoodIsTrue c
+    → request.property < 2 ^ 63 → length s.inputs ≡ positions → StandsFor c request.property s positions from → text ≡ answer_text request.property s
+    → length text ≤ most_bytes → IsPrinted c request (statuses.Done (dones.Lasso request.property positions from)) text
+good_stimulus c request s positions from text written true_one small all stands same short =
+    let j = request.property in
     let good : IsGood c text (accepted.Lasso j positions from) = subst (λ (t : List ℕ). IsGood c t (accepted.Lasso j positions from)) (sym same)
     (written j s positions from small stands (subst (λ (t : List ℕ). length t ≤ most_bytes) same short)) in
-    (accepted.Lasso j positions from, refl, refl, good, (s, same, all, stands), true_one text (accepted.Lasso j positions from) good)
+    (accepted.Lasso j positions from, refl, refl, tt, good, (s, same, all, stands), true_one text (accepted.Lasso j positions from) good)
 
-pub good_certificate : (c : Circuit) (j : ℕ) (b : BoardState) (list : List CheckedEntry) (refutation : Refutation) (count : ℕ) (text : List ℕ)
-    → WrittenCertificatesAreGood c → GoodIsTrue c → IsBoard b → b.circuit ≡ c → list ≡ b.entries → j < length c.justice
-    → IsGoodRefutation c (plain b.entries) j refutation.uses refutation.proof → count ≡ length list
-    → text ≡ certificate_text j (certificate_of list refutation) → length text ≤ most_bytes
-    → IsPrinted c j (statuses.Done (dones.Holds j count)) text
-good_certificate c j b list refutation count text written true_one board of_circuit listed there good counted same short =
+-- a list within this limit grew by so many entries at most from nothing
+pub few_entries : (entries limit most all : ℕ) → entries ≤ limit → limit ≡ min (0 + most) all → entries ≤ most
+few_entries entries limit most all within is = omega (arith, within, is, min-le_left (0 + most) all)
+
+pub good_certificate : (c : Circuit) (request : SolveRequest) (b : BoardState) (list : List CheckedEntry) (refutation : Refutation) (count : ℕ) (text : List ℕ)
+    → WrittenCertificatesAreGood c → GoodIsTrue c → IsBoard b → b.circuit ≡ c → list ≡ b.entries → length b.entries ≤ request.skeletons
+    → request.property < length c.justice → IsGoodRefutation c (plain b.entries) request.property refutation.uses refutation.proof → count ≡ length list
+    → text ≡ certificate_text request.property (certificate_of list refutation) → length text ≤ most_bytes
+    → IsPrinted c request (statuses.Done (dones.Holds request.property count)) text
+good_certificate c request b list refutation count text written true_one board of_circuit listed within there good counted same short =
+    let j = request.property in
     let refuted : IsRefutedBy c j list refutation = record {
       property = there;
       few = omega (arith, board.within, board.limit, ap length listed);
@@ -171,10 +179,12 @@ good_certificate c j b list refutation count text written true_one board of_circ
     (written j list refutation refuted (subst (λ (t : List ℕ). length t ≤ most_bytes) same short)).1 in
     let as_text : IsGood c text (accepted.Holds j (length list)) = subst (λ (t : List ℕ). IsGood c t (accepted.Holds j (length list))) (sym same) certificate in
     let as_count : IsGood c text (accepted.Holds j count) = subst (λ (n : ℕ). IsGood c text (accepted.Holds j n)) (sym counted) as_text in
+    let few : count ≤ request.skeletons = omega (arith, within, counted, ap length listed) in
     let entries_are : length (map written_entry list) ≡ count = length-map list written_entry ∙ sym counted in (
       accepted.Holds j count,
       refl,
       refl,
+      few,
       as_count,
       (certificate_of list refutation, same, entries_are, refl),
       true_one text (accepted.Holds j count) as_count,

@@ -100,10 +100,17 @@ IsTextOfOutcome c j entries (Some (outcomes.Lasso lasso)) answer = IsStimulusOf 
 IsTextOfOutcome c j entries (Some (outcomes.Holds refutation)) answer = answer ≡ certificate_text j (certificate_of entries refutation)
 IsTextOfOutcome c j entries None answer = ⊥
 
--- The text is a good answer for the property, spelled as `solve` writes it, and the status says what `check` says of it.
+-- a certificate has at most so many entries (it has the whole list, which begins with none)
+abbrev pub IsWithinList : ℕ → Accepted → Type 0
+IsWithinList most (accepted.Lasso n positions from) = Unit {0}
+IsWithinList most (accepted.Holds n entries) = entries ≤ most
+
+-- The text is a good answer for the property, spelled as `solve` writes it, with no more entries than the list may
+-- grow by, and the status says what `check` says of it.
 abbrev pub PrintsAnswer : Option (List ℕ) → SolveRequest → Status → List ℕ → Type 0
 PrintsAnswer model request status text =
     (found : Accepted) × (status ≡ statuses.Done (done_of found)) × (property_of found ≡ request.property)
+    × IsWithinList request.skeletons found
     × OfSomeText model (λ bytes. OfModel bytes (λ c. IsGood c text found × IsWrittenAs c text found))
 
 -- The status carries a report of the workers: the list is full and leaves a skeleton, or each of them has spent its

@@ -11,16 +11,16 @@ use Rattle.fair_top.specs.declared.status.Status.{Status}
 use Rattle.fair_top.specs.declared.status.Status.TheVariants as statuses
 use Rattle.fair_top.specs.Check.{done_of}
 use Rattle.fair_top.specs.Commands.{Asked, Solve}
-use Rattle.fair_top.specs.Solve.{limits_of, task_of, property_of, IsWrittenAs, HasAsked, IsSolved}
+use Rattle.fair_top.specs.Solve.{limits_of, task_of, property_of, IsWithinList, IsWrittenAs, HasAsked, IsSolved}
 use Rattle.fair_top.specs.Headline.{IsCut}
 use Rattle.fair_top.specs.Texts.{text_of}
 
--- the text is a good answer for property j of the circuit, as `solve` spells it, the status says what `check` says of it,
--- and that is true
-abbrev pub IsPrinted : Circuit → ℕ → Status → List ℕ → Type 0
-IsPrinted c j status text =
-    (found : Accepted) × (status ≡ statuses.Done (done_of found)) × (property_of found ≡ j) × IsGood c text found × IsWrittenAs c text found
-    × Shows c found
+-- the text is a good answer for the property of the circuit, as `solve` spells it, with no more entries than the list may
+-- grow by, the status says what `check` says of it, and that is true
+abbrev pub IsPrinted : Circuit → SolveRequest → Status → List ℕ → Type 0
+IsPrinted c request status text =
+    (found : Accepted) × (status ≡ statuses.Done (done_of found)) × (property_of found ≡ request.property)
+    × IsWithinList request.skeletons found × IsGood c text found × IsWrittenAs c text found × Shows c found
 
 -- the status says that the circuit has no such property
 abbrev pub EndsWithoutProperty : Circuit → SolveRequest → Status → Type 0
@@ -34,7 +34,7 @@ EndsUnknown c request status =
 abbrev pub EndsFor : Circuit → SolveRequest → Status → List ℕ → Type 0
 EndsFor c request status text =
     (EndsWithoutProperty c request status × (text ≡ text_of status))
-    ⊎ (IsPrinted c request.property status text ⊎ (EndsUnknown c request status × (text ≡ text_of status)))
+    ⊎ (IsPrinted c request status text ⊎ (EndsUnknown c request status × (text ≡ text_of status)))
 
 -- what the words of a request are tested for
 abbrev pub AreWithin : SolveRequest → Type 0

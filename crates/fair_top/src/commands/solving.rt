@@ -1,7 +1,7 @@
 //! The command `solve`: reads MODEL, lets workers search, and makes the text of what they found. The main call is `solve`.
 //! Writes nothing.
 
-ghost use Rattle.std.specs.Prelude.{◌≡◌, ◌<◌, ◌∷◌, [], length, codes, false, Contains, IfOk, IfErr, IfSome, IfNone};
+ghost use Rattle.std.specs.Prelude.{◌≡◌, ◌≤◌, ◌<◌, ◌∷◌, [], length, codes, false, Contains, IfOk, IfErr, IfSome, IfNone};
 ghost use Rattle.clap.specs.Simple.{app_of, with_subcommand};
 ghost use Rattle.clap.specs.Walk.{rows_of};
 ghost use Rattle.clap.specs.Matches.{found_of};
@@ -198,15 +198,15 @@ pub(crate) fn printed(
 ) -> Result<Outcome, Status>
     requires answered { IsAnsweredBy (task_of circuit.now request.now) board.now }
     requires property { request.now.property < length circuit.now.justice }
-    ensures found { IfOk result (λ outcome. IsPrinted circuit.now request.now.property outcome.status outcome.text.items) }
+    ensures found { IfOk result (λ outcome. IsPrinted circuit.now request.now outcome.status outcome.text.items) }
     ensures text { IfOk result (λ outcome. IsTextOfOutcome circuit.now request.now.property board.now.entries
         (outcome_of board.now.served request.now.property) outcome.text.items) }
     ensures ended { IfErr result (λ status. status ≡ Status.Memory) }
 {
     let written = match board.outcome(request.property) {
-        Some(Found::Lasso(lasso)) => stimulus_text(alloc, circuit, request.property, lasso),
+        Some(Found::Lasso(lasso)) => stimulus_text(alloc, circuit, request, lasso),
         Some(Found::Holds(refutation)) => {
-            certificate_text(alloc, circuit, request.property, board, refutation)
+            certificate_text(alloc, circuit, request, board, refutation)
         }
         None => unreachable!(),
     };
@@ -234,16 +234,17 @@ fn copied(alloc: Global, lasso: &Lasso) -> Result<Lasso, AllocError>
 fn stimulus_text(
     alloc: Global,
     circuit: &Circuit,
-    j: u32,
+    request: &SolveRequest,
     lasso: &Lasso,
 ) -> Result<Outcome, AllocError>
-    requires fair { IsFairLassoOf circuit.now j lasso.now }
-    requires property { j < length circuit.now.justice }
-    ensures printed { IfOk result (λ outcome. IsPrinted circuit.now j outcome.status outcome.text.items) }
-    ensures text { IfOk result (λ outcome. IsStimulusOf circuit.now j lasso.now outcome.text.items) }
+    requires fair { IsFairLassoOf circuit.now request.now.property lasso.now }
+    requires property { request.now.property < length circuit.now.justice }
+    ensures printed { IfOk result (λ outcome. IsPrinted circuit.now request.now outcome.status outcome.text.items) }
+    ensures text { IfOk result (λ outcome. IsStimulusOf circuit.now request.now.property lasso.now outcome.text.items) }
 {
     written_stimuli_are_good(circuit);
     good_answers_are_true(circuit);
+    let j = request.property;
     let short = shortest_prefix(alloc, circuit, j, copied(alloc, lasso)?)?;
     let Lasso {
         start,
@@ -270,19 +271,21 @@ fn stimulus_text(
 fn certificate_text(
     alloc: Global,
     circuit: &Circuit,
-    j: u32,
+    request: &SolveRequest,
     board: &Board,
     refutation: &Refutation,
 ) -> Result<Outcome, AllocError>
-    requires good { IsGoodRefutation circuit.now (plain board.now.entries) j refutation.now.uses refutation.now.proof }
+    requires good { IsGoodRefutation circuit.now (plain board.now.entries) request.now.property refutation.now.uses refutation.now.proof }
     requires circuit { board.now.circuit ≡ circuit.now }
-    requires property { j < length circuit.now.justice }
-    ensures printed { IfOk result (λ outcome. IsPrinted circuit.now j outcome.status outcome.text.items) }
-    ensures text { IfOk result (λ outcome. outcome.text.items ≡ certificate_text j (certificate_of board.now.entries refutation.now)) }
+    requires few { length board.now.entries ≤ request.now.skeletons }
+    requires property { request.now.property < length circuit.now.justice }
+    ensures printed { IfOk result (λ outcome. IsPrinted circuit.now request.now outcome.status outcome.text.items) }
+    ensures text { IfOk result (λ outcome. outcome.text.items ≡ certificate_text request.now.property (certificate_of board.now.entries refutation.now)) }
 {
     written_certificates_are_good(circuit);
     good_answers_are_true(circuit);
     board.holds();
+    let j = request.property;
     let text = certificate::write(alloc, j, board.entries(), refutation)?;
     Ok(Outcome {
         status: Status::Done(Done::Holds {

@@ -4,4 +4,4 @@ pub returns-in-Ok-clause-text : goal.returns-in-Ok-clause-text
 returns-in-Ok-clause-text c = c.in-Ok.ensures.text
 
 pub returns-in-Ok-clause-good : goal.returns-in-Ok-clause-good
-returns-in-Ok-clause-good c = (c.in-Ok.ensures.found.0, c.in-Ok.ensures.found.3)
+returns-in-Ok-clause-good c = (c.in-Ok.ensures.found.0, c.in-Ok.ensures.found.4)

@@ -4,6 +4,7 @@ use Rattle.aig_semantics.specs.Stimuli.{IsFairLassoOf}
 use Rattle.entry.specs.Proved.{IsGoodRefutation}
 use Rattle.wall_store.specs.Boards.{plain, outcome_of}
 use Rattle.wall_store.specs.declared.outcomes.Outcome.TheVariants.{Lasso, Holds}
+use Rattle.fair_top.proofs.Decided.{few_entries}
 use Rattle.fair_top.proofs.commands.solving.printed.Goals as goal
 
 pub stimulus_text-written-requires-clause-fair : goal.stimulus_text-written-requires-clause-fair
@@ -21,3 +22,7 @@ certificate_text-written-requires-clause-good c =
     let told : outcome_of c.args.board.now.served j ≡ Some (Holds r) = search rules in
     subst (λ (k : Circuit). IsGoodRefutation k (plain c.args.board.now.entries) j r.uses r.proof) c.requires.answered.board.circuit
     (c.requires.answered.board.board.outcomes j (Holds r) told)
+
+pub certificate_text-written-requires-clause-few : goal.certificate_text-written-requires-clause-few
+certificate_text-written-requires-clause-few c =
+    few_entries _ _ _ _ c.requires.answered.board.board.within c.requires.answered.board.limit
