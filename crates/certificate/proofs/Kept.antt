@@ -1,6 +1,6 @@
 -- The lasso that is kept of a stimulus that is accepted.
-use Rattle.std.proofs.Common.{◌≡◌, ℕ, ◌≤◌, ◌<◌, ◌^◌, Bool, true, false, List, [], ◌∷◌, ◌++◌, map, length, take, refl, sym, ap, subst, ◌∙◌, append_assoc, append-nil, arith, Option, Some, Result, Ok, Err}
-use Rattle.std.specs.Prelude.{codes, nat_lt, if◌then◌else◌, IfOk}
+use Rattle.std.proofs.Common.{◌≡◌, ℕ, ◌≤◌, ◌<◌, ◌^◌, Bool, List, [], ◌∷◌, ◌++◌, map, length, take, refl, sym, ap, subst, ◌∙◌, append_assoc, append-nil, Option, Some, Result, Ok, Err}
+use Rattle.std.specs.Prelude.{codes, if◌then◌else◌, IfOk}
 use Rattle.std.specs.Str.{bytes_eq}
 use Rattle.std.proofs.lemmas.Bool.{lt-ltb}
 use Rattle.std.proofs.lemmas.List.{length-take-le}
@@ -16,11 +16,11 @@ use Rattle.certificate.specs.declared.ends.Accepted.{Accepted}
 use Rattle.certificate.specs.declared.ends.Accepted.TheVariants.{Lasso, Holds}
 use Rattle.certificate.specs.declared.ends.AnswerFault.TheVariants as faults
 use Rattle.certificate.specs.declared.ends.AnswerEnd.{AnswerEnd}
-use Rattle.certificate.specs.Answers.{property_line, HasStimulus, IsGood}
+use Rattle.certificate.specs.Answers.{property_line, IsGood}
 use Rattle.certificate.specs.Ends.{IsGoodAtEnd}
-use Rattle.certificate.specs.Lines.{Numbered, bare, kept_in, kept_from, readable, kept_readable}
-use Rattle.certificate.specs.Reading.{HasLasso, State, Status, Property, Latches, Rows, Dotted, Stepped, property_in, property_step, claimed, latches_step, row_step, values_in, step, and_then, read_lines}
-use Rattle.certificate.specs.Lassos.{lasso_of, HasGoodLasso, KeepsLasso, UnlessStimulus, IsLassoAtEnd}
+use Rattle.certificate.specs.Lines.{Numbered, bare, kept_in, kept_readable}
+use Rattle.certificate.specs.Reading.{HasLasso, State, Status, Property, Latches, Rows, Dotted, Stepped, property_step, claimed, latches_step, row_step, values_in, step, and_then, read_lines}
+use Rattle.certificate.specs.Lassos.{lasso_of, KeepsLasso, UnlessStimulus, IsLassoAtEnd}
 use Rattle.certificate.proofs.CompletingProofs.{heads}
 use Rattle.certificate.proofs.CompletingTexts.{values_back, dot_has_none, no_dot, named}
 use Rattle.certificate.proofs.GoodRead.{all_readable, good_from_reads}
