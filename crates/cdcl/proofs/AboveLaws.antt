@@ -14,15 +14,6 @@ pub record IsAbove (target : ℕ) (steps : List Step) (levels place : ℕ) : Typ
   pub depth : levels ≡ level (take place steps)
   pub same : up_to_level target (take place steps) ≡ up_to_level target steps
 
-pub above_starts : (target : ℕ) (steps : List Step) (levels place : ℕ) → levels ≡ level steps → place ≡ length steps → IsAbove target steps levels place
-above_starts target steps levels place deep is =
-    let whole : take place steps ≡ steps = take_all place steps (omega (arith, is)) in
-    record {
-      within = omega (arith, is);
-      depth = deep ∙ ap level (sym whole);
-      same = ap (up_to_level target) whole;
-    }
-
 -- one more step back
 pub above_more : (target : ℕ) (steps : List Step) (levels place earlier next : ℕ) → IsAbove target steps levels place → place ≡ earlier + 1 → target < levels
     → levels ≡ next + opened_by (get_or (reasons_in steps) earlier None) → IsAbove target steps next earlier

@@ -13,6 +13,7 @@ use Rattle.cnf.specs.Clauses.{clause_numbered}
 use Rattle.cdcl_trail.proofs.TrailLaws.{either, not-false, or_both}
 use Rattle.cdcl_trail.proofs.ScanLaws.{all_has, any_gives, untrue, no_value}
 use Rattle.cdcl_learn.specs.Learning.{is_assumed}
+use Rattle.cdcl_learn.proofs.LiteralTraceLaws.{first_reasons}
 
 abbrev Has : List Lit → Lit → Type 0
 Has lits a = has_literal lits a ≡ true
@@ -140,10 +141,6 @@ early_step k (x ∷ xs) v s is e =
     ]
 
 -- Reasons.
-
-first_reasons : (clauses : List (List Lit)) (before xs ys : List Step) → HaveReasons clauses before (xs ++ ys) → HaveReasons clauses before xs
-first_reasons clauses before [] ys all = tt
-first_reasons clauses before (x ∷ xs) ys all = (all.0, first_reasons clauses (before ++ x ∷ []) xs ys all.1)
 
 get_more : (xs ys : List (List Lit)) (i : ℕ) (c : List Lit) → slice_get xs i ≡ Some c → slice_get (xs ++ ys) i ≡ Some c
 get_more [] ys i c e = absurd (none-some c e)

@@ -26,7 +26,7 @@ use Rattle.edge.specs.declared.solve_end.SolveEnd.{SolveEnd}
 use Rattle.cdcl.specs.Searching.{IsDeciding}
 use Rattle.cdcl.specs.UnitClauses.{unit_clauses}
 use Rattle.cdcl.proofs.BackLaws.{cut_behind}
-use Rattle.cdcl.proofs.ProgressLaws.{added_all}
+use Rattle.cdcl.proofs.ProgressLaws.{added_all, learned_all}
 
 -- the clause is neither unit nor false
 abbrev pub is_calm : List Step → List Lit → Bool
@@ -186,14 +186,7 @@ pub rest_unrefuted : (clauses : List (List Lit)) (lits : List Lit) → ComesToRe
 rest_unrefuted clauses lits r refuted =
     calm_unrefuted (clause_numbered clauses) r.steps (λ id clause e. calm_at clauses r.steps (id - 1) clause r.complete (held_at clauses id clause e)) lits refuted.0 r.assumed refuted.1
 
--- Fewer clauses, and units.
-
-pub rest_added : (logged : LoggedClauses) (lits : List Lit) → ComesToRest logged.clauses lits → ComesToRest (added_of logged) lits
-rest_added logged lits r = record {
-  steps = r.steps;
-  complete = added_all (is_calm r.steps) logged.sources logged.clauses r.complete;
-  assumed = r.assumed;
-}
+-- What is held, and units.
 
 units_calm : (steps : List Step) (units : List Lit) → AreTrueUnder steps units → is_complete (unit_clauses units) steps ≡ true
 units_calm steps [] all = refl
@@ -205,11 +198,23 @@ both_calm : (steps : List Step) (xs ys : List (List Lit)) → is_complete xs ste
 both_calm steps [] ys one other = other
 both_calm steps (x ∷ xs) ys one other = and_from _ _ (and_parts _ _ one).0 (both_calm steps xs ys (and_parts _ _ one).1 other)
 
--- units that are clauses need not be assumed
-pub rest_units : (clauses : List (List Lit)) (units : List Lit) → ComesToRest clauses units → ComesToRest (clauses ++ unit_clauses units) []
-rest_units clauses units r = record {
+-- The added clauses and the learned ones, instead of all in the order in which they came.
+rest_held : (logged : LoggedClauses) (lits : List Lit) → ComesToRest logged.clauses lits → ComesToRest (added_of logged ++ learned_of logged) lits
+rest_held logged lits r = record {
   steps = r.steps;
-  complete = both_calm r.steps clauses (unit_clauses units) r.complete (units_calm r.steps units r.assumed);
+  complete = both_calm r.steps (added_of logged) (learned_of logged) (added_all (is_calm r.steps) logged.sources logged.clauses r.complete)
+      (learned_all (is_calm r.steps) logged.sources logged.clauses r.complete);
+  assumed = r.assumed;
+}
+
+-- units that are clauses need not be assumed
+rest_units : (logged : LoggedClauses) (units : List Lit) → ComesToRest logged.clauses units → ComesToRest (added_of logged ++ unit_clauses units ++ learned_of logged) []
+rest_units logged units r = record {
+  steps = r.steps;
+  complete = both_calm r.steps (added_of logged ++ unit_clauses units) (learned_of logged)
+      (both_calm r.steps (added_of logged) (unit_clauses units) (added_all (is_calm r.steps) logged.sources logged.clauses r.complete)
+      (units_calm r.steps units r.assumed))
+      (learned_all (is_calm r.steps) logged.sources logged.clauses r.complete);
   assumed = λ a has. absurd (false≢true has);
 }
 
@@ -235,6 +240,17 @@ rest_above start now assumptions base steps rest w above =
       | inr r ↦ r
     ]
 
+-- above the base propagation alone did not refute what is held
+pub unrefuted_above : (now : LoggedClauses) (assumptions : List Lit) (base : ℕ) (steps : List Step) → IsDeciding now.clauses assumptions base steps → base < level steps
+    → IsRefutedAtOnce (added_of now ++ learned_of now) [] → ⊥
+unrefuted_above now assumptions base steps w above refuted =
+    let r = above_base now.clauses assumptions base steps w above in
+    rest_unrefuted (added_of now ++ learned_of now) [] (rest_held now [] (record {
+      steps = r.steps;
+      complete = r.complete;
+      assumed = λ a has. absurd (false≢true has);
+    })) refuted
+
 -- an error may come once propagation came to rest
 pub limited_rested : {T : Type 0} (result : Result T SolveEnd) (start : LoggedClauses) (assumptions : List Lit) → ComesToRest start.clauses assumptions
     → IfErr result (IsLimitedAtRest assumptions start)
@@ -243,26 +259,29 @@ limited_rested (Err end) start assumptions r = inr r
 
 -- What public calls say.
 
-module _ (lits : List Lit) (start : LoggedClauses) (added : List (List Lit)) (same : added_of start ≡ added) where
-  not_at_once : ComesToRest start.clauses lits → IsRefutedAtOnce added lits → ⊥
-  not_at_once r refuted = rest_unrefuted (added_of start) lits (rest_added start lits r) (subst (λ cs. IsRefutedAtOnce cs lits) (sym same) refuted)
+module _ (lits : List Lit) (start : LoggedClauses) (added learned : List (List Lit)) (same : added_of start ≡ added) (same_learned : learned_of start ≡ learned) where
+  not_at_once : ComesToRest start.clauses lits → IsRefutedAtOnce (added ++ learned) lits → ⊥
+  not_at_once r refuted =
+      rest_unrefuted (added_of start ++ learned_of start) lits (rest_held start lits r)
+      (subst (λ cs. IsRefutedAtOnce (cs ++ learned_of start) lits) (sym same) (subst (λ cs. IsRefutedAtOnce (added ++ cs) lits) (sym same_learned) refuted))
 
-  not_at_once_units : ComesToRest start.clauses lits → IsRefutedAtOnce (added ++ unit_clauses lits) [] → ⊥
+  not_at_once_units : ComesToRest start.clauses lits → IsRefutedAtOnce (added ++ unit_clauses lits ++ learned) [] → ⊥
   not_at_once_units r refuted =
-      rest_unrefuted (added_of start ++ unit_clauses lits) [] (rest_units (added_of start) lits (rest_added start lits r))
-      (subst (λ cs. IsRefutedAtOnce (cs ++ unit_clauses lits) []) (sym same) refuted)
+      rest_unrefuted (added_of start ++ unit_clauses lits ++ learned_of start) [] (rest_units start lits r)
+      (subst (λ cs. IsRefutedAtOnce (cs ++ unit_clauses lits ++ learned_of start) []) (sym same)
+      (subst (λ cs. IsRefutedAtOnce (added ++ unit_clauses lits ++ cs) []) (sym same_learned) refuted))
 
-  pub uncounted : (now : LoggedClauses) (learned : List (List Lit)) → IsRested lits start now → learned_of start ≡ learned → IsRefutedAtOnce added lits → learned_of now ≡ learned
-  uncounted now learned rest first refuted = elim rest [ inl unchanged ↦ ap learned_of unchanged ∙ first | inr r ↦ absurd (not_at_once r refuted) ]
+  pub uncounted : (now : LoggedClauses) → IsRested lits start now → IsRefutedAtOnce (added ++ learned) lits → learned_of now ≡ learned
+  uncounted now rest refuted = elim rest [ inl unchanged ↦ ap learned_of unchanged ∙ same_learned | inr r ↦ absurd (not_at_once r refuted) ]
 
-  pub uncounted_units : (now : LoggedClauses) (learned : List (List Lit)) → IsRested lits start now → learned_of start ≡ learned → IsRefutedAtOnce (added ++ unit_clauses lits) []
-      → learned_of now ≡ learned
-  uncounted_units now learned rest first refuted = elim rest [ inl unchanged ↦ ap learned_of unchanged ∙ first | inr r ↦ absurd (not_at_once_units r refuted) ]
+  pub uncounted_units : (now : LoggedClauses) → IsRested lits start now → IsRefutedAtOnce (added ++ unit_clauses lits ++ learned) [] → learned_of now ≡ learned
+  uncounted_units now rest refuted = elim rest [ inl unchanged ↦ ap learned_of unchanged ∙ same_learned | inr r ↦ absurd (not_at_once_units r refuted) ]
 
-  pub unlimited : {T : Type 0} (result : Result T SolveEnd) → IfErr result (IsLimitedAtRest lits start) → IsRefutedAtOnce added lits → IfErr result IsNoLimit
+  pub unlimited : {T : Type 0} (result : Result T SolveEnd) → IfErr result (IsLimitedAtRest lits start) → IsRefutedAtOnce (added ++ learned) lits → IfErr result IsNoLimit
   unlimited (Ok x) limited refuted = tt
   unlimited (Err e) limited refuted = elim limited [ inl no_limit ↦ no_limit | inr r ↦ absurd (not_at_once r refuted) ]
 
-  pub unlimited_units : {T : Type 0} (result : Result T SolveEnd) → IfErr result (IsLimitedAtRest lits start) → IsRefutedAtOnce (added ++ unit_clauses lits) [] → IfErr result IsNoLimit
+  pub unlimited_units : {T : Type 0} (result : Result T SolveEnd) → IfErr result (IsLimitedAtRest lits start) → IsRefutedAtOnce (added ++ unit_clauses lits ++ learned) []
+      → IfErr result IsNoLimit
   unlimited_units (Ok x) limited refuted = tt
   unlimited_units (Err e) limited refuted = elim limited [ inl no_limit ↦ no_limit | inr r ↦ absurd (not_at_once_units r refuted) ]

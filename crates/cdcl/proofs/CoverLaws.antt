@@ -14,26 +14,11 @@ use Rattle.cdcl.specs.Searching.{is_satisfied}
 
 -- Lists of variables.
 
-has_first : (v : ℕ) (xs ys : List ℕ) → list_any (nat_eq v) xs ≡ true → list_any (nat_eq v) (xs ++ ys) ≡ true
-has_first v [] ys has = absurd (false≢true has)
-has_first v (x ∷ xs) ys has =
-    elim (or_cases (nat_eq v x) (list_any (nat_eq v) xs) has) [
-      | inl here ↦ or_left (nat_eq v x) (list_any (nat_eq v) (xs ++ ys)) here
-      | inr later ↦ or_right (nat_eq v x) (list_any (nat_eq v) (xs ++ ys)) (has_first v xs ys later)
-    ]
-
 pub has_all_same : (xs : List ℕ) → HasAll xs xs
 has_all_same xs v has = has
 
-pub has_all_push : (xs : List ℕ) (w : ℕ) → HasAll xs (xs ++ w ∷ [])
-has_all_push xs w v has = has_first v xs (w ∷ []) has
-
 pub has_all_chain : (xs ys zs : List ℕ) → HasAll xs ys → HasAll ys zs → HasAll xs zs
 has_all_chain xs ys zs first second v has = second v (first v has)
-
-pub has_last : (xs : List ℕ) (v : ℕ) → list_any (nat_eq v) (xs ++ v ∷ []) ≡ true
-has_last [] v = or_left (nat_eq v v) false (eq-eqb v v refl)
-has_last (x ∷ xs) v = or_right (nat_eq v x) (list_any (nat_eq v) (xs ++ v ∷ [])) (has_last xs v)
 
 pub has_at : (xs : List ℕ) (i v w : ℕ) → slice_get xs i ≡ Some w → v ≡ w → list_any (nat_eq v) xs ≡ true
 has_at [] i v w is same = absurd (none-some w is)

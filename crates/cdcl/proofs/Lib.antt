@@ -16,3 +16,4 @@ pub mod RetiringLaws
 pub mod AscendingLaws
 pub mod UnitLaws
 pub mod CountingLaws
+pub mod AddingLaws

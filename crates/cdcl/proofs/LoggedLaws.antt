@@ -1,5 +1,5 @@
 -- Laws of the clauses that a solver holds.
-use Rattle.std.proofs.Common.{◌≡◌, ℕ, zero, suc, ◌+◌, ◌-◌, ◌<◌, ◌≤◌, Bool, true, List, [], ◌∷◌, ◌++◌, length, get_or, take, map, eqb, Option, Some, None, refl, ap, sym, subst, ◌∙◌, ◌⊎◌, inl, inr, arith}
+use Rattle.std.proofs.Common.{◌≡◌, ℕ, zero, suc, ◌+◌, ◌-◌, ◌<◌, Bool, true, List, [], ◌∷◌, ◌++◌, length, get_or, take, map, eqb, Option, Some, None, refl, ap, sym, subst, ◌∙◌, ◌⊎◌, inl, inr, arith}
 use Rattle.std.specs.Prelude.{slice_get}
 use Rattle.std.proofs.lemmas.Bool.{false≢true, and_parts, and_from, cond-true, cond-false}
 use Rattle.std.proofs.lemmas.Option.{none-some, same_Some}
@@ -70,11 +70,6 @@ explained_push clauses sources c s beside explained last i hints is =
           ∙ ap (λ d. hints_fault (clause_numbered clauses) (map negation d) hints) (get_or-append_seam clauses c [] [])
           ∙ last hints same.1
     ]
-
-sized_past : (clauses : List (List Lit)) (i : ℕ) → length clauses ≤ i → get_or clauses i [] ≡ []
-sized_past [] i e = refl
-sized_past (c ∷ clauses) zero e = absurd (omega (arith, e))
-sized_past (c ∷ clauses) (suc i) e = sized_past clauses i (omega (arith, e))
 
 sized_push : (clauses : List (List Lit)) (c : List Lit) → ((i : ℕ) → AreSized (get_or clauses i [])) → AreSized c → (i : ℕ) → AreSized (get_or (clauses ++ c ∷ []) i [])
 sized_push [] c before last zero = last

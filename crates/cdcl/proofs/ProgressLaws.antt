@@ -1,5 +1,5 @@
 -- Laws of a search's progress.
-use Rattle.std.proofs.Common.{◌≡◌, ℕ, zero, suc, ◌+◌, ◌-◌, ◌<◌, ◌≤◌, Bool, true, false, List, [], ◌∷◌, ◌++◌, length, get_or, Option, Some, None, Result, Ok, Err, refl, ap, sym, subst, ◌∙◌, inl, inr, arith, append_assoc, eqb-true}
+use Rattle.std.proofs.Common.{◌≡◌, ℕ, zero, suc, ◌+◌, ◌-◌, ◌<◌, ◌≤◌, ◌^◌, Bool, true, false, List, [], ◌∷◌, ◌++◌, length, get_or, Option, Some, None, Result, Ok, Err, refl, ap, sym, subst, ◌∙◌, inl, inr, arith, append_assoc, eqb-true}
 use Rattle.std.specs.Prelude.{nat_eq, OnOk, OnErr}
 use Rattle.std.specs.List.{list_any, list_all}
 use Rattle.std.proofs.lemmas.Bool.{false≢true, and_parts, and_from, or_cases, or_left, or_right}
@@ -11,12 +11,14 @@ use Rattle.proof_semantics.specs.declared.literals.Lit.{Lit}
 use Rattle.proof_semantics.proofs.LiteralLaws.{lit_eq-true, lit_eq-same}
 use Rattle.edge.specs.Faults.{one_more}
 use Rattle.edge.specs.Units.{Spendings, SpentConflict}
+use Rattle.edge.specs.Ends.{CountsConflicts}
 use Rattle.cdcl_learn.specs.declared.learning.Learned.{Learned}
 use Rattle.cdcl_trail.proofs.TrailLaws.{or_both, or_neither}
+use Rattle.cdcl.specs.Counting.{IsRefutedAtOnce}
 use Rattle.cdcl.specs.LoggedClauses.{LoggedClauses, with_added, with_learned, added_in, learned_in, added_of, learned_of, IsLog}
 use Rattle.cdcl.specs.Room.{clause_room, literal_variables, variables_in}
 use Rattle.cdcl.specs.Searching.{is_over, are_over, IsNewClause}
-use Rattle.cdcl.specs.Solving.{Solving, IsNewImplicate, AreLearned, Learns, IsBounded, more_conflicts}
+use Rattle.cdcl.specs.Solving.{Solving, IsNewImplicate, AreLearned, Learns, IsBounded, more_conflicts, with_conflicts}
 use Rattle.cdcl.specs.Progress.{growth, IsSearched, AreIrredundant, IsSolverLog}
 use Rattle.cdcl.proofs.LoggedLaws.{hinted_implied, learned-IsLog}
 use Rattle.cdcl.proofs.RoomLaws.{room_falls, room_small, over_append, all_over, own_over}
@@ -72,7 +74,7 @@ with_learned_all : (f : List Lit → Bool) (s : Option (List ℕ)) (c : List Lit
 with_learned_all f None c rest e g = g
 with_learned_all f (Some hints) c rest e g = and_from _ _ e g
 
-learned_all : (f : List Lit → Bool) (sources : List (Option (List ℕ))) (clauses : List (List Lit)) → list_all f clauses ≡ true → list_all f (learned_in sources clauses) ≡ true
+pub learned_all : (f : List Lit → Bool) (sources : List (Option (List ℕ))) (clauses : List (List Lit)) → list_all f clauses ≡ true → list_all f (learned_in sources clauses) ≡ true
 learned_all f [] clauses e = refl
 learned_all f (s ∷ sources) [] e = refl
 learned_all f (s ∷ sources) (c ∷ clauses) e =
@@ -180,8 +182,9 @@ new_spent now assumptions learned log new = record {
 pub searched_more : (assumptions : List Lit) (start now next : LoggedClauses) (earlier later latest : Spendings) (learned : Learned) → IsLog now → AreSized assumptions
     → IsNewClause now.clauses assumptions learned → next.clauses ≡ now.clauses ++ learned.clause ∷ [] → next.sources ≡ now.sources ++ Some learned.hints ∷ []
     → latest ≡ record later { conflicts = one_more later.conflicts } → IsSearched assumptions start now earlier later
+    → (IsRefutedAtOnce (added_of now ++ learned_of now) [] → ⊥)
     → IsLog next × IsSearched assumptions start next earlier latest
-searched_more assumptions start now next earlier later latest learned log sized new same_clauses same_sources counts searched =
+searched_more assumptions start now next earlier later latest learned log sized new same_clauses same_sources counts searched unrefuted =
     let c = learned.clause in
     let all = learned-IsLog now next c learned.hints log (new_sized now.clauses assumptions learned log.sized sized new) new.hinted same_clauses same_sources in
     let long = learns_long _ _ _ searched.learned in
@@ -198,6 +201,7 @@ searched_more assumptions start now next earlier later latest learned log sized 
           no_tautology = new.no_tautology;
           not_empty = new.not_empty;
           new = none_learned;
+          unrefuted = subst (λ cs. IsRefutedAtOnce (cs ++ learned_of now) [] → ⊥) searched.added unrefuted;
         });
         counted = counts ∙ ap (λ (s : Spendings). record s { conflicts = one_more s.conflicts }) searched.counted
             ∙ ap (λ n. record earlier { conflicts = n }) (one_conflict_more earlier.conflicts (growth start now) (growth start next) grows);
@@ -265,3 +269,25 @@ searched_bounded assumptions solver start now earlier later same_added same_lear
     let over_now = learned_all (is_over vars) now.sources now.clauses (searched.less vars over over_too).over in
     let small = apart_small vars [] (learned_of now) kept_now.apart over_now in
     (over_now, omega (arith, small, room_small [] vars []))
+
+-- What a question counts.
+
+grows : (count m : ℕ) → count ≤ m → m < 2 ^ 64 → count ≤ one_more m
+grows count m low high = omega arith
+
+capped : (m : ℕ) → one_more m < 2 ^ 64
+capped m = omega arith
+
+stays_small : (count n : ℕ) → count < 2 ^ 64 → (count ≤ more_conflicts count n) × (more_conflicts count n < 2 ^ 64)
+stays_small count zero small = (omega arith, small)
+stays_small count (suc n) small =
+    let before = stays_small count n small in (grows count (more_conflicts count n) before.0 before.1, capped (more_conflicts count n))
+
+pub counts_conflicts : (old new : Spendings) (n : ℕ) → old.conflicts < 2 ^ 64 → new ≡ with_conflicts old n → CountsConflicts old new
+counts_conflicts old new n small e =
+    subst (CountsConflicts old) (sym e) (record {
+      conflict_limit = refl;
+      step_limit = refl;
+      steps = refl;
+      conflicts = (stays_small old.conflicts n small).0;
+    })

@@ -1,26 +1,26 @@
 -- Laws of what a search decides and assumes.
 use Rattle.std.proofs.Common.{◌≡◌, ℕ, zero, suc, ◌+◌, ◌-◌, ◌<◌, ◌≤◌, Bool, true, false, not, cond, eqb, List, [], ◌∷◌, ◌++◌, length, get_or, take, Option, Some, None, refl, ap, sym, ◌∙◌, ◌⊎◌, inl, inr, arith, eqb-true, eq-eqb}
-use Rattle.std.specs.Prelude.{is_none, slice_get, IfNone, IfSome, nat_eq, ◌&&◌}
+use Rattle.std.specs.Prelude.{is_none, slice_get, nat_eq, ◌&&◌}
 use Rattle.std.specs.List.{list_any, list_all}
-use Rattle.std.specs.Option.{option_map}
-use Rattle.std.proofs.lemmas.List.{take_all, take_more}
+use Rattle.std.proofs.lemmas.List.{take_more}
 use Rattle.std.proofs.lemmas.Bool.{false≢true, and_parts, and_from, or_cases, or_left, or_right, cond-true, cond-false}
 use Rattle.std.proofs.lemmas.Option.{none-some, same_Some, slice_get_read}
-use Rattle.proof_semantics.specs.Clauses.{bool_eq, lit_eq, negation, has_literal, literal_value, clauses_value, cube_value, values_of, has_opposites}
+use Rattle.proof_semantics.specs.Clauses.{bool_eq, lit_eq, negation, has_literal, literal_value, clauses_value, values_of, has_opposites}
 use Rattle.proof_semantics.specs.declared.literals.Lit.{Lit}
-use Rattle.proof_semantics.proofs.LiteralLaws.{lit_eq-true, lit_eq-same, bool_eq-true, bool_eq-same, has_literal-push, clause_value-has}
+use Rattle.proof_semantics.proofs.LiteralLaws.{lit_eq-true, lit_eq-same, bool_eq-same, has_literal-push, clause_value-has}
 use Rattle.cdcl_trail.specs.Trails.{Step, assumed, literals_of, value_of, once}
-use Rattle.cdcl_trail.specs.Propagation.{is_value, is_true, is_false, is_falsified, is_complete, AreForced, Propagates}
+use Rattle.cdcl_trail.specs.Propagation.{is_true, is_false, is_falsified, AreForced, Propagates}
 use Rattle.cdcl_trail.proofs.TrailLaws.{not-true, or_neither}
 use Rattle.cdcl_trail.proofs.ScanLaws.{all_has, any_gives, any_has, untrue, one_value}
-use Rattle.cdcl_trail.proofs.PassLaws.{step_comes, no_step, complete_at, held_at}
+use Rattle.cdcl_trail.proofs.PassLaws.{held_at}
 use Rattle.cdcl_trail.proofs.PrefixLaws.{all_from, true_more, none_before, reasoned_assumed}
-use Rattle.cdcl_learn.proofs.LiteralTraceLaws.{false_stands}
-use Rattle.cdcl.specs.Searching.{IsUndecided, IsOpenIn, has_variable, open_by, count_open, is_satisfied, is_over, are_over, AreTrue, AssumesSome, AssumesAll, IsRefusedAt}
+use Rattle.cdcl_learn.proofs.LiteralTraceLaws.{false_stands, true_last}
+use Rattle.cdcl.specs.Searching.{IsUndecided, IsOpenIn, has_variable, open_by, count_open, is_satisfied, is_over, are_over, AreTrue, AssumesSome}
 use Rattle.cdcl_trail.specs.Trails.{opened_by, level}
 use Rattle.cdcl_trail.specs.Propagation.{HaveReasons}
 use Rattle.cdcl_learn.specs.Learning.{is_assumed}
 use Rattle.cdcl.proofs.BackLaws.{no_assumed}
+use Rattle.cdcl.proofs.CoverLaws.{over_push}
 
 abbrev Has : List Lit → Lit → Type 0
 Has lits a = has_literal lits a ≡ true
@@ -35,98 +35,18 @@ model_holds v steps (clause ∷ clauses) each all =
     let found = any_gives (is_true steps) clause parts.0 in
     and_from _ _ (clause_value-has v clause found.0 (each found.0 found.2) found.1) (model_holds v steps clauses each parts.1)
 
-pub model_cube : (values : List Bool) (lits : List Lit) → AreTrue values lits → cube_value (values_of values) lits ≡ true
-model_cube values lits each = all_from (literal_value (values_of values)) lits each
-
 -- The open literal of a clause.
 
 abbrev pub OpenSoFar : List Step → List Lit → Option Lit → Type 0
 OpenSoFar steps seen None = list_all (is_false steps) seen ≡ true
 OpenSoFar steps seen (Some a) = (value_of steps a.var ≡ None) × Has seen a
 
--- a value that is not the wanted one is the other
-not_wanted : (value b : Bool) → (value ≡ b → ⊥) → bool_eq value (not b) ≡ true
-not_wanted true true differs = absurd (differs refl)
-not_wanted true false differs = refl
-not_wanted false true differs = refl
-not_wanted false false differs = absurd (differs refl)
-
-pub open_starts : (steps : List Step) → OpenSoFar steps [] None
-open_starts steps = refl
-
-take_in : (clause : List Lit) (i : ℕ) (d : Lit) → i < length clause → d ≡ get_or clause i d → take (i + 1) clause ≡ take i clause ++ d ∷ []
-take_in clause i d below is = take_more clause i d below ∙ ap (λ b. take i clause ++ b ∷ []) (sym is)
-
-false_push : (f : Lit → Bool) (xs : List Lit) (a : Lit) → list_all f xs ≡ true → f a ≡ true → list_all f (xs ++ a ∷ []) ≡ true
-false_push f [] a all here = and_from _ _ here refl
-false_push f (x ∷ xs) a all here = let parts = and_parts _ _ all in and_from _ _ parts.0 (false_push f xs a parts.1 here)
-
--- one more literal of the clause, without a value
-pub open_more : (steps : List Step) (clause : List Lit) (i : ℕ) (d : Lit) → i < length clause → d ≡ get_or clause i d → value_of steps d.var ≡ None
-    → OpenSoFar steps (take (i + 1) clause) (Some d)
-open_more steps clause i d below is none =
-    (none, ap (λ xs. has_literal xs d) (take_in clause i d below is) ∙ has_literal-push (take i clause) d d ∙ or_right _ _ (lit_eq-same d))
-
-wrong_value : (o : Option Bool) (value b : Bool) → o ≡ Some value → (value ≡ b → ⊥) → (is_value o b ≡ false) × (is_value o (not b) ≡ true)
-wrong_value None value b e differs = absurd (none-some value e)
-wrong_value (Some v) value b e differs =
-    let same : v ≡ value = same_Some v value e in
-    (untrue _ (λ t. differs (sym same ∙ bool_eq-true v b t)), ap (λ x. bool_eq x (not b)) same ∙ not_wanted value b differs)
-
-pub open_stays : (steps : List Step) (clause : List Lit) (i : ℕ) (d : Lit) (value : Bool) (open_now : Option Lit) → i < length clause → d ≡ get_or clause i d
-    → value_of steps d.var ≡ Some value → (value ≡ d.positive → ⊥) → OpenSoFar steps (take i clause) open_now → OpenSoFar steps (take (i + 1) clause) open_now
-open_stays steps clause i d value None below is valued differs so_far =
-    ap (list_all (is_false steps)) (take_in clause i d below is)
-    ∙ false_push (is_false steps) (take i clause) d so_far (wrong_value _ value d.positive valued differs).1
-open_stays steps clause i d value (Some a) below is valued differs so_far =
-    (so_far.0, ap (λ xs. has_literal xs a) (take_in clause i d below is) ∙ has_literal-push (take i clause) d a ∙ or_left _ _ so_far.1)
-
-pub open_ends_none : (steps : List Step) (clause : List Lit) (i : ℕ) (o : Option Lit) → length clause ≤ i → is_falsified steps clause ≡ false → OpenSoFar steps (take i clause) o
-    → IfNone o (list_any (is_true steps) clause ≡ true)
-open_ends_none steps clause i None past unfalsified so_far =
-    absurd (false≢true (sym unfalsified ∙ ap (is_falsified steps) (sym (take_all i clause past)) ∙ so_far))
-open_ends_none steps clause i (Some a) past unfalsified so_far = tt
-
-pub open_ends_some : (steps : List Step) (clause : List Lit) (i : ℕ) (o : Option Lit) → length clause ≤ i → OpenSoFar steps (take i clause) o
-    → IfSome o (λ a. IsOpenIn steps clause a)
-open_ends_some steps clause i None past so_far = tt
-open_ends_some steps clause i (Some a) past so_far =
-    record { unvalued = so_far.0; inside = ap (λ xs. has_literal xs a) (sym (take_all i clause past)) ∙ so_far.1 }
-
 has_at : (clause : List Lit) (i : ℕ) (d : Lit) → i < length clause → d ≡ get_or clause i d → Has clause d
 has_at [] i d below is = absurd (omega (arith, below))
 has_at (x ∷ clause) zero d below is = or_left _ _ (ap (lit_eq d) (sym is) ∙ lit_eq-same d)
 has_at (x ∷ clause) (suc i) d below is = or_right _ _ (has_at clause i d (omega (arith, below)) is)
 
-right_value : (o : Option Bool) (value b : Bool) → o ≡ Some value → value ≡ b → is_value o b ≡ true
-right_value None value b e same = absurd (none-some value e)
-right_value (Some v) value b e same = ap (λ x. bool_eq x b) (same_Some v value e ∙ same) ∙ bool_eq-same b
-
-pub true_found : (steps : List Step) (clause : List Lit) (i : ℕ) (d : Lit) (value : Bool) → i < length clause → d ≡ get_or clause i d → value_of steps d.var ≡ Some value
-    → value ≡ d.positive → list_any (is_true steps) clause ≡ true
-true_found steps clause i d value below is valued same =
-    any_has (is_true steps) clause d (has_at clause i d below is) (right_value _ value d.positive valued same)
-
 -- The choice among clauses.
-
-pub unfalsified_at : (clauses : List (List Lit)) (steps : List Step) (i : ℕ) (clause : List Lit) → i < length clauses → clause ≡ get_or clauses i clause
-    → is_complete clauses steps ≡ true → is_falsified steps clause ≡ false
-unfalsified_at clauses steps i clause below is complete = complete_at clauses i steps clause (slice_get_read clauses _ i clause refl below is) complete
-
-satisfied_push : (clauses : List (List Lit)) (steps : List Step) (c : List Lit) → is_satisfied clauses steps ≡ true → list_any (is_true steps) c ≡ true → is_satisfied (clauses ++ c ∷ []) steps ≡ true
-satisfied_push [] steps c all here = and_from _ _ here refl
-satisfied_push (x ∷ clauses) steps c all here = let parts = and_parts _ _ all in and_from _ _ parts.0 (satisfied_push clauses steps c parts.1 here)
-
--- one more clause, with a true literal
-pub satisfied_more : (clauses : List (List Lit)) (steps : List Step) (i : ℕ) (clause : List Lit) (o : Option Lit) → i < length clauses → clause ≡ get_or clauses i clause
-    → o ≡ None → IfNone o (list_any (is_true steps) clause ≡ true) → is_satisfied (take i clauses) steps ≡ true → is_satisfied (take (i + 1) clauses) steps ≡ true
-satisfied_more clauses steps i clause None below is none here so_far =
-    ap (λ cs. is_satisfied cs steps) (take_more clauses i clause below ∙ ap (λ c. take i clauses ++ c ∷ []) (sym is)) ∙ satisfied_push (take i clauses) steps clause so_far here
-satisfied_more clauses steps i clause (Some a) below is none here so_far = absurd (none-some a (sym none))
-
--- all clauses
-pub satisfied_all : (clauses : List (List Lit)) (steps : List Step) (i : ℕ) → length clauses ≤ i → is_satisfied (take i clauses) steps ≡ true → is_satisfied clauses steps ≡ true
-satisfied_all clauses steps i past so_far = ap (λ cs. is_satisfied cs steps) (sym (take_all i clauses past)) ∙ so_far
 
 has_variable-of : (clause : List Lit) (a : Lit) → Has clause a → has_variable clause a.var ≡ true
 has_variable-of [] a has = absurd (false≢true has)
@@ -144,17 +64,6 @@ open_at clauses steps i clause a below is o = record {
   clause = clause;
   at = slice_get_read clauses _ i clause refl below is;
   inside = has_variable-of clause a o.inside;
-}
-
--- a variable without a value, of the clause at a place
-pub open_told : (clauses : List (List Lit)) (steps : List Step) (i : ℕ) (clause : List Lit) (a : Lit) → slice_get clauses i ≡ Some clause → value_of steps a.var ≡ None
-    → has_variable clause a.var ≡ true → IsUndecided clauses steps a
-open_told clauses steps i clause a at none inside = record {
-  unvalued = none;
-  place = i;
-  clause = clause;
-  at = at;
-  inside = inside;
 }
 
 -- Decisions.
@@ -178,10 +87,6 @@ count_open_falls (w ∷ vars) xs ys v b among none some =
           omega (arith, ap (λ n. open_by (value_of xs n)) (sym same) ∙ ap open_by none, ap (λ n. open_by (value_of (xs ++ ys) n)) (sym same) ∙ ap open_by some, count_open_more vars xs ys)
       | inr later ↦ omega (arith, open_less xs ys w (value_of (xs ++ ys) w) refl, count_open_falls vars xs ys v b later none some)
     ]
-
-pub true_last : (steps : List Step) (a : Lit) → value_of steps a.var ≡ None → is_true (steps ++ assumed a ∷ []) a ≡ true
-true_last steps a none =
-    ap (λ o. is_value (option_map (λ (s : Step). s.literal.positive) o) a.positive) (step_comes steps (assumed a) (no_step _ none)) ∙ bool_eq-same a.positive
 
 pub over_append : (vars : List ℕ) (xs ys : List Step) → is_over vars (literals_of xs) ≡ true → is_over vars (literals_of ys) ≡ true → is_over vars (literals_of (xs ++ ys)) ≡ true
 over_append vars [] ys first later = later
@@ -272,18 +177,6 @@ assumed_push (x ∷ steps) d a e =
       | inr later ↦ elim (assumed_push steps d a later) [ inl found ↦ inl (or_right _ _ found) | inr same ↦ inr same ]
     ]
 
-over_push : (vars : List ℕ) (lits : List Lit) (a : Lit) → is_over vars lits ≡ true → list_any (nat_eq a.var) vars ≡ true → is_over vars (lits ++ a ∷ []) ≡ true
-over_push vars [] a all here = and_from _ _ here refl
-over_push vars (b ∷ lits) a all here = let parts = and_parts _ _ all in and_from _ _ parts.0 (over_push vars lits a parts.1 here)
-
--- None of the assumptions is assumed yet.
-pub assumes_none : (assumptions : List Lit) (start : List Step) → AssumesSome assumptions start start
-assumes_none assumptions start = record {
-  reasoned = λ clauses reasoned. reasoned;
-  only = λ a e. inl e;
-  over = λ vars before over. before;
-}
-
 -- one more of them
 pub assumes_more : (assumptions : List Lit) (start steps later : List Step) (i : ℕ) → i < length assumptions → later ≡ steps ++ assumed (get_or assumptions i no_literal) ∷ []
     → AssumesSome assumptions start steps → AssumesSome assumptions start later
@@ -305,16 +198,6 @@ assumes_more assumptions start steps later i below is so_far =
 abbrev pub AreTrueSoFar : List Lit → List Step → Type 0
 AreTrueSoFar seen steps = (a : Lit) → has_literal seen a ≡ true → is_true steps a ≡ true
 
-pub true_already : (assumptions : List Lit) (steps : List Step) (i : ℕ) (value : Bool) → i < length assumptions
-    → value_of steps (get_or assumptions i no_literal).var ≡ Some value → value ≡ (get_or assumptions i no_literal).positive
-    → AreTrueSoFar (take i assumptions) steps → AreTrueSoFar (take (i + 1) assumptions) steps
-true_already assumptions steps i value below told same so_far a has =
-    let d = get_or assumptions i no_literal in
-    elim (seen_more assumptions i a below has) [
-      | inl before ↦ so_far a before
-      | inr here ↦ ap (is_true steps) (lit_eq-true a d here) ∙ right_value (value_of steps d.var) value d.positive told same
-    ]
-
 pub true_now : (assumptions : List Lit) (steps later : List Step) (i : ℕ) → i < length assumptions → value_of steps (get_or assumptions i no_literal).var ≡ None
     → later ≡ steps ++ assumed (get_or assumptions i no_literal) ∷ [] → AreTrueSoFar (take i assumptions) steps → AreTrueSoFar (take (i + 1) assumptions) later
 true_now assumptions steps later i below fresh is so_far a has =
@@ -324,20 +207,6 @@ true_now assumptions steps later i below fresh is so_far a has =
       | inl before ↦ true_more steps (assumed d ∷ []) a (so_far a before)
       | inr here ↦ ap (is_true (steps ++ assumed d ∷ [])) (lit_eq-true a d here) ∙ true_last steps d fresh
     ]
-
--- all were seen
-pub assumes_all : (assumptions : List Lit) (start steps : List Step) (i : ℕ) → length assumptions ≤ i → AssumesSome assumptions start steps → AreTrueSoFar (take i assumptions) steps
-    → AssumesAll assumptions start steps
-assumes_all assumptions start steps i past some so_far =
-    record { some = some; true_all = λ a has. so_far a (ap (λ xs. has_literal xs a) (take_all i assumptions past) ∙ has) }
-
--- one is false
-pub refused_here : (assumptions : List Lit) (steps : List Step) (i : ℕ) (value : Bool) → i < length assumptions
-    → value_of steps (get_or assumptions i no_literal).var ≡ Some value → (value ≡ (get_or assumptions i no_literal).positive → ⊥)
-    → IsRefusedAt assumptions steps (get_or assumptions i no_literal)
-refused_here assumptions steps i value below told differs =
-    let d = get_or assumptions i no_literal in
-    (get_at assumptions i below, (wrong_value (value_of steps d.var) value d.positive told differs).1)
 
 -- The negation of a false assumption was not assumed.
 pub not_assumed : (assumptions : List Lit) (start steps : List Step) (d : Lit) → has_opposites assumptions ≡ false → level start ≡ 0 → AssumesSome assumptions start steps

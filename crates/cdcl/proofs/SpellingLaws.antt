@@ -1,8 +1,8 @@
 -- Laws of the text of a proof line.
-use Rattle.std.proofs.Common.{◌≡◌, ℕ, ◌+◌, ◌<◌, ◌≤◌, List, [], ◌∷◌, ◌++◌, length, get_or, take, map, refl, ap, sym, ◌∙◌, append_assoc}
+use Rattle.std.proofs.Common.{◌≡◌, ℕ, ◌+◌, ◌<◌, List, [], ◌∷◌, ◌++◌, length, get_or, take, map, refl, ap, sym, ◌∙◌, append_assoc}
 use Rattle.std.specs.Prelude.{decimal}
 use Rattle.std.specs.List.{join_with_byte}
-use Rattle.std.proofs.lemmas.List.{take_more, map-append, take_all}
+use Rattle.std.proofs.lemmas.List.{take_more, map-append}
 use Rattle.proof_semantics.specs.Lines.{signed_text, text_of}
 use Rattle.proof_semantics.specs.declared.literals.Lit.{Lit}
 use Rattle.cdcl.specs.Writing.{spaced_fields, hint_by, line_by}
@@ -16,9 +16,6 @@ join_spaced [] last = refl
 join_spaced (x ∷ []) last = sym (append_assoc x (32 ∷ []) last)
 join_spaced (x ∷ y ∷ xs) last = ap (λ zs. x ++ 32 ∷ zs) (join_spaced (y ∷ xs) last) ∙ sym (append_assoc x (32 ∷ spaced_fields (y ∷ xs)) last)
 
-zero_text : List ℕ
-zero_text = 48 ∷ []
-
 -- one more of the fields that a loop writes
 pub field_more : {X : Type 0} (f : X → List ℕ) (before out : List ℕ) (xs : List X) (i : ℕ) (d : X) → i < length xs
     → out ≡ (before ++ spaced_fields (map f (take i xs))) ++ f (get_or xs i d) ++ 32 ∷ []
@@ -28,10 +25,6 @@ field_more f before out xs i d below e =
     ∙ ap (λ zs. before ++ zs)
     (sym (spaced_append (map f (take i xs)) (f (get_or xs i d) ∷ []))
     ∙ ap spaced_fields (sym (map-append f (take i xs) (get_or xs i d ∷ [])) ∙ ap (map f) (sym (take_more xs i d below))))
-
-pub fields_all : {X : Type 0} (f : X → List ℕ) (before out : List ℕ) (xs : List X) (i : ℕ) → length xs ≤ i → out ≡ before ++ spaced_fields (map f (take i xs))
-    → out ≡ before ++ spaced_fields (map f xs)
-fields_all f before out xs i past e = e ∙ ap (λ zs. before ++ spaced_fields (map f zs)) (take_all i xs past)
 
 text_parts : (id : List ℕ) (xs ys : List (List ℕ)) → ((((((id ++ 32 ∷ []) ++ spaced_fields xs) ++ 48 ∷ []) ++ 32 ∷ []) ++ spaced_fields ys) ++ 48 ∷ [])
     ≡ join_with_byte 32 (id ∷ (xs ++ (48 ∷ []) ∷ (ys ++ (48 ∷ []) ∷ [])))

@@ -1,6 +1,6 @@
 -- Laws of unit clauses behind the clauses that a solver holds.
 use Rattle.std.proofs.Common.{◌≡◌, ℕ, zero, suc, ◌+◌, ◌-◌, ◌<◌, Bool, true, false, not, take, List, [], ◌∷◌, ◌++◌, length, get_or, map, Option, Some, None, refl, ap, sym, subst, ◌∙◌, inl, inr, arith, append_assoc}
-use Rattle.std.specs.Prelude.{slice_get, IsOkAnd}
+use Rattle.std.specs.Prelude.{slice_get}
 use Rattle.std.specs.List.{list_all}
 use Rattle.std.proofs.lemmas.Bool.{false≢true, and_parts, and_from, or_left, or_right, or_cases, cond-true, cond-false}
 use Rattle.std.proofs.lemmas.List.Folds.{list_any-append}
@@ -8,7 +8,6 @@ use Rattle.std.proofs.lemmas.List.{append-nil}
 use Rattle.std.proofs.lemmas.Option.{none-some}
 use Rattle.proof_semantics.specs.Clauses.{lit_eq, negation, has_literal, has_opposites, cube_value, clauses_value}
 use Rattle.proof_semantics.specs.Propagation.{open_literals, only_literal, with_clause, with_unit, conflict_fault, hints_fault}
-use Rattle.proof_semantics.specs.Proofs.{Refutes}
 use Rattle.proof_semantics.specs.Lines.{AreSized}
 use Rattle.proof_semantics.specs.declared.literals.Lit.{Lit}
 use Rattle.proof_semantics.proofs.LiteralLaws.{lit_eq-same, lit_eq-true, negation_twice}
@@ -21,7 +20,6 @@ use Rattle.cdcl.specs.Finding.{Refuses}
 use Rattle.cdcl.specs.Solving.{IsModel}
 use Rattle.cdcl.specs.UnitClauses.{unit_clauses}
 use Rattle.cdcl.specs.WithUnits.{no_sources, with_units, place_of, unit_number}
-use Rattle.cdcl.specs.Writing.{Proves}
 use Rattle.cdcl.proofs.LoggedLaws.{added-IsLog, values_append}
 use Rattle.cdcl.proofs.WritingLaws.{number_put, hints_renamed, part_negations}
 use Rattle.cdcl.proofs.BackLaws.{numbered_more}
@@ -163,9 +161,6 @@ pub hints_more : (clauses more : List (List Lit)) (assumed : List Lit) (hints : 
 hints_more clauses more assumed hints follows =
     ap (hints_fault (clause_numbered (clauses ++ more)) assumed) (sym (same_hints hints))
     ∙ hints_renamed (clause_numbered clauses) (clause_numbered (clauses ++ more)) (λ n. n) (λ _. true) assumed hints (λ n c is _. numbered_more clauses more n c is) (all_needed hints) follows
-
-pub refutes_from : (given : List (List Lit)) (lines : List (List ℕ)) → Proves given lines [] → Refutes given lines
-refutes_from given lines p = subst (λ r. IsOkAnd r (λ s. s.finished ≡ true)) (sym p.judged) (p.finishes refl)
 
 -- what refuses the units as assumptions refutes them as clauses
 pub core_refutes : (clauses : List (List Lit)) (units core : List Lit) (hints : List ℕ) (traced : Learned) → has_opposites units ≡ false → Refuses clauses units traced

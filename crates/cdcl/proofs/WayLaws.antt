@@ -236,11 +236,6 @@ held_settled clauses same t later held is p e = record {
   reasoned = reasoned_propagated clauses t.steps later.steps (subst (λ cs. Propagates cs t.steps later.steps) is p) held.reasoned;
 }
 
-pub held_opened : (clauses : List (List Lit)) (assumptions : List Lit) (t later : TrailState) → IsHeld clauses t → later.taken ≡ t.taken → AssumesSome assumptions t.steps later.steps
-    → IsHeld clauses later
-held_opened clauses assumptions t later held taken some =
-    record { extends = subst (λ cs. Extends cs clauses) (sym taken) held.extends; reasoned = some.reasoned clauses held.reasoned }
-
 -- what a solver holds of its trail stays where clauses come
 pub held_more : (clauses later more : List (List Lit)) (t : TrailState) → IsHeld clauses t → later ≡ clauses ++ more → IsHeld later t
 held_more clauses later more t held is = record {

@@ -2,7 +2,6 @@
 use Rattle.std.proofs.Common.{◌≡◌, ℕ, zero, suc, ◌+◌, ◌-◌, ◌^◌, ◌<◌, ◌≤◌, Bool, true, false, not, ◌&&◌, cond, eqb, List, [], ◌∷◌, ◌++◌, length, map, Option, Some, None, Result, Ok, Err, refl, ap, sym, subst, ◌∙◌, ◌⊎◌, inl, inr, arith, rules, eqb-true}
 use Rattle.std.specs.Prelude.{slice_get, is_some, nat_le, nat_lt, IsOkAnd}
 use Rattle.std.specs.List.{list_any, list_all, AllByRecursion}
-use Rattle.std.proofs.Math.Dec.{leb}
 use Rattle.std.proofs.lemmas.Bool.{false≢true, and_parts, and_from, or_left, or_right, cond-true, cond-false, lt-leb, leb-true, le-leb}
 use Rattle.std.proofs.lemmas.List.Elements.{All-from_recursion}
 use Rattle.std.proofs.lemmas.Option.{none-some, same_Some}
@@ -20,7 +19,6 @@ use Rattle.cnf.specs.Clauses.{clause_numbered}
 use Rattle.cdcl_trail.proofs.TrailLaws.{either}
 use Rattle.cdcl.specs.LoggedClauses.{LoggedClauses, added_of, IsLog}
 use Rattle.cdcl.specs.Solving.{IsRefusal}
-use Rattle.cdcl.specs.Ids.{count_added}
 use Rattle.cdcl.specs.Writing.{hint_by, line_by, IsPartialProof, Proves}
 use Rattle.cdcl.proofs.LoggedLaws.{numbered_true}
 
@@ -303,11 +301,6 @@ written_none logged ids lines greatest counts none given found = record {
   finds = λ n c e has. let r = found n c e has in numbered_at 1 (added_of logged) r.0 (ids n) c r.1 r.2;
 }
 
-pub count_less : (sources : List (Option (List ℕ))) → count_added sources ≤ length sources
-count_less [] = omega arith
-count_less (None ∷ sources) = omega (arith, count_less sources)
-count_less (Some hints ∷ sources) = omega (arith, count_less sources)
-
 -- The refusal.
 
 pub part_negations : (assumptions clause : List Lit) → ((a : Lit) → has_literal clause a ≡ true → has_literal assumptions (negation a) ≡ true) → is_part (map negation clause) assumptions ≡ true
@@ -318,9 +311,6 @@ part_negations assumptions (a ∷ clause) each =
 negations_twice : (clause : List Lit) → map negation (map negation clause) ≡ clause
 negations_twice [] = refl
 negations_twice (a ∷ clause) = ap (λ b. b ∷ map negation (map negation clause)) (negation_twice a) ∙ ap (λ xs. a ∷ xs) (negations_twice clause)
-
-pub core_sized : (assumptions clause : List Lit) → AreSized assumptions → ((a : Lit) → has_literal clause a ≡ true → has_literal assumptions (negation a) ≡ true) → AreSized clause
-core_sized assumptions clause sized each a has = sized (negation a) (each a has)
 
 pub core_holds : (v : ℕ → Bool) (assumptions core : List Lit) → is_part core assumptions ≡ true → cube_value v assumptions ≡ true → cube_value v core ≡ true
 core_holds v assumptions [] part all = refl

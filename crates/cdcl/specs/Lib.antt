@@ -1,5 +1,6 @@
 pub mod Variables
 pub mod Solving
+pub mod Adding
 pub mod Asking
 pub mod Retiring
 pub mod UnitClauses

@@ -3,12 +3,11 @@
 use Rattle.std.specs.Prelude.{◌≡◌, ◌≢◌, ℕ, zero, suc, ◌^◌, ◌≤◌, Bool, true, false, List, [], ◌∷◌, ◌++◌, map, length, Some, IsOkAnd}
 use Rattle.edge.specs.Faults.{one_more}
 use Rattle.edge.specs.Units.{Spendings}
-use Rattle.edge.specs.declared.metering.Counted.TheVariants.{Conflicts}
-use Rattle.edge.specs.declared.solve_end.SolveEnd.{SolveEnd}
-use Rattle.edge.specs.declared.solve_end.SolveEnd.TheVariants.{Spent as SpentEnd, Memory}
+pub use Rattle.edge.specs.Ends.{IsEnd}
 use Rattle.proof_semantics.specs.Clauses.{negation, is_part, clauses_value, cube_value, values_of, IsImplied, is_subsumed, has_opposites}
 use Rattle.proof_semantics.specs.Proofs.{start, clause_at, judge_all, Refutes}
 use Rattle.proof_semantics.specs.declared.literals.Lit.{Lit}
+use Rattle.cdcl.specs.Counting.{IsRefutedAtOnce}
 use Rattle.cdcl.specs.Variables.{is_over, are_over}
 use Rattle.cdcl.specs.declared.solving.Answer.{Answer}
 use Rattle.cdcl.specs.declared.solving.Answer.TheVariants.{Sat, Unsat}
@@ -45,12 +44,14 @@ IsAnswer added assumptions (Sat values) = IsModel added assumptions (values_of v
 IsAnswer added assumptions (Unsat core lines) = IsRefusal added assumptions core.items lines
 
 -- A learned clause follows from the added ones, has a literal and none beside its negation, and no clause that was added
--- or learned before is a part of it. So the empty clause, which propagation alone gives, is never learned.
+-- or learned before is a part of it. Unit propagation over the added clauses and those learned before did not refute them
+-- already. So the empty clause, which propagation alone gives, is never learned.
 pub record IsNewImplicate (added before : List (List Lit)) (clause : List Lit) : Type 0 where
   pub implied : IsImplied added clause
   pub no_tautology : has_opposites clause ≡ false
   pub not_empty : clause ≢ []
   pub new : is_subsumed (added ++ before) clause ≡ false
+  pub unrefuted : IsRefutedAtOnce (added ++ before) [] → ⊥
 
 -- each clause after those before it
 abbrev pub AreLearned : List (List Lit) → List (List Lit) → List (List Lit) → Type 0
@@ -78,8 +79,3 @@ more_conflicts count (suc n) = one_more (more_conflicts count n)
 -- the meter after so many conflicts more
 abbrev pub with_conflicts : Spendings → ℕ → Spendings
 with_conflicts meter n = record meter { conflicts = more_conflicts meter.conflicts n }
-
--- Spent comes where the count of conflicts equals its limit.
-abbrev pub IsEnd : Spendings → SolveEnd → Type 0
-IsEnd meter (SpentEnd spent) = (meter.conflict_limit ≡ Some meter.conflicts) × (spent ≡ record { kind = Conflicts; limit = meter.conflicts })
-IsEnd meter Memory = Unit {0}

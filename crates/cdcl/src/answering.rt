@@ -8,7 +8,8 @@ ghost use Rattle.cdcl.specs.LoggedClauses.{IsLog, added_of};
 ghost use Rattle.cdcl.specs.Finding.{IsSearchResult, IsAskedFrom};
 ghost use Rattle.cdcl.specs.Progress.{IsSearched};
 ghost use Rattle.cdcl.specs.Searching.{IsHeld};
-ghost use Rattle.cdcl.specs.Solving.{IsAnswer, IsEnd};
+ghost use Rattle.edge.specs.Ends.{IsEnd};
+ghost use Rattle.cdcl.specs.Solving.{IsAnswer};
 
 use crate::asking::{Asked, Assignment};
 use crate::finding::Found;

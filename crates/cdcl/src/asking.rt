@@ -12,7 +12,7 @@ use std::alloc::{AllocError, Global};
 use std::marker::Model;
 
 /// What a solver answers to a question without a proof.
-#[derive(Debug, Drop)]
+#[derive(Drop)]
 pub enum Asked {
     /// An assignment that makes every added clause and each assumption true.
     Sat(Assignment),
@@ -21,7 +21,7 @@ pub enum Asked {
 }
 
 /// What a solver answers of its clauses and unit clauses behind them.
-#[derive(Debug, Drop)]
+#[derive(Drop)]
 pub enum Refuted {
     /// An assignment that makes all of them true.
     Sat(Assignment),
@@ -31,7 +31,7 @@ pub enum Refuted {
 
 /// Values of all variables, of which each is read for itself. Contracts see the literals that are
 /// true; a variable of none of them is false.
-#[derive(Debug, Drop)]
+#[derive(Drop)]
 pub struct Assignment {
     literals: Vec<Lit>,
     places: Table<usize>,

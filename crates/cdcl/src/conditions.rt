@@ -1,10 +1,10 @@
 //! Tests of what a solver asks of literals.
 ghost use Rattle.std.specs.Prelude.{◌≡◌, ◌^◌, ◌&&◌, ◌↔◌, IsTrue, nat_lt};
 ghost use Rattle.std.specs.List.{list_all};
-ghost use Rattle.proof_semantics.specs.Clauses.{has_literal, has_opposites};
+ghost use Rattle.proof_semantics.specs.Clauses.{has_opposites};
 ghost use Rattle.proof_semantics.specs.Lines.{AreSized};
 
-use cnf::Lit;
+use cnf::{Lit, has_literal};
 
 /// The numbers of variables are below this one.
 const END: u64 = 1 << 63;
@@ -32,11 +32,4 @@ fn all_sized(literals: &[Lit]) -> bool
     literals
         .iter()
         .all(|literal| 0 < literal.var && literal.var < END)
-}
-
-/// Whether the literal is one of the list.
-pub(crate) fn has_literal(literals: &[Lit], literal: Lit) -> bool
-    ensures { result ≡ has_literal literals.now literal }
-{
-    literals.iter().any(|other| literal.is(*other))
 }

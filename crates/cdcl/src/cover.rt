@@ -9,7 +9,7 @@ use std::alloc::{AllocError, Global};
 use std::marker::Model;
 
 /// Variables, in the order in which they came, and where each stands.
-#[derive(Debug, Drop)]
+#[derive(Drop)]
 pub(crate) struct Cover {
     variables: Vec<Var>,
     places: Table<usize>,

@@ -3,7 +3,10 @@
 //!
 //! | Call | What it does |
 //! |---|---|
-//! | `Solver::new`, `Solver::deciding`, `Solver::add` | a solver without clauses; with the value that is decided first; one clause more |
+//! | `Solver::new`, `Solver::deciding`, `Solver::with_clauses` | a solver without clauses; with the value that is decided first; with given clauses |
+//! | `Solver::add` | one clause more, of variables that a solver can hold |
+//! | `Solver::add_sized`, `Solver::add_all` | the same of any clause, or list, which is tested; what cannot be held is want of memory |
+//! | `Solver::count_added` | how many clauses were added |
 //! | `Solver::solve` | a model, or a core of the assumptions with a proof |
 //! | `Solver::ask` | the same question without a proof; `Assignment::value` reads a model |
 //! | `Solver::refute` | the same of literals that are clauses of the list which a proof refutes |

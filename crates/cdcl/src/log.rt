@@ -2,7 +2,7 @@
 ghost use Rattle.std.specs.Prelude.{◌≡◌, ◌+◌, ◌<◌, [], ◌∷◌, ◌++◌, length, vec_capacity, OnOk, OnErr, IfErr, Some, None, true};
 ghost use Rattle.edge.specs.Units.{SpentConflict};
 ghost use Rattle.edge.specs.Faults.{one_more};
-ghost use Rattle.cdcl.specs.Solving.{IsEnd};
+ghost use Rattle.edge.specs.Ends.{IsEnd};
 ghost use Rattle.cdcl.specs.Ids.{ids_from, count_added};
 ghost use Rattle.cnf.specs.Clauses.{HasRoomFor};
 ghost use Rattle.cdcl.specs.Variables.{are_over, is_over, HasAll};
@@ -19,7 +19,7 @@ use std::marker::Model;
 /// The clauses that were added and learned, in the order in which they came, and beside each the
 /// hints that it was learned by; `None` where it was added. Beside each, how many were added up to
 /// it, and 0 where it was learned. And their variables.
-#[derive(Debug, Drop)]
+#[derive(Drop)]
 pub(crate) struct Log {
     db: Db,
     sources: Vec<Option<Items<u64>>>,
@@ -100,10 +100,14 @@ impl Log {
         if self.added >= MOST_GIVEN {
             return Err(AllocError);
         }
-        self.sources.reserve(1)?;
-        self.ids.reserve(1)?;
-        self.cover.meet(clause.as_slice())?;
-        self.db.push(clause)?;
+        make_room(
+            &mut self.db,
+            &mut self.sources,
+            &mut self.ids,
+            &mut self.cover,
+            clause.as_slice(),
+        )?;
+        self.db.push_reserved(clause);
         self.sources.push_reserved(None);
         self.added += 1;
         self.ids.push_reserved(self.added);
@@ -129,8 +133,11 @@ impl Log {
             learned.clause.as_slice(),
         )?;
         meter.conflict(&self.db, &learned.clause)?;
-        let Learned { clause, hints } = learned;
-        self.db.push_reserved(clause);
+        let Learned {
+            clause: taught,
+            hints,
+        } = learned;
+        self.db.push_reserved(taught);
         self.sources.push_reserved(Some(hints));
         self.ids.push_reserved(0);
         Ok(())

@@ -25,7 +25,7 @@ const NOWHERE: usize = usize::MAX;
 const DEEP: u32 = 64;
 
 /// A variable that may be decided.
-#[derive(Clone, Copy, Debug)]
+#[derive(Clone, Copy)]
 pub(crate) struct Candidate {
     /// Its literal that was true last, or the one to begin with where none was.
     pub(crate) literal: Lit,
@@ -34,7 +34,7 @@ pub(crate) struct Candidate {
 }
 
 // A variable, how active it is, the last conflict that it was met in, and its place in the heap.
-#[derive(Clone, Copy, Debug)]
+#[derive(Clone, Copy)]
 struct Rank {
     candidate: Candidate,
     activity: u64,
@@ -43,7 +43,7 @@ struct Rank {
 }
 
 // A variable in the heap, with what it is compared by.
-#[derive(Clone, Copy, Debug)]
+#[derive(Clone, Copy)]
 struct Entry {
     activity: u64,
     var: Var,
@@ -55,7 +55,7 @@ struct Entry {
 /// before it. The variables are numbered as they come, and those that may be decided stand in a
 /// binary heap by their activities; of two that are as active the smaller variable comes first,
 /// which in a circuit's clauses is what the other one is computed from.
-#[derive(Debug, Drop)]
+#[derive(Drop)]
 pub(crate) struct Order {
     numbers: Table<usize>,
     ranks: Vec<Rank>,

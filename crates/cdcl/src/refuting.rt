@@ -13,12 +13,11 @@ ghost use Rattle.cdcl.specs.Finding.{IsSearchResult, Refuses};
 ghost use Rattle.cdcl.specs.Progress.{IsSearched};
 ghost use Rattle.cdcl.specs.Refuting.{IsRefuted};
 ghost use Rattle.cdcl.specs.Searching.{IsHeld};
-ghost use Rattle.cdcl.specs.Solving.{IsEnd};
+ghost use Rattle.edge.specs.Ends.{IsEnd};
 ghost use Rattle.cdcl.specs.UnitClauses.{unit_clauses};
 ghost use Rattle.cdcl.specs.WithUnits.{unit_number};
 
 use crate::asking::{Assignment, Refuted};
-use crate::conditions::has_literal;
 use crate::finding::Found;
 use crate::log::Log;
 use crate::order::Order;
@@ -27,7 +26,7 @@ use crate::searching::search;
 use crate::writing::{MOST_CLAUSES, proof_of};
 use cdcl_learn::Learned;
 use cdcl_trail::Trail;
-use cnf::{Lit, Proof};
+use cnf::{Lit, Proof, has_literal};
 use edge::{Meter, SolveEnd};
 use std::alloc::{AllocError, Global};
 

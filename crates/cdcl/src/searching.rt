@@ -9,7 +9,7 @@ ghost use Rattle.cdcl.specs.Finding.{IsSearchResult};
 ghost use Rattle.proof_semantics.specs.Lines.{AreSized};
 ghost use Rattle.cdcl.specs.Progress.{IsSearched};
 ghost use Rattle.cdcl.specs.Searching.{AssumesAll, AssumesSome, IsHeld, IsDeciding, IsRefusedAt, IsSettledBase};
-ghost use Rattle.cdcl.specs.Solving.{IsEnd};
+ghost use Rattle.edge.specs.Ends.{IsEnd};
 
 use crate::choosing::choose;
 use crate::finding::Found;

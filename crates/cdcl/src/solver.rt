@@ -1,15 +1,18 @@
 //! The solver. The main type is `Solver`.
-ghost use Rattle.std.specs.Prelude.{◌≡◌, ◌-◌, [], ◌∷◌, ◌++◌, IfOk, IfErr, OnOk, OnErr, length, false};
+ghost use Rattle.std.specs.Prelude.{◌≡◌, ◌<◌, ◌-◌, ◌^◌, [], ◌∷◌, ◌++◌, IfOk, IfErr, OnOk, OnErr, length, false};
 ghost use Rattle.proof_semantics.specs.Lines.{AreSized};
+ghost use Rattle.edge.specs.Ends.{CountsConflicts, IsEnd};
+ghost use Rattle.cdcl.specs.Adding.{AddsFirst};
 ghost use Rattle.cdcl.specs.Asking.{IsAsked};
 ghost use Rattle.cdcl.specs.Counting.{IsNoLimit, IsRefutedAtOnce};
 ghost use Rattle.cdcl.specs.Refuting.{IsRefuted};
 ghost use Rattle.cdcl.specs.UnitClauses.{unit_clauses};
-ghost use Rattle.cdcl.specs.Solving.{IsAnswer, IsBounded, IsEnd, Learns, with_conflicts};
+ghost use Rattle.cdcl.specs.Solving.{IsAnswer, IsBounded, Learns, with_conflicts};
 ghost use Rattle.proof_semantics.specs.Clauses.{has_opposites};
 
 use crate::answering::{search_answer, search_asked};
 use crate::asking::{Asked, Refuted};
+use crate::conditions::are_sized;
 use crate::log::Log;
 use crate::order::Order;
 use crate::refuting::search_refuted;
@@ -23,7 +26,7 @@ use std::marker::Model;
 /// A solver. Contracts see the clauses that were added and those that it learned, in their order.
 /// It never forgets a clause, and keeps its trail from question to question: what is true without
 /// assumptions is propagated once.
-#[derive(Debug, Drop)]
+#[derive(Drop)]
 pub struct Solver {
     log: Log,
     order: Order,
@@ -66,6 +69,21 @@ impl Solver {
         })
     }
 
+    /// A solver with these clauses, each added as `add_sized` does.
+    pub fn with_clauses(alloc: Global, clauses: Vec<Clause>) -> Result<Solver, AllocError>
+        ensures added { IfOk result (λ solver. solver.added ≡ clauses.items) }
+        ensures learned { IfOk result (λ solver. solver.learned ≡ []) }
+    {
+        let mut solver = Solver::new(alloc)?;
+        match solver.add_all(clauses) {
+            Ok(()) => Ok(solver),
+            Err(refused) => {
+                drop(solver);
+                Err(refused)
+            }
+        }
+    }
+
     /// Adds a clause, whose variables are from 1 to 2^63 - 1. The error is want of memory, and
     /// changes nothing.
     pub fn add(&mut self, clause: Clause) -> Result<(), AllocError>
@@ -77,11 +95,45 @@ impl Solver {
         self.log.add(clause)
     }
 
+    /// Adds a clause. Where one of its variables is 0, or is from 2^63 on, the error is that of
+    /// memory. An error changes nothing.
+    pub fn add_sized(&mut self, clause: Clause) -> Result<(), AllocError>
+        ensures added { OnOk result (self.new.added ≡ self.old.added ++ clause ∷ []) }
+        ensures sized { OnOk result (AreSized clause) }
+        ensures learned { self.new.learned ≡ self.old.learned }
+        ensures err { OnErr result (self.new ≡ self.old) }
+    {
+        if !are_sized(clause.as_slice()) {
+            return Err(AllocError);
+        }
+        self.add(clause)
+    }
+
+    /// Adds the clauses in their order, each as `add_sized` does. At an error the first of them may
+    /// have been added.
+    pub fn add_all(&mut self, clauses: Vec<Clause>) -> Result<(), AllocError>
+        ensures added { OnOk result (self.new.added ≡ self.old.added ++ clauses.items) }
+        ensures first { AddsFirst clauses.items self.old.added self.new.added }
+        ensures learned { self.new.learned ≡ self.old.learned }
+    {
+        for clause in clauses {
+            self.add_sized(clause)?;
+        }
+        Ok(())
+    }
+
+    /// How many clauses were added. Takes no memory.
+    pub fn count_added(&self) -> u64
+        ensures { result ≡ length self.now.added }
+    {
+        self.log.added()
+    }
+
     /// Whether the added clauses have a model under the assumptions, none of which is the negation
     /// of another; their variables are from 1 to 2^63 - 1. Each learned clause is counted by the
     /// meter. `Spent` comes where the count of conflicts is at its limit; but what unit propagation
-    /// alone refutes is answered without a conflict, at any limit. After an error the solver can be
-    /// asked again.
+    /// over the added and the learned clauses refutes is answered without a conflict, at any limit.
+    /// After an error the solver can be asked again.
     pub fn solve(&mut self, assumptions: &[Lit], meter: &mut Meter) -> Result<Answer, SolveEnd>
         requires apart { has_opposites assumptions.now ≡ false }
         requires sizes { AreSized assumptions.now }
@@ -91,9 +143,11 @@ impl Solver {
         ensures learned { Learns self.old.added self.old.learned self.new.learned }
         ensures bounded { IsBounded self.old assumptions.now self.new.learned }
         ensures counted { meter.new ≡ with_conflicts meter.old (length self.new.learned - length self.old.learned) }
-        ensures uncounted { IsRefutedAtOnce self.old.added assumptions.now → self.new.learned ≡ self.old.learned }
-        ensures unlimited { IsRefutedAtOnce self.old.added assumptions.now → IfErr result IsNoLimit }
+        ensures alone { CountsConflicts meter.old meter.new }
+        ensures uncounted { IsRefutedAtOnce (self.old.added ++ self.old.learned) assumptions.now → self.new.learned ≡ self.old.learned }
+        ensures unlimited { IsRefutedAtOnce (self.old.added ++ self.old.learned) assumptions.now → IfErr result IsNoLimit }
     {
+        bound_conflicts(meter);
         search_answer(
             self.alloc,
             &mut self.log,
@@ -119,9 +173,11 @@ impl Solver {
         ensures learned { Learns self.old.added self.old.learned self.new.learned }
         ensures bounded { IsBounded self.old assumptions.now self.new.learned }
         ensures counted { meter.new ≡ with_conflicts meter.old (length self.new.learned - length self.old.learned) }
-        ensures uncounted { IsRefutedAtOnce self.old.added assumptions.now → self.new.learned ≡ self.old.learned }
-        ensures unlimited { IsRefutedAtOnce self.old.added assumptions.now → IfErr result IsNoLimit }
+        ensures alone { CountsConflicts meter.old meter.new }
+        ensures uncounted { IsRefutedAtOnce (self.old.added ++ self.old.learned) assumptions.now → self.new.learned ≡ self.old.learned }
+        ensures unlimited { IsRefutedAtOnce (self.old.added ++ self.old.learned) assumptions.now → IfErr result IsNoLimit }
     {
+        bound_conflicts(meter);
         search_asked(
             alloc,
             &mut self.log,
@@ -148,9 +204,11 @@ impl Solver {
         ensures learned { Learns self.old.added self.old.learned self.new.learned }
         ensures bounded { IsBounded self.old units.now self.new.learned }
         ensures counted { meter.new ≡ with_conflicts meter.old (length self.new.learned - length self.old.learned) }
-        ensures uncounted { IsRefutedAtOnce (self.old.added ++ unit_clauses units.now) [] → self.new.learned ≡ self.old.learned }
-        ensures unlimited { IsRefutedAtOnce (self.old.added ++ unit_clauses units.now) [] → IfErr result IsNoLimit }
+        ensures alone { CountsConflicts meter.old meter.new }
+        ensures uncounted { IsRefutedAtOnce (self.old.added ++ unit_clauses units.now ++ self.old.learned) [] → self.new.learned ≡ self.old.learned }
+        ensures unlimited { IsRefutedAtOnce (self.old.added ++ unit_clauses units.now ++ self.old.learned) [] → IfErr result IsNoLimit }
     {
+        bound_conflicts(meter);
         search_refuted(
             alloc,
             &mut self.log,
@@ -160,6 +218,13 @@ impl Solver {
             meter,
         )
     }
+}
+
+// A meter's count of conflicts is a number of 64 bits.
+fn bound_conflicts(meter: &Meter)
+    ensures { meter.now.conflicts < 2 ^ 64 }
+{
+    let _conflicts = meter.spending().conflicts();
 }
 
 fn send<T: Send>() {}

@@ -3,7 +3,7 @@
 use cnf::{Lit, Proof};
 
 /// What a solver answers.
-#[derive(Debug, Drop)]
+#[derive(Drop)]
 pub enum Answer {
     /// Values that make every added clause and each assumption true. Variable v has the value at
     /// place v, and is false past the end.

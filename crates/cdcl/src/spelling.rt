@@ -21,14 +21,29 @@ pub(crate) fn line_of(
     ensures { IfOk result (λ line. line ≡ text_of (line_by (id_in ids.now) id clause.now hints.now)) }
 {
     let mut out = Vec::new(alloc);
-    push_number(&mut out, id)?;
-    out.push(b' ')?;
-    push_literals(&mut out, clause)?;
-    out.push(b'0')?;
-    out.push(b' ')?;
-    push_hints(&mut out, hints, ids)?;
-    out.push(b'0')?;
+    write_line(&mut out, id, clause, hints, ids)?;
     Ok(Items::from_vec(out))
+}
+
+// Writes the line where nothing is written.
+fn write_line(
+    out: &mut Vec<u8>,
+    id: u64,
+    clause: &[Lit],
+    hints: &[u64],
+    ids: &Ids<'_>,
+) -> Result<(), AllocError>
+    requires { out.old.items ≡ [] }
+    ensures { OnOk result (out.new.items ≡ text_of (line_by (id_in ids.now) id clause.now hints.now)) }
+{
+    push_number(out, id)?;
+    out.push(b' ')?;
+    push_literals(out, clause)?;
+    out.push(b'0')?;
+    out.push(b' ')?;
+    push_hints(out, hints, ids)?;
+    out.push(b'0')?;
+    Ok(())
 }
 
 // Writes literals, and a space behind each.

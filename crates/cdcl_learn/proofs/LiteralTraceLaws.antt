@@ -69,7 +69,7 @@ first_fresh clauses before [] at more all = subst (λ b. IsFresh clauses b at) (
 first_fresh clauses before (x ∷ front) at more all =
     subst (λ b. IsFresh clauses b at) (append_assoc before (x ∷ []) front) (first_fresh clauses (before ++ x ∷ []) front at more all.1)
 
-first_reasons : (clauses : List (List Lit)) (before xs ys : List Step) → HaveReasons clauses before (xs ++ ys) → HaveReasons clauses before xs
+pub first_reasons : (clauses : List (List Lit)) (before xs ys : List Step) → HaveReasons clauses before (xs ++ ys) → HaveReasons clauses before xs
 first_reasons clauses before [] ys all = tt
 first_reasons clauses before (x ∷ xs) ys all = (all.0, first_reasons clauses (before ++ x ∷ []) xs ys all.1)
 
@@ -104,7 +104,7 @@ pub record IsCut (clauses : List (List Lit)) (lits : List Lit) (reasons : List (
   pub conflict : IsConflict clauses (steps_from lits reasons) number
   pub reasoned : IsReasonedTrail clauses (steps_from lits reasons)
 
-true_last : (steps : List Step) (a : Lit) → value_of steps a.var ≡ None → is_true (steps ++ assumed a ∷ []) a ≡ true
+pub true_last : (steps : List Step) (a : Lit) → value_of steps a.var ≡ None → is_true (steps ++ assumed a ∷ []) a ≡ true
 true_last steps a none =
     ap (λ o. is_value (option_map (λ (s : Step). s.literal.positive) o) a.positive) (step_comes steps (assumed a) (no_step _ none)) ∙ bool_eq-same a.positive
 

@@ -4,7 +4,7 @@ use Rattle.std.proofs.Math.Dec.{leb}
 use Rattle.std.specs.Prelude.{slice_get, slice_set}
 use Rattle.std.specs.List.{list_any}
 use Rattle.std.specs.Option.{option_map}
-use Rattle.std.proofs.lemmas.List.{take_more, take_all, length-take-le, take-append-drop, get_or-replicate, get_or_past, length-replicate}
+use Rattle.std.proofs.lemmas.List.{take_more, length-take-le, take-append-drop, get_or-replicate, get_or_past, length-replicate}
 use Rattle.std.proofs.lemmas.Bool.{false≢true, and_parts, and_from, or_cases, or_left, or_right, cond-true, cond-false, leb-true, leb-false}
 use Rattle.std.proofs.lemmas.Option.{none-some, same_Some}
 use Rattle.proof_semantics.specs.Clauses.{lit_eq, negation, has_literal}
@@ -262,10 +262,6 @@ pub marked_past : (marks seen : List Bool) (lits clause : List Lit) (start end :
 marked_past marks seen lits clause start end found before at told lacks is =
     is ∙ sym (blank_more start (end - start) end marks lits (omega (arith, before)) (ap (list_any (λ m. m)) (sym at) ∙ sym told ∙ lacks))
 
-pub marked_whole : (marks : List Bool) (lits : List Lit) (i : ℕ) → length lits ≤ i → length marks ≡ length lits → marked (take i marks) (take i lits) ≡ marked marks lits
-marked_whole marks lits i past same =
-    ap (λ ms. marked ms (take i lits)) (take_all i marks (omega (arith, past, same))) ∙ ap (marked marks) (take_all i lits past)
-
 -- The places of variables among literals.
 
 any_take : (f : Lit → Bool) (lits : List Lit) (i : ℕ) → list_any f lits ≡ false → list_any f (take i lits) ≡ false
@@ -308,12 +304,6 @@ or_false false = refl
 any_push : (f : Lit → Bool) (xs : List Lit) (x : Lit) → list_any f (xs ++ x ∷ []) ≡ (list_any f xs || f x)
 any_push f [] x = or_false (f x)
 any_push f (y ∷ xs) x = ap (λ b. f y || b) (any_push f xs x) ∙ or_assoc (f y) (list_any f xs) (f x)
-
-pub marks_more : (f : Lit → Bool) (clause : List Lit) (i : ℕ) (d : Lit) (old mid new : Bool) → i < length clause → mid ≡ (old || list_any f (take i clause))
-    → new ≡ (mid || f (get_or clause i d)) → new ≡ (old || list_any f (take (i + 1) clause))
-marks_more f clause i d old mid new below before now =
-    now ∙ ap (λ b. b || f (get_or clause i d)) before ∙ sym (or_assoc old (list_any f (take i clause)) (f (get_or clause i d)))
-    ∙ ap (λ b. old || b) (sym (any_push f (take i clause) (get_or clause i d)) ∙ ap (list_any f) (sym (take_more clause i d below)))
 
 pub set_length : (marks : List Bool) (p : ℕ) (b : Bool) → length (slice_set marks p b) ≡ length marks
 set_length [] p b = refl

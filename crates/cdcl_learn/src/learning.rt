@@ -20,7 +20,7 @@ use std::alloc::{AllocError, Global};
 
 /// A learned clause, and the numbers of the clauses that it follows from by unit propagation, in
 /// the order in which propagation takes them.
-#[derive(Debug, Drop)]
+#[derive(Drop)]
 pub struct Learned {
     /// The clause.
     pub clause: Clause,
@@ -29,11 +29,12 @@ pub struct Learned {
 }
 
 /// What a conflict teaches: the clause of the first unique implication point, without those of its
-/// literals that follow from the others. It is false under the trail, and leaves one literal under
-/// the lower levels; no clause of the list is a part of it. The conditions: the conflict is the
-/// number of a false clause, the level is above 0, each literal was assumed or is forced by a clause
-/// of the list, and under the lower levels no clause is unit or false. The error is want of memory.
-/// After GRASP (Marques-Silva, Sakallah, 1999), and Sörensson and Biere (2009).
+/// literals that follow from the others (no clause says that it is this one). It is false under the
+/// trail, and leaves one literal under the lower levels; no clause of the list is a part of it. The
+/// conditions: the conflict is the number of a false clause, the level is above 0, each literal was
+/// assumed or is forced by a clause of the list, and under the lower levels no clause is unit or
+/// false. The error is want of memory. After GRASP (Marques-Silva, Sakallah, 1999), and Sörensson and
+/// Biere (2009).
 pub fn learn(alloc: Global, db: &Db, trail: &Trail, conflict: u64) -> Result<Learned, AllocError>
     requires conflict { IsConflict db.now.clauses trail.now.steps conflict }
     requires level { 0 < level trail.now.steps }

@@ -20,10 +20,10 @@ use cdcl_trail::{Places, Trail};
 use cnf::{Clause, Db, Lit, Var};
 use std::alloc::{AllocError, Global};
 
-/// The clause of negations of assumed literals that a conflict comes from, with its hints. The
-/// conditions: the conflict is the number of a false clause, and each literal was assumed or is
-/// forced by a clause of the list. The error is want of memory. After MiniSat (Eén, Sörensson,
-/// 2003).
+/// A clause of negations of assumed literals that a conflict comes from, with its hints; that it has
+/// no others no clause says. The conditions: the conflict is the number of a false clause, and each
+/// literal was assumed or is forced by a clause of the list. The error is want of memory. After
+/// MiniSat (Eén, Sörensson, 2003).
 pub fn trace(alloc: Global, db: &Db, trail: &Trail, conflict: u64) -> Result<Learned, AllocError>
     requires conflict { IsConflict db.now.clauses trail.now.steps conflict }
     requires reasons { IsReasonedTrail db.now.clauses trail.now.steps }

@@ -21,9 +21,6 @@ use Rattle.cdcl_trail.proofs.PrefixLaws.{false_more, true_more, false_before}
 pub front_same : (steps : List Step) → IsFront steps steps
 front_same steps = ([], sym (append-nil steps))
 
-pub front_more : (front steps more : List Step) → IsFront front steps → IsFront front (steps ++ more)
-front_more front steps more f = (f.0 ++ more, ap (λ xs. xs ++ more) f.1 ∙ append_assoc front f.0 more)
-
 -- the first of some steps, and the first of more
 take_splits : (xs : List Step) (g b : ℕ) → g ≤ b → (rest : List Step) × (take b xs ≡ take g xs ++ rest)
 take_splits xs zero b fits = (take b xs, refl)

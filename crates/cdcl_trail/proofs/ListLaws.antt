@@ -4,12 +4,11 @@ use Rattle.std.specs.Prelude.{slice_get}
 use Rattle.std.proofs.Math.ListN.{set, length-set}
 use Rattle.std.proofs.lemmas.Option.{none-some, same_Some, slice_get_within}
 use Rattle.std.proofs.lemmas.Bool.{false≢true}
-use Rattle.std.specs.Global.{Vec}
 use Rattle.proof_semantics.specs.Clauses.{lit_eq}
 use Rattle.proof_semantics.specs.declared.literals.Lit.{Lit}
 use Rattle.proof_semantics.proofs.LiteralLaws.{lit_eq-same}
 use Rattle.packed_literals.specs.Packing.{literal, code_of}
-use Rattle.cdcl_trail.specs.Lists.{IsIn, IsWithout, items_of, list_at}
+use Rattle.cdcl_trail.specs.Lists.{IsIn, IsWithout}
 
 pub get_in_append : {A : Type 0} (xs ys : List A) (i : ℕ) (x : A) → slice_get xs i ≡ Some x → slice_get (xs ++ ys) i ≡ Some x
 get_in_append [] ys i x e = absurd (none-some x e)
@@ -45,7 +44,7 @@ in_push xs n = (length xs, get_last xs n)
 pub in_more : (xs ys : List ℕ) (n : ℕ) → IsIn xs n → IsIn (xs ++ ys) n
 in_more xs ys n e = (e.0, get_in_append xs ys e.0 n e.1)
 
-length_last : {A : Type 0} (xs : List A) (x : A) → length (xs ++ x ∷ []) ≡ suc (length xs)
+pub length_last : {A : Type 0} (xs : List A) (x : A) → length (xs ++ x ∷ []) ≡ suc (length xs)
 length_last [] x = refl
 length_last (y ∷ xs) x = ap suc (length_last xs x)
 
@@ -94,20 +93,6 @@ without_last list rest place last is within past =
     })
 
 -- Rows of lists.
-
-pub row_more : (rows : List (Vec ℕ)) (empty : Vec ℕ) (v : ℕ) → empty.items ≡ [] → list_at (rows ++ empty ∷ []) v ≡ list_at rows v
-row_more [] empty zero is = is
-row_more [] empty (suc v) is = refl
-row_more (x ∷ rows) empty zero is = refl
-row_more (x ∷ rows) empty (suc v) is = row_more rows empty v is
-
-pub row_set : (rows : List (Vec ℕ)) (var : ℕ) (list : Vec ℕ) → var < length rows → list_at (set rows var list) var ≡ list.items
-row_set [] var list below = absurd (omega (arith, below))
-row_set (x ∷ rows) zero list below = refl
-row_set (x ∷ rows) (suc var) list below = row_set rows var list (omega (arith, below))
-
-pub row_other : (rows : List (Vec ℕ)) (var : ℕ) (list : Vec ℕ) (v : ℕ) → (v ≡ var → ⊥) → list_at (set rows var list) v ≡ list_at rows v
-row_other rows var list v apart = ap items_of (get_set_other rows var v list (λ e. apart (sym e)))
 
 -- Codes of literals.
 

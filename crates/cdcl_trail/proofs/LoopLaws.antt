@@ -25,10 +25,10 @@ use Rattle.cdcl_trail.proofs.PrefixLaws.{true_more}
 use Rattle.cdcl_trail.proofs.ListLaws.{get_in_append}
 use Rattle.cdcl_trail.proofs.GuardLaws.{front_same, keeps_same, keeps_more, guarded_more, guarded_next, sure_more}
 
-get_none : {A : Type 0} (xs : List A) (i : ℕ) → slice_get xs i ≡ None → length xs ≤ i
-get_none [] i e = omega arith
-get_none (x ∷ xs) zero e = absurd (none-some x (sym e))
-get_none (x ∷ xs) (suc i) e = let later = get_none xs i e in omega (arith, later)
+pub get_past : {A : Type 0} (xs : List A) (i : ℕ) → slice_get xs i ≡ None → length xs ≤ i
+get_past [] i e = omega arith
+get_past (x ∷ xs) zero e = absurd (none-some x (sym e))
+get_past (x ∷ xs) (suc i) e = let later = get_past xs i e in omega (arith, later)
 
 -- The same clauses.
 
@@ -127,7 +127,7 @@ done_in : (w u : Watching) (s t : List Step) (a b : Lit) (place n : ℕ) (pair :
 done_in w u s t a b place n pair v end at same inside =
     let there = subst (λ (x : Lit). IsIn (list_for u.lists x) n) (lit_eq-true b a same) inside in
     let within = slice_get_within (list_for u.lists a) there.0 n there.1 in
-    let past = get_none (list_for u.lists a) place end in
+    let past = get_past (list_for u.lists a) place end in
     v.done there.0 n pair (omega (arith, within, past)) there.1 at
 
 pub visiting_end : (w u : Watching) (s t : List Step) (a : Lit) (place : ℕ) → IsVisiting w s u t a place → slice_get (list_for u.lists a) place ≡ None → AreDone t a u.pairs.items
@@ -268,7 +268,7 @@ length_literals (x ∷ steps) = ap suc (length_literals steps)
 
 pub settling_end : (w u : Watching) (s t : List Step) (n : ℕ) → IsSettling w s u t n → slice_get (literals_of t) n ≡ None → n ≡ length t
 settling_end w u s t n v e =
-    let past = get_none (literals_of t) n e in
+    let past = get_past (literals_of t) n e in
     let long = length_literals t in
     omega (arith, past, long, v.within)
 
@@ -323,7 +323,7 @@ pub conflict_at : (clauses : List (List Lit)) (number : ℕ) (clause : List Lit)
 conflict_at clauses number clause t is gone = (clause, numbered_at clauses number clause is, gone)
 
 pub singles_past : (xs : List ℕ) (n : ℕ) → slice_get xs n ≡ None → length xs ≤ n
-singles_past xs n e = get_none xs n e
+singles_past xs n e = get_past xs n e
 
 pub not_false : (b : Bool) → not b ≡ false → b ≡ true
 not_false true e = refl

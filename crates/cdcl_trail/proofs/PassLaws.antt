@@ -165,11 +165,6 @@ pub conflict_incomplete : (clauses : List (List Lit)) (steps : List Step) (numbe
 conflict_incomplete clauses steps number conflict all =
     false≢true (sym (complete_at clauses (number - 1) steps conflict.0 (held_at clauses number conflict.0 conflict.1) all) ∙ conflict.2)
 
--- what propagation answers
-pub answered_none : (clauses : List (List Lit)) (steps : List Step) → is_complete clauses steps ≡ true
-    → (◌≡◌ {A = Option ℕ} None None → is_complete clauses steps ≡ true) × (is_complete clauses steps ≡ true → ◌≡◌ {A = Option ℕ} None None)
-answered_none clauses steps all = (λ _. all, λ _. refl)
-
 pub answered_some : (clauses : List (List Lit)) (steps : List Step) (number : ℕ) → IsConflict clauses steps number
     → (Some number ≡ None → is_complete clauses steps ≡ true) × (is_complete clauses steps ≡ true → Some number ≡ None)
 answered_some clauses steps number conflict =

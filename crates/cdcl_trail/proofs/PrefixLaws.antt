@@ -1,16 +1,16 @@
 -- Laws of trails and of what comes before in them.
 use Rattle.std.proofs.Math.Dec.{leb}
-use Rattle.std.proofs.Common.{◌≡◌, ℕ, zero, suc, ◌-◌, ◌<◌, Bool, true, false, not, ◌&&◌, ◌||◌, eqb, List, [], ◌∷◌, ◌++◌, length, get_or, take, Option, Some, None, refl, ap, sym, subst, ◌∙◌, inl, inr, arith, append_assoc, eqb-true}
-use Rattle.std.specs.List.{list_any, list_all}
+use Rattle.std.proofs.Common.{◌≡◌, ℕ, ◌-◌, Bool, true, false, not, ◌&&◌, eqb, List, [], ◌∷◌, ◌++◌, Option, Some, None, refl, ap, sym, subst, ◌∙◌, inl, inr, arith, append_assoc, eqb-true}
+use Rattle.std.specs.List.{list_all}
 use Rattle.std.specs.Option.{option_map}
 use Rattle.std.proofs.lemmas.List.{append-nil}
-use Rattle.std.proofs.lemmas.Bool.{false≢true, and_from, or_cases, or_left, or_right, cond-true, cond-false, le-leb}
+use Rattle.std.proofs.lemmas.Bool.{false≢true, and_from, or_left, or_right, cond-true, cond-false, le-leb}
 use Rattle.std.proofs.lemmas.Option.{none-some}
 use Rattle.proof_semantics.specs.Clauses.{bool_eq, lit_eq, negation, has_literal}
 use Rattle.proof_semantics.specs.declared.literals.Lit.{Lit}
-use Rattle.proof_semantics.proofs.LiteralLaws.{lit_eq-true, lit_eq-same, bool_eq-true, same_lit, not-not}
+use Rattle.proof_semantics.proofs.LiteralLaws.{lit_eq-same, bool_eq-true, same_lit, not-not}
 use Rattle.cdcl_trail.specs.Trails.{Step, opened_by, step_of, value_of, level, up_to_level, assumed, lower_steps}
-use Rattle.cdcl_trail.specs.Propagation.{is_value, is_true, is_false, AreForced, Propagates, IsReasoned, HaveReasons, IsReasonedTrail}
+use Rattle.cdcl_trail.specs.Propagation.{is_value, is_true, is_false, AreForced, Propagates, HaveReasons, IsReasonedTrail}
 use Rattle.cdcl_trail.proofs.TrailLaws.{either, level_push}
 use Rattle.cdcl_trail.proofs.PassLaws.{step_stays, step_comes, propagates_level}
 
@@ -27,17 +27,6 @@ not_all_gives f (a ∷ xs) e =
       | inl here ↦
           let found = not_all_gives f xs (sym (ap (λ b. b && list_all f xs) here) ∙ e) in (found.0, or_right _ _ found.1, found.2)
       | inr fails ↦ (a, or_left _ _ (lit_eq-same a), fails)
-    ]
-
-pub any_not : (f : Lit → Bool) (xs : List Lit) (a : Lit) → list_any f xs ≡ false → has_literal xs a ≡ true → f a ≡ false
-any_not f [] a none has = absurd (false≢true has)
-any_not f (b ∷ xs) a none has =
-    elim (either (f b)) [
-      | inl here ↦ absurd (false≢true (sym none ∙ or_left _ _ here))
-      | inr fails ↦ elim (or_cases _ _ has) [
-        | inl same ↦ ap f (lit_eq-true a b same) ∙ fails
-        | inr later ↦ any_not f xs a (sym (ap (λ c. c || list_any f xs) fails) ∙ none) later
-      ]
     ]
 
 -- What came stays.
@@ -117,13 +106,6 @@ pub reasons_append : (clauses : List (List Lit)) (before xs ys : List Step) → 
 reasons_append clauses before [] ys first later = subst (λ b. HaveReasons clauses b ys) (append-nil before) later
 reasons_append clauses before (x ∷ xs) ys first later =
     (first.0, reasons_append clauses (before ++ x ∷ []) xs ys first.1 (subst (λ b. HaveReasons clauses b ys) (sym (append_assoc before (x ∷ []) xs)) later))
-
-pub reasoned_at : (clauses : List (List Lit)) (before xs : List Step) (i : ℕ) (d : Step) → i < length xs → HaveReasons clauses before xs
-    → IsReasoned clauses (before ++ take i xs) (get_or xs i d)
-reasoned_at clauses before [] i d below all = absurd (omega arith)
-reasoned_at clauses before (x ∷ xs) zero d below all = subst (λ b. IsReasoned clauses b x) (sym (append-nil before)) all.0
-reasoned_at clauses before (x ∷ xs) (suc i) d below all =
-    subst (λ b. IsReasoned clauses b (get_or xs i d)) (append_assoc before (x ∷ []) (take i xs)) (reasoned_at clauses (before ++ x ∷ []) xs i d (omega arith) all.1)
 
 -- What assuming and propagating keep.
 

@@ -18,7 +18,7 @@ use Rattle.cdcl_trail.proofs.PassLaws.{propagates_level}
 use Rattle.cdcl_trail.proofs.PrefixLaws.{cut_at_level}
 use Rattle.cdcl_trail.proofs.ListLaws.{get_push}
 use Rattle.cdcl_trail.proofs.GuardLaws.{guarded_more, sure_more}
-use Rattle.cdcl_trail.proofs.LoopLaws.{held_same, front_length}
+use Rattle.cdcl_trail.proofs.LoopLaws.{held_same, front_length, get_past}
 
 -- Levels.
 
@@ -110,11 +110,6 @@ sound_assumed steps later a w r saved more e f s =
     subst (λ xs. Sound xs w r more) (sym e) (subst (λ xs. Sound (steps ++ assumed a ∷ []) w r xs) (sym f) (sound_assumed-at steps a w r saved s))
 
 -- Going back.
-
-pub get_past : {A : Type 0} (xs : List A) (i : ℕ) → slice_get xs i ≡ None → length xs ≤ i
-get_past [] i e = omega arith
-get_past (x ∷ xs) zero e = absurd (none-some x (sym e))
-get_past (x ∷ xs) (suc i) e = let later = get_past xs i e in omega (arith, later)
 
 back_present : (steps : List Step) (w : Watching) (r : Reached) (saved : List Reached) (target : ℕ) (o : Option Reached) → slice_get saved target ≡ o → Sound steps w r saved
     → HasReached (unwrap_or o r) (up_to_level target steps) w

@@ -17,7 +17,7 @@ use Rattle.cdcl_trail.specs.Storing.{Stores, KeepsLists, AreListed, IsOther, has
 use Rattle.cdcl_trail.specs.declared.lists.Lists.{Lists}
 use Rattle.cdcl_trail.specs.declared.pairs.Pair.{Pair}
 use Rattle.cdcl_trail.proofs.TrailLaws.{either}
-use Rattle.cdcl_trail.proofs.ListLaws.{get_in_append, get_last, get_push, get_set, get_set_other, in_push, in_more, place_either}
+use Rattle.cdcl_trail.proofs.ListLaws.{get_in_append, get_last, get_push, get_set, get_set_other, in_push, in_more, place_either, length_last}
 
 pub stores_lists : (arena : List Lit) (places : List Ref) (pairs : List (Option Pair)) (singles : List ℕ) (lists later : Lists) → KeepsLists lists later
     → Stores arena places pairs singles lists → Stores arena places pairs singles later
@@ -82,10 +82,6 @@ listed_at lists n (Some p) pair all e = subst (λ (x : Pair). IsIn (list_for lis
 past : {A : Type 0} (xs : List A) (x : A) → slice_get xs (length xs) ≡ Some x → ⊥
 past xs x e = let within : length xs < length xs = slice_get_within xs (length xs) x e in omega (arith, within)
 
-length_next : {A : Type 0} (xs : List A) (x : A) → length (xs ++ x ∷ []) ≡ suc (length xs)
-length_next [] x = refl
-length_next (y ∷ xs) x = ap suc (length_next xs x)
-
 -- of a clause by its place, where one more came
 clause_cases : (clauses : List (List Lit)) (pairs : List (Option Pair)) (clause c : List Lit) (found o : Option Pair) (n : ℕ) → length pairs ≡ length clauses
     → slice_get (pairs ++ found ∷ []) n ≡ Some o → slice_get (clauses ++ clause ∷ []) n ≡ Some c
@@ -130,7 +126,7 @@ stores_push arena later places place pairs found singles lists more clause s sta
     let grown : map (lent later) (places ++ place ∷ []) ≡ clauses ++ clause ∷ [] = held_push arena later places place clause s.refs stays is in
     let long : length pairs ≡ length clauses = s.beside ∙ sym (length_map (lent arena) places) in
     record {
-      beside = length_next pairs found ∙ ap suc s.beside ∙ sym (length_next places place);
+      beside = length_last pairs found ∙ ap suc s.beside ∙ sym (length_last places place);
       refs = ref_last arena later places place s.refs stays is_ref;
       paired = λ n pair c e f.
           elim (clause_cases clauses pairs clause c found (Some pair) n long e (subst (λ xs. slice_get xs n ≡ Some c) grown f)) [

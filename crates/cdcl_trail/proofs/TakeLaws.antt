@@ -20,11 +20,11 @@ use Rattle.cdcl_trail.specs.Watched.{Extends, AreWatchedWell, HasTwo, IsWatchedA
 use Rattle.cdcl_trail.specs.declared.pairs.Pair.{Pair}
 use Rattle.cdcl_trail.specs.declared.tracks.Reached.{Reached}
 use Rattle.cdcl_trail.specs.declared.watching.Watching.{Watching}
-use Rattle.cdcl_trail.proofs.ListLaws.{get_push, below_push, get_set, get_set_other, place_either}
+use Rattle.cdcl_trail.proofs.ListLaws.{get_push, below_push, get_set, get_set_other, place_either, length_last}
 use Rattle.cdcl_trail.proofs.GuardLaws.{guarded_fewer, guarded_late, front_same, pair_settles, true_settles, keeps_same, take_whole}
-use Rattle.cdcl_trail.proofs.SoundLaws.{cut_front, get_past, sound_settled, sure_rewatched}
+use Rattle.cdcl_trail.proofs.SoundLaws.{cut_front, sound_settled, sure_rewatched}
 use Rattle.cdcl_trail.proofs.PassLaws.{answered_some, held_at}
-use Rattle.cdcl_trail.proofs.LoopLaws.{held_same, rewatched_same, guarded_front, sure_front, front_length, below_next}
+use Rattle.cdcl_trail.proofs.LoopLaws.{held_same, rewatched_same, guarded_front, sure_front, front_length, below_next, get_past}
 
 -- The clauses one after the other.
 
@@ -40,12 +40,6 @@ take_one_more : (xs : List (List Lit)) (n : ℕ) (x : List Lit) → slice_get xs
 take_one_more [] n x e = absurd (none-some x e)
 take_one_more (y ∷ xs) zero x e = ap (λ z. z ∷ []) (same_Some y x e)
 take_one_more (y ∷ xs) (suc n) x e = ap (λ k. take k (y ∷ xs)) (turn n) ∙ ap (λ ys. y ∷ ys) (take_one_more xs n x e)
-
-take_past : (xs : List (List Lit)) (n : ℕ) → slice_get xs n ≡ None → take n xs ≡ xs
-take_past [] zero e = refl
-take_past [] (suc n) e = refl
-take_past (x ∷ xs) zero e = absurd (none-some x (sym e))
-take_past (x ∷ xs) (suc n) e = ap (λ ys. x ∷ ys) (take_past xs n e)
 
 take_rest : (xs : List (List Lit)) (n : ℕ) → Extends (take n xs) xs
 take_rest xs zero = (xs, refl)
@@ -70,9 +64,6 @@ taking_next earlier first clauses s t taken more place clause v at same came = r
 pub extends_same : (first taken later : List (List Lit)) → Extends first taken → later ≡ taken → Extends first later
 extends_same first taken later grown same = (grown.0, same ∙ grown.1)
 
-pub taking_end : (clauses taken : List (List Lit)) (place : ℕ) → taken ≡ take place clauses → slice_get clauses place ≡ None → taken ≡ clauses
-taking_end clauses taken place v e = v ∙ take_past clauses place e
-
 pub taking_extends : (clauses taken later : List (List Lit)) (place : ℕ) → taken ≡ take place clauses → later ≡ taken → Extends later clauses
 taking_extends clauses taken later place v e = subst (λ xs. Extends xs clauses) (sym (e ∙ v)) (take_rest clauses place)
 
@@ -81,10 +72,6 @@ taking_extends clauses taken later place v e = subst (λ xs. Extends xs clauses)
 length_mapped : {A B : Type 0} (f : A → B) (xs : List A) → length (map f xs) ≡ length xs
 length_mapped f [] = refl
 length_mapped f (x ∷ xs) = ap suc (length_mapped f xs)
-
-length_more : {A : Type 0} (xs : List A) (x : A) → length (xs ++ x ∷ []) ≡ suc (length xs)
-length_more [] x = refl
-length_more (y ∷ xs) x = ap suc (length_more xs x)
 
 guarded_taken : (g bound : ℕ) (front steps : List Step) (pairs : List (Option Pair)) (found : Option Pair) → IsFront front steps → g ≤ bound → IfSome found (IsOpenTo bound steps)
     → AreGuarded g front pairs → AreGuarded g front (pairs ++ found ∷ [])
@@ -122,7 +109,7 @@ sure_taken n steps singles number found clauses clause counted within all j plac
     all j place c under single (sym (below_push clauses clause place (within j place single)) ∙ is)
 
 more_singles : (n : ℕ) (singles : List ℕ) (number : ℕ) (found : Option Pair) → n ≤ length singles → n ≤ length (has_more_singles singles number found)
-more_singles n singles number None fits = let long = length_more singles number in omega (arith, fits, long)
+more_singles n singles number None fits = let long = length_last singles number in omega (arith, fits, long)
 more_singles n singles number (Some pair) fits = fits
 
 pub reached_taken : (p q : Reached) (front steps : List Step) (w u : Watching) (clause : List Lit) (found : Option Pair) (bound number : ℕ) → IsFront front steps

@@ -6,7 +6,7 @@ use Rattle.std.specs.Option.{option_map, option_flatten, unwrap_or, IsSome}
 use Rattle.std.specs.Result.{OnOk}
 use Rattle.std.proofs.lemmas.Bool.{false≢true, and_parts, and_from, cond-true, cond-false, ne_eqb, leb-true, le-leb}
 use Rattle.std.proofs.lemmas.List.{length_push}
-use Rattle.std.proofs.lemmas.Option.{none-some, same_Some, slice_get-get_or}
+use Rattle.std.proofs.lemmas.Option.{none-some, slice_get-get_or}
 use Rattle.std.proofs.lemmas.Bool.Decides.{leb_tells}
 use Rattle.std.proofs.Math.Dec.{leb}
 use Rattle.proof_semantics.specs.declared.literals.Lit.{Lit}
@@ -14,6 +14,7 @@ use Rattle.cdcl_trail.specs.Trails.{Step, step, assumed, opened_by, literals_of,
 use Rattle.packed_literals.specs.Tables.{told}
 use Rattle.cdcl_trail.specs.AssignmentOf.{steps_from, place_in, reason_at, count_assumed, levels_from, state_of, IsTabulated}
 use Rattle.cdcl_trail.specs.declared.assignment.Assignment.TheInside.{Inside}
+use Rattle.packed_literals.proofs.NamingLaws.{place_cases, no_place_cases, swap_cond, map_cond, apart_at}
 
 pub either : (b : Bool) → (b ≡ true) ⊎ (b ≡ false)
 either true = inl refl
@@ -49,18 +50,6 @@ level_length [] = omega arith
 level_length (x ∷ xs) = omega (arith, level_length xs, opened_small x.reason)
 
 -- Places.
-
--- where a place comes from: this literal, or a later one
-place_cases : (b : Bool) (later : Option ℕ) (p : ℕ) → cond b (Some 0) (option_map (λ place. place + 1) later) ≡ Some p
-    → ((b ≡ true) × (p ≡ 0)) ⊎ ((q : ℕ) × (b ≡ false) × (later ≡ Some q) × (p ≡ q + 1))
-place_cases true later p e = inl (refl, sym (same_Some 0 p e))
-place_cases false None p e = absurd (none-some p e)
-place_cases false (Some q) p e = inr (q, refl, refl, sym (same_Some (q + 1) p e))
-
-no_place_cases : (b : Bool) (later : Option ℕ) → cond b (Some 0) (option_map (λ place. place + 1) later) ≡ None → (b ≡ false) × (later ≡ None)
-no_place_cases true later e = absurd (none-some 0 (sym e))
-no_place_cases false None e = (refl, refl)
-no_place_cases false (Some q) e = absurd (none-some (q + 1) (sym e))
 
 pub no_place : (lits : List Lit) (reasons : List (Option ℕ)) (v : ℕ) → place_in lits v ≡ None → step_of (steps_from lits reasons) v ≡ None
 no_place [] reasons v e = refl
@@ -118,18 +107,6 @@ without_value lits reasons v None e found f = refl
 without_value lits reasons v (Some p) e found f =
     absurd (valued _ _ (at_place lits reasons v p (record { var = 0; positive = true }) None e found).found f)
 
-map_cond : (b : Bool) (n : ℕ) (later : Option ℕ) → option_map (λ place. place + 1) (cond b (Some n) later) ≡ cond b (Some (n + 1)) (option_map (λ place. place + 1) later)
-map_cond true n later = refl
-map_cond false n later = refl
-
-swap_cond : {T : Type 0} (b c : Bool) (x y z : T) → (b ≡ true → c ≡ false) → cond b x (cond c y z) ≡ cond c y (cond b x z)
-swap_cond true true x y z apart = absurd (false≢true (sym (apart refl)))
-swap_cond true false x y z apart = refl
-swap_cond false c x y z apart = refl
-
-apart_at : (x a v : ℕ) → eqb x a ≡ false → eqb x v ≡ true → eqb a v ≡ false
-apart_at x a v differs same = ne_eqb a v (λ e. false≢true (sym differs ∙ eq-eqb x a (eqb-true x v same ∙ sym e)))
-
 next_length : (n : ℕ) → n + 1 ≡ suc n
 next_length n = omega arith
 
@@ -175,12 +152,6 @@ eqb-sym m n e = ne_eqb n m (λ same. false≢true (sym e ∙ eq-eqb m n (sym sam
 any_push : (f : Lit → Bool) (xs : List Lit) (a : Lit) → list_any f (xs ++ a ∷ []) ≡ (list_any f xs || f a)
 any_push f [] a = or-none (f a)
 any_push f (x ∷ xs) a = or_step (f x) _ _ _ (any_push f xs a)
-
--- a variable that the first literals lack differs from theirs
-lacking : (lits : List Lit) (v : ℕ) → place_in lits v ≡ None → list_any (λ b. eqb b.var v) lits ≡ false
-lacking [] v none = refl
-lacking (a ∷ lits) v none =
-    let parts = no_place_cases _ _ none in or_both _ _ parts.0 (lacking lits v parts.1)
 
 lacked : (lits : List Lit) (v : ℕ) → list_any (λ b. eqb b.var v) lits ≡ false → place_in lits v ≡ None
 lacked [] v none = refl
@@ -255,9 +226,6 @@ step_back n older newer popped above =
       above = omega (arith, deep, level_push newer last, opened_small last.reason);
       shorter = omega (arith, ap length behind, length_push newer last);
     }
-
-pub some_literal : (n : ℕ) (xs : List Step) → n < level xs → 0 < length xs
-some_literal n xs above = omega (arith, above, level_length xs)
 
 pub level_assumed : (xs ys : List Step) (a : Lit) → ys ≡ xs ++ assumed a ∷ [] → level ys ≡ level xs + 1
 level_assumed xs ys a e = ap level e ∙ level_push xs (assumed a)
@@ -466,16 +434,12 @@ popped_level t u a r orderly literals reasons =
 
 -- What the first steps lack.
 
-step_none : (b : Bool) (x : Step) (later : Option Step) → cond b (Some x) later ≡ None → (b ≡ false) × (later ≡ None)
-step_none true x later e = absurd (none-some x (sym e))
-step_none false x later e = (refl, e)
-
 pub none_take : (steps : List Step) (n v : ℕ) → step_of steps v ≡ None → step_of (take n steps) v ≡ None
 none_take [] zero v e = refl
 none_take [] (suc n) v e = refl
 none_take (x ∷ steps) zero v e = refl
 none_take (x ∷ steps) (suc n) v e =
-    let parts = step_none _ x _ e in cond-false (eqb x.literal.var v) (Some x) (step_of (take n steps) v) parts.0 ∙ none_take steps n v parts.1
+    let parts = step_nowhere _ x _ e in cond-false (eqb x.literal.var v) (Some x) (step_of (take n steps) v) parts.0 ∙ none_take steps n v parts.1
 
 pub none_to_place : (lits : List Lit) (reasons : List (Option ℕ)) (v p : ℕ) → place_in lits v ≡ Some p → step_of (take p (steps_from lits reasons)) v ≡ None
 none_to_place [] reasons v p e = absurd (none-some p e)

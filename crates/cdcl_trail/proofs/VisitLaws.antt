@@ -1,5 +1,5 @@
 -- Laws of a look at one clause.
-use Rattle.std.proofs.Common.{◌≡◌, ℕ, ◌<◌, Bool, true, false, not, ◌||◌, List, [], ◌∷◌, ◌++◌, take, Option, Some, None, refl, ap, sym, subst, ◌∙◌, inl, inr}
+use Rattle.std.proofs.Common.{◌≡◌, ℕ, ◌<◌, true, false, not, ◌||◌, List, [], ◌∷◌, ◌++◌, take, Option, Some, None, ap, sym, subst, ◌∙◌, inl, inr}
 use Rattle.std.specs.Prelude.{slice_get, is_some}
 use Rattle.std.specs.List.{list_any, list_all}
 use Rattle.std.specs.Option.{option_map, IfNone}
@@ -19,7 +19,7 @@ use Rattle.cdcl_trail.specs.Visiting.{IsVisited}
 use Rattle.cdcl_trail.specs.declared.pairs.Pair.{Pair}
 use Rattle.cdcl_trail.specs.declared.watching.Watching.{Watching}
 use Rattle.cdcl_trail.proofs.TrailLaws.{either}
-use Rattle.cdcl_trail.proofs.ScanLaws.{any_has, all_has}
+use Rattle.cdcl_trail.proofs.ScanLaws.{all_has}
 use Rattle.cdcl_trail.proofs.PassLaws.{step_comes, no_step, propagates_none}
 use Rattle.cdcl_trail.proofs.PrefixLaws.{all_from}
 use Rattle.cdcl_trail.proofs.ListLaws.{get_set, get_set_other, place_either}
@@ -125,17 +125,6 @@ first_inside (b ∷ clause) a e = or_left (lit_eq a b) (list_any (lit_eq a) clau
 pub single_false : (steps : List Step) (clause : List Lit) (a : Lit) → IsSingle clause → has_literal clause a ≡ true → is_false steps a ≡ true → is_falsified steps clause ≡ true
 single_false steps clause a single has gone =
     all_from (is_false steps) clause (λ b in_b. ap (is_false steps) (lit_eq-true b a (single b a in_b has)) ∙ gone)
-
-true_else : (value : Option Bool) (b : Bool) → is_some value ≡ true → is_value value (not b) ≡ false → is_value value b ≡ true
-true_else None b e f = absurd (false≢true e)
-true_else (Some true) true e f = refl
-true_else (Some true) false e f = absurd (false≢true (sym f))
-true_else (Some false) true e f = absurd (false≢true (sym f))
-true_else (Some false) false e f = refl
-
-pub single_true : (steps : List Step) (clause : List Lit) (a : Lit) → has_literal clause a ≡ true → is_some (value_of steps a.var) ≡ true → is_false steps a ≡ false
-    → list_any (is_true steps) clause ≡ true
-single_true steps clause a has valued unfalse = any_has (is_true steps) clause a has (true_else (value_of steps a.var) a.positive valued unfalse)
 
 pub single_unit : (steps : List Step) (clause : List Lit) (a : Lit) → IsSingle clause → has_literal clause a ≡ true → is_some (value_of steps a.var) ≡ false
     → is_unit_for steps clause a ≡ true

@@ -10,7 +10,7 @@ use std::alloc::{AllocError, Global};
 use std::marker::Model;
 
 /// The literals that are true, with their reasons and levels. Contracts see the steps.
-#[derive(Debug, Drop)]
+#[derive(Drop)]
 pub struct Assignment {
     literals: Vec<Packed>,
     reasons: Vec<Option<u64>>,

@@ -12,7 +12,7 @@ const LAST: usize = u32::MAX as usize;
 
 /// For each literal, the places of the clauses that watch it. Its list stands at the place of its
 /// code.
-#[derive(Debug, Drop)]
+#[derive(Drop)]
 pub struct Lists {
     rows: Vec<Vec<u32>>,
 }

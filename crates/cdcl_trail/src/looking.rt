@@ -11,7 +11,7 @@ use packed_literals::Packed;
 
 /// The other watched literal is true; a further literal can be watched in place of the false one;
 /// the other one is forced; or the clause is false.
-#[derive(Clone, Copy, Debug)]
+#[derive(Clone, Copy)]
 pub(crate) enum Finding {
     Stays,
     Moves(Packed),

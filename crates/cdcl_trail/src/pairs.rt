@@ -4,7 +4,7 @@ ghost use Rattle.cdcl_trail.specs.Looking.{StandsBeside};
 use packed_literals::Packed;
 
 /// The two watched literals of a clause.
-#[derive(Clone, Copy, Debug)]
+#[derive(Clone, Copy)]
 pub struct Pair {
     pub first: Packed,
     pub second: Packed,

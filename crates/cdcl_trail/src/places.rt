@@ -6,7 +6,7 @@ use cnf::Var;
 use packed_literals::{Names, Table};
 
 /// Where variables stand among the literals of a trail, as a trail lends it.
-#[derive(Clone, Copy, Debug)]
+#[derive(Clone, Copy)]
 pub struct Places<'a> {
     names: &'a Names,
     numbered: &'a Table<usize>,

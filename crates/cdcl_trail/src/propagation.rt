@@ -17,7 +17,7 @@ use std::alloc::AllocError;
 
 /// What a look at a clause came to: it stands in the list as before, it was taken from the list, or
 /// it is false.
-#[derive(Clone, Copy, Debug)]
+#[derive(Clone, Copy)]
 pub(crate) enum Visited {
     Stands,
     Left,

@@ -19,7 +19,7 @@ use std::marker::Model;
 
 /// How far propagation has come: over how many steps, and over how many of the clauses without two
 /// different literals.
-#[derive(Clone, Copy, Debug)]
+#[derive(Clone, Copy)]
 pub struct Reached {
     pub steps: usize,
     pub singles: usize,
@@ -29,7 +29,7 @@ pub struct Reached {
 /// each with its literal and, where it was not assumed, the number of the clause that forced it;
 /// the clauses; and the literals at which each is watched. Levels count from 0, on which nothing is
 /// assumed.
-#[derive(Debug, Drop)]
+#[derive(Drop)]
 pub struct Tracks {
     assignment: Assignment,
     watching: Watching,
@@ -190,7 +190,7 @@ impl Tracks {
         self.assignment.places()
     }
 
-    /// Nothing: what holds of each trail.
+    /// Does nothing. Its contract says what holds of each trail.
     pub fn laws(&self)
         ensures paired { ArePaired self.now }
         ensures once { IsTrue (once (literals_of self.now.steps)) }

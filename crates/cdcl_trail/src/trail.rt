@@ -18,8 +18,9 @@ use std::marker::Model;
 /// An assignment as a solver makes it, and the clauses that it took over. Contracts see the steps,
 /// each with its literal and, where it was not assumed, the number of the clause that forced it;
 /// the clauses; and the literals at which each is watched. Levels count from 0, on which nothing is
-/// assumed. Variables are numbered as they come, and all but `literals` is over their numbers.
-#[derive(Debug, Drop)]
+/// assumed. Inside, variables are numbered as they come, and all but what `literals` lends is
+/// over these numbers.
+#[derive(Drop)]
 pub struct Trail {
     names: Names,
     tracks: Tracks,
@@ -82,8 +83,8 @@ impl Trail {
         self.shown.truncate(self.tracks.literals().len());
     }
 
-    /// Takes over the clauses that the list has more than at the call before, and puts the literals
-    /// that the clauses force on the trail, until no clause is unit or false, and answers `None`; or
+    /// Takes over the clauses behind those that were taken over, and puts the literals that the clauses
+    /// force on the trail, until no clause is unit or false, and answers `None`; or
     /// until a clause is false, and answers its number. The condition is that the list begins with
     /// the clauses that were taken over. The error is want of memory, or more variables, clauses or
     /// literals than four bytes can number: those that were taken over stay, some more may have

@@ -15,8 +15,8 @@ use packed_literals::Packed;
 use std::alloc::{AllocError, Global};
 
 /// The clauses that were taken over: where their literals stand in the arena, at which two literals
-/// each is watched, which have no two, and which each literal watches.
-#[derive(Debug, Drop)]
+/// each is watched, which have no two, and which watch each literal.
+#[derive(Drop)]
 pub struct Watching {
     pub alloc: Global,
     pub arena: Arena<Packed>,

@@ -1,9 +1,6 @@
 -- Laws of what stays lent.
-use Rattle.std.proofs.Common.{List, refl, ◌∙◌}
+use Rattle.std.proofs.Common.{List, ◌∙◌}
 use Rattle.clause_arena.specs.Lending.{StaysLent}
-
-pub stays_same : {T : Type 0} (elements : List T) → StaysLent elements elements
-stays_same elements place is_ref = (is_ref, refl)
 
 pub stays_longer : {T : Type 0} (a b c : List T) → StaysLent a b → StaysLent b c → StaysLent a c
 stays_longer a b c first later place is_ref =

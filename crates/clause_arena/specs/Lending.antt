@@ -2,7 +2,8 @@
 use Rattle.std.specs.Prelude.{◌≡◌, ◌≤◌, List, length, slice_range}
 use Rattle.clause_arena.specs.declared.Ref.{Ref}
 
--- The reference was given by the arena that has these elements, or by one that became it by later pushes.
+-- The two places of the reference are in order and within the arena that has these elements. Each reference that it gave is
+-- so, also behind later pushes.
 pub record IsRefOf {T : Type 0} (elements : List T) (place : Ref) : Type 0 where
   pub ordered : place.start ≤ place.end
   pub within : place.end ≤ length elements

@@ -69,8 +69,8 @@ impl<T: Copy> Arena<T> {
         })
     }
 
-    /// The values that a reference stands for. The condition is that this arena gave it. Takes no
-    /// memory.
+    /// The values that a reference stands for. The condition is that its two places are in order and within the
+    /// arena, as those of each reference are that this arena gave. Takes no memory.
     pub fn get(&self, place: Ref) -> &[T]
         requires { IsRefOf self.now place }
         ensures { result.now ≡ lent self.now place }

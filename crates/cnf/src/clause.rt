@@ -1,10 +1,11 @@
 //! Clauses: lists of literals of which one must be true. The main type is `Clause`.
-ghost use Rattle.std.specs.Prelude.{◌≡◌, ◌↔◌, [], ◌∷◌, ◌++◌, IsTrue, IfOk, OnOk, OnErr, length};
+ghost use Rattle.std.specs.Prelude.{◌≡◌, ◌≤◌, ◌↔◌, [], ◌∷◌, ◌++◌, IsTrue, IfOk, IsOk, OnOk, OnErr, length};
 ghost use Rattle.std.specs.Cmp.Lexicographic.{pointwise};
 ghost use Rattle.std.specs.Hash as fed;
 ghost use Rattle.proof_semantics.specs.Clauses.{lit_eq, has_literal};
 ghost use Rattle.cnf.specs.Comparing.{literals_per, literals_equiv, literal_writes, literals_alike};
 
+use crate::literals::has_literal;
 use proof_semantics::Lit;
 use smallvec::SmallVec;
 use std::alloc::{AllocError, Global};
@@ -37,9 +38,10 @@ impl Clause {
         }
     }
 
-    /// The clause of these literals.
+    /// The clause of these literals. The error is want of memory, which up to four literals do not take.
     pub fn from_slice(alloc: Global, literals: &[Lit]) -> Result<Clause, AllocError>
-        ensures { IfOk result (λ clause. clause ≡ literals.now) }
+        ensures literals { IfOk result (λ clause. clause ≡ literals.now) }
+        ensures small { length literals.now ≤ 4 → IsOk result }
     {
         Ok(Clause {
             literals: SmallVec::from_slice(alloc, literals)?,
@@ -80,7 +82,7 @@ impl Clause {
     pub fn contains(&self, literal: Lit) -> bool
         ensures { result ≡ has_literal self.now literal }
     {
-        self.literals.as_slice().iter().any(|l| l.is(literal))
+        has_literal(self.as_slice(), literal)
     }
 
     // What the literals would be kept by, if they were many.

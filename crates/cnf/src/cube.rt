@@ -1,6 +1,6 @@
 //! Cubes: lists of literals that are true together. The main type is `Cube`.
-ghost use Rattle.std.specs.Prelude.{◌≡◌, ◌↔◌, [], ◌∷◌, ◌++◌, IsTrue, IfOk, OnOk, OnErr, length, map};
-ghost use Rattle.proof_semantics.specs.Clauses.{negation};
+ghost use Rattle.std.specs.Prelude.{◌≡◌, ◌≤◌, ◌↔◌, [], ◌∷◌, ◌++◌, IsTrue, IfOk, IsOk, OnOk, OnErr, length, map};
+ghost use Rattle.proof_semantics.specs.Clauses.{negation, has_literal};
 
 use crate::clause::Clause;
 use proof_semantics::Lit;
@@ -33,9 +33,10 @@ impl Cube {
         }
     }
 
-    /// The cube of these literals.
+    /// The cube of these literals. The error is want of memory, which up to four literals do not take.
     pub fn from_slice(alloc: Global, literals: &[Lit]) -> Result<Cube, AllocError>
-        ensures { IfOk result (λ cube. cube ≡ literals.now) }
+        ensures literals { IfOk result (λ cube. cube ≡ literals.now) }
+        ensures small { length literals.now ≤ 4 → IsOk result }
     {
         Ok(Cube {
             literals: Clause::from_slice(alloc, literals)?,
@@ -69,6 +70,13 @@ impl Cube {
         ensures err { OnErr result (self.new ≡ self.old) }
     {
         self.literals.push(literal)
+    }
+
+    /// Whether the literal is one of the cube's.
+    pub fn contains(&self, literal: Lit) -> bool
+        ensures { result ≡ has_literal self.now literal }
+    {
+        self.literals.contains(literal)
     }
 
     /// The clause of the negated literals, which is true exactly where the cube is false.

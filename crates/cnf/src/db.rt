@@ -1,5 +1,5 @@
 //! Lists of clauses, numbered from 1. The main type is `Db`.
-ghost use Rattle.std.specs.Prelude.{◌≡◌, ◌+◌, ◌-◌, ◌<◌, ◌≤◌, ◌↔◌, [], ◌∷◌, ◌++◌, IsTrue, IfOk, OnOk, OnErr, IsOk, IfSome, IfNone, ◌⊎◌, length, slice_get, option_copied};
+ghost use Rattle.std.specs.Prelude.{◌≡◌, ◌+◌, ◌-◌, ◌<◌, ◌≤◌, ◌↔◌, [], ◌∷◌, ◌++◌, IsTrue, IfOk, OnOk, OnErr, IsOk, IfSome, IfNone, ◌⊎◌, length, slice_get, option_copied, vec_capacity};
 ghost use Rattle.cnf.specs.Clauses.{HasRoomFor, clause_numbered};
 
 use crate::clause::Clause;
@@ -32,9 +32,10 @@ impl Db {
         }
     }
 
-    /// The clauses in their order. Takes no memory.
+    /// The clauses in their order, with the room that the `Vec` has. Takes no memory.
     pub fn from_vec(clauses: Vec<Clause>) -> Db
-        ensures { result.clauses ≡ clauses.items }
+        ensures clauses { result.clauses ≡ clauses.items }
+        ensures room { result.room ≡ vec_capacity clauses }
     {
         Db { clauses }
     }
@@ -76,11 +77,12 @@ impl Db {
         self.clauses.as_slice().get(place as usize)
     }
 
-    /// Puts a clause at the end, and answers its number. The error is want of memory, and changes
-    /// nothing.
+    /// Puts a clause at the end, and answers its number. There is room for as many clauses in all as before, or for more.
+    /// The error is want of memory, and changes nothing.
     pub fn push(&mut self, clause: Clause) -> Result<u64, AllocError>
         ensures ok { OnOk result (self.new.clauses ≡ self.old.clauses ++ clause ∷ []) }
         ensures number { IfOk result (λ number. number ≡ length self.new.clauses) }
+        ensures room { self.old.room ≤ self.new.room }
         ensures err { OnErr result (self.new ≡ self.old) }
         ensures with_room { HasRoomFor self.old 1 → IsOk result }
     {
@@ -88,10 +90,11 @@ impl Db {
         Ok(self.push_reserved(clause))
     }
 
-    /// Makes room for that many more clauses. The error is want of memory, and changes nothing.
+    /// Makes room for that many more clauses, and takes none away. The error is want of memory, and changes nothing.
     pub fn reserve(&mut self, more: usize) -> Result<(), AllocError>
         ensures clauses { self.new.clauses ≡ self.old.clauses }
         ensures ok { OnOk result (HasRoomFor self.new more) }
+        ensures room { self.old.room ≤ self.new.room }
         ensures err { OnErr result (self.new ≡ self.old) }
         ensures with_room { HasRoomFor self.old more → IsOk result }
     {

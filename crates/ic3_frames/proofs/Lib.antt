@@ -1,5 +1,6 @@
 pub mod Times
 pub mod Putting
 pub mod Meaning
+pub mod Counting
 pub mod Rooms
 pub mod Steps

@@ -61,14 +61,6 @@ none-more sets k s some at below full so_far i inside none =
           full (ap length (sym (keys-at sets (k - 1) s at below) ∙ ap (own_lemmas (keys_of sets)) (sym same) ∙ none))
     ]
 
-pub empty-here : {S : Type 0} (sets : List (HashSet (List Lit) S)) (k n : ℕ) (s : HashSet (List Lit) S)
-    → s ≡ get_or sets k s → k < length sets → n ≡ k → length s.keys ≡ 0 → own_lemmas (keys_of sets) n ≡ []
-empty-here sets k n s at below is none = ap (own_lemmas (keys_of sets)) is ∙ keys-at sets k s at below ∙ nothing s.keys none
-  where
-    nothing : (xs : List (List Lit)) → length xs ≡ 0 → xs ≡ []
-    nothing [] e = refl
-    nothing (x ∷ xs) e = absurd (omega arith)
-
 pub all-differ : {S : Type 0} (sets : List (HashSet (List Lit) S)) (levels : Levels) → keys_of sets ≡ levels → StandOnce levels
     → (r : Option ℕ) → IfNone r ((k : ℕ) → k + 1 < length sets → own_lemmas (keys_of sets) k ≢ []) → IfNone r (AllDiffer levels)
 all-differ sets levels is once (Some k) h = h

@@ -1,5 +1,5 @@
 -- How often a clause stands in lists.
-use Rattle.std.proofs.Common.{◌≡◌, ◌+◌, ◌≤◌, Bool, true, false, List, [], ◌∷◌, ◌++◌, refl, sym, ap, ◌∙◌, inl, inr, if◌then◌else◌, arith, zero-add}
+use Rattle.std.proofs.Common.{◌≡◌, ◌+◌, ◌≤◌, true, false, List, [], ◌∷◌, ◌++◌, refl, sym, ap, ◌∙◌, inl, inr, if◌then◌else◌, arith, zero-add}
 use Rattle.std.proofs.lemmas.Bool.{cases_Bool, false≢true}
 use Rattle.indexmap.specs.IndexSet.{remove_key}
 use Rattle.proof_semantics.specs.declared.literals.Lit.{Lit}
@@ -7,10 +7,6 @@ use Rattle.proof_semantics.specs.Clauses.{lit_eq}
 use Rattle.proof_semantics.proofs.LiteralLaws.{lit_eq-true, lit_eq-same}
 use Rattle.ic3_frames.specs.Frames.{same_clause, has_clause}
 use Rattle.ic3_frames.specs.Kept.{times}
-
-pub and-parts : (a b : Bool) → (if a then b else false) ≡ true → (a ≡ true) × (b ≡ true)
-and-parts true b e = (refl, e)
-and-parts false b e = absurd (false≢true e)
 
 pub same-same : (c : List Lit) → same_clause c c ≡ true
 same-same [] = refl

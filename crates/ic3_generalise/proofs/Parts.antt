@@ -69,11 +69,22 @@ needed_on passes cube old new a part is = record {
   failed = is.failed;
 }
 
--- A literal was dropped, or it is left and the answer fails the test without it.
+-- The new cube is a part of the old one, which fails the test without the literal if the new one has it.
 pub record IsDecided (passes : List Lit → Type 0) (old new : List Lit) (a : Lit) : Type 0 where
   pub part : is_part new old ≡ true
-  pub same : has_literal new a ≡ true → new ≡ old
   pub needed : has_literal new a ≡ true → passes (all_but a old) → ⊥
+
+-- The literal is left, or is none of the cube's. The asker tested by what it is now.
+pub decided_none : (passes now : List Lit → Type 0) (cube : List Lit) (a : Lit) → (passes (all_but a cube) → now (all_but a cube))
+    → (has_literal cube a ≡ true → now (all_but a cube) → ⊥) → IsDecided passes cube cube a
+decided_none passes now cube a same needed = record { part = part_same cube; needed = λ has passed. needed has (same passed) }
+
+-- The literal went.
+pub decided_some : (passes : List Lit → Type 0) (old new : List Lit) (a : Lit) → is_part new (all_but a old) ≡ true → IsDecided passes old new a
+decided_some passes old new a within = record {
+  part = part_on new (all_but a old) old within (part_all_but a old);
+  needed = λ has _. absurd (part_lacks a old new within has);
+}
 
 decided_needed : (passes : List Lit → Type 0) (cube old new : List Lit) (a : Lit) → is_part old cube ≡ true → passes old
     → IsDecided passes old new a → has_literal new a ≡ true → IsNeeded passes cube new a

@@ -3,7 +3,7 @@
 //! | Call | Does |
 //! |---|---|
 //! | `Asker` | what tests cubes: `excluded` answers a part of a cube where the cube passes |
-//! | `generalise` | drops literals from a cube that passes, in a given order, wherever it passes without them |
+//! | `generalise` | drops literals of a list from a cube that passes; each of them that is left is needed |
 //!
 //! An error is a limit of conflicts that is reached, or want of memory; the test is then as it was.
 #![tactic(auto)]

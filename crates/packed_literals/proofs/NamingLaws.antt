@@ -1,5 +1,5 @@
 -- Laws of names and their numbers.
-use Rattle.std.proofs.Common.{◌≡◌, ℕ, suc, ◌+◌, ◌<◌, ◌≤◌, ◌^◌, Bool, true, false, cond, eqb, List, [], ◌∷◌, ◌++◌, length, Option, Some, None, refl, ap, sym, subst, ◌∙◌, ◌⊎◌, inl, inr, arith, eqb-true, eq-eqb, ne_eqb}
+use Rattle.std.proofs.Common.{◌≡◌, ℕ, suc, ◌+◌, ◌<◌, ◌^◌, Bool, true, false, cond, eqb, List, [], ◌∷◌, ◌++◌, length, Option, Some, None, refl, ap, sym, subst, ◌∙◌, ◌⊎◌, inl, inr, arith, eqb-true, eq-eqb, ne_eqb}
 use Rattle.std.specs.Prelude.{is_some}
 use Rattle.std.specs.Option.{option_map}
 use Rattle.std.proofs.lemmas.Bool.{cases_lt, cond-true, cond-false, false≢true}
@@ -11,13 +11,13 @@ use Rattle.packed_literals.specs.Tables.{told}
 use Rattle.packed_literals.specs.declared.names.Names.TheInside.{Inside}
 
 -- where a place comes from: this variable, or a later one
-place_cases : (b : Bool) (later : Option ℕ) (p : ℕ) → cond b (Some 0) (option_map (λ place. place + 1) later) ≡ Some p
+pub place_cases : (b : Bool) (later : Option ℕ) (p : ℕ) → cond b (Some 0) (option_map (λ place. place + 1) later) ≡ Some p
     → ((b ≡ true) × (p ≡ 0)) ⊎ ((q : ℕ) × (b ≡ false) × (later ≡ Some q) × (p ≡ q + 1))
 place_cases true later p e = inl (refl, sym (same_Some 0 p e))
 place_cases false None p e = absurd (none-some p e)
 place_cases false (Some q) p e = inr (q, refl, refl, sym (same_Some (q + 1) p e))
 
-no_place_cases : (b : Bool) (later : Option ℕ) → cond b (Some 0) (option_map (λ place. place + 1) later) ≡ None → (b ≡ false) × (later ≡ None)
+pub no_place_cases : (b : Bool) (later : Option ℕ) → cond b (Some 0) (option_map (λ place. place + 1) later) ≡ None → (b ≡ false) × (later ≡ None)
 no_place_cases true later e = absurd (none-some 0 (sym e))
 no_place_cases false None e = (refl, refl)
 no_place_cases false (Some q) e = absurd (none-some (q + 1) (sym e))
@@ -55,16 +55,16 @@ place_front (x ∷ xs) ys v n e =
           ∙ ap Some (sym later.3)
     ]
 
-map_cond : (b : Bool) (n : ℕ) (later : Option ℕ) → option_map (λ place. place + 1) (cond b (Some n) later) ≡ cond b (Some (n + 1)) (option_map (λ place. place + 1) later)
+pub map_cond : (b : Bool) (n : ℕ) (later : Option ℕ) → option_map (λ place. place + 1) (cond b (Some n) later) ≡ cond b (Some (n + 1)) (option_map (λ place. place + 1) later)
 map_cond true n later = refl
 map_cond false n later = refl
 
-swap_cond : {T : Type 0} (b c : Bool) (x y z : T) → (b ≡ true → c ≡ false) → cond b x (cond c y z) ≡ cond c y (cond b x z)
+pub swap_cond : {T : Type 0} (b c : Bool) (x y z : T) → (b ≡ true → c ≡ false) → cond b x (cond c y z) ≡ cond c y (cond b x z)
 swap_cond true true x y z apart = absurd (false≢true (sym (apart refl)))
 swap_cond true false x y z apart = refl
 swap_cond false c x y z apart = refl
 
-apart_at : (x a v : ℕ) → eqb x a ≡ false → eqb x v ≡ true → eqb a v ≡ false
+pub apart_at : (x a v : ℕ) → eqb x a ≡ false → eqb x v ≡ true → eqb a v ≡ false
 apart_at x a v differs same = ne_eqb a v (λ e. false≢true (sym differs ∙ eq-eqb x a (eqb-true x v same ∙ sym e)))
 
 next_length : (n : ℕ) → n + 1 ≡ suc n
@@ -102,13 +102,6 @@ with_known names v n e = ap (λ o. cond (is_some o) names (names ++ v ∷ [])) e
 
 pub with_new : (names : List ℕ) (v : ℕ) → place_among names v ≡ None → with_name names v ≡ names ++ v ∷ []
 with_new names v e = ap (λ o. cond (is_some o) names (names ++ v ∷ [])) e
-
-pub orderly_same : (t u : Inside) → IsInterned t → u.names.items ≡ t.names.items → ((v : ℕ) → told u.numbers v ≡ told t.numbers v) → IsInterned u
-orderly_same t u orderly names numbers = record {
-  numbers = λ v. numbers v ∙ orderly.numbers v ∙ ap (λ xs. place_among xs v) (sym names);
-  apart = subst AreApart (sym names) orderly.apart;
-  few = subst (λ xs. length xs ≤ 2 ^ 31) (sym names) orderly.few;
-}
 
 pub orderly_added : (t u : Inside) (a : ℕ) → IsInterned t → place_among t.names.items a ≡ None → length t.names.items < 2 ^ 31
     → u.names.items ≡ t.names.items ++ a ∷ []

@@ -1,4 +1,4 @@
--- Scaffolding of inner functions. What is told of variables, in a list for small variables and in a map for others.
+-- What is told of variables, in a list for small variables and in a map for others.
 use Rattle.std.specs.Prelude.{ℕ, ◌^◌, List, Option, None, nat_lt, if◌then◌else◌, slice_get}
 use Rattle.std.specs.Option.{unwrap_or}
 use Rattle.std.specs.Ordering.{nat_cmp}

@@ -10,7 +10,7 @@
 //! | `Names::meet` | the number of a variable, the next one where it is new |
 //! | `Names::get` | the number of a variable that was met |
 //! | `Names::name`, `Names::as_slice` | the variable with a number; all of them |
-//! | `Table::new`, `insert`, `remove`, `get` | what is told of variables, as numbers or values |
+//! | `Table::new`, `insert`, `remove`, `get` | a value under each variable that was told one |
 #![tactic(auto)]
 
 mod names;

@@ -12,7 +12,7 @@ const MOST: usize = 1 << 31;
 
 /// The variables that were met, each with its number. Contracts see them in the order in which they
 /// came: the number of each is its place.
-#[derive(Debug, Drop)]
+#[derive(Drop)]
 pub struct Names {
     numbers: Table<u32>,
     names: Vec<Var>,

@@ -7,7 +7,7 @@ use std::marker::Model;
 
 /// A literal in four bytes: the number of its variable, and its sign. Contracts see the literal of
 /// this sign over the number.
-#[derive(Clone, Copy, Debug)]
+#[derive(Clone, Copy)]
 pub struct Packed {
     code: u32,
 }

@@ -11,7 +11,7 @@ const NEAR: u64 = 1 << 20;
 
 /// What is told of variables: of small variables in a list, by their variables, and of others in a
 /// map.
-#[derive(Debug, Drop)]
+#[derive(Drop)]
 pub struct Table<T> {
     near: Vec<Option<T>>,
     far: BTreeMap<u64, T>,

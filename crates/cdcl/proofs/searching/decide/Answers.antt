@@ -1,5 +1,5 @@
 use Rattle.std.proofs.Common.{◌≡◌, ◌≤◌, ◌<◌, ℕ, List, [], ◌∷◌, length, true, false, refl, sym, subst, ◌∙◌, inl, inr, arith}
-use Rattle.cdcl.proofs.CountingLaws.{limited_rested, rest_above}
+use Rattle.cdcl.proofs.CountingLaws.{limited_rested, rest_above, unrefuted_above}
 use Rattle.proof_semantics.specs.Clauses.{is_subsumed}
 use Rattle.cdcl_trail.specs.Trails.{level, lower_steps}
 use Rattle.cdcl_trail.specs.Propagation.{is_complete, Propagates, IsReasonedTrail}
@@ -120,9 +120,10 @@ decisions-preserved c =
     let says = way_learns c.decisions.log.clauses c.args.assumptions.now c.level-base.result c.propagate.new.self.steps c.in_ok-learned.learned way c.in_ok-learned.ensures.falsified
     (subst (λ cs. IsHinted cs c.in_ok-learned.learned) c.clauses-in-decisions.ensures c.in_ok-learned.ensures.hints)
     (subst (λ cs. is_subsumed cs c.in_ok-learned.learned.clause ≡ false) c.clauses-in-decisions.ensures c.in_ok-learned.ensures.new) c.in_ok-learned.ensures.last_level in
+    let above : c.level-base.result < level c.propagate.new.self.steps = omega (arith, c.level.ensures, c.if-level-base.false) in
     let next = searched_more c.args.assumptions.now c.args.log.now c.decisions.log c.learn-in-decisions.new.self c.args.meter.now c.decisions.meter c.learn-in-decisions.new.meter
     c.in_ok-learned.learned c.decisions.invariant.log c.requires.sizes says c.in_ok-learn.ensures.clauses c.in_ok-learn.ensures.sources c.in_ok-learn.ensures.counted
-    c.decisions.invariant.searched in
+    c.decisions.invariant.searched (unrefuted_above c.decisions.log c.args.assumptions.now c.level-base.result c.propagate.new.self.steps way above) in
     let back = subst (λ xs. IsBackLevel c.propagate.new.self.steps xs c.level-base.result c.level_after-target.result) c.as_slice.ensures c.level_after-target.ensures in
     record {
       log = next.0;

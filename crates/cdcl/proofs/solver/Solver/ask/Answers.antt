@@ -2,7 +2,7 @@ use Rattle.std.proofs.Common.{ap, sym}
 use Rattle.cdcl.specs.Solving.{Solving}
 use Rattle.cdcl.proofs.solver.Solver.ask.Goals as goal
 use Rattle.cdcl.proofs.CountingLaws.{uncounted, unlimited}
-use Rattle.cdcl.proofs.ProgressLaws.{kept_searched, searched_bounded}
+use Rattle.cdcl.proofs.ProgressLaws.{kept_searched, searched_bounded, counts_conflicts}
 
 pub invariant_of-self : goal.invariant_of-self
 invariant_of-self c = record {
@@ -19,9 +19,13 @@ returns-clause-bounded c =
 
 pub returns-clause-uncounted : goal.returns-clause-uncounted
 returns-clause-uncounted c =
-    uncounted c.args.assumptions.now c.self.inside.log c.args.self.now.added (ap (λ (s : Solving). s.added) c.self.view_is) c.search_asked.new.log c.args.self.now.learned
-    c.search_asked.ensures.rest (ap (λ (s : Solving). s.learned) c.self.view_is)
+    uncounted c.args.assumptions.now c.self.inside.log c.args.self.now.added c.args.self.now.learned (ap (λ (s : Solving). s.added) c.self.view_is)
+    (ap (λ (s : Solving). s.learned) c.self.view_is) c.search_asked.new.log c.search_asked.ensures.rest
 
 pub returns-clause-unlimited : goal.returns-clause-unlimited
 returns-clause-unlimited c =
-    unlimited c.args.assumptions.now c.self.inside.log c.args.self.now.added (ap (λ (s : Solving). s.added) c.self.view_is) c.search_asked.result c.search_asked.ensures.limited
+    unlimited c.args.assumptions.now c.self.inside.log c.args.self.now.added c.args.self.now.learned (ap (λ (s : Solving). s.added) c.self.view_is)
+    (ap (λ (s : Solving). s.learned) c.self.view_is) c.search_asked.result c.search_asked.ensures.limited
+
+pub returns-clause-alone : goal.returns-clause-alone
+returns-clause-alone c = counts_conflicts c.args.meter.now c.search_asked.new.meter _ c.bound_conflicts.ensures c.search_asked.ensures.searched.counted
