@@ -8,7 +8,7 @@ use Rattle.answer_lines.specs.declared.ends.LinesEnd.TheVariants as ends
 
 -- where the reading of lines stands
 pub record Reading : Type 0 where
-  -- the line that was given last
+  -- the line that was given last; any bytes where the last call gave none
   pub line : List ℕ
   -- how many bytes the given lines have, with their line feeds
   pub taken : ℕ

@@ -6,16 +6,14 @@ use thiserror::Error;
 
 /// Why a line was not given. Nothing is lost then: the next call reads on for the same line.
 #[derive(Debug, Clone, Copy, PartialEq, Eq, Error)]
+#[error("no line is given")]
 pub enum LinesEnd {
     /// A read failed. The shelf has counted it.
-    #[error("a read failed")]
     ReadFault,
     /// Neither a line feed nor the text's end ends the line within the first 9,223,372,036,854,775,807 bytes of the
     /// text.
-    #[error("the text is too long")]
     TooLong,
     /// Memory ran out.
-    #[error("memory was refused")]
     Memory,
 }
 

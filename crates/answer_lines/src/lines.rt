@@ -19,7 +19,7 @@ const MOST_BYTES: u64 = 9_223_372_036_854_775_807;
 
 /// A place between the lines of a text. It holds the line that was given last, or the front of the next one, and a
 /// piece of the text, so its memory grows with the longest line and not with the text.
-#[derive(Debug, Drop)]
+#[derive(Drop)]
 pub struct Lines {
     // The line that was given last, or else the front of the next one.
     line: Vec<u8>,

@@ -2,7 +2,7 @@
 ghost use Rattle.std.specs.Prelude.{◌≡◌, ◌+◌, ◌<◌, ◌≤◌, ◌++◌, length, take, drop, false, IfOk, OnOk, OnErr, IfSome, IfNone, is_err, vec_len};
 ghost use Rattle.edge.specs.Faults.{Rose, HasCause, NoneFell};
 ghost use Rattle.edge.specs.Told.{IfTold};
-ghost use Rattle.edge.specs.Reads.{GivesBytes, KeepsTexts};
+ghost use Rattle.edge.specs.Reads.{GivesBytes, KeepsTexts, ReadsSomewhere};
 ghost use Rattle.text_grammar.specs.Lines.{IsLine};
 ghost use Rattle.text_grammar.specs.Pieces.{Lacks};
 ghost use Rattle.answer_lines.specs.LinesOf.{front_of};
@@ -37,7 +37,7 @@ pub(crate) fn read_piece<H: Shelf>(
     ensures kept { KeepsTexts (H.held shelf.old) (H.held shelf.new) }
     ensures cause { HasCause (H.faults shelf.old name.now) (H.faults shelf.new name.now) result }
     ensures others { NoneFell (H.faults shelf.old) (H.faults shelf.new) }
-    ensures step { H.reads shelf.old name.now (is_err result) shelf.new }
+    ensures step { ReadsSomewhere H.reads name.now (is_err result) shelf.old shelf.new }
 {
     shelf.read_at(name, from, &mut piece[..room])
 }
@@ -59,7 +59,7 @@ pub(crate) fn read_into<H: Shelf>(
     ensures kept { KeepsTexts (H.held shelf.old) (H.held shelf.new) }
     ensures cause { HasCause (H.faults shelf.old name.now) (H.faults shelf.new name.now) result }
     ensures others { NoneFell (H.faults shelf.old) (H.faults shelf.new) }
-    ensures step { H.reads shelf.old name.now (is_err result) shelf.new }
+    ensures step { ReadsSomewhere H.reads name.now (is_err result) shelf.old shelf.new }
 {
     read_piece(shelf, name, from, piece, room)
 }

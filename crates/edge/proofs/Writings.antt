@@ -1,5 +1,5 @@
 -- Writes, one behind the other.
-use Rattle.std.proofs.Common.{ℕ, suc, Bool, true, false}
+use Rattle.std.proofs.Common.{suc, Bool, true, false}
 use Rattle.edge.specs.Writes.{Writes}
 
 -- one more write, which may have failed

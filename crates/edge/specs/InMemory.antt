@@ -1,5 +1,5 @@
 -- A shelf and a sink in memory, as contracts see them. Their calls are numbered from 1.
-use Rattle.std.specs.Prelude.{ℕ, Bool, if◌then◌else◌, List, ◌≡◌, ◌++◌, map, ◌⊎◌, Contains, Option, option_map, IsNone, find, Vec, String, string_bytes}
+use Rattle.std.specs.Prelude.{ℕ, Bool, if◌then◌else◌, List, ◌≡◌, ◌++◌, map, ◌⊎◌, Contains, IsTrue, Option, option_map, IsNone, find, Vec, String, string_bytes}
 use Rattle.std.specs.Str.{bytes_eq}
 use Rattle.std.specs.declared.alloc.Global.{Global}
 use Rattle.edge.specs.Faults.{one_more}
@@ -33,6 +33,10 @@ text_of texts name = option_map (λ pair. pair.1) (find (λ pair. bytes_eq pair.
 -- the next call is one that fails, or the name is missing
 abbrev pub IsRefused : ShelfInMemory → List ℕ → Type 0
 IsRefused shelf name = Contains shelf.failing (one_more shelf.calls) ⊎ IsNone (text_of shelf.texts name)
+
+-- one more call, of this name, which failed or did not, makes this of the shelf; it fails only where it is one that is refused
+abbrev pub ReadsOnce : ShelfInMemory → List ℕ → Bool → ShelfInMemory → Type 0
+ReadsOnce old name failed new = (new ≡ counted_read old failed) × (IsTrue failed → IsRefused old name)
 
 -- each text with its name, as contracts see them
 abbrev pub named_texts : List (String Global × Vec ℕ Global) → List NamedText

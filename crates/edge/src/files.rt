@@ -87,7 +87,7 @@ impl<R: Files> Shelf for FileShelf<R> {
 
     ghost faults = { λ s _. s };
 
-    ghost reads = { λ old _ failed new. new ≡ (if failed then one_more old else old) };
+    ghost reads = { λ old _ _ _ failed new. new ≡ (if failed then one_more old else old) };
 
     /// A file that is missing or that may not be read fails, a folder too, and a path that memory has no room for.
     fn read_at(&mut self, name: &str, from: u64, buf: &mut [u8]) -> Result<usize, Failed>

@@ -1,7 +1,7 @@
 //! Gates that workers pass: where a test holds a worker up, or lets it go.
 
 /// Where a worker stands when it passes a gate.
-#[derive(Debug, Clone, Copy, PartialEq, Eq)]
+#[derive(Clone, Copy)]
 pub enum Point {
     /// Before its first turn.
     Start,
@@ -18,7 +18,7 @@ pub trait Gate: Sync {
 }
 
 /// A gate that lets everyone pass at once.
-#[derive(Debug, Clone, Copy)]
+#[derive(Clone, Copy)]
 pub struct FreeGate;
 
 impl Gate for FreeGate {

@@ -4,14 +4,14 @@ ghost use Rattle.std.specs.Str.{bytes_eq};
 ghost use Rattle.edge.specs.Faults.{one_more, HasCause, NoneFell};
 ghost use Rattle.edge.specs.Told.{IfTold};
 ghost use Rattle.edge.specs.Reads.{GivesBytes, KeepsTexts};
-ghost use Rattle.edge.specs.InMemory.{text_of, named_texts, counted_read, IsRefused};
+ghost use Rattle.edge.specs.InMemory.{text_of, named_texts, counted_read, IsRefused, ReadsOnce};
 
 use crate::failures::Failed;
 use crate::reading::Shelf;
 use std::marker::Model;
 
 /// Named texts in memory. Its calls are numbered from 1.
-#[derive(Debug, Drop)]
+#[derive(Drop)]
 pub struct MemShelf {
     texts: Vec<(String, Vec<u8>)>,
     most: u64,
@@ -66,7 +66,7 @@ impl Shelf for MemShelf {
 
     ghost faults = { λ s _. s.faults };
 
-    ghost reads = { λ old _ failed new. new ≡ counted_read old failed };
+    ghost reads = { λ old name _ _ failed new. ReadsOnce old name failed new };
 
     fn read_at(&mut self, name: &str, from: u64, buf: &mut [u8]) -> Result<usize, Failed>
         ensures bound { IfOk result (λ n. n ≤ length buf.new) }
@@ -74,6 +74,7 @@ impl Shelf for MemShelf {
         ensures kept { KeepsTexts (text_of self.old.texts) (text_of self.new.texts) }
         ensures cause { HasCause self.old.faults self.new.faults result }
         ensures others { NoneFell (λ _. self.old.faults) (λ _. self.new.faults) }
+        ensures step { ReadsOnce self.old name.now (is_err result) self.new }
 
         // It fails at the calls that are to fail and at missing names, and at no others.
         ensures refused { IsErr result ↔ IsRefused self.old name.now }

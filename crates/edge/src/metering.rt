@@ -50,7 +50,7 @@ impl Held for Db {
 }
 
 /// What a meter had counted at a time, with its limits. Only a meter makes one.
-#[derive(Debug, Clone, Copy, PartialEq, Eq)]
+#[derive(Clone, Copy)]
 pub struct Spending {
     conflicts: u64,
     conflict_limit: Option<u64>,
@@ -113,7 +113,7 @@ impl Spending {
 }
 
 /// Counts of conflicts and of steps, each with its limit. None of its calls takes memory.
-#[derive(Debug, Drop)]
+#[derive(Drop)]
 pub struct Meter {
     spending: Spending,
 }

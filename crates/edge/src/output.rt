@@ -8,7 +8,7 @@ use std::marker::Model;
 
 /// The standard output that a runtime prints to. No byte waits in it: a write that is answered has been made.
 /// It tells nothing of what it took. Contracts see it as the count of its failed writes.
-#[derive(Debug, Drop)]
+#[derive(Drop)]
 pub struct StdSink<P> {
     out: P,
     faults: u64,

@@ -3,7 +3,7 @@
 ghost use Rattle.std.specs.Prelude.{ℕ, Bool, List, Option, ◌≡◌, ◌+◌, ◌^◌, ◌<◌, ◌≤◌, ◌++◌, length, take, IfOk, IsErrOf, is_err, vec_len};
 ghost use Rattle.edge.specs.Faults.{Rose, HasCause, NoneFell};
 ghost use Rattle.edge.specs.Told.{IfTold};
-ghost use Rattle.edge.specs.Reads.{GivesBytes, KeepsTexts, Reads, has_failed};
+ghost use Rattle.edge.specs.Reads.{GivesBytes, KeepsTexts, Within, Reads, has_failed};
 
 use crate::failures::Failed;
 use std::alloc::{AllocError, Global};
@@ -18,8 +18,9 @@ pub trait Shelf {
     // stands still at 2^64 - 1.
     ghost faults: { Self → List ℕ → ℕ };
 
-    // What a read of a name, which failed or did not, makes of the shelf. In code over any shelf nothing else gives this.
-    ghost reads: { Self → List ℕ → Bool → Self → Type 0 };
+    // What a read of a name, from a place into so many bytes, which failed or did not, makes of the shelf. In code over any
+    // shelf nothing else gives this.
+    ghost reads: { Self → List ℕ → ℕ → ℕ → Bool → Self → Type 0 };
 
     /// Reads bytes of the text of a name, from the place `from` on, into the front of `buf`, and says how many.
     /// 0 bytes into a buffer that is not empty mean the end of the text. A missing name is a failure.
@@ -29,7 +30,7 @@ pub trait Shelf {
         ensures kept { KeepsTexts (held self.old) (held self.new) }
         ensures cause { HasCause (faults self.old name.now) (faults self.new name.now) result }
         ensures others { NoneFell (faults self.old) (faults self.new) }
-        ensures step { reads self.old name.now (is_err result) self.new };
+        ensures step { reads self.old name.now from (length buf.old) (is_err result) self.new };
 }
 
 /// Why a text was not read.
@@ -83,8 +84,9 @@ pub fn read_text<H: Shelf>(
     ensures failed { IsErrOf result ReadEnd.Failed → Rose (H.faults shelf.old name.now) (H.faults shelf.new name.now) }
     ensures counts { NoneFell (H.faults shelf.old) (H.faults shelf.new) }
     ensures kept { KeepsTexts (H.held shelf.old) (H.held shelf.new) }
-    // Nothing is read but this name, and nothing after a failed read, which is answered.
-    ensures reads { Reads H.reads name.now (has_failed result) shelf.old shelf.new }
+    // Nothing is read but this name, nothing of it behind the byte after the limit, and nothing after a failed read, which is
+    // answered.
+    ensures reads { Reads (Within (limit + 1) H.reads) name.now (has_failed result) shelf.old shelf.new }
 {
     let mut chunk = zeros(alloc, CHUNK as usize)?;
     let mut text = Vec::new(alloc);
@@ -112,7 +114,7 @@ fn read_more<H: Shelf>(
     ensures kept { KeepsTexts (H.held shelf.old) (H.held shelf.new) }
     ensures failed { IsErrOf result ReadEnd.Failed → Rose (H.faults shelf.old name.now) (H.faults shelf.new name.now) }
     ensures counts { NoneFell (H.faults shelf.old) (H.faults shelf.new) }
-    ensures step { H.reads shelf.old name.now (has_failed result) shelf.new }
+    ensures step { H.reads shelf.old name.now (vec_len front.old) (length room.old) (has_failed result) shelf.new }
 {
     let count = shelf.read_at(name, front.len() as u64, room)?;
     front.extend_from_slice(&room[..count])?;

@@ -1,6 +1,6 @@
 use Rattle.std.proofs.Common.{ℕ, rules, Bool, false, subst, ◌≡◌, ◌+◌, ◌<◌, ◌++◌, length, take, Some, vec_len, arith, ◌∙◌, sym, ap, length-take, length-append}
 use Rattle.edge.proofs.Pieces.{front_next, front_end}
-use Rattle.edge.specs.Reads.{Reads, has_failed}
+use Rattle.edge.specs.Reads.{Within, Reads, ReadsSomewhere, has_failed}
 use Rattle.edge.proofs.Readings.{one_more_read}
 use Rattle.edge.proofs.reading.read_text.Goals as goal
 use Rattle.edge.proofs.reading.read_text.Goals.{else-loop-text-test, then-loop-text-test+in_ok-count+then-count-eq0}
@@ -19,7 +19,8 @@ loop-text-preserved g c =
       chunk = c.loop-text.invariant.chunk;
       counts = λ name. omega (arith, c.loop-text.invariant.counts name, c.in_ok-count.ensures.counts name);
       kept = λ name. c.in_ok-count.ensures.kept name ∙ c.loop-text.invariant.kept name;
-      reads = one_more_read g.H.Shelf.reads c.args.name.now false c.args.shelf.now c.loop-text.shelf c.read_more.new.shelf c.loop-text.invariant.reads c.in_ok-count.ensures.step;
+      reads = one_more_read (Within (c.args.limit + 1) g.H.Shelf.reads) c.args.name.now false c.args.shelf.now c.loop-text.shelf c.read_more.new.shelf c.loop-text.invariant.reads
+          (_, _, (omega (arith, c.min-room.ensures, c.loop-text.invariant.within, length-take {A = ℕ}), c.in_ok-count.ensures.step));
     }
 
 pub returns-clause-text : goal.returns-clause-text
@@ -38,15 +39,15 @@ returns-clause-text g c x told =
 pub returns-in_err-count-clause-reads : goal.returns-in_err-count-clause-reads
 returns-in_err-count-clause-reads g c =
     let step = c.in_err-count.ensures.step in
-    one_more_read g.H.Shelf.reads c.args.name.now (has_failed c.from_residual-in_err-count.result) c.args.shelf.now c.loop-text.shelf c.read_more.new.shelf c.loop-text.invariant.reads
-    (subst (λ (failed : Bool). g.H.Shelf.reads c.loop-text.shelf c.args.name.now failed c.read_more.new.shelf) (search rules) step)
+    one_more_read (Within (c.args.limit + 1) g.H.Shelf.reads) c.args.name.now (has_failed c.from_residual-in_err-count.result) c.args.shelf.now c.loop-text.shelf c.read_more.new.shelf c.loop-text.invariant.reads
+    (subst (λ (failed : Bool). ReadsSomewhere (Within (c.args.limit + 1) g.H.Shelf.reads) c.args.name.now failed c.loop-text.shelf c.read_more.new.shelf) (search rules) (_, _, (omega (arith, c.min-room.ensures, c.loop-text.invariant.within, length-take {A = ℕ}), step)))
 
 pub returns-clause-reads : goal.returns-clause-reads
 returns-clause-reads g c =
     elim c.loop-text-test.branch [
       | else-loop-text-test w ↦
-          subst (λ shelf. Reads g.H.Shelf.reads c.args.name.now false c.args.shelf.now shelf) (sym w.shelf-is) c.loop-text.invariant.reads
+          subst (λ shelf. Reads (Within (c.args.limit + 1) g.H.Shelf.reads) c.args.name.now false c.args.shelf.now shelf) (sym w.shelf-is) c.loop-text.invariant.reads
       | then-loop-text-test+in_ok-count+then-count-eq0 w ↦
-          subst (λ shelf. Reads g.H.Shelf.reads c.args.name.now false c.args.shelf.now shelf) (sym w.shelf-is)
-          (one_more_read g.H.Shelf.reads c.args.name.now false c.args.shelf.now c.loop-text.shelf w.read_more.new.shelf c.loop-text.invariant.reads w.in_ok-count.ensures.step)
+          subst (λ shelf. Reads (Within (c.args.limit + 1) g.H.Shelf.reads) c.args.name.now false c.args.shelf.now shelf) (sym w.shelf-is)
+          (one_more_read (Within (c.args.limit + 1) g.H.Shelf.reads) c.args.name.now false c.args.shelf.now c.loop-text.shelf w.read_more.new.shelf c.loop-text.invariant.reads (_, _, (omega (arith, w.min-room.ensures, c.loop-text.invariant.within, length-take {A = ℕ}), w.in_ok-count.ensures.step)))
     ]

@@ -1,6 +1,6 @@
-use Rattle.std.proofs.Common.{rules, ◌≡◌, ◌∙◌, ◌+◌, ◌-◌, ◌++◌, ◌≤◌, ◌<◌, ℕ, Bool, List, length, arith, ap, sym, subst, refl}
+use Rattle.std.proofs.Common.{rules, ◌≡◌, ◌∙◌, ◌+◌, ◌-◌, ◌++◌, ◌≤◌, ◌<◌, ℕ, List, length, arith, ap, sym, subst, refl}
 use Rattle.answer_lines.specs.Left.{Reading, left_of, most_bytes}
-use Rattle.answer_lines.specs.LinesOf.{front_of, rest_of, ahead_of, reading_of}
+use Rattle.answer_lines.specs.LinesOf.{front_of, rest_of, ahead_of}
 use Rattle.edge.specs.Reads.{GivesBytes}
 use Rattle.text_grammar.specs.Pieces.{Lacks}
 use Rattle.answer_lines.proofs.LeftLaws.{read_left, read_size, read_front, read_end, read_longer}
