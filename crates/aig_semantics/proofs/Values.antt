@@ -54,7 +54,7 @@ value_through-nowhere (suc depth) gates given v e f = rw (value_through, e, f)
 pub conjunction-same : (f g : ℕ → Bool) (gate : Gate) → f (variable_of gate.rhs0) ≡ g (variable_of gate.rhs0) → f (variable_of gate.rhs1) ≡ g (variable_of gate.rhs1) → conjunction f gate ≡ conjunction g gate
 conjunction-same f g gate a b = rw (a, b)
 
-cases_option : {X : Type 0} (o : Option X) → ((x : X) × (o ≡ Some x)) ⊎ (o ≡ None)
+pub cases_option : {X : Type 0} (o : Option X) → ((x : X) × (o ≡ Some x)) ⊎ (o ≡ None)
 cases_option None = inr refl
 cases_option (Some x) = inl (x, refl)
 
@@ -85,7 +85,7 @@ gate_of-none c v e (k, below, at) =
     eqb-false _ _ (find-none (λ gate. gate.var == v) c.gates e k d inside)
     (sym (get_or-map (λ gate. gate.var) c.gates k d v inside) ∙ at)
 
-gate_of-absent : (c : Circuit) (v : ℕ) → (Contains (gate_variables c) v → ⊥) → gate_of c v ≡ None
+pub gate_of-absent : (c : Circuit) (v : ℕ) → (Contains (gate_variables c) v → ⊥) → gate_of c v ≡ None
 gate_of-absent c v none =
     elim (cases_option (gate_of c v)) [
       | inl (gate, f) ↦

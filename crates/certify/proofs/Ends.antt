@@ -1,30 +1,10 @@
--- What a question leaves of a meter.
-use Rattle.std.proofs.Common.{◌≡◌, ℕ, zero, suc, ◌<◌, ◌≤◌, ◌^◌, refl, sym, subst, ◌∙◌, arith}
+-- What questions leave of a meter, one after another.
+use Rattle.std.proofs.Common.{◌≡◌, ℕ, zero, suc, ◌+◌, ◌-◌, ◌≤◌, List, length, refl, ap, ◌∙◌, arith, length-append}
 use Rattle.edge.specs.Faults.{one_more}
 use Rattle.edge.specs.Units.{Spendings}
 use Rattle.edge.specs.Ends.{CountsConflicts}
-use Rattle.cdcl.specs.Solving.{more_conflicts, with_conflicts}
-
-grows : (count m : ℕ) → count ≤ m → m < 2 ^ 64 → count ≤ one_more m
-grows count m low high = omega arith
-
-capped : (m : ℕ) → one_more m < 2 ^ 64
-capped m = omega arith
-
-within : (count n : ℕ) → count < 2 ^ 64 → (count ≤ more_conflicts count n) × (more_conflicts count n < 2 ^ 64)
-within count zero small = (omega arith, small)
-within count (suc n) small =
-    let h = within count n small in
-    (grows count (more_conflicts count n) h.0 h.1, capped (more_conflicts count n))
-
-pub counts : (old new : Spendings) (n : ℕ) → old.conflicts < 2 ^ 64 → new ≡ with_conflicts old n → CountsConflicts old new
-counts old new n small e =
-    subst (CountsConflicts old) (sym e) (record {
-      conflict_limit = refl;
-      step_limit = refl;
-      steps = refl;
-      conflicts = (within old.conflicts n small).0;
-    })
+use Rattle.proof_semantics.specs.declared.literals.Lit.{Lit}
+use Rattle.cdcl.specs.Solving.{more_conflicts, with_conflicts, Learns}
 
 pub counts_none : (a : Spendings) → CountsConflicts a a
 counts_none a = record { conflict_limit = refl; step_limit = refl; steps = refl; conflicts = omega arith }
@@ -36,3 +16,23 @@ counts_on a b c first second = record {
   steps = second.steps ∙ first.steps;
   conflicts = omega arith;
 }
+
+more_on : (count m n : ℕ) → more_conflicts (more_conflicts count m) n ≡ more_conflicts count (m + n)
+more_on count m zero = let e : m ≡ m + 0 = omega arith in ap (more_conflicts count) e
+more_on count m (suc n) =
+    let e : suc (m + n) ≡ m + suc n = omega arith in
+    ap one_more (more_on count m n) ∙ ap (more_conflicts count) e
+
+-- a meter that counts what is learned, clause after clause
+pub learned_on : (a b c : Spendings) (added first second third : List (List Lit)) → length first ≤ length second → Learns added second third
+    → b ≡ with_conflicts a (length second - length first) → c ≡ with_conflicts b (length third - length second)
+    → (c ≡ with_conflicts a (length third - length first)) × (length first ≤ length third)
+learned_on a b c added first second third more learns counted then =
+    let longer : length third ≡ length second + length learns.more = ap length learns.behind ∙ length-append second learns.more in
+    let m = length second - length first in
+    let n = length third - length second in
+    let sum : m + n ≡ length third - length first = omega (arith, more, longer) in (
+      then ∙ ap (λ (s : Spendings). with_conflicts s n) counted
+          ∙ ap (λ k. record a { conflicts = k }) (more_on a.conflicts m n ∙ ap (more_conflicts a.conflicts) sum),
+      omega (arith, more, longer),
+    )

@@ -1,7 +1,8 @@
 //! Proofs for claims. The main call is `certify`.
-ghost use Rattle.std.specs.Prelude.{◌≡◌, ◌++◌, [], ◌∷◌, true, length, All, IfOk, IfErr};
+ghost use Rattle.std.specs.Prelude.{◌≡◌, ◌-◌, ◌++◌, [], ◌∷◌, true, length, All, IfOk, IfErr};
 ghost use Rattle.std.specs.Arc.{arc_value};
 ghost use Rattle.edge.specs.Ends.{CountsConflicts, IsEnd};
+ghost use Rattle.cdcl.specs.Solving.{with_conflicts};
 ghost use Rattle.cnf_unroll.specs.Laws.{AreOver};
 ghost use Rattle.cnf_unroll.specs.Obligations.{shared_clauses};
 ghost use Rattle.fair_semantics.specs.Entries.{used_entries};
@@ -14,7 +15,7 @@ ghost use Rattle.entry.specs.Proved.{holds_initial, AreProofs, IsProved};
 ghost use Rattle.certify.specs.Claims.{claimed, IsCertified};
 
 use crate::claims::Claim;
-use crate::refuting::clause_proof;
+use crate::refuting::{refutation_of, sized_broken};
 use crate::sharing::solver_of;
 use cdcl::Solver;
 use circuit::Circuit;
@@ -26,7 +27,8 @@ use items::Items;
 use std::alloc::Global;
 use std::sync::Arc;
 
-// A proof for each clause of the claim, in their order, by a solver of what their obligations share.
+// A proof for each clause of the claim, in their order, by a solver of what their obligations share. The meter counts what
+// the solver learns.
 fn proofs_by(
     alloc: Global,
     c: &Circuit,
@@ -42,12 +44,14 @@ fn proofs_by(
         ≡ shared_clauses c.now (used_entries (viewed _view.now) claim.now.uses) claim.now.uses claim.now.clauses }
     ensures proofs { IfOk result (AreProofs c.now (viewed _view.now) (claimed claim.now)) }
     ensures end { IfErr result (IsEnd meter.new) }
-    ensures counted { CountsConflicts meter.old meter.new }
+    ensures counted { meter.new ≡ with_conflicts meter.old (length solver.new.learned - length solver.old.learned) }
+    ensures alone { CountsConflicts meter.old meter.new }
 {
     obligations_tell(c);
     let mut proofs = Items::new(alloc);
     for clause in claim.clauses.as_slice() {
-        let proof = clause_proof(alloc, c, solver, clause, meter)?;
+        let literals = sized_broken(alloc, c, clause)?;
+        let proof = refutation_of(alloc, solver, literals.as_slice(), meter)?;
         proofs.push(proof)?;
     }
     Ok(proofs)

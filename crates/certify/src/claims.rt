@@ -6,7 +6,7 @@ use items::Items;
 
 /// An entry that a worker claims in one of its turns: its kind, its clauses over latch numbers, its uses of the entries
 /// of a view, and the skeleton that it excludes.
-#[derive(Debug, Drop)]
+#[derive(Drop)]
 pub struct Claim {
     pub kind: Kind,
     pub clauses: ClauseSet,

@@ -1,5 +1,5 @@
 -- What is answered of a copy of the sections of a model is so of the sections.
-use Rattle.std.proofs.Common.{◌≡◌, ◌⊎◌, ℕ, Result, Ok, Err, refl, sym, ◌∙◌, ap, inl, inr}
+use Rattle.std.proofs.Common.{◌≡◌, ℕ, Result, Ok, Err, sym, ◌∙◌, ap, inl, inr}
 use Rattle.std.specs.Prelude.{OnOk, IfOk}
 use Rattle.circuit.specs.declared.circuits.Circuit.{Circuit}
 use Rattle.circuit.specs.declared.checking.Kept.{Kept}

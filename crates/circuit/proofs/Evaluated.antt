@@ -34,11 +34,11 @@ unfolding with_gate
 length-with_gates [] out = refl
 length-with_gates (g ∷ gs) out = length-with_gates gs (with_gate out g) ∙ length-set out g.var (conjunction (variable_in out) g)
 
-not_there : (g : Gate) (gs : List Gate) (u : ℕ) → u ≢ g.var → (Contains (variables_of gs) u → ⊥) → Contains (variables_of (g ∷ gs)) u → ⊥
+pub not_there : (g : Gate) (gs : List Gate) (u : ℕ) → u ≢ g.var → (Contains (variables_of gs) u → ⊥) → Contains (variables_of (g ∷ gs)) u → ⊥
 not_there g gs u ne none (zero, below, at) = ne (sym at)
 not_there g gs u ne none (suc k, below, at) = none (k, omega arith, at)
 
-in-order_variable : (gates order : List Gate) → IsEvaluationOrder gates order → (v : ℕ) → Contains (variables_of gates) v → Contains (variables_of order) v
+pub in-order_variable : (gates order : List Gate) → IsEvaluationOrder gates order → (v : ℕ) → Contains (variables_of gates) v → Contains (variables_of order) v
 in-order_variable gates order o v (k, below, at) =
     let inside : k < length gates = omega (arith, length-map gates (λ gate. gate.var)) in
     let d : Gate = record { var = 0; rhs0 = 0; rhs1 = 0 } in

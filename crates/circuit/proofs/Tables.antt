@@ -1,10 +1,9 @@
 -- The table with which the search for an order begins.
-use Rattle.std.proofs.Common.{◌≡◌, ◌≢◌, ℕ, ◌+◌, ◌<◌, ◌≤◌, false, cond, List, [], ◌++◌, map, length, get_or, set, take, replicate, refl, sym, ap, ◌∙◌, subst, inl, inr, arith}
+use Rattle.std.proofs.Common.{◌≡◌, ◌≢◌, ℕ, ◌+◌, ◌<◌, ◌≤◌, false, cond, List, [], ◌++◌, map, length, get_or, set, take, refl, sym, ap, ◌∙◌, subst, inl, inr, arith}
 use Rattle.std.specs.List.{All, Contains, count_by}
 use Rattle.std.proofs.lemmas.Bool.{cases_eq}
-use Rattle.std.proofs.lemmas.List.{length-set, length-map, length-replicate, get_or-set_same, get_or-set_other, get_or-map, take_more, take_all}
+use Rattle.std.proofs.lemmas.List.{length-set, length-map, get_or-set_same, get_or-set_other, get_or-map, take_more, take_all}
 use Rattle.std.proofs.lemmas.List.Elements.{All-more, Contains-push_cases}
-use Rattle.std.proofs.lemmas.List.Folds.{sum_by-replicate}
 use Rattle.aig_semantics.specs.declared.parts.Gate.{Gate}
 use Rattle.aig_semantics.specs.Circuits.{Circuit}
 use Rattle.aig_semantics.proofs.Lists.{AllDiffer, AllDiffer-right}
@@ -15,7 +14,6 @@ use Rattle.circuit.specs.Sections.{circuit_of, AreInRange}
 use Rattle.circuit.specs.Faults.{IsOnce}
 use Rattle.circuit.specs.Orders.{variables_of, IsEvaluationOrder}
 use Rattle.circuit.specs.Ordering.{progress_at, Tells, is_pending, IsSearch, KeepsBegun, is_waiting}
-use Rattle.circuit.proofs.Writing.{get_or-replicate_same}
 use Rattle.circuit.proofs.Searching.{sum-changed, is-order}
 use Rattle.circuit.proofs.Marking.{DefinesAll-below}
 
@@ -30,15 +28,6 @@ pub record IsFilled (gates : List Gate) (n : ℕ) (table : List Progress) (k : �
   pub size : length table ≡ n
   pub known : (v : ℕ) → TellsNumber gates k v (progress_at table v)
   pub counted : count_by is_pending table ≡ k
-
-pub filled-none : (gates : List Gate) (n : ℕ) → IsFilled gates n (replicate n NoGate) 0
-filled-none gates n = record {
-  size = length-replicate n NoGate;
-  known =
-      λ v. subst (λ p. TellsNumber gates 0 v p) (sym (get_or-replicate_same n v NoGate))
-      (λ there. let none : there.0 < 0 = there.1 in omega arith);
-  counted = sum_by-replicate (λ p. cond (is_pending p) 1 0) n NoGate ∙ omega arith;
-}
 
 module _ (gates : List Gate) (n : ℕ) (table : List Progress) (k : ℕ) (d : Gate) (f : IsFilled gates n table k) (apart : AllDiffer (variables_of gates)) (below : k < length gates) (inside : (get_or gates k d).var < n) where
   abbrev gate : Gate

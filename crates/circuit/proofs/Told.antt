@@ -8,7 +8,7 @@ use Rattle.circuit.specs.declared.faults.ModelEnd.{ModelEnd}
 use Rattle.circuit.specs.declared.faults.ModelEnd.TheVariants.{Fault, Memory}
 use Rattle.circuit.specs.Sections.{circuit_of, used_by}
 use Rattle.circuit.specs.Faults.{IsFirstTwice, IsFirstUndefined, HasFault, IsOnlyOnCycle, AnswersNoOther}
-use Rattle.circuit.specs.Keeping.{TellsFault, TellsOrder}
+use Rattle.circuit.specs.Keeping.{TellsOrder}
 use Rattle.unless_memory.specs.Answers.{GivesExactlyWhere, GivesOneExactlyWhere}
 use Rattle.circuit.proofs.Verdicts.{refused-faulty, refused-twice, refused-undefined, refused-cycle, cyclic-twice, cyclic-undefined, cyclic-cycle, cyclic-faulty}
 

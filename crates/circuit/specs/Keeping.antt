@@ -26,7 +26,7 @@ HasCircuitOf (Ok kept) (Err end) = ⊥
 HasCircuitOf (Err end) (Ok c) = ⊥
 HasCircuitOf (Err end) (Err other) = end ≡ other
 
--- what is wrong with a model, a gate that depends on itself last (scaffolding of inner functions)
+-- what is wrong with a model; that a gate depends on itself comes last (scaffolding of inner functions)
 abbrev pub TellsFault : Parts → ModelFault → Type 0
 TellsFault parts fault = HasFault parts fault ⊎ ((v : ℕ) × (fault ≡ Cycle v) × IsOnlyOnCycle parts v)
 

@@ -1,4 +1,5 @@
-//! Which circuits have a meaning. The main call is `check_circuit`, the only one that makes a `Circuit`.
+//! Which circuits have a meaning. The main calls are `check_circuit` and `keep_circuit`, the only ones that
+//! make a `Circuit`.
 
 ghost use Rattle.std.specs.Prelude.{◌≡◌, ◌≤◌, ℕ, IfOk, OnOk, MatchOption};
 ghost use Rattle.aig_semantics.specs.Circuits.{IsChecked, IsWithinLimits, AreDefined};
@@ -112,7 +113,7 @@ fn copy_parts(alloc: Global, parts: &Parts) -> Result<Parts, AllocError>
 }
 
 /// What is kept of the sections of a model: its circuit, and the two lists that are no part of one.
-#[derive(Debug, Drop)]
+#[derive(Drop)]
 pub struct Kept {
     pub circuit: Circuit,
     pub outputs: Items<u64>,

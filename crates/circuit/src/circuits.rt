@@ -9,8 +9,8 @@ use aig_semantics::{Gate, Latch};
 use items::Items;
 use std::marker::Model;
 
-/// A circuit that has a meaning, within this program's limits. Only `check_circuit` makes one.
-#[derive(Debug, Drop)]
+/// A circuit that has a meaning, within this program's limits. Only `check_circuit` and `keep_circuit` make one.
+#[derive(Drop)]
 pub struct Circuit {
     pub(crate) greatest: u64,
     pub(crate) inputs: Items<u64>,

@@ -147,7 +147,7 @@ fn table_of(alloc: Global, parts: &Parts) -> Result<Vec<Progress>, AllocError>
 }
 
 /// An order of the gates of a model.
-#[derive(Debug, Drop)]
+#[derive(Drop)]
 pub(crate) enum Order {
     /// As they stand.
     Given,

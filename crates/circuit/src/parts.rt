@@ -1,5 +1,5 @@
 //! What a reader of a model hands over to be checked. `is_in_range` tests what each number and each list shows by
-//! itself; whether they make a circuit is for `check_circuit`.
+//! itself; whether they make a circuit is for `check_circuit` and `keep_circuit`.
 
 ghost use Rattle.std.specs.Prelude.{◌≡◌, ◌↔◌, ◌+◌, ◌*◌, ◌≤◌, length, All, IsTrue};
 
@@ -8,7 +8,7 @@ use items::Items;
 
 /// The sections of a model, in the order of the file. `inputs` and the `var` of latches and gates are variables, all
 /// other numbers are literals. No list has been checked.
-#[derive(Debug, Drop)]
+#[derive(Drop)]
 pub struct Parts {
     pub max: u64,
     pub inputs: Items<u64>,

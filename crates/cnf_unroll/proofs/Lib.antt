@@ -9,3 +9,4 @@ pub mod BlockWriting
 pub mod ObligationLaws
 pub mod SkeletonLaws
 pub mod Readable
+pub mod LayoutLaws

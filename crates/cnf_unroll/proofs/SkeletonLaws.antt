@@ -1,5 +1,5 @@
 -- Where the skeleton clauses are satisfiable.
-use Rattle.std.proofs.Common.{◌≡◌, ℕ, zero, suc, ◌+◌, ◌-◌, ◌<◌, ◌≤◌, ◌⊎◌, max, Bool, true, false, ◌||◌, List, [], ◌∷◌, ◌++◌, map, length, get_or, refl, sym, ap, subst, ◌∙◌, inl, inr, arith}
+use Rattle.std.proofs.Common.{◌≡◌, ℕ, zero, suc, ◌+◌, ◌-◌, ◌<◌, ◌≤◌, ◌⊎◌, max, Bool, true, false, ◌||◌, List, [], ◌∷◌, ◌++◌, map, length, slice_index_or, get_or, refl, sym, ap, subst, ◌∙◌, inl, inr, arith}
 use Rattle.std.specs.List.{All, AllByRecursion, flat_map}
 use Rattle.std.proofs.lemmas.Bool.{and_parts, and_from, cases_lt}
 use Rattle.std.proofs.lemmas.List.Elements.{All-from_recursion, recursion_from_All}
@@ -16,7 +16,7 @@ use Rattle.cnf_unroll.specs.Numbers.{block_size, literal_in_block, state_place, 
 use Rattle.cnf_unroll.specs.Blocks.{block_clauses}
 use Rattle.cnf_unroll.specs.Uses.{free_from, uses_clauses}
 use Rattle.cnf_unroll.specs.Obligations.{blocks_clauses, blocks_places, literals_clauses, after_blocks, skeleton_clauses}
-use Rattle.cnf_unroll.specs.Situations.{situation_in}
+use Rattle.cnf_unroll.specs.Situations.{situations_in}
 use Rattle.cnf_unroll.specs.Laws.{IsSatisfiable, AreReadable}
 use Rattle.cnf_unroll.proofs.Truth.{both, together}
 use Rattle.cnf_unroll.proofs.UseLaws.{states_at, read_uses}
@@ -24,6 +24,10 @@ use Rattle.cnf_unroll.proofs.UseWriting.{nothing, written}
 use Rattle.cnf_unroll.proofs.BlockReading.{HasOneValuation, IsRead, nexts, sides_of, of_justice, block_read, literal_is}
 use Rattle.cnf_unroll.proofs.BlockWriting.{Shows, block_value, block_shown, block_true, literal_shown, shown_latches}
 use Rattle.cnf_unroll.proofs.ObligationLaws.{state_length, successor_length, state_below, successor_below}
+
+-- the latches of the first situation
+abbrev pub first_latches : List Situation → List Bool
+first_latches situations = slice_index_or (map (λ s. s.position.latches) situations) 0 []
 
 or_false : (a : Bool) → (a || false) ≡ true → a ≡ true
 or_false true h = refl
@@ -70,30 +74,21 @@ blocks_below c checked base (suc n) free room =
 
 -- ---- reading
 
--- what an assignment makes of n blocks
-situations_in : Circuit → ℕ → ℕ → (ℕ → Bool) → List Situation
-situations_in c base zero v = []
-situations_in c base (suc n) v = situation_in c base v ∷ situations_in c (base + block_size c) n v
-
 situations_count : (c : Circuit) (base n : ℕ) (v : ℕ → Bool) → length (situations_in c base n v) ≡ n
-unfolding situations_in
 situations_count c base zero v = refl
 situations_count c base (suc n) v = ap suc (situations_count c (base + block_size c) n v)
 
 situations_read : (c : Circuit) → IsChecked c → HasOneValuation c → (base n : ℕ) (v : ℕ → Bool) → clauses_value v (blocks_clauses c base n) ≡ true → AllByRecursion (IsSituation c) (situations_in c base n v)
-unfolding situations_in
 situations_read c checked law base zero v h = tt
 situations_read c checked law base (suc n) v h =
     let parts = both v (block_clauses c base) (blocks_clauses c (base + block_size c) n) h in
     (block_read c checked law base v parts.0, situations_read c checked law (base + block_size c) n v parts.1)
 
 states_read : (c : Circuit) (base n : ℕ) (v : ℕ → Bool) → states_at v (blocks_places c base n) ≡ states_of (situations_in c base n v)
-unfolding situations_in
 states_read c base zero v = refl
 states_read c base (suc n) v = ap (λ ss. map v (state_place c base) ∷ map v (successor_place c base) ∷ ss) (states_read c (base + block_size c) n v)
 
 literals_read : (c : Circuit) → IsChecked c → HasOneValuation c → (base n : ℕ) (v : ℕ → Bool) (ls : List ℕ) → length ls ≤ n → AllByRecursion (λ l. IsRead c (variable_of l)) ls → clauses_value v (blocks_clauses c base n) ≡ true → clauses_value v (literals_clauses c base ls) ≡ true → AreTrueInTurn c ls (situations_in c base n v)
-unfolding situations_in
 literals_read c checked law base n v [] few read h g = tt
 literals_read c checked law base zero v (l ∷ ls) few read h g = absurd (omega arith)
 literals_read c checked law base (suc n) v (l ∷ ls) few read h g =
@@ -170,6 +165,11 @@ module _ (c : Circuit) (checked : IsChecked c) (law : HasOneValuation c) (v : �
       (unit_true (literal_value v (literal_in_block base l)) (literal_shown c checked law base s are.0 v shown.0 l read.0 ∙ fair.0))
       (literals_true (base + block_size c) ls ss read.1 are.1 shown.1 fair.1)
 
+  first_shown : (ss : List Situation) → AllByRecursion (IsSituation c) ss → AllShown c 0 ss v → 1 ≤ length ss → map v (state_place c 0) ≡ first_latches ss
+  unfolding AllShown
+  first_shown [] are shown some = absurd (omega arith)
+  first_shown (s ∷ ss) are shown some = shown_latches c checked law 0 s are.0 v shown.0
+
 -- the uses over some blocks, of which there is one
 uses_over : (c : Circuit) → IsChecked c → (us : List Numbered) → AreReadable (length c.latches) [] [] us → (v : ℕ → Bool) (n m : ℕ) → n ≡ suc m → allow us (states_at v (blocks_places c 0 n)) ≡ true → (w : ℕ → Bool) × ((k : ℕ) → k < after_blocks c 0 n + 1 → w k ≡ v k) × (clauses_value w (uses_clauses (blocks_places c 0 n) (free_from (after_blocks c 0 n + 1)) us) ≡ true)
 uses_over c checked us readable v n m e allowed =
@@ -182,31 +182,42 @@ uses_over c checked us readable v n m e allowed =
     in
     subst Goal (sym e) here allowed
 
-module _ (c : Circuit) (checked : IsChecked c) (law : HasOneValuation c) (us : List Numbered) (j : ℕ) (readable : AreReadable (length c.latches) [] [] us) (inside : j < length c.justice) where
+-- what an assignment of the skeleton clauses gives the blocks
+pub record ReadSkeleton (c : Circuit) (j : ℕ) (us : List Numbered) (situations : List Situation) : Type 0 where
+  pub skeleton : IsSkeleton c j (record { situations = situations })
+  pub allowed : allow us (states_of situations) ≡ true
+
+-- an assignment of them that gives the first block a skeleton's first state
+pub record WrittenSkeleton (c : Circuit) (j : ℕ) (us : List Numbered) (skeleton : Skeleton) : Type 0 where
+  pub value : ℕ → Bool
+  pub holds : clauses_value value (skeleton_clauses c j us) ≡ true
+  pub begins : map value (state_place c 0) ≡ first_latches skeleton.situations
+
+module _ (c : Circuit) (checked : IsChecked c) (law : HasOneValuation c) (us : List Numbered) (j : ℕ) (readable : AreReadable (length c.latches) [] [] us) where
   abbrev literals : List ℕ
   literals = fair_literals c j
 
   abbrev count : ℕ
   count = max 1 (length (fair_literals c j))
 
-  pub skeleton_read : IsSatisfiable (skeleton_clauses c j us) → (skeleton : Skeleton) × IsSkeleton c j skeleton × (allow us (places skeleton) ≡ true)
-  skeleton_read (v, h) =
+  pub skeleton_of_model : j < length c.justice → (v : ℕ → Bool) → clauses_value v (skeleton_clauses c j us) ≡ true → ReadSkeleton c j us (situations_in c 0 count v)
+  skeleton_of_model inside v h =
       let uses = uses_clauses (blocks_places c 0 count) (free_from (after_blocks c 0 count + 1)) us in
       let last = both v (blocks_clauses c 0 count ++ literals_clauses c 0 literals) uses h in
       let first = both v (blocks_clauses c 0 count) (literals_clauses c 0 literals) last.0 in
-      let read = read_uses v (length c.latches) (λ n s. false) (free_from (after_blocks c 0 count + 1)) [] [] (blocks_places c 0 count) us readable (blocks_long c 0 count) (nothing v (blocks_places c 0 count)) last.1 in (
-        record { situations = situations_in c 0 count v },
-        record {
+      let read = read_uses v (length c.latches) (λ n s. false) (free_from (after_blocks c 0 count + 1)) [] [] (blocks_places c 0 count) us readable (blocks_long c 0 count) (nothing v (blocks_places c 0 count)) last.1 in
+      record {
+        skeleton = record {
           property = inside;
           size = situations_count c 0 count v;
           situations = All-from_recursion (IsSituation c) (situations_in c 0 count v) (situations_read c checked law 0 count v first.0);
           fair = literals_read c checked law 0 count v literals (omega arith) (fair_read c checked j) first.0 first.1;
-        },
-        sym (ap (λ ss. allow us ss) (states_read c 0 count v)) ∙ read.allowed,
-      )
+        };
+        allowed = sym (ap (λ ss. allow us ss) (states_read c 0 count v)) ∙ read.allowed;
+      }
 
-  pub skeleton_written : (skeleton : Skeleton) × IsSkeleton c j skeleton × (allow us (places skeleton) ≡ true) → IsSatisfiable (skeleton_clauses c j us)
-  skeleton_written (skeleton, is, allowed) =
+  pub model_of_skeleton : (skeleton : Skeleton) → IsSkeleton c j skeleton → allow us (places skeleton) ≡ true → WrittenSkeleton c j us skeleton
+  model_of_skeleton skeleton is allowed =
       let ss = skeleton.situations in
       let are = recursion_from_All (IsSituation c) skeleton.situations is.situations in
       let v : ℕ → Bool = run_value c 0 skeleton.situations in
@@ -222,4 +233,18 @@ module _ (c : Circuit) (checked : IsChecked c) (law : HasOneValuation c) (us : L
       (literals_true c checked law w.0 0 (fair_literals c j) skeleton.situations (fair_read c checked j) are kept is.fair))
       w.2
       in
-      (w.0, subst Goal is.size here)
+      record {
+        value = w.0;
+        holds = subst Goal is.size here;
+        begins = first_shown c checked law w.0 skeleton.situations are kept (omega arith);
+      }
+
+  pub skeleton_read : j < length c.justice → IsSatisfiable (skeleton_clauses c j us) → (skeleton : Skeleton) × IsSkeleton c j skeleton × (allow us (places skeleton) ≡ true)
+  skeleton_read inside (v, h) =
+      let read = skeleton_of_model inside v h in
+      (record { situations = situations_in c 0 count v }, read.skeleton, read.allowed)
+
+  pub skeleton_written : (skeleton : Skeleton) × IsSkeleton c j skeleton × (allow us (places skeleton) ≡ true) → IsSatisfiable (skeleton_clauses c j us)
+  skeleton_written (skeleton, is, allowed) =
+      let w = model_of_skeleton skeleton is allowed in
+      (w.value, w.holds)

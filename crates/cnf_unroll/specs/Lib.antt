@@ -7,4 +7,5 @@ pub mod Lending
 pub mod Placing
 pub mod Sides
 pub mod Laws
+pub mod Layout
 pub mod Examples

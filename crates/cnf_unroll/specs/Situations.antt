@@ -1,5 +1,5 @@
 -- What an assignment makes of the numbers of a block: a position and its successor.
-use Rattle.std.specs.Prelude.{ℕ, ◌*◌, Bool, map}
+use Rattle.std.specs.Prelude.{ℕ, zero, suc, ◌+◌, ◌*◌, Bool, List, [], ◌∷◌, map}
 use Rattle.aig_semantics.specs.Circuits.{Circuit}
 use Rattle.fair_semantics.specs.declared.skeletons.Situation.{Situation}
 use Rattle.cnf_unroll.specs.Numbers.{block_size, number, state_place, successor_place}
@@ -14,3 +14,8 @@ situation_in c base v = record {
 -- the same of the block with this number, counted from 0
 abbrev pub situation_of_block : Circuit → ℕ → (ℕ → Bool) → Situation
 situation_of_block c block v = situation_in c (block * block_size c) v
+
+-- n blocks from a base on (scaffolding)
+abbrev pub situations_in : Circuit → ℕ → ℕ → (ℕ → Bool) → List Situation
+situations_in c base zero v = []
+situations_in c base (suc n) v = situation_in c base v ∷ situations_in c (base + block_size c) n v

@@ -81,7 +81,7 @@ pub(crate) fn push_block(
     requires { base < 2 ^ 62 }
     ensures { OnOk result (db.new.clauses ≡ db.old.clauses ++ block_clauses c.now base) }
 {
-    let _greatest = c.max();
+    let _limits = c.max();
     push_clause(alloc, db, &[minus(base + 1)])?;
     push_gates(alloc, db, base, c.gates())?;
     push_units(alloc, db, base, c.constraints())?;

@@ -32,7 +32,7 @@ fn decode_at(alloc: Global, c: &Circuit, model: &[bool], base: u64) -> Result<Si
     requires { base < 2 ^ 62 }
     ensures { IfOk result (λ situation. situation ≡ situation_in c.now base (values_of model.now)) }
 {
-    let _greatest = c.max();
+    let _limits = c.max();
     let latches = state_place(c, base).values(alloc, model)?;
     let inputs = input_values(alloc, model, base, c.inputs())?;
     let successor = successor_place(c, base).values(alloc, model)?;

@@ -8,6 +8,7 @@ ghost use Rattle.cnf_unroll.specs.Uses.{free_from, uses_clauses};
 ghost use Rattle.cnf_unroll.specs.Obligations.{units, step_with_uses, after_step, shared_clauses, broken_literals, obligation_clauses};
 ghost use Rattle.cnf_unroll.specs.Sides.{counted};
 ghost use Rattle.cnf_unroll.specs.Lending.{lent_all};
+ghost use Rattle.cnf_unroll.specs.Layout.{BeginWith, AreUseEnds, before_set, use_ends};
 
 use crate::blocks::push_block;
 use crate::numbers::{literal_at_place, push_clause, push_set_at};
@@ -21,11 +22,16 @@ use items::Items;
 use proof_semantics::Lit;
 use std::alloc::{AllocError, Global};
 
-/// Clauses with the next number that none of them has.
-#[derive(Debug, Drop)]
+/// Clauses with the next number that none of them has, and where their parts end: those of the block, of each use, and of
+/// the sides that are named. Behind these stand those of the set, one for each of its clauses.
+#[derive(Drop)]
 pub struct Begun {
     pub clauses: Db,
     pub free: u64,
+    /// How many clauses stand up to the end of those of the first k uses, for each k from 0 to the number of uses.
+    pub ends: Items<u64>,
+    /// How many stand before those of the set.
+    pub sides: u64,
 }
 
 // The places of the block with this base.
@@ -50,22 +56,11 @@ fn push_step(
     requires { db.old.clauses ≡ [] }
     ensures clauses { OnOk result (db.new.clauses ≡ step_with_uses c.now (lent_all uses.now)) }
     ensures numbering { IfOk result (λ n. counted n ≡ after_step c.now (lent_all uses.now)) }
+    ensures ends { IfOk result (λ n. n.ends
+        ≡ use_ends (length (step_clauses c.now)) (block_places c.now 0) (free_from (block_size c.now + 1)) (lent_all uses.now)) }
 {
     push_block(alloc, db, c, 0)?;
     push_step_uses(alloc, db, c, uses)
-}
-
-/// The clauses of one block, numbered from 1, and of the uses over its state and its successor.
-pub fn step_under_uses(alloc: Global, c: &Circuit, uses: &[Used]) -> Result<Begun, AllocError>
-    ensures clauses { IfOk result (λ begun. begun.clauses.clauses ≡ step_with_uses c.now (lent_all uses.now)) }
-    ensures free { IfOk result (λ begun. begun.free ≡ (after_step c.now (lent_all uses.now)).free) }
-{
-    let mut clauses = Db::new(alloc);
-    let numbering = push_step(alloc, &mut clauses, c, uses)?;
-    Ok(Begun {
-        clauses,
-        free: numbering.free,
-    })
 }
 
 fn push_units(alloc: Global, db: &mut Db, literals: &[Lit]) -> Result<(), AllocError>
@@ -88,15 +83,20 @@ pub fn shared(
 ) -> Result<Begun, AllocError>
     ensures clauses { IfOk result (λ begun. begun.clauses.clauses ≡ shared_clauses c.now (lent_all uses.now) own.now set.now) }
     ensures free { IfOk result (λ begun. begun.free ≡ (after_step c.now (lent_all uses.now)).free) }
+    ensures ends { IfOk result (λ begun. AreUseEnds (step_with_uses c.now) (lent_all uses.now) begun.clauses.clauses begun.ends) }
+    ensures sides { IfOk result (λ begun. BeginWith begun.clauses.clauses (before_set c.now (lent_all uses.now) own.now) begun.sides) }
 {
     let mut clauses = Db::new(alloc);
     let numbering = push_step(alloc, &mut clauses, c, uses)?;
     let names = named_sides(alloc, &numbering.sides, own)?;
     push_units(alloc, &mut clauses, names.as_slice())?;
+    let sides = clauses.len() as u64;
     push_set_at(alloc, &mut clauses, &state_place(c, 0), set.as_slice())?;
     Ok(Begun {
         clauses,
         free: numbering.free,
+        ends: numbering.ends,
+        sides,
     })
 }
 
@@ -109,6 +109,8 @@ fn push_step_uses(
 ) -> Result<Numbering, AllocError>
     ensures clauses { OnOk result (db.new.clauses ≡ db.old.clauses ++ uses_clauses (block_places c.now 0) (free_from (block_size c.now + 1)) (lent_all uses.now)) }
     ensures numbering { IfOk result (λ n. counted n ≡ after_step c.now (lent_all uses.now)) }
+    ensures ends { IfOk result (λ n. n.ends
+        ≡ use_ends (length db.old.clauses) (block_places c.now 0) (free_from (block_size c.now + 1)) (lent_all uses.now)) }
 {
     let mut places = Items::new(alloc);
     push_places(&mut places, c, 0)?;

@@ -11,7 +11,7 @@ use std::marker::Model;
 
 /// The numbers of the latches in the order of the file, each by its variable. It takes neither memory nor time for the
 /// latches. Contracts see the list of the numbers.
-#[derive(Debug, Drop)]
+#[derive(Drop)]
 pub(crate) struct Place<'a> {
     latches: &'a [Latch],
     // The number that variable 0 would have.
@@ -78,7 +78,7 @@ pub(crate) fn state_place(c: &Circuit, base: u64) -> Place<'_>
     requires { base < 2 ^ 62 }
     ensures { result ≡ state_place c.now base }
 {
-    let _greatest = c.max();
+    let _limits = c.max();
     Place {
         latches: c.latches(),
         start: base + 1,

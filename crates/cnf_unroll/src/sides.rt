@@ -8,7 +8,7 @@ use std::alloc::{AllocError, Global};
 use std::collections::BTreeMap;
 
 /// The side number of each wall that was used so far, by the number of its entry.
-#[derive(Debug, Drop)]
+#[derive(Drop)]
 pub(crate) struct Sides {
     known: BTreeMap<u32, u64>,
 }

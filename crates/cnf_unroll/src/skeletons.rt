@@ -1,9 +1,10 @@
-//! Skeletons as clauses. The main call is `skeleton_cnf`.
+//! Skeletons as clauses. The main calls are `skeleton_cnf` and `unrolled_skeleton`.
 
 ghost use Rattle.std.specs.Prelude.{◌≡◌, ◌+◌, ◌^◌, ◌<◌, ◌++◌, length, OnOk, IfOk};
 ghost use Rattle.aig_semantics.specs.Circuits.{fair_literals};
 ghost use Rattle.cnf_unroll.specs.Obligations.{blocks_clauses, blocks_places, literals_clauses, after_blocks, skeleton_clauses};
 ghost use Rattle.cnf_unroll.specs.Lending.{lent_all};
+ghost use Rattle.cnf_unroll.specs.Layout.{AreUseEnds};
 
 use crate::blocks::push_block;
 use crate::numbers::{literal_in_block, push_clause};
@@ -15,6 +16,13 @@ use circuit::Circuit;
 use cnf::Db;
 use items::Items;
 use std::alloc::{AllocError, Global};
+
+/// Clauses, and how many of them stand up to the end of those of the first k uses, for each k from 0 to the number of uses.
+#[derive(Drop)]
+pub struct Unrolled {
+    pub clauses: Db,
+    pub ends: Items<u64>,
+}
 
 fn fair_literals(alloc: Global, c: &Circuit, j: usize) -> Result<Items<u64>, AllocError>
     requires { j < length c.now.justice }
@@ -75,13 +83,32 @@ pub fn skeleton_cnf(alloc: Global, c: &Circuit, j: u32, uses: &[Used]) -> Result
     requires { j < length c.now.justice }
     ensures { IfOk result (λ db. db.clauses ≡ skeleton_clauses c.now j (lent_all uses.now)) }
 {
-    let _greatest = c.max();
+    let unrolled = unrolled_skeleton(alloc, c, j, uses)?;
+    Ok(unrolled.clauses)
+}
+
+/// The same clauses, and where those of each use end.
+pub fn unrolled_skeleton(
+    alloc: Global,
+    c: &Circuit,
+    j: u32,
+    uses: &[Used],
+) -> Result<Unrolled, AllocError>
+    requires { j < length c.now.justice }
+    ensures clauses { IfOk result (λ unrolled. unrolled.clauses.clauses ≡ skeleton_clauses c.now j (lent_all uses.now)) }
+    ensures ends { IfOk result (λ unrolled.
+        AreUseEnds (skeleton_clauses c.now j) (lent_all uses.now) unrolled.clauses.clauses unrolled.ends) }
+{
+    let _limits = c.max();
     let literals = fair_literals(alloc, c, j as usize)?;
     let count = literals.len().max(1) as u64;
     let mut db = Db::new(alloc);
     let mut places = Items::new(alloc);
     let base = push_blocks(alloc, &mut db, &mut places, c, count)?;
     push_literals(alloc, &mut db, c, literals.as_slice())?;
-    push_uses(alloc, &mut db, places.as_slice(), base + 1, uses)?;
-    Ok(db)
+    let numbering = push_uses(alloc, &mut db, places.as_slice(), base + 1, uses)?;
+    Ok(Unrolled {
+        clauses: db,
+        ends: numbering.ends,
+    })
 }

@@ -9,7 +9,7 @@ use items::Items;
 pub type ClauseSet = Items<Clause>;
 
 /// An entry that is used: its number in the list of entries, counted from 0, its kind, its clauses and its own uses.
-#[derive(Clone, Copy, Debug)]
+#[derive(Clone, Copy)]
 pub struct Used<'a> {
     pub number: u32,
     pub kind: Kind,

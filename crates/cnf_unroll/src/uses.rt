@@ -7,6 +7,7 @@ ghost use Rattle.cnf_unroll.specs.Uses.{denials, marked, wall_at, marks, closing
 ghost use Rattle.cnf_unroll.specs.Sides.{side_in, counted};
 ghost use Rattle.fair_semantics.specs.declared.entries.Kind.TheVariants.{Wall};
 ghost use Rattle.cnf_unroll.specs.Lending.{lent, lent_all};
+ghost use Rattle.cnf_unroll.specs.Layout.{use_ends};
 
 use crate::numbers::{
     extend_at, literal_at_place, minus, next_free, plus, push_clause, push_set_at,
@@ -199,11 +200,13 @@ pub(crate) fn named_sides(
     Ok(names)
 }
 
-/// What is counted on from use to use: the next free number, and the sides of the walls so far.
-#[derive(Debug, Drop)]
+/// What is counted on from use to use: the next free number, and the sides of the walls so far; and how many clauses
+/// stand up to the end of each use's, those before the first among them.
+#[derive(Drop)]
 pub(crate) struct Numbering {
     pub(crate) free: u64,
     pub(crate) sides: Sides,
+    pub(crate) ends: Items<u64>,
 }
 
 // Puts the clauses of a used entry behind the others.
@@ -217,6 +220,7 @@ fn push_use(
     ensures clauses { OnOk result (db.new.clauses ≡ db.old.clauses
         ++ use_clauses places.now (counted numbering.old) (lent used.now).entry used.now.kind) }
     ensures numbering { OnOk result (counted numbering.new ≡ after_use places.now (counted numbering.old) (lent used.now) used.now.kind) }
+    ensures ends { numbering.new.ends ≡ numbering.old.ends }
 {
     match used.kind {
         Kind::Reach => push_reach(alloc, db, used.set.as_slice(), places),
@@ -234,6 +238,7 @@ fn push_wall_of(
     ensures clauses { OnOk result (db.new.clauses ≡ db.old.clauses
         ++ use_clauses places.now (counted numbering.old) (lent used.now).entry Wall) }
     ensures numbering { OnOk result (counted numbering.new ≡ after_use places.now (counted numbering.old) (lent used.now) Wall) }
+    ensures ends { numbering.new.ends ≡ numbering.old.ends }
 {
     let z = numbering.free;
     let names = named_sides(alloc, &numbering.sides, used.uses)?;
@@ -253,13 +258,18 @@ pub(crate) fn push_uses(
 ) -> Result<Numbering, AllocError>
     ensures clauses { OnOk result (db.new.clauses ≡ db.old.clauses ++ uses_clauses places.now (free_from free) (lent_all uses.now)) }
     ensures numbering { IfOk result (λ n. counted n ≡ after_uses places.now (free_from free) (lent_all uses.now)) }
+    ensures ends { IfOk result (λ n. n.ends ≡ use_ends (length db.old.clauses) places.now (free_from free) (lent_all uses.now)) }
 {
     let mut numbering = Numbering {
         free,
         sides: Sides::new(alloc),
+        ends: Items::new(alloc),
     };
     for used in uses {
+        numbering.ends.push(db.len() as u64)?;
         push_use(alloc, db, places, &mut numbering, used)?;
     }
+    let end = db.len() as u64;
+    numbering.ends.push(end)?;
     Ok(numbering)
 }

@@ -62,7 +62,7 @@ pub test-from_stands : (user : User) (before : List Entry) (least : ℕ) (earlie
 test-from_stands user before least earlier u h =
     and_from _ _ (and_from _ _ (and_from _ _ (le-leb _ _ h.above) (lt-ltb _ _ h.present)) h.may) h.known
 
-split-none : (test : Bool) (rest : Option ℕ) (n : ℕ) → cond test rest (Some n) ≡ None → (test ≡ true) × (rest ≡ None)
+pub split-none : (test : Bool) (rest : Option ℕ) (n : ℕ) → cond test rest (Some n) ≡ None → (test ≡ true) × (rest ≡ None)
 split-none true rest n h = (refl, h)
 split-none false rest n h = absurd (cc)
 
@@ -93,7 +93,7 @@ below-at earlier least n h (k, v, inside, at, same) =
     let e : (get_or earlier k v).entry ≡ n = ap (λ x. x.entry) at ∙ same in
     omega arith
 
-one-known : (signed known : Bool) → (not signed || known) ≡ true → signed ≡ true → known ≡ true
+pub one-known : (signed known : Bool) → (not signed || known) ≡ true → signed ≡ true → known ≡ true
 one-known true known h signed = h
 one-known false known h signed = absurd (cc)
 

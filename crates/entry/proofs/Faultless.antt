@@ -1,5 +1,5 @@
 -- An entry has no fault exactly where it is proved, and a refutation exactly where it is good.
-use Rattle.std.proofs.Common.{◌≡◌, ℕ, zero, suc, ◌+◌, ◌<◌, Bool, true, false, not, cond, List, [], ◌∷◌, length, get_or, refl, ap, subst, ◌∙◌, arith, Some, None, Option, Ok, Err, Result}
+use Rattle.std.proofs.Common.{◌≡◌, ℕ, zero, suc, ◌+◌, ◌<◌, Bool, true, false, not, List, [], ◌∷◌, length, get_or, refl, ap, subst, ◌∙◌, arith, Some, None, Option, Ok, Err, Result}
 use Rattle.std.specs.Prelude.{IsOkAnd}
 use Rattle.std.specs.List.{All, list_any}
 use Rattle.std.proofs.lemmas.List.Elements.{All-cons, All-nil, All-head, All-tail}
@@ -22,11 +22,7 @@ use Rattle.entry.specs.declared.faults.EntryFault.TheVariants.{BadUse, Base}
 use Rattle.entry.specs.Faults.{is_signed, may_use, first_bad_use, baseless_from, first_baseless, unfinished_at, line_fault, fault_from, proof_fault, clause_fault, proofs_fault, or_else, first_fault}
 use Rattle.entry.specs.Proved.{holds_initial, obligation_of, IsProved, IsGoodRefutation}
 use Rattle.entry.specs.Laws.{FaultlessIsProved, FaultlessIsGood}
-use Rattle.entry.proofs.Closed.{closed-from_none, none-from_closed}
-
-split-none : (test : Bool) (rest : Option ℕ) (n : ℕ) → cond test rest (Some n) ≡ None → (test ≡ true) × (rest ≡ None)
-split-none true rest n h = (refl, h)
-split-none false rest n h = absurd (cc)
+use Rattle.entry.proofs.Closed.{split-none, closed-from_none, none-from_closed}
 
 -- ---- the base
 

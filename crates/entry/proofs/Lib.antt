@@ -12,3 +12,4 @@ pub mod Search
 mod TableLaws
 pub mod Standing
 pub mod Viewed
+pub mod GoingOn

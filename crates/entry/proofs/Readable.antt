@@ -1,5 +1,5 @@
 -- Closed uses of a good list can be understood by themselves.
-use Rattle.std.proofs.Common.{◌≡◌, ℕ, zero, suc, ◌<◌, ◌≤◌, List, [], ◌∷◌, ◌++◌, length, get_or, take, drop, refl, sym, ap, subst, ◌∙◌, inl, inr, ◌⊎◌, arith, append_assoc, append-nil}
+use Rattle.std.proofs.Common.{◌≡◌, ℕ, zero, suc, ◌<◌, List, [], ◌∷◌, ◌++◌, length, get_or, take, drop, refl, sym, ap, subst, ◌∙◌, inl, inr, ◌⊎◌, arith, append_assoc, append-nil}
 use Rattle.std.specs.List.{All, AllPairs, Contains}
 use Rattle.std.proofs.lemmas.List.{take-append-drop}
 use Rattle.std.proofs.lemmas.List.Elements.{All-head, All-tail}
@@ -9,7 +9,7 @@ use Rattle.fair_semantics.specs.declared.entries.Kind.TheVariants.{Reach, Wall}
 use Rattle.fair_semantics.specs.declared.entries.Use.{Use}
 use Rattle.fair_semantics.specs.Entries.{Entry, entry_at, used_entries, IsSigned, Uses, AreClosed}
 use Rattle.fair_semantics.specs.Validity.{IsValid, AreValid, AreValidBehind}
-use Rattle.fair_semantics.proofs.Sets.{entry_at-earlier}
+use Rattle.fair_semantics.proofs.Sets.{entry_at-earlier, Uses-least}
 use Rattle.cnf_unroll.specs.Laws.{NameKnown, walls_for, walls_with, walls_among, IsReadable, AreReadable}
 use Rattle.entry.specs.Laws.{IsGoodList}
 
@@ -88,13 +88,6 @@ abbrev pub IsNamedWell : List Entry → List ℕ → List Use → Use → Type 0
 IsNamedWell entries walls uses u =
     All (λ v. IsSigned v → (v.entry < u.entry) × (Contains walls v.entry ⊎ Uses uses v.entry)) (entry_at entries u.entry).uses
 
-least : (u : Use) (uses : List Use) (n : ℕ) → Ascend (u ∷ uses) → Uses (u ∷ uses) n → u.entry ≤ n
-least u uses n h (zero, v, inside, at, same) = let e : u.entry ≡ n = ap (λ x. x.entry) at ∙ same in omega arith
-least u uses n h (suc k, v, inside, at, same) =
-    let later : u.entry < (get_or uses k v).entry = h 0 (suc k) v (omega arith) (omega arith) in
-    let e : (get_or uses k v).entry ≡ n = ap (λ x. x.entry) at ∙ same in
-    omega arith
-
 first-or-later : (u : Use) (uses : List Use) (n : ℕ) → Uses (u ∷ uses) n → (u.entry ≡ n) ⊎ Uses uses n
 first-or-later u uses n (zero, v, inside, at, same) = inl (ap (λ x. x.entry) at ∙ same)
 first-or-later u uses n (suc k, v, inside, at, same) = inr (k, v, omega arith, at, same)
@@ -120,7 +113,7 @@ readable c entries seen walls (u ∷ uses) good ascend present older named =
     let h = mine k d inside signed in
     elim h.1 [
       | inl is ↦ is
-      | inr later ↦ (let low = least u uses _ ascend later in absurd (omega (arith, h.0)))
+      | inr later ↦ (let low = Uses-least u uses _ ascend later in absurd (omega (arith, h.0)))
     ]
     in
     let more : List ℕ = walls_with e.kind u.entry walls in

@@ -1,8 +1,8 @@
 -- An entry behind other entries, among which those that it uses stand: it has the same set and the same obligations.
-use Rattle.std.proofs.Common.{◌≡◌, ℕ, ◌+◌, ◌<◌, Bool, false, not, ◌&&◌, List, [], ◌∷◌, ◌++◌, map, length, get_or, refl, sym, ap, ap₂, ◌∙◌, subst, arith, length-append}
-use Rattle.std.specs.Prelude.{◌==◌, if◌then◌else◌, Option}
+use Rattle.std.proofs.Common.{◌≡◌, ℕ, ◌+◌, ◌<◌, Bool, false, not, List, [], ◌∷◌, ◌++◌, map, length, get_or, refl, sym, ap, ap₂, ◌∙◌, subst, arith, length-append}
+use Rattle.std.specs.Prelude.{Option}
 use Rattle.std.proofs.Math.Path.{fun_ext}
-use Rattle.std.specs.List.{All, list_all}
+use Rattle.std.specs.List.{All}
 use Rattle.std.proofs.lemmas.List.Elements.{All-head, All-tail, All-cons, All-nil, All-map}
 use Rattle.aig_semantics.specs.Circuits.{Circuit}
 use Rattle.proof_semantics.specs.declared.literals.Lit.{Lit}
@@ -13,15 +13,14 @@ use Rattle.fair_semantics.specs.declared.entries.Side.{Side}
 use Rattle.fair_semantics.specs.declared.entries.Side.TheVariants as sides
 use Rattle.fair_semantics.specs.declared.entries.Use.{Use}
 use Rattle.fair_semantics.specs.declared.skeletons.Skeleton.{Skeleton}
-use Rattle.fair_semantics.specs.States.{meets_clauses}
-use Rattle.fair_semantics.specs.Entries.{Entry, Numbered, used_entries, entry_at, lies_on, set_over, with_set, sets_after, NamesUsed, AreClosed}
+use Rattle.fair_semantics.specs.Entries.{Entry, Numbered, used_entries, entry_at, set_over, NamesUsed, AreClosed}
 use Rattle.fair_semantics.specs.Allowing.{allows_by}
 use Rattle.fair_semantics.specs.Skeletons.{places, excludes}
 use Rattle.fair_semantics.specs.Validity.{set_behind, IsValid}
 use Rattle.fair_semantics.specs.Laws.{named_use, named_uses, SayTheSame}
 use Rattle.fair_semantics.proofs.Sets.{sets_of-at, entry_at-place, entry_at-earlier}
 use Rattle.fair_semantics.proofs.Alone.{uses_stand_alone}
-use Rattle.fair_semantics.proofs.Staying.{SayThere, stays_valid}
+use Rattle.fair_semantics.proofs.Staying.{SayThere, sets-says, stays_valid}
 use Rattle.cnf_unroll.specs.Numbers.{block_size, state_place, block_places, set_at_place}
 use Rattle.cnf_unroll.specs.Blocks.{step_clauses}
 use Rattle.cnf_unroll.specs.Uses.{Numbering, free_from, named_literal, named_sides, reach_clauses, wall_clauses, use_clauses, after_use, uses_clauses, after_uses}
@@ -32,39 +31,6 @@ use Rattle.entry.specs.declared.origins.Origin.TheVariants.{Given, Worker}
 use Rattle.entry.specs.CheckedEntries.{checked_behind, StandIn, ExcludesFrom, HoldsWhereUsesStand}
 
 -- ---- the sets of used entries that say the same
-
--- the side that a use names is all that it asks of a state
-side-alone : (sets : ℕ → List Bool → Bool) (s : List Bool) (u : Use) (side : Side) (rest : List Use) → u.side ≡ side
-    → list_all (λ v. lies_on v.side (sets v.entry s)) (named_use side u ++ rest)
-    ≡ (lies_on u.side (sets u.entry s) && list_all (λ v. lies_on v.side (sets v.entry s)) rest)
-side-alone sets s u sides.Any rest same =
-    ap (λ side. lies_on side (sets u.entry s) && list_all (λ v. lies_on v.side (sets v.entry s)) rest) (sym same)
-side-alone sets s u sides.In rest same = refl
-side-alone sets s u sides.Out rest same = refl
-
-sides-alone : (sets : ℕ → List Bool → Bool) (s : List Bool) (uses : List Use)
-    → list_all (λ u. lies_on u.side (sets u.entry s)) (named_uses uses) ≡ list_all (λ u. lies_on u.side (sets u.entry s)) uses
-sides-alone sets s [] = refl
-sides-alone sets s (u ∷ uses) =
-    side-alone sets s u u.side (named_uses uses) refl ∙ ap (λ b. lies_on u.side (sets u.entry s) && b) (sides-alone sets s uses)
-
-set_over-says : (sets : ℕ → List Bool → Bool) (e f : Entry) → SayTheSame e f → set_over sets e ≡ set_over sets f
-set_over-says sets e f same = fun_ext (λ s.
-    let sides : list_all (λ u. lies_on u.side (sets u.entry s)) e.uses ≡ list_all (λ u. lies_on u.side (sets u.entry s)) f.uses =
-    sym (sides-alone sets s e.uses) ∙ ap (λ us. list_all (λ u. lies_on u.side (sets u.entry s)) us) same.named ∙ sides-alone sets s f.uses
-    in
-    ap₂ (λ cs b. meets_clauses cs s && b) same.clauses sides)
-
-sets-says : (sets : ℕ → List Bool → Bool) (before other : List Entry) (uses : List Use) → SayThere other before uses
-    → sets_after sets (used_entries other uses) ≡ sets_after sets (used_entries before uses)
-sets-says sets before other [] h = refl
-sets-says sets before other (u ∷ uses) h =
-    let P : Use → Type 0 = λ v. SayTheSame (entry_at other v.entry) (entry_at before v.entry) in
-    let here : Numbered = record { number = u.entry; entry = entry_at before u.entry } in
-    let there : Numbered = record { number = u.entry; entry = entry_at other u.entry } in
-    let set : set_over sets there.entry ≡ set_over sets here.entry = set_over-says sets there.entry here.entry (All-head P u uses h) in
-    let first : with_set sets there ≡ with_set sets here = λ i n s. if n == u.entry then set i s else sets n s in
-    ap (λ known. sets_after known (used_entries other uses)) first ∙ sets-says (with_set sets here) before other uses (All-tail P u uses h)
 
 set-elsewhere : (before other : List Entry) (e : Entry) (s : List Bool)
     → AreClosed before e.uses → AreClosed other e.uses → SayThere other before e.uses

@@ -37,7 +37,7 @@ same_side true false h = sym h
 same_side false true h = h
 same_side false false h = refl
 
-wall-side : (kind : Kind) (set : List Bool → Bool) (s t : List Bool) → kind ≡ Wall → allows_by kind set (s ∷ t ∷ []) ≡ true → set s ≡ set t
+pub wall-side : (kind : Kind) (set : List Bool → Bool) (s t : List Bool) → kind ≡ Wall → allows_by kind set (s ∷ t ∷ []) ≡ true → set s ≡ set t
 wall-side Reach set s t is h = absurd (cc)
 wall-side Wall set s t is h = same_side (set s) (set t) h
 

@@ -44,6 +44,10 @@ entry_in shared = (arc_value {X = CheckedEntry} shared).entry
 abbrev pub viewed : {Z : Type 0} → List (Arc CheckedEntry Z) → List Entry
 viewed view = map entry_in view
 
+-- the entries are the earlier ones, and possibly more behind them
+abbrev pub GoesOnFrom : List Entry → List Entry → Type 0
+GoesOnFrom earlier entries = (more : List Entry) × (entries ≡ earlier ++ more)
+
 -- Used entries stand in a list: at each one's number there is an entry of the same kind, with the same clauses and
 -- named sides.
 abbrev pub StandIn : List Entry → List Numbered → Type 0

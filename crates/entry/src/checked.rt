@@ -23,7 +23,7 @@ use std::sync::Arc;
 
 /// An entry that was checked behind those of a view, with its proofs. It shares its circuit and the entries that it
 /// uses, so it costs no more than its own parts. It holds behind each list in which the entries that it uses stand.
-#[derive(Debug, Drop)]
+#[derive(Drop)]
 pub struct Checked {
     circuit: Arc<Circuit>,
     entry: Arc<Listed>,

@@ -25,7 +25,7 @@ use items::Items;
 use std::alloc::{AllocError, Global};
 
 /// An entry with its proofs, one for each clause, in the order of the clauses.
-#[derive(Debug, Drop)]
+#[derive(Drop)]
 pub struct Entry {
     pub kind: Kind,
     pub set: ClauseSet,
@@ -83,8 +83,34 @@ fn judge_of(alloc: Global, c: &Circuit, list: &[Listed], e: &Entry) -> Result<Ju
 {
     let used = used(alloc, list, e.uses.as_slice())?;
     let mut judge = Judge::new(alloc, c)?;
-    judge.enter(alloc, c, used.as_slice(), e.uses.as_slice(), &e.set)?;
-    Ok(judge)
+    match judge.enter(alloc, c, used.as_slice(), e.uses.as_slice(), &e.set) {
+        Ok(()) => Ok(judge),
+        Err(refused) => {
+            drop(judge);
+            Err(refused)
+        }
+    }
+}
+
+// The first fault of the proofs, by a judge of the entry.
+fn first_refused(
+    alloc: Global,
+    judge: &mut Judge,
+    c: &Circuit,
+    list: &[Listed],
+    e: &Entry,
+) -> Result<Option<EntryFault>, AllocError>
+    requires count { length e.now.proofs ≡ length e.now.set }
+    requires shared { judge.old.shared ≡ shared_clauses c.now (used_entries (entries_of list.now) e.now.uses) e.now.uses e.now.set }
+    ensures { IfOk result (λ fault. fault ≡ proofs_fault (obligation_of c.now (entries_of list.now) (said e.now)) 0 e.now.proofs) }
+{
+    for i in 0..e.proofs.len() {
+        match fault_at(alloc, judge, c, e, i)? {
+            Some(found) => return Ok(Some(found)),
+            None => {}
+        }
+    }
+    Ok(None)
 }
 
 // The first fault of the proofs.
@@ -99,13 +125,9 @@ fn proofs_fault(
     ensures { IfOk result (λ fault. fault ≡ proofs_fault (obligation_of c.now (entries_of list.now) (said e.now)) 0 e.now.proofs) }
 {
     let mut judge = judge_of(alloc, c, list, e)?;
-    for i in 0..e.proofs.len() {
-        match fault_at(alloc, &mut judge, c, e, i)? {
-            Some(found) => return Ok(Some(found)),
-            None => {}
-        }
-    }
-    Ok(None)
+    let fault = first_refused(alloc, &mut judge, c, list, e);
+    drop(judge);
+    fault
 }
 
 // The first fault of the proofs of an entry whose uses may stand.

@@ -21,7 +21,7 @@ use std::marker::Model;
 
 /// A judge of proofs. It keeps the circuit's clauses from entry to entry, and what the obligations of an entry share from
 /// clause to clause: it goes on in the time that the entry, or the clause, and the proofs take.
-#[derive(Debug, Drop)]
+#[derive(Drop)]
 pub struct Judge {
     checker: Checker,
     // How many of the given clauses are the circuit's, and how many the entry's obligations share.

@@ -8,6 +8,9 @@
 //! - `check_entry`, `refutation_fault`: an entry or a refutation as a whole;
 //! - `Checked`: an entry that was checked behind a view, and holds wherever the entries that it uses stand;
 //! - `threads_share_checked`: nothing: threads may share a checked entry;
+//! - `share`, `catch_up`: the handles of a view copied; those that it has more than was seen taken in;
+//! - `list_of`: the entries of a view without their proofs;
+//! - `lend_view`, `lend_used`: the entries of a view, or those that uses name, as clauses take them;
 //! - `side`, `excludes`: on which side of an entry of a view a state lies, and which skeletons the entry excludes;
 //! - `faultless_is_proved`: no fault is found exactly where an entry is proved;
 //! - `proved_entries_are_valid`, `good_lists_grow`: a proved entry is valid behind valid ones;
@@ -27,6 +30,7 @@ mod refutations;
 mod sides;
 mod tables;
 mod uses;
+mod views;
 
 pub use checked::{Checked, threads_share_checked};
 pub use clauses::{clause_from_aiger, first_baseless, holds_initial};
@@ -44,3 +48,4 @@ pub use refutations::{Refutation, refutation_fault};
 pub use sides::{excludes, side};
 pub use tables::LatchNumbers;
 pub use uses::{User, first_bad_use};
+pub use views::{catch_up, lend_used, lend_view, list_of, share};

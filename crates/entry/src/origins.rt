@@ -3,14 +3,14 @@
 use fair_semantics::Skeleton;
 
 /// Where an entry is from: it was handed in with the question, or a worker found it.
-#[derive(Debug, Drop)]
+#[derive(Drop)]
 pub enum Origin {
     Given,
     Worker(Work),
 }
 
 /// Which worker found an entry, in which of its turns, and the skeleton that the entry was made to exclude.
-#[derive(Debug, Drop)]
+#[derive(Drop)]
 pub struct Work {
     pub author: u32,
     pub turn: u32,

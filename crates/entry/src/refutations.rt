@@ -21,7 +21,7 @@ use proof_semantics::LratFault;
 use std::alloc::{AllocError, Global};
 
 /// The uses of a refutation, which name no side, and its proof.
-#[derive(Debug, Drop)]
+#[derive(Drop)]
 pub struct Refutation {
     pub uses: Items<Use>,
     pub proof: Proof,

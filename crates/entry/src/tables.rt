@@ -15,7 +15,7 @@ use std::marker::Model;
 
 /// For each variable of a circuit the number of the latch that has it, in a table that takes eight bytes a variable: with
 /// it a clause is read in the time that its literals take.
-#[derive(Debug, Drop)]
+#[derive(Drop)]
 pub struct LatchNumbers {
     // One more than the latch's number, and 0 where a variable is no latch's.
     table: Vec<u64>,

@@ -122,7 +122,7 @@ Ascend uses = AllPairs (λ u v. u.entry < v.entry) uses
 Ascend-tail : (u : Use) (uses : List Use) → Ascend (u ∷ uses) → Ascend uses
 Ascend-tail u uses h = λ i j d lt below. h (suc i) (suc j) d (omega arith) (omega arith)
 
-Uses-least : (u : Use) (uses : List Use) (n : ℕ) → Ascend (u ∷ uses) → Uses (u ∷ uses) n → u.entry ≤ n
+pub Uses-least : (u : Use) (uses : List Use) (n : ℕ) → Ascend (u ∷ uses) → Uses (u ∷ uses) n → u.entry ≤ n
 Uses-least u uses n h (zero, v, inside, at, same) = let e : u.entry ≡ n = ap (λ x. x.entry) at ∙ same in omega arith
 Uses-least u uses n h (suc k, v, inside, at, same) =
     let later : u.entry < (get_or uses k v).entry = h 0 (suc k) v (omega arith) (omega arith) in

@@ -44,7 +44,7 @@ set_over-says sets e f same = fun_ext (λ s.
 abbrev pub SayThere : List Entry → List Entry → List Use → Type 0
 SayThere other before uses = All (λ u. SayTheSame (entry_at other u.entry) (entry_at before u.entry)) uses
 
-sets-says : (sets : ℕ → List Bool → Bool) (before other : List Entry) (uses : List Use) → SayThere other before uses
+pub sets-says : (sets : ℕ → List Bool → Bool) (before other : List Entry) (uses : List Use) → SayThere other before uses
     → sets_after sets (used_entries other uses) ≡ sets_after sets (used_entries before uses)
 sets-says sets before other [] h = refl
 sets-says sets before other (u ∷ uses) h =

@@ -90,7 +90,3 @@ stands-whole c j s short h start inputs =
       shortest = λ n place other. h.shortest n place (less n place other);
       earliest = λ place other. h.earliest place (less k place other);
     })
-
--- a stimulus that stands for all of its positions has them as a fair lasso
-pub fair-whole : (c : Circuit) (j : ℕ) (short : Lasso) → StandsFor c j (stimulus_of short) (length short.inputs) short.from → IsFairLassoOf c j short
-fair-whole c j short h = subst (λ inputs. IsFairLasso c j (simulated c short.start inputs) short.from) (take-length short.inputs) h.has.lasso

@@ -2,7 +2,7 @@
 use Rattle.std.proofs.Common.{◌≡◌, ◌≢◌, ℕ, zero, suc, ◌+◌, ◌-◌, ◌<◌, ◌≤◌, min, Bool, true, false, not, ◌&&◌, ◌||◌, cond, eqb, leb, List, [], ◌∷◌, ◌++◌, length, get_or, take, drop, map, refl, ap, sym, subst, ◌∙◌, inl, inr, arith, length-append, lt_irrefl, add-one}
 use Rattle.std.specs.List.{list_any}
 use Rattle.std.proofs.lemmas.Bool.{cases_lt, ne_eqb, le-leb}
-use Rattle.std.proofs.lemmas.List.{get_or_append_left, get_or_push, get_or-map, get_or-take, take_all, take-append-le, drop-append-le, drop-take, length-drop, length-take-le, length-map, map-append, take-map}
+use Rattle.std.proofs.lemmas.List.{get_or_append_left, get_or_push, get_or-take, take_all, take-append-le, drop-append-le, drop-take, length-drop, length-take-le, length-map, map-append, take-map}
 use Rattle.std.proofs.Math.Seq.{drop-append_seam, drop-cons}
 use Rattle.std.proofs.Math.Dec.{eqb-suc-suc, eqb-zero-suc, leb-suc-suc}
 use Rattle.std.proofs.Math.Nat.{min-eq_left, min-eq_right}

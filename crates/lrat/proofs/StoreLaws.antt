@@ -2,11 +2,7 @@
 use Rattle.std.proofs.Common.{◌≡◌, ◌≢◌, ℕ, zero, suc, ◌+◌, ◌-◌, ◌<◌, ◌≤◌, min, Bool, true, false, not, ◌||◌, cond, eqb, leb, List, [], ◌∷◌, ◌++◌, length, get_or, take, set, Some, None, refl, ap, sym, subst, ◌∙◌, inl, inr, arith}
 use Rattle.std.specs.List.{list_any}
 use Rattle.std.proofs.lemmas.Bool.{eq-eqb, ne_eqb, cases_order, cases_eq, cases_lt, cond-true, cond-false}
-use Rattle.std.specs.Prelude.{slice_range, slice_get, IfNone, Result, Ok, Err}
-use Rattle.std.specs.Result.{result_ok}
-use Rattle.std.specs.Ordering.{nat_cmp}
-use Rattle.std.specs.List.Sorted.{IsBinarySearchResult}
-use Rattle.std.proofs.lemmas.List.Sorted.{searched}
+use Rattle.std.specs.Prelude.{slice_range, slice_get}
 use Rattle.std.proofs.lemmas.Option.{slice_get-get_or, slice_get_read, get_or_from_slice_get}
 use Rattle.proof_semantics.specs.Proofs.{ProofState, clause_at, without, with_addition, with_deletion, numbered, start, is_empty}
 use Rattle.proof_semantics.specs.declared.literals.Lit.{Lit}
@@ -17,7 +13,7 @@ use Rattle.lrat.specs.declared.arena.Arena.{Arena}
 use Rattle.lrat.specs.declared.arena.Place.{Place}
 use Rattle.lrat.proofs.ArenaLaws.{clauses-put, clauses_in-put, ids-put, flags-put, flags_all, filled-take, filled-empty, take_within, default_free, IsPacked-put, AreNumbered-take, AreDeletedBelow-put, AreDeletedBelow-take}
 use Rattle.lrat.specs.declared.store.Store.TheInside.{Inside}
-use Rattle.std.proofs.Common.{length-append, drop, add-one}
+use Rattle.std.proofs.Common.{length-append}
 use Rattle.std.proofs.Math.Seq.{map-set_same}
 use Rattle.std.proofs.lemmas.List.{get_or_append_left, get_or_push, get_or_past, get_or-map, take-append-le, take_all, length-map, length-set, length-take-le, map-set, get_or-set_same, get_or-set_other}
 
@@ -191,15 +187,6 @@ non_decreasing ids ascend i j before below =
     elim (cases_eq i j) [
       | inl same ↦ omega (arith, ap (λ k. get_or ids k 0) same)
       | inr differs ↦ omega (arith, ascend i j (omega arith) below)
-    ]
-
-pub search_none : (ids : List ℕ) (id : ℕ) (r : Result ℕ ℕ) → Ascend ids → IsBinarySearchResult (λ y. nat_cmp y id) ids r → IfNone (result_ok r) (Lacks ids id)
-search_none ids id (Ok k) ascend found = tt
-search_none ids id (Err place) ascend found = λ k below is.
-    let parts = searched ids id (Err place) found (non_decreasing ids ascend) in
-    elim (cases_lt k place) [
-      | inl less ↦ omega (arith, parts.1 k less)
-      | inr more ↦ omega (arith, parts.2 k more below)
     ]
 
 pub absent_unset : (ids seen : List ℕ) (flags : List Bool) (clauses : List (List Lit)) (id : ℕ) → seen ≡ ids → Lacks seen id

@@ -10,7 +10,7 @@ use proof_semantics::Lit;
 use std::alloc::AllocError;
 
 /// Where a clause stands: its id, and the place of its first literal and that behind its last one.
-#[derive(Clone, Copy, Debug)]
+#[derive(Clone, Copy)]
 pub(crate) struct Place {
     pub(crate) id: u64,
     pub(crate) start: usize,
@@ -20,7 +20,7 @@ pub(crate) struct Place {
 }
 
 /// Clauses, one behind the other.
-#[derive(Debug, Drop)]
+#[derive(Drop)]
 pub(crate) struct Arena {
     pub(crate) literals: Vec<Lit>,
     pub(crate) places: Vec<Place>,

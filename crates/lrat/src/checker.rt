@@ -20,7 +20,7 @@ use std::marker::Model;
 /// A checker of one proof. Contracts see where the proof stands: the given clauses, the clauses
 /// that are held with their ids, the greatest id so far, and whether an empty clause was given or
 /// added.
-#[derive(Debug, Drop)]
+#[derive(Drop)]
 pub struct Checker {
     store: Store,
     marks: Marks,

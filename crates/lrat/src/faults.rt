@@ -4,10 +4,11 @@ ghost use Rattle.lrat.specs.declared.faults.LratEnd.TheVariants.{Memory};
 
 use proof_semantics::LratFault;
 use std::alloc::{AllocError, AllocFailed};
+use std::fmt;
 use thiserror::Error;
 
 /// Why a line was not accepted.
-#[derive(Clone, Copy, Debug, PartialEq, Eq, Error)]
+#[derive(Clone, Copy, PartialEq, Eq, Error)]
 pub enum LratEnd {
     /// The line failed this test, the first that it fails.
     #[error(transparent)]
@@ -15,6 +16,12 @@ pub enum LratEnd {
     /// Memory ran out.
     #[error("memory was refused")]
     Memory,
+}
+
+impl fmt::Debug for LratEnd {
+    fn fmt<W: fmt::Write>(&self, f: &mut fmt::Formatter<W>) -> fmt::Result {
+        fmt::Display::fmt(self, f)
+    }
 }
 
 impl From<AllocError> for LratEnd {

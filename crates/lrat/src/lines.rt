@@ -13,7 +13,7 @@ use text_grammar::{next_field, read_number};
 const GREATEST: u64 = 9_223_372_036_854_775_807;
 
 /// What a line asks for: its literals and hints, or its ids, are kept beside.
-#[derive(Clone, Copy, Debug)]
+#[derive(Clone, Copy)]
 pub(crate) enum Kind {
     /// To add a clause under this id.
     Addition(u64),

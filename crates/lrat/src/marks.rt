@@ -12,7 +12,7 @@ use std::collections::BTreeSet;
 use std::marker::Model;
 
 /// A set of variables: a table of the small ones, and an ordered set of the others.
-#[derive(Debug, Drop)]
+#[derive(Drop)]
 pub(crate) struct Variables {
     table: Vec<bool>,
     beyond: BTreeSet<u64>,
@@ -79,7 +79,7 @@ impl Variables {
 }
 
 /// A set of literals.
-#[derive(Debug, Drop)]
+#[derive(Drop)]
 pub(crate) struct Literals {
     positive: Variables,
     negative: Variables,
@@ -143,7 +143,7 @@ impl Literals {
 }
 
 /// The literals that are assumed, in the order in which they came. Contracts see the list.
-#[derive(Debug, Drop)]
+#[derive(Drop)]
 pub(crate) struct Marks {
     assumed: Vec<Lit>,
     marked: Literals,

@@ -13,7 +13,7 @@ use proof_semantics::{Lit, LratFault};
 use std::alloc::AllocError;
 
 /// The literals of a clause that are not false, several times the same one counted once.
-#[derive(Clone, Copy, Debug)]
+#[derive(Clone, Copy)]
 pub(crate) enum Left {
     Nothing,
     One(Lit),

@@ -12,7 +12,7 @@ use std::marker::Model;
 /// Every clause that was given or added, in the order of its id. Contracts see where the proof
 /// stands. What is deleted is kept, with the round in which it was deleted: it is not held in that
 /// round, and each restart begins another one.
-#[derive(Debug, Drop)]
+#[derive(Drop)]
 pub(crate) struct Store {
     arena: Arena,
     given: usize,

@@ -9,7 +9,7 @@ ghost use Rattle.entry.specs.Listing.{entry_of};
 ghost use Rattle.entry.specs.Proved.{IsProved};
 ghost use Rattle.certify.specs.Claims.{claimed};
 
-use crate::copies::{copied, listed_again};
+use crate::copies::copied;
 use crate::ends::ProvingEnd;
 use crate::judging::with_last;
 use certify::{Claim, certify};
@@ -24,7 +24,7 @@ use std::sync::Arc;
 pub fn claim_of(alloc: Global, listed: &Listed, skeleton: Skeleton) -> Result<Claim, AllocError>
     ensures { IfOk result (λ claim. claimed claim ≡ entry_of listed.now) }
 {
-    let copy = listed_again(alloc, listed)?;
+    let copy = listed.try_copy(alloc)?;
     Ok(Claim {
         kind: copy.kind,
         clauses: copy.set,

@@ -3,58 +3,19 @@
 ghost use Rattle.std.specs.Prelude.{◌≡◌, IfOk};
 ghost use Rattle.entry.specs.CheckedEntries.{viewed};
 ghost use Rattle.entry.specs.Entries.{said};
-ghost use Rattle.entry.specs.Listing.{entry_of, entries_of};
+ghost use Rattle.entry.specs.Listing.{entry_of};
 
 use cnf::Proof;
-use cnf_unroll::ClauseSet;
-use entry::{Checked, Entry, Listed};
+use entry::{Checked, Entry, Listed, share};
 use items::Items;
 use std::alloc::{AllocError, Global};
 use std::sync::Arc;
-
-fn clauses_again(alloc: Global, set: &ClauseSet) -> Result<ClauseSet, AllocError>
-    ensures { IfOk result (λ copy. copy ≡ set.now) }
-{
-    let mut copy = Items::new(alloc);
-    for clause in set.as_slice() {
-        copy.push(clause.clone()?)?;
-    }
-    Ok(copy)
-}
-
-/// The same entry once more.
-pub(crate) fn listed_again(alloc: Global, listed: &Listed) -> Result<Listed, AllocError>
-    ensures { IfOk result (λ copy. entry_of copy ≡ entry_of listed.now) }
-{
-    let set = clauses_again(alloc, &listed.set)?;
-    let uses = listed.uses.try_copy(alloc)?;
-    Ok(Listed {
-        kind: listed.kind,
-        set,
-        uses,
-    })
-}
-
-/// The entries of a view as a list.
-pub(crate) fn list_of(alloc: Global, view: &[Arc<Checked>]) -> Result<Vec<Listed>, AllocError>
-    ensures { IfOk result (λ list. entries_of list.items ≡ viewed view.now) }
-{
-    let mut list = Vec::new(alloc);
-    for checked in view {
-        list.push(listed_again(alloc, checked.listed())?)?;
-    }
-    Ok(list)
-}
 
 /// The same view once more.
 pub(crate) fn copied(alloc: Global, view: &[Arc<Checked>]) -> Result<Vec<Arc<Checked>>, AllocError>
     ensures { IfOk result (λ copy. viewed copy.items ≡ viewed view.now) }
 {
-    let mut copy = Vec::new(alloc);
-    for checked in view {
-        copy.push(Arc::try_clone(checked)?)?;
-    }
-    Ok(copy)
+    Ok(share(alloc, view)?.into_vec())
 }
 
 fn add_lines(alloc: Global, proof: &Proof, lines: &mut Proof) -> Result<(), AllocError> {
@@ -87,7 +48,7 @@ fn proofs_again(alloc: Global, proofs: &[Proof]) -> Result<Items<Proof>, AllocEr
 pub fn entry_again(alloc: Global, checked: &Checked) -> Result<Entry, AllocError>
     ensures { IfOk result (λ e. said e ≡ checked.now.entry) }
 {
-    let listed = listed_again(alloc, checked.listed())?;
+    let listed = checked.listed().try_copy(alloc)?;
     let proofs = proofs_again(alloc, checked.proofs())?;
     Ok(with_proofs(listed, proofs))
 }

@@ -10,13 +10,14 @@ ghost use Rattle.entry.specs.Laws.{IsGoodList};
 ghost use Rattle.entry.specs.Listing.{entry_of, entries_of};
 ghost use Rattle.entry.specs.Proved.{IsProved};
 
-use crate::copies::{list_of, with_proofs};
+use crate::copies::with_proofs;
 use crate::ends::ProvingEnd;
 use crate::solving::proofs_of;
 use circuit::Circuit;
 use cnf::{Clause, Lit};
 use entry::{
-    Checked, Entry, EntryEnd, Listed, check_entry, good_lists_grow, proved_entries_are_valid,
+    Checked, Entry, EntryEnd, Listed, check_entry, good_lists_grow, list_of,
+    proved_entries_are_valid,
 };
 use std::alloc::{AllocError, Global};
 use std::sync::Arc;

@@ -3,7 +3,7 @@
 use crate::ends::ProvingEnd;
 use cdcl::{Refuted, Solver, are_sized};
 use circuit::Circuit;
-use cnf::{Clause, Db, Proof};
+use cnf::{Clause, Proof};
 use cnf_unroll::{Begun, Used, broken, shared};
 use edge::Meter;
 use entry::{Checked, Listed, Use};
@@ -40,13 +40,6 @@ fn lend<'a>(
     Ok(found)
 }
 
-fn add_clause(solver: &mut Solver, clause: Clause) -> Result<(), AllocError> {
-    if !are_sized(clause.as_slice()) {
-        return Err(AllocError);
-    }
-    solver.add(clause)
-}
-
 // The clauses that the obligations of an entry share.
 fn shared_clauses(
     alloc: Global,
@@ -59,19 +52,6 @@ fn shared_clauses(
     shared(alloc, c, used.as_slice(), uses, &entry.set)
 }
 
-fn add_clauses(solver: &mut Solver, clauses: Db) -> Result<(), AllocError> {
-    for clause in clauses.into_vec() {
-        add_clause(solver, clause)?;
-    }
-    Ok(())
-}
-
-fn solver_with(alloc: Global, begun: Begun) -> Result<Solver, AllocError> {
-    let mut solver = Solver::new(alloc)?;
-    add_clauses(&mut solver, begun.clauses)?;
-    Ok(solver)
-}
-
 // A solver of what the obligations of an entry share.
 fn solver_of(
     alloc: Global,
@@ -80,7 +60,7 @@ fn solver_of(
     entry: &Listed,
 ) -> Result<Solver, AllocError> {
     let begun = shared_clauses(alloc, c, view, entry)?;
-    solver_with(alloc, begun)
+    Solver::with_clauses(alloc, begun.clauses.into_vec())
 }
 
 // A proof that no step breaks the clause, if there is one.

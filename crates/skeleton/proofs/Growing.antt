@@ -1,14 +1,15 @@
 -- The clauses over a view that goes on from what was seen.
-use Rattle.std.proofs.Common.{◌≡◌, ℕ, ◌+◌, false, List, [], ◌∷◌, ◌++◌, length, refl, sym, ap, ◌∙◌, subst, append_assoc}
+use Rattle.std.proofs.Common.{◌≡◌, ℕ, ◌+◌, false, List, [], ◌∷◌, ◌++◌, length, refl, sym, ap, ◌∙◌, subst, append_assoc, arith}
+use Rattle.std.specs.declared.sync.Arc.{Arc}
 use Rattle.std.proofs.lemmas.Bool.{true≢false}
+use Rattle.std.proofs.lemmas.List.{append-nil, length-append, length-map}
 use Rattle.aig_semantics.specs.Circuits.{Circuit, fair_literals}
 use Rattle.proof_semantics.specs.declared.literals.Lit.{Lit}
 use Rattle.fair_semantics.specs.Entries.{Entry, Numbered, numbered_from, numbered}
 use Rattle.cnf_unroll.specs.Uses.{Numbering, free_from, use_clauses, after_use, uses_clauses}
 use Rattle.cnf_unroll.specs.Obligations.{block_count, blocks_clauses, blocks_places, literals_clauses, after_blocks, skeleton_clauses}
-use Rattle.entry.specs.CheckedEntries.{viewed}
+use Rattle.entry.specs.CheckedEntries.{CheckedEntry, entry_in, viewed, GoesOnFrom}
 use Rattle.skeleton.specs.declared.known.Known.{Known}
-use Rattle.skeleton.specs.Finding.{GoesOnFrom}
 use Rattle.skeleton.specs.Keeping.{IsFront, IsBegun}
 
 -- ---- the clauses over more entries begin with those over the earlier ones
@@ -59,12 +60,25 @@ added_front c j known entries clauses begun on e =
     subst (IsFront known.solver.added) (sym e)
     (front_on known.solver.added earlier all begun.front (clauses_go_on c j (viewed known.seen) entries on))
 
-pub nothing_begun : (c : Circuit) (j : ℕ) (known : Known) → known.solver.added ≡ [] → known.count ≡ 0 → known.whole ≡ false
-    → IsBegun c j known
-nothing_begun c j known none count open_yet =
+pub nothing_begun : (c : Circuit) (j : ℕ) (known : Known) → known.solver.added ≡ [] → known.whole ≡ false → IsBegun c j known
+nothing_begun c j known none open_yet =
     let all = skeleton_clauses c j (numbered (viewed known.seen)) in
     record {
       front = (all, sym (ap (λ clauses. clauses ++ all) none));
-      count = count ∙ sym (ap length none);
       whole = λ is. absurd (true≢false (sym is ∙ open_yet));
     }
+
+-- ---- views
+
+pub goes_on_same : (xs ys : List Entry) → xs ≡ ys → GoesOnFrom xs ys
+goes_on_same xs ys e = ([], sym e ∙ sym (append-nil xs))
+
+all_seen : (xs ys more : List Entry) → ys ≡ xs ++ more → length ys ≡ length xs → xs ≡ ys
+all_seen xs ys [] e same = sym (e ∙ append-nil xs)
+all_seen xs ys (x ∷ more) e same = absurd (omega (arith, same, ap length e, length-append xs (x ∷ more)))
+
+-- a view of as many entries as were seen is what was seen
+pub seen_whole : {Z : Type 0} (seen view : List (Arc CheckedEntry Z)) → GoesOnFrom (viewed seen) (viewed view) → length seen ≡ length view
+    → viewed seen ≡ viewed view
+seen_whole seen view (more, e) same =
+    all_seen (viewed seen) (viewed view) more e (length-map view entry_in ∙ sym same ∙ sym (length-map seen entry_in))

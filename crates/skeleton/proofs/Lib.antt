@@ -1,9 +1,6 @@
 pub mod Staying
 pub mod Using
-pub mod BlocksRead
-pub mod BlocksWritten
 pub mod StateLaws
 pub mod Telling
-pub mod Ends
 pub mod Growing
 pub mod Made

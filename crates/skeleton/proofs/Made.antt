@@ -3,8 +3,7 @@ use Rattle.std.proofs.Common.{◌≡◌, ℕ, suc, ◌+◌, Bool, List, ◌∷�
 use Rattle.aig_semantics.specs.Circuits.{Circuit}
 use Rattle.fair_semantics.specs.declared.skeletons.Situation.{Situation}
 use Rattle.cnf_unroll.specs.Numbers.{block_size, number, state_place, successor_place}
-use Rattle.cnf_unroll.specs.Situations.{situation_in}
-use Rattle.skeleton.specs.Reading.{situations_in}
+use Rattle.cnf_unroll.specs.Situations.{situation_in, situations_in}
 
 abbrev pub situation_of : List Bool → List Bool → List Bool → Situation
 situation_of latches inputs successor = record { position = record { latches = latches; inputs = inputs }; successor = successor }

@@ -1,5 +1,5 @@
 -- What the solver's answers say of skeletons.
-use Rattle.std.proofs.Common.{◌≡◌, ℕ, ◌<◌, Bool, true, List, [], ◌++◌, length, sym, ap, subst, ◌∙◌, append-nil}
+use Rattle.std.proofs.Common.{◌≡◌, ℕ, suc, ◌-◌, ◌<◌, Bool, true, List, [], ◌++◌, map, length, sym, ap, subst, ◌∙◌, append-nil, arith}
 use Rattle.std.proofs.lemmas.Bool.{true≢false, false_from_ne_true}
 use Rattle.std.proofs.lemmas.List.{length-map}
 use Rattle.aig_semantics.specs.Circuits.{Circuit, IsChecked}
@@ -12,30 +12,39 @@ use Rattle.fair_semantics.specs.declared.entries.Use.{Use}
 use Rattle.fair_semantics.specs.Entries.{Entry, numbered}
 use Rattle.cnf_unroll.specs.Numbers.{number, state_place}
 use Rattle.cnf_unroll.specs.Obligations.{skeleton_clauses}
+use Rattle.cnf_unroll.specs.Situations.{situations_in}
 use Rattle.cnf_unroll.proofs.BlockReading.{HasOneValuation}
+use Rattle.cnf_unroll.proofs.SkeletonLaws.{skeleton_of_model, model_of_skeleton}
 use Rattle.cdcl.specs.Solving.{HasNoModel}
 use Rattle.cdcl.specs.UnitClauses.{unit_clauses}
 use Rattle.entry.specs.Proved.{IsGoodRefutation}
 use Rattle.entry.specs.Laws.{IsGoodList}
 use Rattle.skeleton.specs.Finding.{IsAllowed, AllowsNone, first_state, BeginsNone}
-use Rattle.skeleton.specs.Reading.{situations_in, situation_count, uses_from, state_literals, core_cube}
+use Rattle.skeleton.specs.Reading.{situation_count, uses_from, state_literals, core_cube}
 use Rattle.skeleton.proofs.Using.{used_all, closed_all, unsigned, readable_all}
-use Rattle.skeleton.proofs.BlocksRead.{skeleton_read, first_read}
-use Rattle.skeleton.proofs.BlocksWritten.{skeleton_written}
 use Rattle.skeleton.proofs.StateLaws.{literals_told, cube_holds, cube_latches, cube_core}
+
+-- the first situation has the values of the first block's latches
+first_of_some : (c : Circuit) (n m : ℕ) (v : ℕ → Bool) → n ≡ suc m
+    → first_state (record { situations = situations_in c 0 n v }) ≡ map v (state_place c 0)
+first_of_some c n m v e = ap (λ k. first_state (record { situations = situations_in c 0 k v })) e
+
+first_read : (c : Circuit) (j : ℕ) (v : ℕ → Bool)
+    → first_state (record { situations = situations_in c 0 (situation_count c j) v }) ≡ map v (state_place c 0)
+first_read c j v = first_of_some c (situation_count c j) (situation_count c j - 1) v (omega arith)
 
 module _ (c : Circuit) (checked : IsChecked c) (law : HasOneValuation c) (j : ℕ) (inside : j < length c.justice) (entries : List Entry) (good : IsGoodList c entries) where
   -- what a model gives is an allowed skeleton
   pub model_allowed : (v : ℕ → Bool) (s : Skeleton) → clauses_value v (skeleton_clauses c j (numbered entries)) ≡ true
       → s.situations ≡ situations_in c 0 (situation_count c j) v → IsAllowed c j entries s
   model_allowed v s holds is =
-      let read = skeleton_read c checked law (numbered entries) j (readable_all c entries good) inside v holds in
+      let read = skeleton_of_model c checked law (numbered entries) j (readable_all c entries good) inside v holds in
       subst (λ ss. IsAllowed c j entries (record { situations = ss })) (sym is) (record { skeleton = read.skeleton; allowed = read.allowed })
 
   -- where the clauses are refuted there is none
   pub refuted_none : (proof : List (List ℕ)) → Refutes (skeleton_clauses c j (numbered entries)) proof → AllowsNone c j entries
   refuted_none proof refutes s is =
-      let w = skeleton_written c checked law (numbered entries) j (readable_all c entries good) s is.skeleton is.allowed in
+      let w = model_of_skeleton c checked law (numbered entries) j (readable_all c entries good) s is.skeleton is.allowed in
       true≢false (sym w.holds ∙ refuted-unsatisfiable (skeleton_clauses c j (numbered entries)) proof refutes w.value)
 
   pub refutation_good : (uses : List Use) (proof : List (List ℕ)) → uses ≡ uses_from 0 entries
@@ -66,7 +75,7 @@ module _ (c : Circuit) (checked : IsChecked c) (law : HasOneValuation c) (j : �
       record {
         over = cube_latches core place state (length c.latches) (l ∙ sym long) long;
         none = λ s is.
-            let w = skeleton_written c checked law (numbered entries) j (readable_all c entries good) s is.skeleton is.allowed in
+            let w = model_of_skeleton c checked law (numbered entries) j (readable_all c entries good) s is.skeleton is.allowed in
             false_from_ne_true (cube_value (values_of (first_state s)) (core_cube core 0 (state_literals place state))) (λ inside.
             refused w.value (record {
               clauses = w.holds;

@@ -1,6 +1,6 @@
 -- What a query for skeletons answers, after FAIR (Bradley, Somenzi, Hassan, Zhang, 2011). That a skeleton is asked for
 -- from a given state on, and that states in which none begins are told as a cube, is this program's.
-use Rattle.std.specs.Prelude.{◌≡◌, ℕ, ◌<◌, Bool, true, false, List, [], ◌++◌, map, length, slice_index_or}
+use Rattle.std.specs.Prelude.{◌≡◌, ℕ, ◌<◌, Bool, true, false, List, [], map, length, slice_index_or}
 use Rattle.std.specs.List.{All}
 use Rattle.aig_semantics.specs.Circuits.{Circuit}
 use Rattle.proof_semantics.specs.Clauses.{cube_value, values_of}
@@ -20,10 +20,6 @@ pub record Asking : Type 0 where
   pub circuit : Circuit
   pub property : ℕ
   pub seen : List Entry
-
--- the entries are the earlier ones, and possibly more behind them
-abbrev pub GoesOnFrom : List Entry → List Entry → Type 0
-GoesOnFrom earlier entries = (more : List Entry) × (entries ≡ earlier ++ more)
 
 -- a skeleton of property j that all these entries allow
 pub record IsAllowed (c : Circuit) (j : ℕ) (entries : List Entry) (s : Skeleton) : Type 0 where

@@ -18,10 +18,9 @@ IsFront front clauses = (rest : List (List Lit)) × (clauses ≡ front ++ rest)
 abbrev pub IsBuilt : Circuit → ℕ → Known → Type 0
 IsBuilt c j known = known.solver.added ≡ skeleton_clauses c j (numbered (viewed known.seen))
 
--- The solver has the first of them, as many as are counted, and all where it is whole.
+-- The solver has the first of them, and all where it is whole.
 pub record IsBegun (c : Circuit) (j : ℕ) (known : Known) : Type 0 where
   pub front : IsFront known.solver.added (skeleton_clauses c j (numbered (viewed known.seen)))
-  pub count : known.count ≡ length known.solver.added
   pub whole : known.whole ≡ true → IsBuilt c j known
 
 abbrev pub seen_as : Inside → Asking

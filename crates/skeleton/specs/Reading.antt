@@ -1,19 +1,11 @@
--- Scaffolding of inner functions. The situations that an assignment gives to blocks, and literals of states.
-use Rattle.std.specs.Prelude.{ℕ, zero, suc, ◌+◌, Bool, List, [], ◌∷◌, length, max, if◌then◌else◌}
+-- Scaffolding of inner functions. Uses of all entries, and literals of states.
+use Rattle.std.specs.Prelude.{ℕ, ◌+◌, Bool, List, [], ◌∷◌, length, max, if◌then◌else◌}
 use Rattle.aig_semantics.specs.Circuits.{Circuit, fair_literals}
 use Rattle.proof_semantics.specs.Clauses.{has_literal}
 use Rattle.proof_semantics.specs.declared.literals.Lit.{Lit}
 use Rattle.fair_semantics.specs.declared.entries.Side.TheVariants.{Any}
 use Rattle.fair_semantics.specs.declared.entries.Use.{Use}
-use Rattle.fair_semantics.specs.declared.skeletons.Situation.{Situation}
 use Rattle.fair_semantics.specs.Entries.{Entry}
-use Rattle.cnf_unroll.specs.Numbers.{block_size}
-use Rattle.cnf_unroll.specs.Situations.{situation_in}
-
--- what an assignment makes of n blocks
-abbrev pub situations_in : Circuit → ℕ → ℕ → (ℕ → Bool) → List Situation
-situations_in c base zero v = []
-situations_in c base (suc n) v = situation_in c base v ∷ situations_in c (base + block_size c) n v
 
 -- how many situations a skeleton of property j has
 abbrev pub situation_count : Circuit → ℕ → ℕ

@@ -1,10 +1,8 @@
 //! Questions to the solver, and what their answers mean. The main calls are `find` and `find_first`.
-ghost use Rattle.std.specs.Prelude.{◌≡◌, ◌<◌, ◌^◌, [], false, length, IfOk, IfErr};
+ghost use Rattle.std.specs.Prelude.{◌≡◌, ◌<◌, ◌^◌, [], length, IfOk, IfErr};
 ghost use Rattle.edge.specs.Ends.{CountsConflicts, IsEnd};
 ghost use Rattle.cdcl.specs.Asking.{IsAsked};
 ghost use Rattle.cdcl.specs.Refuting.{IsRefuted};
-ghost use Rattle.proof_semantics.specs.Clauses.{has_opposites};
-ghost use Rattle.proof_semantics.specs.Lines.{AreSized};
 ghost use Rattle.fair_semantics.specs.Entries.{numbered};
 ghost use Rattle.cnf_unroll.specs.Numbers.{state_place};
 ghost use Rattle.cnf_unroll.specs.Obligations.{skeleton_clauses};
@@ -26,39 +24,6 @@ use fair_semantics::{Side, Use};
 use items::Items;
 use std::alloc::{AllocError, Global};
 use std::sync::Arc;
-
-// The solver's question, which counts conflicts alone.
-fn ask(
-    alloc: Global,
-    solver: &mut Solver,
-    assumptions: &[Lit],
-    meter: &mut Meter,
-) -> Result<Asked, SolveEnd>
-    requires apart { has_opposites assumptions.now ≡ false }
-    requires sizes { AreSized assumptions.now }
-    ensures answer { IfOk result (IsAsked solver.old.added assumptions.now) }
-    ensures added { solver.new.added ≡ solver.old.added }
-    ensures end { IfErr result (IsEnd meter.new) }
-    ensures counted { CountsConflicts meter.old meter.new }
-{
-    let _before = meter.spending().conflicts();
-    solver.ask(alloc, assumptions, meter)
-}
-
-/// The same with a proof, of the added clauses alone.
-pub(crate) fn refute(
-    alloc: Global,
-    solver: &mut Solver,
-    meter: &mut Meter,
-) -> Result<Refuted, SolveEnd>
-    ensures answer { IfOk result (IsRefuted solver.old.added []) }
-    ensures added { solver.new.added ≡ solver.old.added }
-    ensures end { IfErr result (IsEnd meter.new) }
-    ensures counted { CountsConflicts meter.old meter.new }
-{
-    let _before = meter.spending().conflicts();
-    solver.refute(alloc, &[], meter)
-}
 
 // Every entry of the view, without a side.
 fn uses_of(alloc: Global, view: &[Arc<Checked>]) -> Result<Items<Use>, AllocError>
@@ -88,7 +53,7 @@ fn found_of(
     requires answer { IsRefuted (skeleton_clauses c.now j (numbered (viewed view.now))) [] answer }
     ensures { IfOk result (IsFound c.now j (viewed view.now)) }
 {
-    let _greatest = c.max();
+    let _checked = c.max();
     one_valuation(c);
     match answer {
         Refuted::Sat(values) => Ok(Found::Skeleton(skeleton_in(alloc, c, j, &values)?)),
@@ -105,6 +70,7 @@ fn with_fewer_uses(
     c: &Circuit,
     j: u32,
     view: &[Arc<Checked>],
+    ends: &[u64],
     found: Found,
     meter: &mut Meter,
 ) -> Found
@@ -115,18 +81,20 @@ fn with_fewer_uses(
     ensures counted { CountsConflicts meter.old meter.new }
 {
     match found {
-        Found::Refuted(given) => Found::Refuted(lessened(alloc, c, j, view, given, meter)),
+        Found::Refuted(given) => Found::Refuted(lessened(alloc, c, j, view, ends, given, meter)),
         Found::Skeleton(s) => Found::Skeleton(s),
     }
 }
 
-/// A skeleton that the entries of the view allow, whose clauses the solver has, or a refutation.
+/// A skeleton that the entries of the view allow, whose clauses the solver has, or a refutation. Where these end is told
+/// beside.
 pub(crate) fn find(
     alloc: Global,
     c: &Circuit,
     j: u32,
     solver: &mut Solver,
     view: &[Arc<Checked>],
+    ends: &[u64],
     meter: &mut Meter,
 ) -> Result<Found, SolveEnd>
     requires property { j < length c.now.justice }
@@ -138,9 +106,9 @@ pub(crate) fn find(
     ensures end { IfErr result (IsEnd meter.new) }
     ensures counted { CountsConflicts meter.old meter.new }
 {
-    let answer = refute(alloc, solver, meter)?;
+    let answer = solver.refute(alloc, &[], meter)?;
     let found = found_of(alloc, c, j, view, answer)?;
-    Ok(with_fewer_uses(alloc, c, j, view, found, meter))
+    Ok(with_fewer_uses(alloc, c, j, view, ends, found, meter))
 }
 
 fn first_of(
@@ -159,7 +127,7 @@ fn first_of(
     requires answer { IsAsked (skeleton_clauses c.now j (numbered (viewed view.now))) assumptions.now answer }
     ensures { IfOk result (IsFirst c.now j (viewed view.now) state.now) }
 {
-    let _greatest = c.max();
+    let _checked = c.max();
     one_valuation(c);
     match answer {
         Asked::Sat(values) => Ok(First::Skeleton(skeleton_in(alloc, c, j, &values)?)),
@@ -187,6 +155,6 @@ pub(crate) fn find_first(
     ensures counted { CountsConflicts meter.old meter.new }
 {
     let assumptions = state_literals(alloc, c, state)?;
-    let answer = ask(alloc, solver, assumptions.as_slice(), meter)?;
+    let answer = solver.ask(alloc, assumptions.as_slice(), meter)?;
     Ok(first_of(alloc, c, j, view, state, assumptions.as_slice(), answer)?)
 }

@@ -5,7 +5,7 @@ use entry::Refutation;
 use fair_semantics::Skeleton;
 
 /// What there is of a property under the entries of a view.
-#[derive(Debug, Drop)]
+#[derive(Drop)]
 pub enum Found {
     /// A skeleton that all of them allow.
     Skeleton(Skeleton),
@@ -14,7 +14,7 @@ pub enum Found {
 }
 
 /// What there is of a property under the entries of a view from a state on.
-#[derive(Debug, Drop)]
+#[derive(Drop)]
 pub enum First {
     /// A skeleton that all of them allow, and whose first state is that one.
     Skeleton(Skeleton),

@@ -1,56 +1,21 @@
 //! A refutation with fewer uses. The main call is `lessened`.
-ghost use Rattle.std.specs.Prelude.{◌≡◌, ◌<◌, ◌^◌, length, All, IfOk, IfSome};
+ghost use Rattle.std.specs.Prelude.{◌<◌, ◌^◌, length, All, IfOk, IfSome};
 ghost use Rattle.edge.specs.Ends.{CountsConflicts};
 ghost use Rattle.entry.specs.CheckedEntries.{viewed};
-ghost use Rattle.entry.specs.Listing.{entry_of, entries_of};
+ghost use Rattle.entry.specs.Listing.{entries_of};
 ghost use Rattle.entry.specs.Proved.{IsGoodRefutation};
 
-use crate::asking::refute;
-use crate::known::solver_with;
 use crate::needed::needed_uses;
-use crate::reading::situation_count;
-use cdcl::Refuted;
+use cdcl::{Refuted, Solver};
 use circuit::Circuit;
 use cnf::{Clause, Proof};
-use cnf_unroll::{ClauseSet, skeleton_cnf};
+use cnf_unroll::unrolled_skeleton;
 use edge::{Meter, SolveEnd};
-use entry::{Checked, Listed, Refutation, refutation_fault, used};
+use entry::{Checked, Listed, Refutation, list_of, refutation_fault, used};
 use fair_semantics::Use;
 use items::Items;
 use std::alloc::{AllocError, Global};
 use std::sync::Arc;
-
-fn copy_set(alloc: Global, set: &ClauseSet) -> Result<ClauseSet, AllocError>
-    ensures { IfOk result (λ copy. copy ≡ set.now) }
-{
-    let mut copy = Items::new(alloc);
-    for clause in set.as_slice() {
-        copy.push(Clause::from_slice(alloc, clause.as_slice())?)?;
-    }
-    Ok(copy)
-}
-
-fn copy_listed(alloc: Global, listed: &Listed) -> Result<Listed, AllocError>
-    ensures { IfOk result (λ copy. entry_of copy ≡ entry_of listed.now) }
-{
-    Ok(Listed {
-        kind: listed.kind,
-        set: copy_set(alloc, &listed.set)?,
-        uses: listed.uses.try_copy(alloc)?,
-    })
-}
-
-// The entries of the view without their proofs, as refutations are judged over them.
-fn list_of(alloc: Global, view: &[Arc<Checked>]) -> Result<Vec<Listed>, AllocError>
-    ensures entries { IfOk result (λ list. entries_of list.items ≡ viewed view.now) }
-    ensures count { IfOk result (λ list. length list.items ≡ length view.now) }
-{
-    let mut list = Vec::new(alloc);
-    for shared in view {
-        list.push(copy_listed(alloc, shared.listed())?)?;
-    }
-    Ok(list)
-}
 
 // The skeleton clauses over these uses.
 fn clauses_over(
@@ -64,16 +29,16 @@ fn clauses_over(
     requires present { All (λ u. u.entry < length list.now) uses.now }
 {
     let lent = used(alloc, list, uses)?;
-    let clauses = skeleton_cnf(alloc, c, j, lent.as_slice())?;
-    Ok(clauses.into_vec())
+    let unrolled = unrolled_skeleton(alloc, c, j, lent.as_slice())?;
+    Ok(unrolled.clauses.into_vec())
 }
 
 // What a solver of these clauses answers.
 fn refuted(alloc: Global, clauses: Vec<Clause>, meter: &mut Meter) -> Result<Refuted, SolveEnd>
     ensures counted { CountsConflicts meter.old meter.new }
 {
-    let mut solver = solver_with(alloc, clauses)?;
-    let answer = refute(alloc, &mut solver, meter);
+    let mut solver = Solver::with_clauses(alloc, clauses)?;
+    let answer = solver.refute(alloc, &[], meter);
     drop(solver);
     answer
 }
@@ -142,6 +107,7 @@ fn fewer(
     c: &Circuit,
     j: u32,
     view: &[Arc<Checked>],
+    ends: &[u64],
     proof: &Proof,
     meter: &mut Meter,
 ) -> Result<Option<Refutation>, SolveEnd>
@@ -151,8 +117,7 @@ fn fewer(
         IsGoodRefutation c.now (viewed view.now) j r.uses r.proof)) }
     ensures counted { CountsConflicts meter.old meter.new }
 {
-    let places = 2 * situation_count(c, j);
-    let uses = needed_uses(alloc, view, places, proof.as_slice())?;
+    let uses = needed_uses(alloc, view, ends, proof.as_slice())?;
     if uses.len() >= view.len() {
         return Ok(None);
     }
@@ -160,13 +125,14 @@ fn fewer(
     good_over(alloc, c, j, list.as_slice(), uses, meter)
 }
 
-/// A good refutation of property `j` over the entries that the given one needs. Where the meter or memory does not
-/// suffice for it, or a test refuses it, the given one stands.
+/// A good refutation of property `j` over the entries that the given one needs, by where their clauses end. Where the
+/// meter or memory does not suffice for it, or a test refuses it, the given one stands.
 pub(crate) fn lessened(
     alloc: Global,
     c: &Circuit,
     j: u32,
     view: &[Arc<Checked>],
+    ends: &[u64],
     given: Refutation,
     meter: &mut Meter,
 ) -> Refutation
@@ -176,7 +142,7 @@ pub(crate) fn lessened(
     ensures good { IsGoodRefutation c.now (viewed view.now) j result.uses result.proof }
     ensures counted { CountsConflicts meter.old meter.new }
 {
-    match fewer(alloc, c, j, view, &given.proof, meter) {
+    match fewer(alloc, c, j, view, ends, &given.proof, meter) {
         Ok(Some(refutation)) => refutation,
         _ => given,
     }

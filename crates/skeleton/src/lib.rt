@@ -4,9 +4,9 @@
 //! | Call | Gives |
 //! |---|---|
 //! | `Query::new` | a query for skeletons of a property, which has seen no entry |
-//! | `Query::next` | a skeleton that all entries of a view allow, or a refutation that uses them |
+//! | `Query::next` | a skeleton that all entries of a view allow, or a refutation that uses some of them |
 //! | `Query::with_first` | such a skeleton that begins in a given state, or a cube of states in which none begins |
-//! | `never_stays` | nothing: the law that a state in which none begins stays one as the view grows |
+//! | `never_stays` | nothing: the law that a cube of states in which none begins stays one as the view grows |
 //!
 //! A state has a value for each latch, in the order of the file. Cubes are over latch numbers: variable v is the latch
 //! with the number v, counted from 0. The definitions stand in `specs/`.

@@ -1,10 +1,10 @@
 //! The query. The main type is `Query`.
-ghost use Rattle.std.specs.Prelude.{◌≡◌, ◌<◌, ◌^◌, [], length, IfOk, IfErr};
+ghost use Rattle.std.specs.Prelude.{◌≡◌, ◌<◌, ◌^◌, [], length, IfOk, IfErr, OnOk};
 ghost use Rattle.std.specs.Arc.{arc_value};
 ghost use Rattle.edge.specs.Ends.{CountsConflicts, IsEnd};
-ghost use Rattle.entry.specs.CheckedEntries.{viewed};
+ghost use Rattle.entry.specs.CheckedEntries.{viewed, GoesOnFrom};
 ghost use Rattle.entry.specs.Laws.{IsGoodList};
-ghost use Rattle.skeleton.specs.Finding.{GoesOnFrom, IsFound, IsFirst};
+ghost use Rattle.skeleton.specs.Finding.{IsFound, IsFirst};
 ghost use Rattle.skeleton.specs.Keeping.{IsBegun};
 
 use crate::asking::{find, find_first};
@@ -19,7 +19,7 @@ use std::sync::Arc;
 
 /// A query for the skeletons of one property of a circuit. Contracts see the circuit, the number of the property, and
 /// the entries that the query has seen: the next view goes on from these.
-#[derive(Debug, Drop)]
+#[derive(Drop)]
 pub struct Query {
     circuit: Arc<Circuit>,
     property: u32,
@@ -55,10 +55,20 @@ fn next_found(
     ensures end { IfErr result (IsEnd meter.new) }
     ensures counted { CountsConflicts meter.old meter.new }
     ensures begun { IsBegun c.now j known.new }
+    ensures view { OnOk result (viewed known.new.seen ≡ viewed view.now) }
+    ensures grows { GoesOnFrom (viewed known.old.seen) (viewed known.new.seen) }
     ensures seen { GoesOnFrom (viewed known.new.seen) (viewed view.now) }
 {
     catch_up(alloc, c, j, known, view)?;
-    find(alloc, c, j, &mut known.solver, view, meter)
+    find(
+        alloc,
+        c,
+        j,
+        &mut known.solver,
+        view,
+        known.ends.as_slice(),
+        meter,
+    )
 }
 
 // The same from a state on.
@@ -81,6 +91,8 @@ fn next_first(
     ensures end { IfErr result (IsEnd meter.new) }
     ensures counted { CountsConflicts meter.old meter.new }
     ensures begun { IsBegun c.now j known.new }
+    ensures view { OnOk result (viewed known.new.seen ≡ viewed view.now) }
+    ensures grows { GoesOnFrom (viewed known.old.seen) (viewed known.new.seen) }
     ensures seen { GoesOnFrom (viewed known.new.seen) (viewed view.now) }
 {
     catch_up(alloc, c, j, known, view)?;
@@ -89,8 +101,8 @@ fn next_first(
 
 impl Query {
     /// A query for skeletons of the property with the number `j`, counted from 0. `worker` is the number of whoever
-    /// asks: the three from 0 on look first for skeletons whose variables are false, the next three for such whose
-    /// variables are true, and so on in turn. The error is want of memory.
+    /// asks; it changes which skeleton is looked for first, of which no clause says anything. The error is want of
+    /// memory.
     pub fn new(alloc: Global, c: &Arc<Circuit>, j: u32, worker: u32) -> Result<Query, AllocError>
         requires { j < length (arc_value c.now).justice }
         ensures { IfOk result (λ query. query ≡ record { circuit = arc_value c.now; property = j; seen = [] }) }
@@ -105,9 +117,8 @@ impl Query {
     }
 
     /// A skeleton that all entries of the view allow, or, exactly where there is none, a refutation that is good over
-    /// the view. A refutation is made again over the entries that its proof needs, and the first one stands where the
-    /// meter or memory does not suffice for that. `Spent` comes where the meter's count of conflicts is at its limit.
-    /// After an error the query can be asked again.
+    /// the view; that it uses no entry which it does not need is tried, and no clause says it. `Spent` comes where the
+    /// meter's count of conflicts is at its limit. After an error the query can be asked again.
     pub fn next(
         &mut self,
         alloc: Global,
@@ -122,6 +133,8 @@ impl Query {
         ensures counted { CountsConflicts meter.old meter.new }
         ensures circuit { self.new.circuit ≡ self.old.circuit }
         ensures property { self.new.property ≡ self.old.property }
+        ensures view { OnOk result (self.new.seen ≡ viewed view.now) }
+        ensures grows { GoesOnFrom self.old.seen self.new.seen }
         ensures seen { GoesOnFrom self.new.seen (viewed view.now) }
     {
         next_found(
@@ -153,6 +166,8 @@ impl Query {
         ensures counted { CountsConflicts meter.old meter.new }
         ensures circuit { self.new.circuit ≡ self.old.circuit }
         ensures property { self.new.property ≡ self.old.property }
+        ensures view { OnOk result (self.new.seen ≡ viewed view.now) }
+        ensures grows { GoesOnFrom self.old.seen self.new.seen }
         ensures seen { GoesOnFrom self.new.seen (viewed view.now) }
     {
         next_first(

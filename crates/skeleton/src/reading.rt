@@ -2,8 +2,8 @@
 ghost use Rattle.std.specs.Prelude.{◌≡◌, ◌+◌, ◌<◌, ◌^◌, map, length, All, IfOk};
 ghost use Rattle.cdcl.specs.Asking.{assigned};
 ghost use Rattle.cnf_unroll.specs.Numbers.{number};
-ghost use Rattle.cnf_unroll.specs.Situations.{situation_in};
-ghost use Rattle.skeleton.specs.Reading.{situations_in, situation_count};
+ghost use Rattle.cnf_unroll.specs.Situations.{situation_in, situations_in};
+ghost use Rattle.skeleton.specs.Reading.{situation_count};
 
 use cdcl::Assignment;
 use circuit::{Circuit, Latch, Position};
@@ -91,7 +91,7 @@ pub(crate) fn situation_count(c: &Circuit, j: u32) -> u64
     ensures count { result ≡ situation_count c.now j }
     ensures small { result < 2 ^ 32 }
 {
-    let _greatest = c.max();
+    let _limits = c.max();
     let count = c.property(j as usize).len() + c.fairness().len();
     count.max(1) as u64
 }

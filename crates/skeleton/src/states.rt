@@ -1,12 +1,12 @@
 //! States as assumptions, and cores of them as cubes over latch numbers.
 ghost use Rattle.std.specs.Prelude.{◌≡◌, ◌<◌, ◌^◌, false, map, length, All, IfOk};
-ghost use Rattle.proof_semantics.specs.Clauses.{has_literal, has_opposites};
+ghost use Rattle.proof_semantics.specs.Clauses.{has_opposites};
 ghost use Rattle.proof_semantics.specs.Lines.{AreSized};
 ghost use Rattle.cnf_unroll.specs.Numbers.{number, state_place};
 ghost use Rattle.skeleton.specs.Reading.{state_literals, core_cube};
 
 use circuit::{Circuit, Latch};
-use cnf::{Cube, Lit};
+use cnf::{Cube, Lit, has_literal};
 use items::Items;
 use std::alloc::{AllocError, Global};
 
@@ -42,14 +42,8 @@ pub(crate) fn state_literals(
     ensures apart { IfOk result (λ literals. has_opposites literals ≡ false) }
     ensures sizes { IfOk result AreSized }
 {
-    let _greatest = c.max();
+    let _limits = c.max();
     latch_literals(alloc, c.latches(), state)
-}
-
-fn has_literal(literals: &[Lit], literal: Lit) -> bool
-    ensures { result ≡ has_literal literals.now literal }
-{
-    literals.iter().any(|other| literal.is(*other))
 }
 
 /// The assumptions that the core holds, each over its place among them.

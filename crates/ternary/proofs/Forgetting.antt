@@ -234,10 +234,6 @@ module _ (c : Circuit) (latches inputs : List Bool) (keep : List ℕ) where
       needed b (inl e) low high = low e
       needed b (inr e) low high = λ all. high (subst (λ m. AreOne (sim (hide m (i + n) (forgotten word n i state))) keep) (sym e) all)
 
-pub apart_by : (b : Bool) → b ≡ false → b ≡ true → ⊥
-apart_by true e f = cc
-apart_by false e f = cc
-
 -- ---- what lanes tell
 
 pub pass-tells : (c : Circuit) (ahead after inputs known_inputs : List Value3) (keep : List ℕ) (bit : ℕ) → ahead ≡ after → inputs ≡ known_inputs → (bit ≡ 1) ↔ AreOne (simulation c ahead inputs) keep → (bit ≡ 1) ↔ AreOne (simulation c after known_inputs) keep

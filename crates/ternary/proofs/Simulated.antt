@@ -1,5 +1,5 @@
 -- What the gates put in order make of a list of inputs and latches: the simulation.
-use Rattle.std.proofs.Common.{◌≡◌, ◌≢◌, ℕ, zero, suc, ◌+◌, ◌<◌, ◌≤◌, ◌==◌, ◌⊎◌, List, [], ◌∷◌, ◌++◌, map, length, get_or, drop, fold, Option, Some, None, unwrap_or, refl, sym, ap, ◌∙◌, subst, inl, inr, arith}
+use Rattle.std.proofs.Common.{◌≡◌, ℕ, zero, suc, ◌+◌, ◌<◌, ◌≤◌, ◌==◌, List, [], ◌∷◌, ◌++◌, map, length, get_or, drop, fold, Option, Some, None, unwrap_or, refl, sym, ap, ◌∙◌, subst, inl, inr, arith}
 use Rattle.std.specs.List.{All, Contains, find}
 use Rattle.std.proofs.lemmas.Bool.{cases_eq, cases_lt, eqb-true}
 use Rattle.std.proofs.lemmas.List.{length-map, get_or-map, length-set, ext_get_or, get_or-set_same, get_or-set_other, get_or_append_left, get_or_push, length_push}
@@ -8,9 +8,9 @@ use Rattle.aig_semantics.specs.declared.parts.Gate.{Gate}
 use Rattle.aig_semantics.specs.Literals.{variable_of}
 use Rattle.aig_semantics.specs.Circuits.{Circuit, IsChecked}
 use Rattle.aig_semantics.proofs.Lists.{All-left, AllDiffer-right, AllDiffer-across, find-some, find-at}
-use Rattle.aig_semantics.proofs.Values.{IsRanking, given_variables, gate_variables, gate_of}
+use Rattle.aig_semantics.proofs.Values.{IsRanking, given_variables, gate_variables, gate_of, cases_option, gate_of-absent}
 use Rattle.circuit.specs.Orders.{HasRightSide, variables_of, IsEvaluationOrder}
-use Rattle.circuit.proofs.Evaluated.{gates_in_range}
+use Rattle.circuit.proofs.Evaluated.{gates_in_range, not_there, in-order_variable}
 use Rattle.circuit.proofs.Ranking.{rank_in, order-ranking}
 use Rattle.ternary.specs.declared.values.Value3.{Value3}
 use Rattle.ternary.specs.declared.values.Value3.TheVariants.{Zero}
@@ -40,10 +40,6 @@ get_or-values3_below (suc n) value v d below =
           get_or_push (values3_below n value) (value n) d v (omega (arith, length-values3_below n value)) ∙ ap value (sym e)
     ]
 
-pub length-simulation : (c : Circuit) (latches inputs : List Value3) → length (simulation c latches inputs) ≡ c.max + 1
-unfolding simulation
-length-simulation c latches inputs = length-values3_below (c.max + 1) (value3_through (length c.gates) c.gates (given3 c latches inputs))
-
 pub inputs_in_range : (c : Circuit) → IsChecked c → All (λ v. (1 ≤ v) × (v ≤ c.max)) c.inputs
 inputs_in_range c checked =
     let Range : ℕ → Type 0 = λ u. (1 ≤ u) × (u ≤ c.max) in
@@ -69,41 +65,12 @@ through-nowhere (suc depth) gates given v e f = rw (value3_through, e, f)
 pub conjunction3-same : (f g : ℕ → Value3) (gate : Gate) → f (variable_of gate.rhs0) ≡ g (variable_of gate.rhs0) → f (variable_of gate.rhs1) ≡ g (variable_of gate.rhs1) → conjunction3 f gate ≡ conjunction3 g gate
 conjunction3-same f g gate a b = rw (a, b)
 
-pub cases_option : {X : Type 0} (o : Option X) → ((x : X) × (o ≡ Some x)) ⊎ (o ≡ None)
-cases_option None = inr refl
-cases_option (Some x) = inl (x, refl)
-
-gate_of-absent : (c : Circuit) (v : ℕ) → (Contains (gate_variables c) v → ⊥) → gate_of c v ≡ None
-gate_of-absent c v none =
-    elim (cases_option (gate_of c v)) [
-      | inl (gate, f) ↦
-          let There : Gate → Type 0 = λ g. Contains (gate_variables c) g.var in
-          let found =
-          find-some There (λ g. g.var == v) c.gates gate
-          (λ k d below. (k, (omega (arith, length-map c.gates (λ g. g.var))), get_or-map (λ g. g.var) c.gates k d (get_or c.gates k d).var below))
-          f
-          in
-          absurd (none (rw (eqb-true gate.var v found.1) at found.0))
-      | inr f ↦ f
-    ]
-
 -- ---- gate by gate
 
 pub length-with_gates3 : (gates : List Gate) (out : List Value3) → length (fold with_gate3 out gates) ≡ length out
 unfolding with_gate3
 length-with_gates3 [] out = refl
 length-with_gates3 (g ∷ gs) out = length-with_gates3 gs (with_gate3 out g) ∙ length-set out g.var (conjunction3 (variable3_in out) g)
-
-not_there : (g : Gate) (gs : List Gate) (u : ℕ) → u ≢ g.var → (Contains (variables_of gs) u → ⊥) → Contains (variables_of (g ∷ gs)) u → ⊥
-not_there g gs u ne none (zero, below, at) = ne (sym at)
-not_there g gs u ne none (suc k, below, at) = none (k, omega arith, at)
-
-in-order_variable : (gates order : List Gate) → IsEvaluationOrder gates order → (v : ℕ) → Contains (variables_of gates) v → Contains (variables_of order) v
-in-order_variable gates order o v (k, below, at) =
-    let inside : k < length gates = omega (arith, length-map gates (λ gate. gate.var)) in
-    let d : Gate = record { var = 0; rhs0 = 0; rhs1 = 0 } in
-    let is : (get_or gates k d).var ≡ v = sym (get_or-map (λ gate. gate.var) gates k d v inside) ∙ at in
-    subst (λ u. Contains (variables_of order) u) is (o.complete k d inside)
 
 -- Values that meet each gate's equation: where the list has them but for the gates that are left, the gates put the rest.
 pub with_gates3-is : (value : ℕ → Value3) (gates : List Gate) (out : List Value3) → All (λ gate. value gate.var ≡ conjunction3 value gate) gates → ((k : ℕ) (d : Gate) → k < length gates → (w : ℕ) → HasRightSide (get_or gates k d) w → Contains (variables_of (drop k gates)) w → ⊥) → All (λ gate. gate.var < length out) gates → ((v : ℕ) → (Contains (variables_of gates) v → ⊥) → get_or out v Zero ≡ value v) → (v : ℕ) → get_or (fold with_gate3 out gates) v Zero ≡ value v

@@ -1,8 +1,8 @@
 -- The steps of writing a simulation.
 use Rattle.std.proofs.Common.{◌≡◌, ℕ, suc, ◌+◌, ◌<◌, ◌≤◌, List, [], ◌∷◌, ◌++◌, map, length, get_or, drop, set, unwrap_or, replicate, refl, sym, ap, ◌∙◌, inl, inr, arith}
 use Rattle.std.specs.List.{All}
-use Rattle.std.proofs.lemmas.Bool.{cases_eq, cases_lt, eq-eqb, ne_eqb}
-use Rattle.std.proofs.lemmas.List.{drop_more, drop_all, length-map, get_or-map, length-set, length-replicate, get_or-replicate, get_or_past, get_or-set_same, get_or-set_other}
+use Rattle.std.proofs.lemmas.Bool.{cases_eq, eq-eqb, ne_eqb}
+use Rattle.std.proofs.lemmas.List.{drop_more, drop_all, length-map, get_or-map, length-set, length-replicate, get_or-set_same, get_or-set_other}
 use Rattle.std.proofs.lemmas.List.Elements.{All-head, All-tail}
 use Rattle.aig_semantics.specs.Circuits.{Circuit, defined}
 use Rattle.ternary.specs.declared.values.Value3.{Value3}
@@ -11,6 +11,7 @@ use Rattle.ternary.specs.Simulation.{beside3, given3}
 use Rattle.ternary.proofs.Besides.{beside3-none}
 use Rattle.aig_semantics.proofs.Lists.{AllDiffer, AllDiffer-tail, AllDiffer-left, All-left}
 use Rattle.aig_semantics.proofs.Values.{given_variables, gate_variables}
+use Rattle.circuit.proofs.Writing.{get_or-replicate_same}
 use Rattle.ternary.specs.Writing.{with_values3}
 
 -- one variable more
@@ -81,13 +82,6 @@ get_or-with_values3 (u ∷ us) (b ∷ given) out v differ inside =
     ]
 
 -- ---- inputs and latches
-
-pub get_or-replicate_same : {X : Type 0} (n v : ℕ) (x : X) → get_or (replicate n x) v x ≡ x
-get_or-replicate_same n v x =
-    elim (cases_lt v n) [
-      | inl lt ↦ get_or-replicate n v x x lt
-      | inr ge ↦ get_or_past (replicate n x) v x (omega (arith, length-replicate n x))
-    ]
 
 -- inputs and latches on a list of Zero values
 abbrev pub given3_list : Circuit → List Value3 → List Value3 → List Value3

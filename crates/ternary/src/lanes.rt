@@ -11,8 +11,8 @@ use std::simd::prelude::*;
 /// How many lanes there are.
 pub const LANES: usize = 64;
 
-/// Ternary values in 64 lanes. Bit k of the first word is that the value of lane k can only be 1, and bit k of the
-/// second word that it can be 1; where the second bit is 0 the first tells nothing.
+/// Ternary values in 64 lanes. Bit k of the first word says that the value of lane k can only be 1, and bit k of
+/// the second word that it can be 1; where the second bit is 0 the first tells nothing.
 #[derive(Clone, Copy)]
 pub struct Lanes {
     planes: u64x2,

@@ -7,7 +7,7 @@ ghost use Rattle.ternary.specs.Values.{IsCompletion};
 ghost use Rattle.ternary.specs.Simulation.{simulation};
 ghost use Rattle.ternary.specs.Cubes.{state_of, LeavesOpen, NeedsEachLiteral};
 
-/// A counter of two bits where one of them is not known, or none: variable 3 is 'the low bit alone', 4 'the high bit
+/// A counter of two bits where one of them is not known, both or none: variable 3 is 'the low bit alone', 4 'the high bit
 /// alone', 5 'both alike' and 6 'both'.
 pub fn counter_of_unknown_bits()
     ensures low { simulation counter (X ∷ Zero ∷ []) [] ≡ Zero ∷ X ∷ Zero ∷ X ∷ Zero ∷ X ∷ Zero ∷ [] }

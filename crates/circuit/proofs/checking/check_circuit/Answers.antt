@@ -1,5 +1,3 @@
-use Rattle.std.proofs.Common.{subst}
-use Rattle.circuit.specs.declared.parts.Parts.{Parts}
 use Rattle.circuit.specs.declared.faults.ModelEnd.TheVariants.{Fault}
 use Rattle.circuit.specs.declared.faults.ModelFault.TheVariants.{Cycle, Twice, Undefined}
 use Rattle.circuit.specs.Sections.{circuit_of, used_by}

@@ -1,7 +1,6 @@
 use Rattle.std.proofs.Common.{◌<◌, length, subst, sym, ap, ◌∙◌, arith}
 use Rattle.std.specs.List.{All}
 use Rattle.aig_semantics.specs.Circuits.{IsChecked}
-use Rattle.circuit.specs.Orders.{IsEvaluationOrder}
 use Rattle.circuit.proofs.Evaluated.{latches_in_range, order-in_range, evaluated-is_valuation}
 use Rattle.circuit.proofs.evaluating.eval_into.Goals as goal
 

@@ -1,5 +1,4 @@
-use Rattle.std.proofs.Common.{sym, ◌∙◌, subst}
-use Rattle.circuit.specs.Ordering.{ascend_from}
+use Rattle.std.proofs.Common.{sym, ◌∙◌}
 use Rattle.circuit.proofs.Ascending.{ascending-order}
 use Rattle.circuit.proofs.ordering.order_gates.Goals as goal
 

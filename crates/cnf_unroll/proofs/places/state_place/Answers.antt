@@ -7,6 +7,6 @@ pub invariant_of-result : goal.invariant_of-result
 invariant_of-result c =
     let bound =
     subst (λ latches. All (λ latch. latch.var < 2 ^ 32) latches) (sym c.latches.ensures)
-    (latches_bound c.args.c.now c.max-greatest.ensures.checked c.max-greatest.ensures.limits)
+    (latches_bound c.args.c.now c.max-limits.ensures.checked c.max-limits.ensures.limits)
     in
     (omega (arith, c.requires), bound)

@@ -2,7 +2,7 @@ use Rattle.std.proofs.Common.{◌≡◌, ◌+◌, ◌-◌, ◌*◌, ◌++◌, []
 use Rattle.cdcl.specs.Asking.{assigned}
 use Rattle.cnf_unroll.specs.Situations.{situation_in}
 use Rattle.cnf_unroll.proofs.BlockSteps.{moved}
-use Rattle.skeleton.specs.Reading.{situations_in}
+use Rattle.cnf_unroll.specs.Situations.{situations_in}
 use Rattle.skeleton.proofs.Made.{situations_more}
 use Rattle.skeleton.proofs.reading.situations_in.Goals as goal
 

@@ -1,6 +1,6 @@
 use Rattle.std.proofs.Common.{◌≡◌, ◌++◌, ◌-◌, ◌*◌, ◌^◌, ◌≤◌}
 use Rattle.cdcl.specs.Asking.{assigned}
-use Rattle.skeleton.specs.Reading.{situations_in}
+use Rattle.cnf_unroll.specs.Situations.{situations_in}
 use Rattle.skeleton.proofs.reading.situations_in.Given as goal
 
 abbrev pub invariant-loop-block : goal.invariant-loop-block

@@ -1,7 +1,5 @@
-use Rattle.std.proofs.Common.{ap, sym, ◌∙◌, ◌+◌, ◌++◌, ◌∷◌, [], length, refl, arith}
+use Rattle.std.proofs.Common.{ap, ◌∙◌, ◌+◌, ◌++◌, ◌∷◌, [], length, refl, arith}
 use Rattle.proof_semantics.specs.Proofs.{ProofState, with_addition}
-use Rattle.lrat.specs.ArenaOf.{ids_at}
-use Rattle.lrat.specs.StoreOf.{last_of}
 use Rattle.lrat.specs.declared.arena.Place.{Place}
 use Rattle.lrat.specs.declared.store.Store.TheInside.{Inside}
 use Rattle.lrat.proofs.StoreLaws.{state_push, IsOrderly-push}

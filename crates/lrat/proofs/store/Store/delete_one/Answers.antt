@@ -1,4 +1,4 @@
-use Rattle.std.proofs.Common.{◌≡◌, length, ap, sym, subst, ◌∙◌, ◌∷◌, [], refl, arith}
+use Rattle.std.proofs.Common.{◌≡◌, length, ap, subst, ◌∙◌, ◌∷◌, [], refl, arith}
 use Rattle.std.specs.Vec.{with_item}
 use Rattle.proof_semantics.specs.Proofs.{ProofState, with_deletion}
 use Rattle.lrat.specs.declared.arena.Place.{Place}

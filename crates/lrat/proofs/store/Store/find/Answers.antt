@@ -1,4 +1,4 @@
-use Rattle.std.proofs.Common.{◌≡◌, ◌-◌, None, Some, true, false, ap, sym, subst, ◌∙◌, take, drop}
+use Rattle.std.proofs.Common.{Some, true, false, ap, sym, ◌∙◌}
 use Rattle.std.proofs.lemmas.Bool.{eq-eqb, ne_eqb}
 use Rattle.std.specs.Prelude.{option_copied}
 use Rattle.proof_semantics.specs.Proofs.{ProofState, clause_at}

@@ -1,7 +1,6 @@
-use Rattle.std.proofs.Common.{◌≡◌, ◌+◌, ◌<◌, ◌≤◌, List, take, length, ap, sym, subst, ◌∙◌, refl, arith, rules}
+use Rattle.std.proofs.Common.{◌≡◌, ◌+◌, ◌≤◌, take, ap, ◌∙◌, refl, arith, rules}
 use Rattle.std.specs.Prelude.{nat_lt}
 use Rattle.lrat.specs.ArenaOf.{AreDeletedBelow}
-use Rattle.lrat.specs.declared.arena.Place.{Place}
 use Rattle.lrat.specs.declared.store.Store.TheInside.{Inside}
 use Rattle.lrat.proofs.StoreLaws.{restart_given, restart_orderly, restart_state, restart_fresh, given_count}
 use Rattle.lrat.proofs.store.Store.restart.Goals as goal

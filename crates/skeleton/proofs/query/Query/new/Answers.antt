@@ -9,5 +9,5 @@ invariant_of-result c =
     let keeps = c.in_ok-known.ensures in
     record {
       property = subst (λ (a : Circuit). c.args.j < length a.justice) (sym c.in_ok-circuit.ensures) c.requires;
-      begun = nothing_begun (arc_value c.in_ok-circuit.circuit) c.args.j c.in_ok-known.known keeps.added keeps.count keeps.whole;
+      begun = nothing_begun (arc_value c.in_ok-circuit.circuit) c.args.j c.in_ok-known.known keeps.added keeps.whole;
     }
