@@ -21,6 +21,3 @@ pub use laws::binary_laws;
 pub use ordered::is_ordered;
 pub use reading::read;
 pub use writing::write;
-
-#[cfg(test)]
-mod tests;

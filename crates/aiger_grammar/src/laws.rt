@@ -1,5 +1,7 @@
 //! The laws of the grammar, as contracts of functions that do nothing.
-ghost use Rattle.aiger_grammar.specs.Deltas.{ReadsDeltas, HasOneDelta, HasOneSpelling};
+ghost use Rattle.std.specs.Prelude.{◌≡◌, [], ◌∷◌};
+ghost use Rattle.aig_semantics.specs.declared.limits.TheConstants.{MAX_NUMBER};
+ghost use Rattle.aiger_grammar.specs.Deltas.{delta_text, ReadsDeltas, HasOneDelta, HasOneSpelling};
 ghost use Rattle.aiger_grammar.specs.Names.{ReadsNames, ReadsFirstFault};
 ghost use Rattle.aiger_grammar.specs.Spelling.{WritesNames, WritesAscii};
 
@@ -22,4 +24,16 @@ pub fn delta_laws()
     ensures read { ReadsDeltas }
     ensures one_delta { HasOneDelta }
     ensures one_spelling { HasOneSpelling }
+{}
+
+/// Does nothing. Its contract is numbers with their groups, worked out by hand from the format; the last is the greatest
+/// that a text may have.
+pub fn worked_deltas()
+    ensures none { delta_text 0 ≡ 0 ∷ [] }
+    ensures two { delta_text 2 ≡ 2 ∷ [] }
+    ensures one_group { delta_text 127 ≡ 127 ∷ [] }
+    ensures two_groups { delta_text 128 ≡ 128 ∷ 1 ∷ [] }
+    ensures low_first { delta_text 130 ≡ 130 ∷ 1 ∷ [] }
+    ensures more { delta_text 300 ≡ 172 ∷ 2 ∷ [] }
+    ensures greatest { delta_text MAX_NUMBER ≡ 255 ∷ 255 ∷ 255 ∷ 255 ∷ 15 ∷ [] }
 {}

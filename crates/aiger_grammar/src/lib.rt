@@ -8,12 +8,13 @@
 //! | `Heading`, `Properties` | the numbers of a header; the sections of literals |
 //! | `Test` | what a number has to be where it stands |
 //! | `names_laws`, `spelling_laws`, `delta_laws` | the laws of the grammar, as contracts |
+//! | `worked_deltas` | numbers with their groups, worked out by hand |
 #![tactic(auto)]
 
 mod laws;
 mod names;
 mod sections;
 
-pub use laws::{delta_laws, names_laws, spelling_laws};
+pub use laws::{delta_laws, names_laws, spelling_laws, worked_deltas};
 pub use names::{BAD, CONSTRAINT, Counts, FAIRNESS, INPUT, JUSTICE, LATCH, Names, OUTPUT, Symbol};
 pub use sections::{Heading, Properties, Test};

@@ -18,7 +18,7 @@ pub const JUSTICE: u8 = b'j';
 pub const FAIRNESS: u8 = b'f';
 
 /// The name of an element of one of a model's lists.
-#[derive(Debug, Drop)]
+#[derive(Drop)]
 pub struct Symbol {
     /// Which list: one of the seven letters of this module.
     pub letter: u8,
@@ -29,14 +29,14 @@ pub struct Symbol {
 }
 
 /// The symbols in the order of the file, and the bytes of the comment behind its `c`, if there is one.
-#[derive(Debug, Drop)]
+#[derive(Drop)]
 pub struct Names {
     pub symbols: Items<Symbol>,
     pub comment: Option<Items<u8>>,
 }
 
 /// How many elements each of a model's lists has, by the letter of its symbols.
-#[derive(Clone, Copy, Debug)]
+#[derive(Clone, Copy)]
 pub struct Counts {
     /// Inputs.
     pub i: u64,

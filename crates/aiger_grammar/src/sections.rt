@@ -3,7 +3,7 @@
 use items::Items;
 
 /// The numbers of a header: the greatest variable, and how many elements each section has.
-#[derive(Clone, Copy, Debug, PartialEq, Eq)]
+#[derive(Clone, Copy)]
 pub struct Heading {
     pub max: u64,
     pub inputs: u64,
@@ -17,7 +17,7 @@ pub struct Heading {
 }
 
 /// The sections of literals, in the order of the file. `justice` has a list for each property.
-#[derive(Debug, Drop)]
+#[derive(Drop)]
 pub struct Properties {
     pub outputs: Items<u64>,
     pub bad: Items<u64>,
@@ -27,7 +27,7 @@ pub struct Properties {
 }
 
 /// What a number has to be where it stands.
-#[derive(Clone, Copy, Debug)]
+#[derive(Clone, Copy)]
 pub enum Test {
     /// The even literal of a variable from 1 to this one.
     Variable(u64),

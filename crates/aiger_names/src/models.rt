@@ -12,7 +12,7 @@ use items::Items;
 
 /// A model within the limits of this program: a checked circuit, at most 4,294,967,295 outputs and as many bad state
 /// literals, each of a variable that is defined, and names of elements that are there.
-#[derive(Debug, Drop)]
+#[derive(Drop)]
 pub struct Model {
     circuit: Circuit,
     outputs: Items<u64>,

@@ -1,5 +1,5 @@
 -- The faults of a model whose text was read whole.
-use Rattle.std.proofs.Common.{◌≡◌, ℕ, ◌⊎◌, ◌++◌, Result, Err, refl, ap, sym, subst, inl, inr}
+use Rattle.std.proofs.Common.{◌≡◌, ℕ, ◌⊎◌, ◌++◌, refl, ap, sym, subst, inl, inr}
 use Rattle.std.specs.List.{Contains}
 use Rattle.std.proofs.lemmas.List.{append_assoc}
 use Rattle.aig_semantics.specs.Literals.{variable_of}
@@ -9,11 +9,8 @@ use Rattle.aig_semantics.proofs.Lists.{All-right}
 use Rattle.circuit.specs.declared.parts.Parts.{Parts}
 use Rattle.circuit.specs.declared.faults.ModelFault.{ModelFault}
 use Rattle.circuit.specs.declared.faults.ModelFault.TheVariants.{Header, Number, Range, Undefined, Twice, Cycle, Truncated, Limit, Trailing, Symbol}
-use Rattle.circuit.specs.declared.faults.ModelEnd.{ModelEnd}
-use Rattle.circuit.specs.declared.faults.ModelEnd.TheVariants.{Fault, Memory}
 use Rattle.circuit.specs.Sections.{circuit_of, used_by}
-use Rattle.circuit.specs.Faults.{IsTwice, IsFirstTwice, IsUndefined, IsFirstUndefined, IsOnlyOnCycle, AnswersNoOther}
-use Rattle.unless_memory.specs.Answers.{GivesExactlyWhere, GivesOneExactlyWhere}
+use Rattle.circuit.specs.Faults.{IsTwice, IsUndefined}
 use Rattle.circuit.proofs.Verdicts.{first-is_one, once-not_twice, defined-not_undefined}
 use Rattle.aiger_grammar.specs.BothForms.{HasPartsFault, SameFault}
 
@@ -55,22 +52,6 @@ one_parts_fault parts first (Truncated at) s t = absurd t
 one_parts_fault parts first (Limit at) s t = absurd t
 one_parts_fault parts first (Trailing at) s t = absurd t
 one_parts_fault parts first (Symbol at) s t = absurd t
-
--- what the check of a circuit answers is the fault
-pub fault_of_check : {T : Type 0} (parts : Parts) (fault : ModelFault) (result : Result T ModelEnd) → result ≡ Err (Fault fault)
-    → ((v : ℕ) → GivesExactlyWhere (Err Memory) (Err (Fault (Twice v))) (IsFirstTwice parts v) result)
-    → ((v : ℕ) → GivesExactlyWhere (Err Memory) (Err (Fault (Undefined v))) (IsFirstUndefined parts v) result)
-    → GivesOneExactlyWhere (Err Memory) (λ v. Err (Fault (Cycle v))) (IsOnlyOnCycle parts) result → AnswersNoOther result → HasPartsFault parts fault
-fault_of_check parts (Twice v) result e twice undefined cycle other = (twice v).only e
-fault_of_check parts (Undefined v) result e twice undefined cycle other = (undefined v).only e
-fault_of_check parts (Cycle v) result e twice undefined cycle other = cycle.only v e
-fault_of_check parts (Header at) result e twice undefined cycle other = absurd (subst AnswersNoOther e other)
-fault_of_check parts (Number at) result e twice undefined cycle other = absurd (subst AnswersNoOther e other)
-fault_of_check parts (Range at) result e twice undefined cycle other = absurd (subst AnswersNoOther e other)
-fault_of_check parts (Truncated at) result e twice undefined cycle other = absurd (subst AnswersNoOther e other)
-fault_of_check parts (Limit at) result e twice undefined cycle other = absurd (subst AnswersNoOther e other)
-fault_of_check parts (Trailing at) result e twice undefined cycle other = absurd (subst AnswersNoOther e other)
-fault_of_check parts (Symbol at) result e twice undefined cycle other = absurd (subst AnswersNoOther e other)
 
 abbrev IsKnown : Circuit → ℕ → Type 0
 IsKnown c literal = (variable_of literal ≡ 0) ⊎ Contains (defined c) (variable_of literal)

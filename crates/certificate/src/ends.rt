@@ -30,49 +30,39 @@ pub enum Accepted {
 /// Why an answer is refused: its first failing item. Lines are counted from 1, skipped ones too; entries, clauses and
 /// the lines of a proof from 0, skipped lines of a proof not counted.
 #[derive(Clone, Copy, Debug, PartialEq, Eq, Error)]
+#[error("the answer is not good")]
 pub enum AnswerFault {
     /// The line with this number is not what is wanted there; where the text ends too early, it is the number behind
     /// the last line.
-    #[error("line {0} is not what is wanted there")]
     Shape(u64),
     /// The circuit has no property of this number.
-    #[error("the circuit has no property {0}")]
     NoProperty(u64),
     /// The stimulus has this fault, and is no fair lasso. It is never `Shape` or `NoProperty` of the stimulus.
-    #[error(transparent)]
     Replay(ReplayFault),
     /// The entry with this number has this fault.
-    #[error("entry {0}: {1}")]
     Entry(u64, EntryFault),
     /// The first use of the refutation that may not stand where it does is of the entry with this number.
-    #[error("the refutation may not use entry {0}")]
     RefuteUse(u64),
     /// The refutation's proof has this fault at this line. `Unfinished` carries the number of its lines.
-    #[error("the refutation is refused at line {0}: {1}")]
     Refutation(u64, LratFault),
     /// The certificate has more than 65,536 entries; or neither a line feed nor the text's end ends the next line
     /// within the first 9,223,372,036,854,775,807 bytes of the text.
-    #[error("the answer is too long")]
     TooLong,
     /// The line with this number stands behind the answer's last line, and is not skipped.
-    #[error("line {0} stands behind the answer")]
     Trailing(u64),
     /// The status is 2, of which no answers are read.
-    #[error("no answers of this status are read")]
     UnknownStatus,
 }
 
 /// Why an answer is not accepted.
 #[derive(Clone, Copy, Debug, PartialEq, Eq, Error)]
+#[error("the answer is not accepted")]
 pub enum AnswerEnd {
     /// It is not a good answer.
-    #[error(transparent)]
     Refused(AnswerFault),
     /// A read of it failed.
-    #[error("a read of the answer failed")]
     ReadFault,
     /// Memory was refused.
-    #[error("memory was refused")]
     Memory,
 }
 

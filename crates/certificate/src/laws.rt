@@ -41,8 +41,10 @@ pub fn first_faults_stay(c: &Circuit)
     ensures before { JudgedBefore c.now }
 {}
 
-/// What `stimulus::write` writes of a stimulus that stands for a fair lasso is a good answer, where the text is within
-/// the limit on its length.
+/// What `stimulus::write` writes for property `n` of a stimulus that stands for a lasso of it, of so many positions and
+/// with this place, is a good answer that shows that lasso. Asked for is that the stimulus stands for it by the
+/// definition (so it has a value for each latch, and for each input at each position), that `n` is below 2^63, and that
+/// the text has at most 9,223,372,036,854,775,807 bytes.
 pub fn written_stimuli_are_good(c: &Circuit)
     ensures { WrittenIsGood c.now }
 {}
@@ -52,5 +54,5 @@ pub fn written_stimuli_are_good(c: &Circuit)
 pub fn written_certificates_are_good(c: &Circuit)
     ensures { WrittenCertificatesAreGood c.now }
 {
-    let _greatest = c.max();
+    let _within_limits = c.max();
 }

@@ -47,7 +47,7 @@ pub(crate) enum Wanted {
 }
 
 /// What the status claims.
-#[derive(Clone, Copy, Debug)]
+#[derive(Clone, Copy)]
 pub(crate) enum Claim {
     HasLasso,
     HasNone,

@@ -20,7 +20,7 @@ use items::Items;
 use std::alloc::{AllocError, Global};
 
 /// Why a line of uses is refused.
-#[derive(Clone, Copy, Debug)]
+#[derive(Clone, Copy)]
 pub(crate) enum UsesEnd {
     /// It spells no uses, or not so many.
     Shape,

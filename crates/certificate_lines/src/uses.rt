@@ -14,7 +14,7 @@ use std::alloc::{AllocError, Global};
 use text_grammar::{push_number, read_number};
 
 /// A use as it stands in a text. Its number may be too great for that of an entry.
-#[derive(Clone, Copy, Debug, PartialEq, Eq)]
+#[derive(Clone, Copy)]
 pub struct WrittenUse {
     /// The number of the used entry, from 0. Below 2^63.
     pub number: u64,

@@ -11,7 +11,7 @@ use std::alloc::AllocError;
 use text_grammar::push_number;
 
 /// The version of a certificate.
-#[derive(Clone, Copy, Debug, PartialEq, Eq)]
+#[derive(Clone, Copy)]
 pub enum Version {
     /// No use has a sign.
     One,
@@ -20,7 +20,7 @@ pub enum Version {
 }
 
 /// The first line of an entry.
-#[derive(Clone, Copy, Debug, PartialEq, Eq)]
+#[derive(Clone, Copy)]
 pub struct Opening {
     pub kind: Kind,
     /// How many clauses the entry has, and as many proofs. Below 2^63.
@@ -30,7 +30,7 @@ pub struct Opening {
 }
 
 /// The first line of the refutation.
-#[derive(Clone, Copy, Debug, PartialEq, Eq)]
+#[derive(Clone, Copy)]
 pub struct Refutation {
     /// How many uses it has. Below 2^63.
     pub uses: u64,
@@ -39,7 +39,7 @@ pub struct Refutation {
 }
 
 /// A line that begins with a word.
-#[derive(Clone, Copy, Debug, PartialEq, Eq)]
+#[derive(Clone, Copy)]
 pub enum WordLine {
     /// `version 1` or `version 2`.
     Version(Version),
@@ -54,7 +54,7 @@ pub enum WordLine {
 }
 
 // The first word of a line.
-#[derive(Clone, Copy, Debug)]
+#[derive(Clone, Copy)]
 pub(crate) enum Word {
     Version,
     Reach,

@@ -95,6 +95,3 @@ impl<T: Copy> Items<T> {
         Items::from_slice(alloc, self.as_slice())
     }
 }
-
-#[cfg(test)]
-mod tests;

@@ -9,7 +9,7 @@ const INCREMENT: u64 = 1_442_695_040_888_963_407;
 
 /// A generator of numbers below 2 ^ 31: a linear congruential generator with the constants of Knuth's MMIX. Its first
 /// state is the seed.
-#[derive(Debug, Drop)]
+#[derive(Drop)]
 pub struct Generator {
     pub state: u64,
 }

@@ -1,8 +1,8 @@
 -- What lines of stimuli spell, and which of them is the first that is none.
-use Rattle.std.proofs.Common.{◌≡◌, ℕ, suc, ◌+◌, ◌<◌, ◌≤◌, inl, inr, Bool, true, false, not, List, [], ◌∷◌, ◌++◌, map, length, get_or, subst, refl, sym, ap, ◌∙◌, append_assoc, Some, None, IsSome, IsTrue, All, Result, Ok, Err, IfOk, arith, length-append}
+use Rattle.std.proofs.Common.{◌≡◌, ℕ, suc, ◌+◌, ◌<◌, ◌≤◌, inl, inr, Bool, true, false, List, [], ◌∷◌, ◌++◌, map, length, get_or, subst, refl, sym, ap, ◌∙◌, Some, None, IsSome, IsTrue, All, Result, Ok, Err, IfOk, arith}
 use Rattle.std.proofs.lemmas.Bool.{false≢true}
-use Rattle.std.proofs.lemmas.List.{map-append, append-nil}
-use Rattle.std.proofs.lemmas.List.Elements.{All-head, All-tail, All-cons, All-nil, All-weaker, All-get_or, filter-append}
+use Rattle.std.proofs.lemmas.List.{append-nil}
+use Rattle.std.proofs.lemmas.List.Elements.{All-head, All-tail, All-cons, All-nil, All-weaker, All-get_or}
 use Rattle.stimulus.specs.declared.ends.ReplayFault.{ReplayFault}
 use Rattle.stimulus.specs.declared.ends.ReplayFault.TheVariants.{Shape}
 use Rattle.stimulus.specs.declared.ends.ReplayEnd.{ReplayEnd}
@@ -88,24 +88,6 @@ pub record LinesRead (bytes rest : List ℕ) (rows : List (List Bool)) (number :
   pub spelled : row_values (kept_lines front) ≡ present rows
   pub counted : number ≡ length front + 1
   pub short : number + length rest ≤ length bytes + 1
-
-pub LinesRead-none : (bytes : List ℕ) → LinesRead bytes bytes [] 1
-LinesRead-none bytes = record { front = []; split = refl; spelled = refl; counted = refl; short = omega arith }
-
-pub LinesRead-more : (bytes rest line later : List ℕ) (rows new : List (List Bool)) (number : ℕ)
-    → LinesRead bytes rest rows number → lines_of rest ≡ line ∷ lines_of later → length later < length rest
-    → present new ≡ present rows ++ row_values (kept_lines (line ∷ [])) → LinesRead bytes later new (number + 1)
-LinesRead-more bytes rest line later rows new number h next shorter more = record {
-  front = h.front ++ line ∷ [];
-  split = h.split ∙ ap (λ lines. h.front ++ lines) next ∙ sym (append_assoc h.front (line ∷ []) (lines_of later));
-  spelled =
-      ap row_values (filter-append (λ line. not (is_skipped line)) h.front (line ∷ []))
-      ∙ map-append (map value_of) (kept_lines h.front) (kept_lines (line ∷ []))
-      ∙ ap (λ x. x ++ row_values (kept_lines (line ∷ []))) h.spelled
-      ∙ sym more;
-  counted = omega (arith, h.counted, length-append h.front (line ∷ []));
-  short = omega (arith, h.short);
-}
 
 pub first_bad : (bytes rest line later : List ℕ) (rows : List (List Bool)) (number : ℕ)
     → LinesRead bytes rest rows number → lines_of rest ≡ line ∷ lines_of later → (IsStimulusLine line → ⊥)

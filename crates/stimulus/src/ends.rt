@@ -4,34 +4,28 @@ use thiserror::Error;
 
 /// What is wrong with a stimulus.
 #[derive(Clone, Copy, Debug, PartialEq, Eq, Error)]
+#[error("the stimulus stands for no lasso")]
 pub enum ReplayFault {
     /// The line with this number, counted from 1, is no line of a stimulus; or the text ends without the line of the
     /// latches, which would have this number.
-    #[error("line {0} is no line of a stimulus")]
     Shape(u64),
     /// This item has not one value for each latch, as item 0, or each input, as item k + 1 of position k.
-    #[error("item {0} has another number of values than the circuit")]
     Width(u64),
     /// This latch, counted from 0, may not begin with its value.
-    #[error("latch {0} does not begin with its reset value")]
     NotInitial(u64),
     /// A constraint is false at this position, counted from 0.
-    #[error("a constraint is false at position {0}")]
     Constraint(u64),
     /// No prefix of the positions is a fair lasso.
-    #[error("no prefix is a fair lasso")]
     NoFairLoop,
     /// The circuit has no such property.
-    #[error("the circuit has no such property")]
     NoProperty,
 }
 
 /// Why there is no answer: a fault of the stimulus, or want of memory.
 #[derive(Clone, Copy, Debug, PartialEq, Eq, Error)]
+#[error("no lasso is given")]
 pub enum ReplayEnd {
-    #[error(transparent)]
     Fault(ReplayFault),
-    #[error("memory was refused")]
     Memory,
 }
 

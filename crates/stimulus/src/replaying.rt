@@ -4,7 +4,7 @@ ghost use Rattle.aig_semantics.specs.Circuits.{fair_literals};
 ghost use Rattle.aig_semantics.specs.Stimuli.{HasLasso, StandsFor};
 ghost use Rattle.stimulus.specs.declared.ends.ReplayFault.{ReplayFault};
 ghost use Rattle.stimulus.specs.Ends.{IfFault};
-ghost use Rattle.stimulus.specs.Faults.{HasReplayFault};
+ghost use Rattle.stimulus.specs.Faults.{CanBegin, HasReplayFault};
 ghost use Rattle.stimulus.specs.Places.{packed, place_at};
 ghost use Rattle.stimulus.specs.Walks.{unmet};
 ghost use Rattle.unless_memory.specs.Answers.{GivesSome, GivesExactlyWhere};
@@ -50,15 +50,38 @@ fn find_lasso(alloc: Global, c: &Circuit, j: u32, s: &Stimulus) -> Result<Lasso,
     if let Some(fault) = fault_before(c, j, s) {
         return Err(ReplayEnd::Fault(fault));
     }
-    let mut walk = begin(alloc, c, j as usize, s.latches.as_slice())?;
     let mut values = vec![in alloc; false; c.max() as usize + 1]?;
+    let mut walk = begin(alloc, c, j as usize, s.latches.as_slice())?;
+    walk_on(alloc, c, j, s, &mut values, &mut walk)
+}
+
+// The same from the walk before its first position.
+fn walk_on(
+    alloc: Global,
+    c: &Circuit,
+    j: u32,
+    s: &Stimulus,
+    values: &mut [bool],
+    walk: &mut Walk,
+) -> Result<Lasso, ReplayEnd>
+    requires can { CanBegin c.now j s.now }
+    requires room { length values.old ≡ c.now.max + 1 }
+    requires places { (key : List ℕ) → place_at walk.old.places key ≡ None }
+    requires key { walk.old.key.items ≡ packed s.now.latches }
+    requires next { walk.old.next ≡ s.now.latches }
+    requires watched { walk.old.watched.items ≡ map unmet (fair_literals c.now j) }
+    ensures found { IfOk result (λ lasso. StandsFor c.now j s.now (length lasso.inputs) lasso.from) }
+    ensures start { IfOk result (λ lasso. lasso.start ≡ s.now.latches) }
+    ensures inputs { IfOk result (λ lasso. lasso.inputs ≡ take (length lasso.inputs) s.now.inputs) }
+    ensures fault { IfFault result (HasReplayFault c.now j s.now) }
+{
     for (k, inputs) in s.inputs.as_slice().iter().enumerate() {
         let number = k as u64 + 1;
-        let allowed = visit(alloc, c, inputs.as_slice(), number, &mut values, &mut walk)?;
+        let allowed = visit(alloc, c, inputs.as_slice(), number, values, walk)?;
         if !allowed {
             return Err(ReplayEnd::Fault(ReplayFault::Constraint(k as u64)));
         }
-        if let Some(from) = loop_from(&walk) {
+        if let Some(from) = loop_from(walk) {
             return Ok(lasso_of(alloc, s, k + 1, from)?);
         }
     }
