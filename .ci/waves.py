@@ -1,6 +1,6 @@
 #!/usr/bin/env python3
-"""What `wave` prints, read by another reader: each name, and each value at each time, must be the one that the model's text
-and the simulation of the judge beside this file give. So of generated models with the stimuli that `solve` prints; of each
+"""What `wave` prints, read by another reader: each name with its indices, and each value at each time, must be the one that
+the model's text and the simulation of the judge beside this file give. So of generated models with the stimuli that `solve` prints; of each
 of these once more with outputs, bad states, constraints, properties, fairness and symbols that are drawn, for each of its
 properties; and of the examples with a stimulus. Where `vcd2fst`, of the package gtkwave, is there, it must take each dump.
 
@@ -31,11 +31,23 @@ TOGGLE_DUMP = (
     b'$var wire 1 " j0.0 $end\n$var wire 1 # loop $end\n$upscope $end\n$enddefinitions $end\n'
     b'#0\n0!\n0"\n1#\n#10\n1!\n1"\n1#\n#20\n0!\n0"\n1#\n#30\n1!\n1"\n1#\n#40\n'
 )
-# names by hand: what stands behind the gates of a model, labels, and the names that their wires have
+# names by hand: symbols behind the gates of a model, wires by label and literal, and the variables that they are
 NAMED = (
     b"l0 earlier\nl0 a b%\nl1 i0\ni1 loop\nj2 i0.l1\nf0 \xff\ncx\ni0 not a symbol\n",
-    ["i0", "i1", "l0", "l1", "j2.0", "j2.1", "f0", "loop"],
-    ["i0", "loop", "a%20b%25", "i0.l1", "i0.l1.j2.0", "i0.l1.j2.1", "%FF", "loop.loop"],
+    [("i0", 2), ("i1", 4), ("l0", 6), ("l1", 8), ("j2.0", 2), ("j2.1", 3), ("f0", 9), ("loop", None)],
+    [("i0", ""), ("loop", ""), ("a%20b%25", ""), ("i0.l1", ""), ("i0.l1.j2.0", ""), ("i0.l1.j2.1", ""), ("%FF", ""), ("loop.loop", "")],
+)
+# a bus of the same name in two sections, whose bits are not in order, and a latch that is an output too
+BUSES = (
+    b"i0 w[1]\ni1 w[0]\nl0 w[1]\nl1 x\nl2 w[2]\nl3 w[3]\no0 x\no1 x\n",
+    [("i0", 2), ("i1", 4), ("l0", 6), ("l1", 8), ("l2", 10), ("l3", 12), ("o0", 8), ("o1", 9), ("loop", None)],
+    [("w", "[1:0]"), ("w.l3", "[3:1]"), ("x", ""), ("x.o1", ""), ("loop", "")],
+)
+# a gap, a bit alone, an index twice, one with a leading zero, none, no base, and one of 33 bits
+BITS = (
+    b"i0 w[3]\ni1 w[1]\ni2 v[0]\nl0 u[0]\nl1 u[1]\nl2 u[0]\nl3 t[01]\nl4 t[0]\nl5 t[]\nl6 [1]\nl7 [0]\nl8 s[4294967296]\nl9 s[4294967295]\n",
+    [(f"i{k}", 2 * k + 2) for k in range(3)] + [(f"l{k}", 2 * k + 8) for k in range(10)],
+    [(name, "") for name in ("w[3] w[1] v[0] u[0] u[1] u[0].l2 t[01] t[0] t[] [1] [0] s[4294967296] s[4294967295]").split()],
 )
 
 
@@ -43,28 +55,32 @@ NAMED = (
 
 
 def read_dump(text):
-    """The property of a dump, the names of its wires in their order, and for each time the values that stand there."""
+    """The property of a dump, its variables as name and indices in their order, and for each time their digits there."""
     words = iter(text.split())
     heads = []
     while not heads or heads[-1] != [b"$enddefinitions"]:
         heads.append(list(itertools.takewhile(lambda word: word != b"$end", words)))
-    unit, comment, scope, *wires, upscope, _ = heads
+    unit, comment, scope, *variables, upscope, _ = heads
     assert unit == [b"$timescale", b"1ns"] and scope == [b"$scope", b"module", b"fairlive"] and upscope == [b"$upscope"]
     assert comment[:2] == [b"$comment", b"fairlive"] and len(comment) == 3, comment
     names = {}
-    for kind, wire, width, code, name in wires:
-        assert (kind, wire, width) == (b"$var", b"wire", b"1") and code not in names, code
-        names[code] = name.decode()
-    assert len(set(names.values())) == len(names), "a name stands twice"
+    for kind, wire, width, code, name, *indices in variables:
+        assert (kind, wire) == (b"$var", b"wire") and code not in names and len(indices) == (width != b"1"), code
+        if indices:
+            high, low = map(int, re.fullmatch(rb"\[([0-9]+):([0-9]+)\]", indices[0]).groups())
+            assert high - low + 1 == int(width) > 1, width
+        names[code] = (name.decode(), b"".join(indices).decode(), int(width))
+    assert len({name for name, _, _ in names.values()}) == len(names), "a name stands twice"
     times = []
     for word in words:
         if word[:1] == b"#":
             times.append((int(word[1:]), {}))
             continue
-        now, name = times[-1][1], names[word[1:]]
-        assert word[:1] in (b"0", b"1") and name not in now, word
-        now[name] = word[:1] == b"1"
-    return comment[2].decode(), list(names.values()), times
+        digits, code = (word[1:], next(words)) if word[:1] == b"b" else (word[:1], word[1:])
+        now, (name, _, width) = times[-1][1], names[code]
+        assert not digits.strip(b"01") and len(digits) == width and name not in now, word
+        now[name] = digits.decode()
+    return comment[2].decode(), [(name, indices) for name, indices, _ in names.values()], times
 
 
 # ---- what a dump must say
@@ -81,16 +97,44 @@ def symbols(text):
     return found
 
 
-def named(labels, symbol_of):
-    """A name for each label, where a literal of a property has the property's symbol."""
-    names = []
-    for label in labels:
-        symbol = symbol_of.get(label.split(".")[0], label.encode())
-        name = "".join(chr(byte) if 32 < byte < 127 and byte != 37 else f"%{byte:02X}" for byte in symbol)
-        while name in names:
-            name += "." + label
-        names.append(name)
-    return names
+def plain(label, symbol_of):
+    """The name of a wire, where a literal of a property has the property's symbol."""
+    symbol = symbol_of.get(label.split(".")[0], label.encode())
+    return "".join(chr(byte) if 32 < byte < 127 and byte != 37 else f"%{byte:02X}" for byte in symbol)
+
+
+def shown(wires, symbol_of):
+    """The wires by label and literal, each with its name, without those that are an input or a latch under its own name."""
+    named = [(label, literal, plain(label, symbol_of)) for label, literal in wires]
+    sources = {(literal, name) for label, literal, name in named if re.fullmatch("[il][0-9]+", label)}
+    return [(label, name) for label, literal, name in named if re.fullmatch("[il][0-9]+", label) or (literal, name) not in sources]
+
+
+def grouped(wires):
+    """The wires put together that are bits of one name and section, in the order of their first ones: as name, the lowest
+    index, and the labels, the highest index first; or each alone."""
+    groups = {}
+    for label, name in wires:
+        bit = re.fullmatch(r"(.+)\[(0|[1-9][0-9]*)\]", name) if re.fullmatch("[ilobcf][0-9]+", label) else None
+        is_bit = bit and int(bit[2]) < 2**32
+        key = (label[0], bit[1]) if is_bit else label
+        groups.setdefault(key, []).append((int(bit[2]) if is_bit else 0, label, name))
+    for key, bits in groups.items():
+        indices = sorted(index for index, _, _ in bits)
+        if len(bits) > 1 and indices == list(range(indices[0], indices[0] + len(bits))):
+            yield key[1], indices[0], [label for _, label, _ in sorted(bits, reverse=True)]
+        else:
+            yield from ((name, 0, [label]) for _, label, name in bits)
+
+
+def variables_of(wires, symbol_of):
+    """The variables of a dump: a name that is set apart, the indices, and the labels."""
+    variables = []
+    for name, low, labels in grouped(shown(wires, symbol_of)):
+        while name in [other for other, _, _ in variables]:
+            name += "." + labels[0]
+        variables.append((name, f"[{low + len(labels) - 1}:{low}]" if len(labels) > 1 else "", labels))
+    return variables
 
 
 def rows(answer):
@@ -123,13 +167,16 @@ def wanted(model, answer):
     sections = [("i", [2 * v for v in circuit.inputs]), ("l", [2 * v for v, _, _ in circuit.latches]), ("o", circuit.outputs)]
     sections += [("b", circuit.bad), ("c", circuit.constraints), (f"j{j}.", circuit.justice[j]), ("f", circuit.fairness)]
     wires = [(f"{label}{k}", literal) for label, literals in sections for k, literal in enumerate(literals)]
-    *names, loop = named([label for label, _ in wires] + ["loop"], symbols(circuit.names))
+    literal_of = dict(wires)
+    variables = variables_of([*wires, ("loop", None)], symbols(circuit.names))
     values = run_of(circuit, answer, count)
     times = []
     for t, value in enumerate(values + values[place:]):
-        times.append((10 * t, {**{name: judge.is_true(value, literal) for name, (_, literal) in zip(names, wires)}, loop: t >= place}))
+        is_true = {label: judge.is_true(value, literal) for label, literal in literal_of.items()}
+        is_true["loop"] = t >= place
+        times.append((10 * t, {name: "".join("01"[is_true[label]] for label in labels) for name, _, labels in variables}))
     times.append((10 * len(times), {}))
-    return f"j{j}", names + [loop], times
+    return f"j{j}", [(name, indices) for name, indices, _ in variables], times
 
 
 # ---- models with all sections, drawn around a generated one and its lasso
@@ -164,21 +211,38 @@ def dressed(chance, model, answer):
     front = [" ".join(map(str, header)).encode(), *lines[:kept], *(str(number).encode() for number in numbers)]
     sections = {"i": circuit.inputs, "l": circuit.latches, **sections}
     elements = [f"{letter}{k}" for letter, section in sections.items() for k in range(len(section))]
-    return b"\n".join(front) + b"\n" + lines[-1] + symbol_lines(chance, elements)
+    return b"\n".join(front) + b"\n" + lines[-1] + symbol_lines(chance, elements, doubles(circuit, sections))
 
 
-def symbol_lines(chance, elements):
-    """Symbols of these elements, some of them with several and some with none, and in half of the models a comment."""
+def doubles(circuit, sections):
+    """The elements of later sections that have the literal of an input or a latch, with that one."""
+    sources = {2 * v: f"i{k}" for k, v in enumerate(circuit.inputs)}
+    sources.update({2 * latch[0]: f"l{k}" for k, latch in enumerate(circuit.latches)})
+    return [(f"{letter}{k}", sources[literal]) for letter in "obcf" for k, literal in enumerate(sections[letter]) if literal in sources]
+
+
+def symbol_lines(chance, elements, pairs):
+    """Symbols of these elements, some of them with several and some with none, some of a later section as the input or the
+    latch that they are, and some of one section as bits of one name; and in half of the models a comment."""
     text = b""
     for _ in range(below(chance, 2 * len(elements) + 1)):
         text += pick(chance, elements).encode() + b" " + draw_name(chance, elements) + b"\n"
+    for element, source in few(chance, pairs, 3) if pairs else []:
+        name = draw_name(chance, elements)
+        text += element.encode() + b" " + name + b"\n" + source.encode() + b" " + name + b"\n"
+    for letter in few(chance, "iloobf", 3):
+        bits = shuffled(chance, [element for element in elements if element[0] == letter])[: below(chance, 6)]
+        indices = shuffled(chance, range(below(chance, 12), 20))[: len(bits)] if below(chance, 4) == 0 else shuffled(chance, range(len(bits)))
+        base, low = pick(chance, ["w", "w", "x", "m[1]", "%", "[", "loop"]), pick(chance, [0, 0, 1, 9, 4294967290])
+        for bit, index in zip(bits, indices):
+            text += f"{bit} {base}[{low + index}]\n".encode()
     return text + pick(chance, [b"", b"c\ni0 not a symbol\n"])
 
 
 def draw_name(chance, elements):
     """A name that others may have too, or that is like the label of a wire or a name that was set apart, or any bytes."""
     label = pick(chance, elements).encode()
-    known = [b"x", b"x.", b"loop", b"loop.loop", b"request high", b" ", b"100%", b"%25", b"\xc3\xa4", b"$var", b"#10", b"c"]
+    known = [b"x", b"x.", b"loop", b"loop.loop", b"request high", b" ", b"100%", b"%25", b"\xc3\xa4", b"$var", b"#10", b"c", b"w[0]", b"w[1]", b"w[01]", b"[0]"]
     names = [pick(chance, known), pick(chance, known), label, b"x." + label, label + b".0", b"loop." + label]
     names.append(bytes(pick(chance, [*range(10), *range(11, 256)]) for _ in range(1 + below(chance, 5))))
     return pick(chance, names)
@@ -249,8 +313,8 @@ class Waves:
 
 def main():
     assert read_dump(TOGGLE_DUMP) == wanted(TOGGLE, TOGGLE_ANSWER)
-    behind_gates, labels, names = NAMED
-    assert named(labels, symbols(behind_gates)) == names
+    for behind_gates, wires, variables in (NAMED, BUSES, BITS):
+        assert [variable[:2] for variable in variables_of(wires, symbols(behind_gates))] == variables, variables
     most = int(sys.argv[1]) if len(sys.argv) > 1 else 50
     subprocess.run([FAIRLIVE], stdout=subprocess.DEVNULL)  # builds the program, where it is not
     if not shutil.which("vcd2fst"):

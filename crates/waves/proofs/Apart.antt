@@ -8,11 +8,11 @@ use Rattle.std.proofs.Math.Seq.{get_or-append_seam}
 use Rattle.std.proofs.lemmas.List.{get_or_append_left}
 use Rattle.std.proofs.lemmas.List.Quantifiers.{all_pairs_push}
 use Rattle.std.proofs.lemmas.Slice.Eq.{bytes_eq-Decides}
-use Rattle.aiger_grammar.specs.declared.names.Symbol.{Symbol}
-use Rattle.waves.specs.declared.wires.Wire.{Wire}
+use Rattle.waves.specs.declared.buses.Variable.{Variable}
 use Rattle.waves.specs.declared.signals.Signal.{Signal}
-use Rattle.waves.specs.Wires.{wires_of}
-use Rattle.waves.specs.Names.{has_name, set_apart, enough, next_identifier, identifier, next_signal, with_signal, label, plain_name}
+use Rattle.waves.specs.Names.{has_name, set_apart, enough, next_identifier, identifier}
+use Rattle.waves.specs.Buses.{variables_of}
+use Rattle.waves.specs.Signals.{label_of, next_signal, with_signal}
 use Rattle.waves.specs.Laws.{NamesAreApart, IdentifiersAreApart}
 use Rattle.waves.proofs.NameLaws.{total, longer_free, dotted_longer}
 
@@ -45,22 +45,22 @@ free_apart (s ∷ signals) name (suc k) d free inside same = free_apart signals 
 abbrev NamesApart : List Signal → Type 0
 NamesApart signals = AllPairs (λ (a b : Signal). a.name ≢ b.name) signals
 
-names_on : (symbols : List Symbol) (signals : List Signal) (w : Wire) → NamesApart signals → NamesApart (with_signal symbols signals w)
-names_on symbols signals w h =
-    let s = next_signal symbols signals w in
+names_on : (signals : List Signal) (v : Variable) → NamesApart signals → NamesApart (with_signal signals v)
+names_on signals v h =
+    let s = next_signal signals v in
     all_pairs_push (λ (a b : Signal). a.name ≢ b.name) signals s h
     (λ k d inside. free_apart signals s.name k d
-    (apart_free (enough signals) signals (label w) (plain_name symbols w) (omega arith)) inside)
+    (apart_free (enough signals) signals (label_of v.wires) v.name (omega arith)) inside)
 
-names_all : (symbols : List Symbol) (wires : List Wire) (signals : List Signal) → NamesApart signals → NamesApart (fold (with_signal symbols) signals wires)
-names_all symbols [] signals h = h
-names_all symbols (w ∷ wires) signals h = names_all symbols wires (with_signal symbols signals w) (names_on symbols signals w h)
+names_all : (variables : List Variable) (signals : List Signal) → NamesApart signals → NamesApart (fold with_signal signals variables)
+names_all [] signals h = h
+names_all (v ∷ variables) signals h = names_all variables (with_signal signals v) (names_on signals v h)
 
 no_pairs : {X : Type 0} (R : X → X → Type 0) → AllPairs R []
 no_pairs R i j d less inside = absurd (omega (arith, inside))
 
 pub names_are_apart : NamesAreApart
-names_are_apart m j = names_all m.names.symbols (wires_of m j) [] (no_pairs (λ (a b : Signal). a.name ≢ b.name))
+names_are_apart m j = names_all (variables_of m j) [] (no_pairs (λ (a b : Signal). a.name ≢ b.name))
 
 -- ---- identifiers
 
@@ -121,12 +121,12 @@ numbered_on signals s e h k d inside = by (nat_lt k (length signals)) refl
         let same : k ≡ length signals = omega (arith, ltb-false k (length signals) more, inside, length-append signals (s ∷ [])) in
         ap (λ n. (get_or (signals ++ s ∷ []) n d).code) same ∙ ap (λ (x : Signal). x.code) (get_or-append_seam signals s [] d) ∙ e ∙ ap identifier (sym same)
 
-pub numbered_all : (symbols : List Symbol) (wires : List Wire) (signals : List Signal) → AreNumbered signals → AreNumbered (fold (with_signal symbols) signals wires)
-numbered_all symbols [] signals h = h
-numbered_all symbols (w ∷ wires) signals h = numbered_all symbols wires (with_signal symbols signals w) (numbered_on signals (next_signal symbols signals w) refl h)
+pub numbered_all : (variables : List Variable) (signals : List Signal) → AreNumbered signals → AreNumbered (fold with_signal signals variables)
+numbered_all [] signals h = h
+numbered_all (v ∷ variables) signals h = numbered_all variables (with_signal signals v) (numbered_on signals (next_signal signals v) refl h)
 
 pub identifiers_are_apart : IdentifiersAreApart
 identifiers_are_apart m j a b d less inside same =
-    let numbered = numbered_all m.names.symbols (wires_of m j) [] (λ k e within. absurd (omega (arith, within))) in
+    let numbered = numbered_all (variables_of m j) [] (λ k e within. absurd (omega (arith, within))) in
     let e : a ≡ b = one_number a b (sym (numbered a d (omega (arith, less, inside))) ∙ same ∙ numbered b d inside) in
     omega (arith, e, less)

@@ -22,8 +22,9 @@ use Rattle.aiger_grammar.specs.declared.names.Symbol.{Symbol}
 use Rattle.waves.specs.declared.wires.Wire.{Wire}
 use Rattle.waves.specs.declared.wires.Wire.TheVariants.{Element, PropertyLiteral, Loop}
 use Rattle.waves.specs.declared.signals.Signal.{Signal}
-use Rattle.waves.specs.Names.{label, is_symbol_of, escaped, named_by, plain_name, has_name, set_apart, enough, identifier}
-use Rattle.waves.specs.Kept.{element_cmp, kept_at, kept_name, found_by, GetsName, AreNamesOf, IsNextSignal, has_key, AreKeysOf}
+use Rattle.waves.specs.Wires.{letter_of}
+use Rattle.waves.specs.Names.{label, is_symbol_of, escaped, named_by, plain_name, has_name}
+use Rattle.waves.specs.Kept.{element_cmp, kept_at, kept_name, found_by, GetsName, AreNamesOf, has_key, AreKeysOf}
 use Rattle.waves.proofs.NameLaws.{fold_more}
 
 abbrev Text : Type 0
@@ -33,13 +34,13 @@ Text = Vec ℕ Global
 
 -- no name is kept in an empty map
 pub none_kept : (names : BTreeMap (ℕ × ℕ) Text) → names.entries ≡ [] → AreNamesOf [] names
-none_kept names e (Element letter index literal) =
-    ap (λ es. option_map (λ (name : Text). name.items) (lookup (is_at (element_cmp (letter, index))) es)) e
+none_kept names e (Element section index literal) =
+    ap (λ es. option_map (λ (name : Text). name.items) (lookup (is_at (element_cmp (letter_of section, index))) es)) e
 none_kept names e (PropertyLiteral property place literal) =
     ap (λ es. option_map (λ (name : Text). name.items) (lookup (is_at (element_cmp (JUSTICE, property))) es)) e
 none_kept names e Loop = refl
 
-equal_is : (a b : ℕ) → is_eq (nat_cmp a b) ≡ (a == b)
+pub equal_is : (a b : ℕ) → is_eq (nat_cmp a b) ≡ (a == b)
 equal_is a b = grind arith
 
 -- elements compare as equal where both parts are
@@ -68,7 +69,7 @@ module _ (old new : BTreeMap (ℕ × ℕ) Text) (s : Symbol) (name : Text) (is :
 
   -- what is inserted is found for the wires of the symbol
   pub inserted : GetsName old s new
-  inserted (Element letter index literal) = at_element letter index
+  inserted (Element section index literal) = at_element (letter_of section) index
   inserted (PropertyLiteral property place literal) = at_element JUSTICE property
   inserted Loop = refl
 
@@ -98,6 +99,12 @@ is_key name key = is_eq (slice_cmp nat_cmp name key.items)
 
 abbrev text_cmp : Text → Text → Ordering
 text_cmp a b = slice_cmp nat_cmp a.items b.items
+
+-- texts compare as equal where all bytes are
+pub texts_equal : (xs ys : List ℕ) → is_eq (slice_cmp nat_cmp xs ys) ≡ bytes_eq xs ys
+texts_equal xs ys =
+    both_ways _ _ (λ e. (bytes_eq-Decides xs ys).1 (exact_bytes xs ys ((Equal-is (slice_cmp nat_cmp xs ys)).0 e)))
+    (λ e. ap (λ (text : List ℕ). is_eq (slice_cmp nat_cmp xs text)) (sym ((bytes_eq-Decides xs ys).0 e)) ∙ ap is_eq (tied_itself nat_list_cmp_total xs))
 
 found_is : (name : List ℕ) (key : Text) → is_key name key ≡ bytes_eq key.items name
 found_is name key =
@@ -150,14 +157,3 @@ keys_pushed signals same all s old new key f g is e h name =
     last true false = refl
     last false true = refl
     last false false = refl
-
-abbrev made : Wire → List ℕ → List ℕ → Signal
-made w name code = record { wire = w; name = name; code = code }
-
--- the signal that is made of a kept name
-pub next_is : (names : BTreeMap (ℕ × ℕ) Text) (signals : List Signal) (w : Wire) (l plain name code : List ℕ) → l ≡ label w → plain ≡ unwrap_or (kept_name names w) (label w)
-    → name ≡ set_apart (enough signals) signals l plain → code ≡ identifier (length signals) → IsNextSignal names signals w (record { wire = w; name = name; code = code })
-next_is names signals w l plain name code e f g k symbols h =
-    let apart = set_apart (enough signals) signals in
-    ap (λ (x : List ℕ). made w x code) (g ∙ ap (λ (x : List ℕ). apart x plain) e ∙ ap (apart (label w)) (f ∙ sym (plain_is_kept symbols names w h)))
-    ∙ ap (made w (apart (label w) (plain_name symbols w))) k

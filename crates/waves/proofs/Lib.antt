@@ -1,7 +1,13 @@
 pub mod NameLaws
 pub mod KeptLaws
+pub mod SourceLaws
+pub mod BracketLaws
+pub mod PlaceLaws
+pub mod RowLaws
 pub mod Lines
 pub mod Unrolling
 pub mod Apart
 pub mod Spelled
+pub mod WidthLaws
 pub mod ReadBack
+pub mod BusLaws

@@ -33,11 +33,17 @@ line_written old a b d x y z e f g =
     g ∙ ap (λ (l : List ℕ). l ++ (d ++ 10 ∷ [])) (f ∙ ap (λ (l : List ℕ). l ++ b) e) ∙ simp append_assoc refl
 
 -- a declaration
-pub var_written : (old a code name b u v w x y z : List ℕ) → u ≡ old ++ a → v ≡ u ++ code → w ≡ v ++ 32 ∷ [] → x ≡ w ++ name → y ≡ x ++ b → z ≡ y ++ 10 ∷ []
-    → z ≡ old ++ ((a ++ code ++ 32 ∷ (name ++ b)) ++ 10 ∷ [])
-var_written old a code name b u v w x y z d e f g h i =
-    i ∙ ap (λ (l : List ℕ). l ++ 10 ∷ []) (h ∙ ap (λ (l : List ℕ). l ++ b) (g ∙ ap (λ (l : List ℕ). l ++ name) (f ∙ ap (λ (l : List ℕ). l ++ 32 ∷ []) (e ∙ ap (λ (l : List ℕ). l ++ code) d))))
+pub var_written : (old a code name range b u v w x y z : List ℕ) → u ≡ old ++ a → v ≡ u ++ code → w ≡ v ++ 32 ∷ [] → x ≡ w ++ name → y ≡ x ++ range
+    → z ≡ y ++ (b ++ 10 ∷ []) → z ≡ old ++ ((a ++ code ++ 32 ∷ (name ++ range ++ b)) ++ 10 ∷ [])
+var_written old a code name range b u v w x y z d e f g h i =
+    i ∙ ap (λ (l : List ℕ). l ++ (b ++ 10 ∷ []))
+    (h ∙ ap (λ (l : List ℕ). l ++ range) (g ∙ ap (λ (l : List ℕ). l ++ name) (f ∙ ap (λ (l : List ℕ). l ++ 32 ∷ []) (e ∙ ap (λ (l : List ℕ). l ++ code) d))))
     ∙ simp append_assoc refl
+
+-- a text in four parts behind another
+pub four_written : (old a b c d w x y z : List ℕ) → w ≡ old ++ a → x ≡ w ++ b → y ≡ x ++ c → z ≡ y ++ d → z ≡ old ++ (a ++ b ++ c ++ d)
+four_written old a b c d w x y z e f g h =
+    h ∙ ap (λ (l : List ℕ). l ++ d) (g ∙ ap (λ (l : List ℕ). l ++ c) (f ∙ ap (λ (l : List ℕ). l ++ b) e)) ∙ simp append_assoc refl
 
 -- lines in front of others and behind them
 pub header_written : (old a c : List ℕ) (b vars : List (List ℕ)) (first last : List (List ℕ)) (line u v w x y : List ℕ)

@@ -1,8 +1,8 @@
 -- Names and identifiers have no space, and lines no line feed.
-use Rattle.std.proofs.Common.{◌≡◌, ◌≢◌, ℕ, zero, suc, ◌+◌, ◌*◌, ◌/◌, ◌%◌, ◌<◌, ◌==◌, ◌&&◌, Bool, true, false, not, List, [], ◌∷◌, ◌++◌, length, map, fold, refl, sym, ap, ◌∙◌, arith, if◌then◌else◌}
+use Rattle.std.proofs.Common.{◌≡◌, ◌≢◌, ℕ, zero, suc, ◌+◌, ◌-◌, ◌*◌, ◌/◌, ◌%◌, ◌<◌, ◌==◌, ◌&&◌, Bool, true, false, not, List, [], ◌∷◌, ◌++◌, length, map, take, fold, refl, sym, ap, ◌∙◌, arith, if◌then◌else◌, Option, Some, None}
 use Rattle.std.specs.Prelude.{nat_lt, codes, decimal}
 use Rattle.std.specs.Fmt.{digits, digits_onto, digit_glyph}
-use Rattle.std.specs.List.{All, AllByRecursion, list_all}
+use Rattle.std.specs.List.{All, AllByRecursion, list_all, flat_map}
 use Rattle.std.proofs.lemmas.Bool.{false≢true, lt-ltb, ltb-true, and_from, and_parts, ne_eqb}
 use Rattle.std.proofs.lemmas.List.Elements.{All-from_recursion, All-append, All-cons, All-nil}
 use Rattle.std.proofs.lemmas.List.Folds.{list_all-append}
@@ -12,12 +12,20 @@ use Rattle.aig_semantics.specs.declared.traces.Position.{Position}
 use Rattle.aig_semantics.specs.declared.traces.Lasso.{Lasso}
 use Rattle.aiger_grammar.specs.declared.names.Symbol.{Symbol}
 use Rattle.aiger_grammar.specs.Models.{Model}
+use Rattle.waves.specs.declared.wires.Section.{Section}
+use Rattle.waves.specs.declared.wires.Section.TheVariants.{Inputs, Latches, Outputs, Bad, Constraints, Fairness}
 use Rattle.waves.specs.declared.wires.Wire.{Wire}
-use Rattle.waves.specs.declared.wires.Wire.TheVariants.{Loop}
+use Rattle.waves.specs.declared.wires.Wire.TheVariants.{Element, PropertyLiteral, Loop}
+use Rattle.waves.specs.declared.named.Named.{Named}
+use Rattle.waves.specs.declared.groups.Member.{Member}
+use Rattle.waves.specs.declared.groups.Group.{Group}
+use Rattle.waves.specs.declared.buses.Variable.{Variable}
 use Rattle.waves.specs.declared.signals.Signal.{Signal}
-use Rattle.waves.specs.Wires.{elements, property_literals, wires_of, value_in}
-use Rattle.waves.specs.Names.{label, is_symbol_of, is_plain, hex_digit, escaped_byte, escaped, named_by, plain_name, has_name, set_apart, enough, identifier, next_signal, with_signal, signals_of}
-use Rattle.waves.specs.Dumps.{var_line, comment_line, header_lines, time_line, digit_of, value_line, position_lines, run_lines, all_lines, dump_lines, unrolled}
+use Rattle.waves.specs.Wires.{letter_of, sources_of, later_wires_of, literal_of, value_in}
+use Rattle.waves.specs.Names.{label, is_symbol_of, is_plain, hex_digit, escaped_byte, escaped, named_by, plain_name, named, is_doubled, with_wire, named_sources, named_wires, has_name, set_apart, enough, identifier}
+use Rattle.waves.specs.Buses.{bracket_in, bit_letter, member, alone, is_of, grown, joined, with_bit, with_element, with_named, single, by_bus, bus_of, of_group, groups_of, variables_of}
+use Rattle.waves.specs.Signals.{label_of, next_signal, with_signal, signals_of}
+use Rattle.waves.specs.Dumps.{range_text, width_text, digits_of, word_of, var_line, comment_line, header_lines, time_line, digit_of, value_line, position_lines, run_lines, all_lines, dump_lines, unrolled}
 use Rattle.waves.specs.Laws.{AreSpelled}
 use Rattle.waves.proofs.Apart.{InRange, in_range}
 
@@ -54,36 +62,23 @@ decimal_spelled n = onto_spelled 64 n [] refl
 
 -- ---- names
 
-LabelsSpelled : List Wire → Type 0
-LabelsSpelled [] = Unit {0}
-LabelsSpelled (w ∷ wires) = (is_spelled (label w) ≡ true) × LabelsSpelled wires
+letter_spelled : (section : Section) → nat_lt 32 (letter_of section) ≡ true
+letter_spelled Inputs = refl
+letter_spelled Latches = refl
+letter_spelled Outputs = refl
+letter_spelled Bad = refl
+letter_spelled Constraints = refl
+letter_spelled Fairness = refl
 
-labels_both : (a b : List Wire) → LabelsSpelled a → LabelsSpelled b → LabelsSpelled (a ++ b)
-unfolding LabelsSpelled
-labels_both [] b h k = k
-labels_both (w ∷ a) b h k = (h.0, labels_both a b h.1 k)
+label_spelled : (w : Wire) → is_spelled (label w) ≡ true
+label_spelled (Element section index literal) =
+    and_from (nat_lt 32 (letter_of section)) (is_spelled (decimal index)) (letter_spelled section) (decimal_spelled index)
+label_spelled (PropertyLiteral property place literal) = both (decimal property) (46 ∷ decimal place) (decimal_spelled property) (decimal_spelled place)
+label_spelled Loop = refl
 
-elements_spelled : (letter index : ℕ) (literals : List ℕ) → nat_lt 32 letter ≡ true → LabelsSpelled (elements letter index literals)
-unfolding LabelsSpelled
-elements_spelled letter index [] h = tt
-elements_spelled letter index (literal ∷ literals) h =
-    (and_from (nat_lt 32 letter) (is_spelled (decimal index)) h (decimal_spelled index), elements_spelled letter (index + 1) literals h)
-
-property_spelled : (j place : ℕ) (literals : List ℕ) → LabelsSpelled (property_literals j place literals)
-unfolding LabelsSpelled
-property_spelled j place [] = tt
-property_spelled j place (literal ∷ literals) =
-    (both (decimal j) (46 ∷ decimal place) (decimal_spelled j) (decimal_spelled place), property_spelled j (place + 1) literals)
-
-loop_spelled : LabelsSpelled (Loop ∷ [])
-unfolding LabelsSpelled
-loop_spelled = (refl, tt)
-
-wires_spelled : (m : Model) (j : ℕ) → LabelsSpelled (wires_of m j)
-wires_spelled m j =
-    labels_both _ _ (labels_both _ _ (labels_both _ _ (labels_both _ _ (labels_both _ _ (labels_both _ _ (labels_both _ _
-    (elements_spelled _ 0 _ refl) (elements_spelled _ 0 _ refl)) (elements_spelled _ 0 _ refl)) (elements_spelled _ 0 _ refl)) (elements_spelled _ 0 _ refl))
-    (property_spelled j 0 _)) (elements_spelled _ 0 _ refl)) loop_spelled
+first_label_spelled : (wires : List Wire) → is_spelled (label_of wires) ≡ true
+first_label_spelled [] = refl
+first_label_spelled (w ∷ wires) = label_spelled w
 
 hex_spelled : (n : ℕ) → nat_lt 32 (hex_digit n) ≡ true
 hex_spelled n = by (nat_lt n 10)
@@ -126,6 +121,132 @@ unfolding InRange
 range_spelled [] h = refl
 range_spelled (b ∷ code) h = and_from (nat_lt 32 b) (is_spelled code) (lt-ltb 32 b (omega (arith, h.0))) (range_spelled code h.2)
 
+front_spelled : (n : ℕ) (name : List ℕ) → is_spelled name ≡ true → is_spelled (take n name) ≡ true
+front_spelled zero name h = refl
+front_spelled (suc n) [] h = refl
+front_spelled (suc n) (b ∷ name) h =
+    let p = and_parts (nat_lt 32 b) (is_spelled name) h in and_from (nat_lt 32 b) (is_spelled (take n name)) p.0 (front_spelled n name p.1)
+
+-- ---- wires
+
+NamedSpelled : List Named → Type 0
+NamedSpelled [] = Unit {0}
+NamedSpelled (n ∷ wires) = (is_spelled n.name ≡ true) × NamedSpelled wires
+
+named_push : (wires : List Named) (n : Named) → NamedSpelled wires → is_spelled n.name ≡ true → NamedSpelled (wires ++ n ∷ [])
+unfolding NamedSpelled
+named_push [] n h k = (k, tt)
+named_push (x ∷ wires) n h k = (h.0, named_push wires n h.1 k)
+
+wire_on : (symbols : List Symbol) (sources wires : List Named) (w : Wire) → NamedSpelled wires → NamedSpelled (with_wire symbols sources wires w)
+wire_on symbols sources wires w h = by (is_doubled sources (literal_of w) (plain_name symbols w))
+  where
+    by : (t : Bool) → NamedSpelled (if t then wires else wires ++ named symbols w ∷ [])
+    by true = h
+    by false = named_push wires (named symbols w) h (plain_spelled w symbols (label w) (label_spelled w))
+
+wires_on : (symbols : List Symbol) (sources : List Named) (ws : List Wire) (wires : List Named) → NamedSpelled wires
+    → NamedSpelled (fold (with_wire symbols sources) wires ws)
+wires_on symbols sources [] wires h = h
+wires_on symbols sources (w ∷ ws) wires h = wires_on symbols sources ws (with_wire symbols sources wires w) (wire_on symbols sources wires w h)
+
+no_named : NamedSpelled []
+unfolding NamedSpelled
+no_named = tt
+
+wires_spelled : (m : Model) (j : ℕ) → NamedSpelled (named_wires m j)
+wires_spelled m j =
+    wires_on m.names.symbols (named_sources m) (later_wires_of m j) (named_sources m)
+    (wires_on m.names.symbols [] (sources_of m) [] no_named)
+
+-- ---- groups
+
+MembersSpelled : List Member → Type 0
+MembersSpelled [] = Unit {0}
+MembersSpelled (m ∷ members) = (is_spelled m.name ≡ true) × MembersSpelled members
+
+members_push : (members : List Member) (m : Member) → MembersSpelled members → is_spelled m.name ≡ true → MembersSpelled (members ++ m ∷ [])
+unfolding MembersSpelled
+members_push [] m h k = (k, tt)
+members_push (x ∷ members) m h k = (h.0, members_push members m h.1 k)
+
+one_member : (m : Member) → is_spelled m.name ≡ true → MembersSpelled (m ∷ [])
+unfolding MembersSpelled
+one_member m h = (h, tt)
+
+abbrev GroupSpelled : Group → Type 0
+GroupSpelled g = (is_spelled g.base ≡ true) × MembersSpelled g.members
+
+GroupsSpelled : List Group → Type 0
+GroupsSpelled [] = Unit {0}
+GroupsSpelled (g ∷ groups) = GroupSpelled g × GroupsSpelled groups
+
+groups_push : (groups : List Group) (g : Group) → GroupsSpelled groups → GroupSpelled g → GroupsSpelled (groups ++ g ∷ [])
+unfolding GroupsSpelled
+groups_push [] g h k = (k, tt)
+groups_push (x ∷ groups) g h k = (h.0, groups_push groups g h.1 k)
+
+joined_spelled : (letter : ℕ) (base : List ℕ) (m : Member) (groups : List Group) → is_spelled base ≡ true → is_spelled m.name ≡ true → GroupsSpelled groups
+    → GroupsSpelled (joined letter base m groups)
+unfolding GroupsSpelled joined
+joined_spelled letter base m [] h k all = ((h, one_member m k), tt)
+joined_spelled letter base m (g ∷ groups) h k all = by (is_of letter base g) (joined_spelled letter base m groups h k all.1)
+  where
+    by : (t : Bool) → GroupsSpelled (joined letter base m groups) → GroupsSpelled (if t then grown g m ∷ groups else g ∷ joined letter base m groups)
+    by true later = ((all.0.0, members_push g.members m all.0.1 k), all.1)
+    by false later = (all.0, later)
+
+alone_spelled : (groups : List Group) (n : Named) → is_spelled n.name ≡ true → GroupsSpelled groups → GroupsSpelled (groups ++ alone n ∷ [])
+alone_spelled groups n h all = groups_push groups (alone n) all (refl, one_member (member n 0) h)
+
+bit_spelled : (groups : List Group) (n : Named) (letter : ℕ) (bracket : Option (ℕ × ℕ)) → is_spelled n.name ≡ true → GroupsSpelled groups
+    → GroupsSpelled (with_bit groups n letter bracket)
+bit_spelled groups n letter None h all = alone_spelled groups n h all
+bit_spelled groups n letter (Some bracket) h all =
+    joined_spelled letter (take bracket.0 n.name) (member n bracket.1) groups (front_spelled bracket.0 n.name h) h all
+
+element_spelled : (groups : List Group) (n : Named) (letter : Option ℕ) → is_spelled n.name ≡ true → GroupsSpelled groups → GroupsSpelled (with_element groups n letter)
+element_spelled groups n None h all = alone_spelled groups n h all
+element_spelled groups n (Some letter) h all = bit_spelled groups n letter (bracket_in n.name) h all
+
+groups_on : (wires : List Named) (groups : List Group) → NamedSpelled wires → GroupsSpelled groups → GroupsSpelled (fold with_named groups wires)
+unfolding NamedSpelled
+groups_on [] groups h all = all
+groups_on (n ∷ wires) groups h all = groups_on wires (with_named groups n) h.1 (element_spelled groups n (bit_letter n.wire) h.0 all)
+
+no_groups : GroupsSpelled []
+unfolding GroupsSpelled
+no_groups = tt
+
+-- ---- variables
+
+VariablesSpelled : List Variable → Type 0
+VariablesSpelled [] = Unit {0}
+VariablesSpelled (v ∷ variables) = (is_spelled v.name ≡ true) × VariablesSpelled variables
+
+variables_both : (a b : List Variable) → VariablesSpelled a → VariablesSpelled b → VariablesSpelled (a ++ b)
+unfolding VariablesSpelled
+variables_both [] b h k = k
+variables_both (v ∷ a) b h k = (h.0, variables_both a b h.1 k)
+
+singles_spelled : (members : List Member) → MembersSpelled members → VariablesSpelled (map single members)
+unfolding MembersSpelled VariablesSpelled
+singles_spelled [] h = tt
+singles_spelled (m ∷ members) h = (h.0, singles_spelled members h.1)
+
+bus_spelled : (g : Group) (row : Option (List Wire)) → GroupSpelled g → VariablesSpelled (by_bus g row)
+unfolding VariablesSpelled
+bus_spelled g None h = singles_spelled g.members h.1
+bus_spelled g (Some wires) h = (h.0, tt)
+
+each_group : (groups : List Group) → GroupsSpelled groups → VariablesSpelled (flat_map of_group groups)
+unfolding GroupsSpelled VariablesSpelled
+each_group [] h = tt
+each_group (g ∷ groups) h = variables_both (of_group g) (flat_map of_group groups) (bus_spelled g (bus_of g.members) h.0) (each_group groups h.1)
+
+variables_spelled : (m : Model) (j : ℕ) → VariablesSpelled (variables_of m j)
+variables_spelled m j = each_group (groups_of m j) (groups_on (named_wires m j) [] (wires_spelled m j) no_groups)
+
 -- ---- signals
 
 pub SignalsSpelled : List Signal → Type 0
@@ -137,14 +258,14 @@ unfolding SignalsSpelled
 signals_push [] s h n k = ((n, k), tt)
 signals_push (x ∷ signals) s h n k = (h.0, signals_push signals s h.1 n k)
 
-signals_all : (symbols : List Symbol) (wires : List Wire) (signals : List Signal) → LabelsSpelled wires → SignalsSpelled signals
-    → SignalsSpelled (fold (with_signal symbols) signals wires)
-unfolding LabelsSpelled
-signals_all symbols [] signals labels h = h
-signals_all symbols (w ∷ wires) signals labels h =
-    signals_all symbols wires (with_signal symbols signals w) labels.1
-    (signals_push signals (next_signal symbols signals w) h
-    (apart_spelled (enough signals) signals (label w) (plain_name symbols w) labels.0 (plain_spelled w symbols (label w) labels.0))
+signals_all : (variables : List Variable) (signals : List Signal) → VariablesSpelled variables → SignalsSpelled signals
+    → SignalsSpelled (fold with_signal signals variables)
+unfolding VariablesSpelled
+signals_all [] signals names h = h
+signals_all (v ∷ variables) signals names h =
+    signals_all variables (with_signal signals v) names.1
+    (signals_push signals (next_signal signals v) h
+    (apart_spelled (enough signals) signals (label_of v.wires) v.name (first_label_spelled v.wires) names.0)
     (range_spelled (identifier (length signals)) (in_range (length signals))))
 
 none_spelled : SignalsSpelled []
@@ -152,7 +273,7 @@ unfolding SignalsSpelled
 none_spelled = tt
 
 pub signals_spelled : (m : Model) (j : ℕ) → SignalsSpelled (signals_of m j)
-signals_spelled m j = signals_all m.names.symbols (wires_of m j) [] (wires_spelled m j) none_spelled
+signals_spelled m j = signals_all (variables_of m j) [] (variables_spelled m j) none_spelled
 
 behind_space : (bytes : List ℕ) → is_spelled bytes ≡ true → AllByRecursion (λ b. 32 < b) bytes
 behind_space [] h = tt
@@ -211,23 +332,54 @@ lines_nil = All-nil (λ l. Lacks l 10)
 lines_both : (a b : List (List ℕ)) → AreLines a → AreLines b → AreLines (a ++ b)
 lines_both a b h k = All-append (λ l. Lacks l 10) a b h k
 
+range_line : (s : Signal) → is_line (range_text s) ≡ true
+range_line s = by (nat_lt (length s.wires) 2)
+  where
+    high : ℕ
+    high = s.low + (length s.wires - 1)
+
+    by : (t : Bool) → is_line (if t then [] else codes " [" ++ decimal high ++ 58 ∷ (decimal s.low ++ 93 ∷ [])) ≡ true
+    by true = refl
+    by false =
+        line_both (decimal high) (58 ∷ (decimal s.low ++ 93 ∷ [])) (spelled_line (decimal high) (decimal_spelled high))
+        (line_both (decimal s.low) (93 ∷ []) (spelled_line (decimal s.low) (decimal_spelled s.low)) refl)
+
+width_line : (s : Signal) → is_line (width_text s) ≡ true
+width_line s = line_both (decimal (length s.wires)) (32 ∷ []) (spelled_line (decimal (length s.wires)) (decimal_spelled (length s.wires))) refl
+
 vars_lines : (signals : List Signal) → SignalsSpelled signals → AreLines (map var_line signals)
 unfolding SignalsSpelled
 vars_lines [] h = lines_nil
 vars_lines (s ∷ signals) h =
+    let named : List ℕ = s.name ++ range_text s in
     lines_cons (var_line s) (map var_line signals)
-    (line_both s.code (32 ∷ (s.name ++ codes " $end")) (spelled_line s.code h.0.1) (line_both s.name (codes " $end") (spelled_line s.name h.0.0) refl))
+    (line_both (width_text s ++ s.code) (32 ∷ (named ++ codes " $end")) (line_both (width_text s) s.code (width_line s) (spelled_line s.code h.0.1))
+    (line_both named (codes " $end") (line_both s.name (range_text s) (spelled_line s.name h.0.0) (range_line s)) refl))
     (vars_lines signals h.1)
+
+digits_line : (values : List Bool) (looping : Bool) (wires : List Wire) → is_line (digits_of values looping wires) ≡ true
+digits_line values looping [] = refl
+digits_line values looping (w ∷ wires) = by (value_in values looping w) (digits_line values looping wires)
+  where
+    by : (b : Bool) → is_line (digits_of values looping wires) ≡ true → is_line (digit_of b ∷ digits_of values looping wires) ≡ true
+    by true h = h
+    by false h = h
+
+word_line : (values : List Bool) (looping : Bool) (wires : List Wire) → is_line (word_of values looping wires) ≡ true
+word_line values looping wires = by (nat_lt (length wires) 2) (digits_line values looping wires)
+  where
+    by : (t : Bool) → is_line (digits_of values looping wires) ≡ true
+        → is_line (if t then digits_of values looping wires else 98 ∷ (digits_of values looping wires ++ 32 ∷ [])) ≡ true
+    by true h = h
+    by false h = line_both (digits_of values looping wires) (32 ∷ []) h refl
 
 values_lines : (values : List Bool) (looping : Bool) (signals : List Signal) → SignalsSpelled signals → AreLines (map (value_line values looping) signals)
 unfolding SignalsSpelled
 values_lines values looping [] h = lines_nil
 values_lines values looping (s ∷ signals) h =
-    lines_cons (value_line values looping s) (map (value_line values looping) signals) (by (value_in values looping s.wire)) (values_lines values looping signals h.1)
-  where
-    by : (b : Bool) → is_line (digit_of b ∷ s.code) ≡ true
-    by true = spelled_line s.code h.0.1
-    by false = spelled_line s.code h.0.1
+    lines_cons (value_line values looping s) (map (value_line values looping) signals)
+    (line_both (word_of values looping s.wires) s.code (word_line values looping s.wires) (spelled_line s.code h.0.1))
+    (values_lines values looping signals h.1)
 
 time_is_line : (t : ℕ) → is_line (time_line t) ≡ true
 time_is_line t = spelled_line (decimal (10 * t)) (decimal_spelled (10 * t))

@@ -1,6 +1,6 @@
 -- The value change dump of a lasso (IEEE 1364-2005, clause 18): header, names, all values at each position, and the loop
 -- once more behind the last position. Which declarations and times there are is this program's.
-use Rattle.std.specs.Prelude.{ℕ, ◌+◌, ◌*◌, Bool, nat_le, List, [], ◌∷◌, ◌++◌, map, drop, length, decimal, codes, if◌then◌else◌}
+use Rattle.std.specs.Prelude.{ℕ, ◌+◌, ◌-◌, ◌*◌, Bool, nat_le, nat_lt, List, [], ◌∷◌, ◌++◌, map, drop, length, decimal, codes, if◌then◌else◌}
 use Rattle.text_grammar.specs.Lines.{ended_lines}
 use Rattle.aig_semantics.specs.declared.traces.Position.{Position}
 use Rattle.aig_semantics.specs.declared.traces.Lasso.{Lasso}
@@ -8,17 +8,25 @@ use Rattle.aig_semantics.specs.Circuits.{Circuit}
 use Rattle.aig_semantics.specs.Runs.{valuation_at}
 use Rattle.aig_semantics.specs.Stimuli.{simulated}
 use Rattle.aiger_grammar.specs.Models.{Model}
+use Rattle.waves.specs.declared.wires.Wire.{Wire}
 use Rattle.waves.specs.declared.signals.Signal.{Signal}
 use Rattle.waves.specs.Wires.{value_in}
-use Rattle.waves.specs.Names.{signals_of}
+use Rattle.waves.specs.Signals.{signals_of}
 
 -- the lasso's positions, and then those of its loop once more
 abbrev pub unrolled : Circuit → Lasso → List Position
 unrolled c lasso = simulated c lasso.start (lasso.inputs ++ drop lasso.from lasso.inputs)
 
--- the declaration of a signal: a wire of one bit
+-- the indices of a bus, the highest first; of one wire none
+abbrev pub range_text : Signal → List ℕ
+range_text s = if nat_lt (length s.wires) 2 then [] else codes " [" ++ decimal (s.low + (length s.wires - 1)) ++ 58 ∷ (decimal s.low ++ 93 ∷ [])
+
+abbrev pub width_text : Signal → List ℕ
+width_text s = codes "$var wire " ++ decimal (length s.wires) ++ 32 ∷ []
+
+-- the declaration of a signal: a wire of so many bits
 abbrev pub var_line : Signal → List ℕ
-var_line s = codes "$var wire 1 " ++ s.code ++ 32 ∷ (s.name ++ codes " $end")
+var_line s = width_text s ++ s.code ++ 32 ∷ (s.name ++ range_text s ++ codes " $end")
 
 -- the program and the property
 abbrev pub comment_line : ℕ → List ℕ
@@ -38,8 +46,17 @@ time_line t = 35 ∷ decimal (10 * t)
 abbrev pub digit_of : Bool → ℕ
 digit_of value = if value then 49 else 48
 
+-- the digit of each wire
+abbrev pub digits_of : List Bool → Bool → List Wire → List ℕ
+digits_of values looping wires = map (λ w. digit_of (value_in values looping w)) wires
+
+-- the digit of one wire, or the letter b, the digits and a space
+abbrev pub word_of : List Bool → Bool → List Wire → List ℕ
+word_of values looping wires =
+    if nat_lt (length wires) 2 then digits_of values looping wires else 98 ∷ (digits_of values looping wires ++ 32 ∷ [])
+
 abbrev pub value_line : List Bool → Bool → Signal → List ℕ
-value_line values looping s = digit_of (value_in values looping s.wire) ∷ s.code
+value_line values looping s = word_of values looping s.wires ++ s.code
 
 -- the time of position t, and the values of all signals at it; from the place `from` on it is in the loop
 abbrev pub position_lines : Circuit → ℕ → List Signal → ℕ → Position → List (List ℕ)

@@ -5,10 +5,10 @@ ghost use Rattle.text_grammar.specs.Lines.{ended_lines};
 ghost use Rattle.aig_semantics.specs.Valuations.{valuation};
 ghost use Rattle.aig_semantics.specs.Runs.{position_of, successor};
 ghost use Rattle.aig_semantics.specs.Stimuli.{simulated, state_after};
-ghost use Rattle.waves.specs.Dumps.{unrolled, var_line, comment_line, header_lines, time_line, value_line, position_lines, run_lines, all_lines, waves_text};
+ghost use Rattle.waves.specs.Dumps.{unrolled, range_text, width_text, var_line, comment_line, header_lines, time_line, digits_of, word_of, value_line, position_lines, run_lines, all_lines, waves_text};
 
 use crate::signals::{Signal, signals_of};
-use crate::wires::value_in;
+use crate::wires::{Wire, value_in};
 use aig_semantics::Lasso;
 use aiger_names::Model;
 use circuit::{Circuit, eval_into, next_into};
@@ -16,15 +16,41 @@ use items::Items;
 use std::alloc::{AllocError, Global};
 use text_grammar::push_number;
 
+// The indices of a bus.
+fn push_range(out: &mut Vec<u8>, signal: &Signal) -> Result<(), AllocError>
+    ensures { OnOk result (out.new.items ≡ out.old.items ++ range_text signal.now) }
+{
+    let width = signal.wires.as_slice().len() as u64;
+    if width < 2 {
+        return Ok(());
+    }
+    let low = u64::from(signal.low);
+    out.extend_from_slice(b" [")?;
+    push_number(out, low + (width - 1))?;
+    out.push(b':')?;
+    push_number(out, low)?;
+    out.push(b']')?;
+    Ok(())
+}
+
+fn push_width(out: &mut Vec<u8>, signal: &Signal) -> Result<(), AllocError>
+    ensures { OnOk result (out.new.items ≡ out.old.items ++ width_text signal.now) }
+{
+    out.extend_from_slice(b"$var wire ")?;
+    push_number(out, signal.wires.len() as u64)?;
+    out.push(b' ')?;
+    Ok(())
+}
+
 fn push_var(out: &mut Vec<u8>, signal: &Signal) -> Result<(), AllocError>
     ensures { OnOk result (out.new.items ≡ out.old.items ++ (var_line signal.now ++ 10 ∷ [])) }
 {
-    out.extend_from_slice(b"$var wire 1 ")?;
+    push_width(out, signal)?;
     out.extend_from_slice(signal.code.as_slice())?;
     out.push(b' ')?;
     out.extend_from_slice(signal.name.as_slice())?;
-    out.extend_from_slice(b" $end")?;
-    out.push(b'\n')?;
+    push_range(out, signal)?;
+    out.extend_from_slice(b" $end\n")?;
     Ok(())
 }
 
@@ -71,6 +97,39 @@ fn push_time(out: &mut Vec<u8>, t: u64) -> Result<(), AllocError>
     Ok(())
 }
 
+fn push_digits(
+    out: &mut Vec<u8>,
+    values: &[bool],
+    looping: bool,
+    wires: &[Wire],
+) -> Result<(), AllocError>
+    ensures { OnOk result (out.new.items ≡ out.old.items ++ digits_of values.now looping wires.now) }
+{
+    for wire in wires {
+        let value = value_in(values, looping, *wire);
+        out.push(if value { b'1' } else { b'0' })?;
+    }
+    Ok(())
+}
+
+// The value of a bus: a letter in front of its digits, and a space behind them.
+fn push_word(
+    out: &mut Vec<u8>,
+    values: &[bool],
+    looping: bool,
+    wires: &[Wire],
+) -> Result<(), AllocError>
+    ensures { OnOk result (out.new.items ≡ out.old.items ++ word_of values.now looping wires.now) }
+{
+    if wires.len() < 2 {
+        return push_digits(out, values, looping, wires);
+    }
+    out.push(b'b')?;
+    push_digits(out, values, looping, wires)?;
+    out.push(b' ')?;
+    Ok(())
+}
+
 fn push_value(
     out: &mut Vec<u8>,
     values: &[bool],
@@ -79,11 +138,7 @@ fn push_value(
 ) -> Result<(), AllocError>
     ensures { OnOk result (out.new.items ≡ out.old.items ++ (value_line values.now looping signal.now ++ 10 ∷ [])) }
 {
-    out.push(if value_in(values, looping, signal.wire) {
-        b'1'
-    } else {
-        b'0'
-    })?;
+    push_word(out, values, looping, signal.wires.as_slice())?;
     out.extend_from_slice(signal.code.as_slice())?;
     out.push(b'\n')?;
     Ok(())

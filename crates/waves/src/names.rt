@@ -4,7 +4,7 @@ ghost use Rattle.std.specs.Prelude.{◌≡◌, ◌++◌, ◌<◌, IfOk, OnOk};
 ghost use Rattle.waves.specs.Names.{label, is_plain, hex_digit, escaped_byte, escaped, set_apart, enough, next_identifier};
 
 use crate::signals::Signals;
-use crate::wires::Wire;
+use crate::wires::{Wire, letter_of};
 use aiger_grammar::JUSTICE;
 use std::alloc::{AllocError, Global};
 use text_grammar::push_number;
@@ -15,8 +15,8 @@ pub(crate) fn label(alloc: Global, wire: Wire) -> Result<Vec<u8>, AllocError>
 {
     let mut text = Vec::new(alloc);
     match wire {
-        Wire::Element { letter, index, .. } => {
-            text.push(letter)?;
+        Wire::Element { section, index, .. } => {
+            text.push(letter_of(section))?;
             push_number(&mut text, index)?;
         }
         Wire::PropertyLiteral {

@@ -1,22 +1,26 @@
-//! Signals: wires with their names and identifiers. The main call is `signals_of`.
+//! Signals: variables with their names and identifiers. The main call is `signals_of`.
 
 ghost use Rattle.std.specs.Prelude.{◌≡◌, ◌<◌, ◌++◌, ◌∷◌, [], fold, length, IfOk, OnOk};
-ghost use Rattle.waves.specs.Names.{identifier, has_name, with_signal, signals_of};
-ghost use Rattle.waves.specs.Kept.{IsNextSignal};
+ghost use Rattle.waves.specs.Names.{identifier, has_name};
+ghost use Rattle.waves.specs.Signals.{label_of, next_signal, with_signal, signals_of};
 
+use crate::buses::{Variable, variables_of};
+use crate::groups::gather;
+use crate::named::named_wires;
 use crate::names::{label, next_identifier, set_apart};
-use crate::symbols::{SymbolNames, plain_name, symbol_names};
-use crate::wires::{Wire, wires_of};
-use aiger_grammar::Symbol;
+use crate::wires::Wire;
 use aiger_names::Model;
 use items::Items;
 use std::alloc::{AllocError, Global};
 use std::collections::BTreeSet;
 
-/// A wire with its name and its identifier, which no other signal of the dump has.
-#[derive(Debug, Drop)]
+/// A variable of a dump, a bus or one wire, with its name and its identifier, which no other signal of the dump has.
+#[derive(Drop)]
 pub struct Signal {
-    pub wire: Wire,
+    /// Of a bus the one of the highest index first.
+    pub wires: Items<Wire>,
+    /// The lowest index of a bus, and of one wire 0.
+    pub low: u32,
     /// At least one byte, each from 33 to 126.
     pub name: Items<u8>,
     /// At least one byte, each from 33 to 126.
@@ -80,22 +84,39 @@ impl Signals {
     }
 }
 
-// The signal of a wire behind others.
+// The label of the first wire.
+fn label_of(alloc: Global, wires: &[Wire]) -> Result<Vec<u8>, AllocError>
+    ensures { IfOk result (λ text. text.items ≡ label_of wires.now) }
+{
+    match wires {
+        [first, ..] => label(alloc, *first),
+        [] => Ok(Vec::new(alloc)),
+    }
+}
+
+// The name of a variable behind signals.
+fn name_of(alloc: Global, signals: &Signals, variable: &Variable) -> Result<Vec<u8>, AllocError>
+    ensures { IfOk result (λ name. name.items ≡ (next_signal signals.now variable.now).name) }
+{
+    let label = label_of(alloc, variable.wires.as_slice())?;
+    let name = Vec::from_slice(alloc, variable.name.as_slice())?;
+    set_apart(signals, &label, name)
+}
+
+// The signal of a variable behind others.
 fn next_signal(
     alloc: Global,
-    names: &SymbolNames,
     signals: &Signals,
-    wire: Wire,
+    variable: &Variable,
     code: &[u8],
 ) -> Result<Signal, AllocError>
     requires { code.now ≡ identifier (length signals.now) }
-    ensures { IfOk result (IsNextSignal names.now signals.now wire) }
+    ensures { IfOk result (λ signal. signal ≡ next_signal signals.now variable.now) }
 {
-    let plain = plain_name(alloc, names, wire)?;
-    let label = label(alloc, wire)?;
-    let name = set_apart(signals, &label, plain)?;
+    let name = name_of(alloc, signals, variable)?;
     Ok(Signal {
-        wire,
+        wires: variable.wires.try_copy(alloc)?,
+        low: variable.low,
         name: Items::from_vec(name),
         code: Items::from_slice(alloc, code)?,
     })
@@ -106,20 +127,20 @@ pub(crate) fn signals_of(alloc: Global, model: &Model, j: u32) -> Result<Vec<Sig
     requires { j < length model.now.circuit.justice }
     ensures { IfOk result (λ signals. signals.items ≡ signals_of model.now j) }
 {
-    let wires = wires_of(alloc, model, j)?;
-    let symbols = model.names().symbols.as_slice();
-    named(alloc, symbols, &wires)
+    let wires = named_wires(alloc, model, j)?;
+    let groups = gather(alloc, &wires)?;
+    let variables = variables_of(alloc, &groups)?;
+    named(alloc, &variables)
 }
 
-// The signals of wires.
-fn named(alloc: Global, symbols: &[Symbol], wires: &[Wire]) -> Result<Vec<Signal>, AllocError>
-    ensures { IfOk result (λ signals. signals.items ≡ fold (with_signal symbols.now) [] wires.now) }
+// The signals of variables.
+fn named(alloc: Global, variables: &[Variable]) -> Result<Vec<Signal>, AllocError>
+    ensures { IfOk result (λ signals. signals.items ≡ fold with_signal [] variables.now) }
 {
-    let names = symbol_names(alloc, symbols)?;
     let mut signals = Signals::new(alloc);
     let mut code = vec![in alloc; 33; 1]?;
-    for wire in wires {
-        let signal = next_signal(alloc, &names, &signals, *wire, &code)?;
+    for variable in variables {
+        let signal = next_signal(alloc, &signals, variable, &code)?;
         signals.push(alloc, signal)?;
         code = next_identifier(alloc, &code)?;
     }

@@ -5,7 +5,7 @@ ghost use Rattle.waves.specs.Names.{label};
 ghost use Rattle.waves.specs.Kept.{element_of, kept_name, GetsName, AreNamesOf};
 
 use crate::names::{escaped, label};
-use crate::wires::Wire;
+use crate::wires::{Wire, letter_of};
 use aiger_grammar::{JUSTICE, Symbol};
 use std::alloc::{AllocError, Global};
 use std::collections::BTreeMap;
@@ -18,7 +18,7 @@ fn element_of(wire: Wire) -> Option<(u8, u64)>
     ensures { result ≡ element_of wire }
 {
     match wire {
-        Wire::Element { letter, index, .. } => Some((letter, index)),
+        Wire::Element { section, index, .. } => Some((letter_of(section), index)),
         Wire::PropertyLiteral { property, .. } => Some((JUSTICE, property)),
         Wire::Loop => None,
     }

@@ -2,7 +2,7 @@ use Rattle.std.proofs.Common.{◌∙◌, ◌++◌, ap, List}
 use Rattle.text_grammar.specs.Lines.{ended_lines}
 use Rattle.aig_semantics.specs.Circuits.{Circuit}
 use Rattle.waves.specs.declared.signals.Signal.{Signal}
-use Rattle.waves.specs.Names.{signals_of}
+use Rattle.waves.specs.Signals.{signals_of}
 use Rattle.waves.specs.Dumps.{header_lines, all_lines, unrolled}
 use Rattle.waves.proofs.Lines.{both_written}
 use Rattle.waves.proofs.dumps.write.Goals as goal

@@ -1,6 +1,7 @@
 use Rattle.waves.proofs.Unrolling.{loops_are_unrolled}
 use Rattle.waves.proofs.Apart.{names_are_apart, identifiers_are_apart}
 use Rattle.waves.proofs.Spelled.{are_spelled}
+use Rattle.waves.proofs.BusLaws.{buses_are_named}
 use Rattle.waves.proofs.ReadBack.{values_are_read}
 use Rattle.waves.proofs.laws.dump_laws.Goals as goal
 
@@ -12,6 +13,9 @@ returns-clause-identifiers c = identifiers_are_apart
 
 pub returns-clause-spelled : goal.returns-clause-spelled
 returns-clause-spelled c = are_spelled
+
+pub returns-clause-buses : goal.returns-clause-buses
+returns-clause-buses c = buses_are_named
 
 pub returns-clause-values : goal.returns-clause-values
 returns-clause-values c = values_are_read
