@@ -102,17 +102,17 @@ same_below free last (l ∷ literals) a b h here there e below =
       ]
     ]
 
-turned : (b : Bool) → b ≡ not b → ⊥
-turned true e = false≢true (sym e)
-turned false e = false≢true e
+outcome : (b : Bool) → b ≡ not b → ⊥
+outcome true e = false≢true (sym e)
+outcome false e = false≢true e
 
 none_opposite : (free last : ℕ) (literals : List Lit) (a : Lit) → is_apart free last literals ≡ true
     → has_literal literals a ≡ true → has_literal literals (negation a) ≡ true → ⊥
 none_opposite free last literals a h here there = elim (cases_Bool (nat_lt a.var free)) [
-  | inl t ↦ turned a.positive (same_below free last literals a (negation a) h here there refl (ltb-true a.var free t))
+  | inl t ↦ outcome a.positive (same_below free last literals a (negation a) h here there refl (ltb-true a.var free t))
   | inr t ↦
       let above : free ≤ a.var = ltb-false a.var free t in
-      turned a.positive
+      outcome a.positive
       (positive_above free last literals a h here above ∙ sym (positive_above free last literals (negation a) h there above))
 ]
 

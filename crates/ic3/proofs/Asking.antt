@@ -1,29 +1,12 @@
 -- What the solver's answers leave: counts, ends, and assumptions that are opposites.
-use Rattle.std.proofs.Common.{◌≡◌, ℕ, zero, suc, ◌<◌, ◌≤◌, ◌^◌, Bool, true, false, not, ◌||◌, List, [], ◌∷◌, refl, sym, ap, subst, ◌∙◌, inl, inr, arith}
+use Rattle.std.proofs.Common.{◌≡◌, ℕ, Bool, true, false, not, ◌||◌, List, [], ◌∷◌, sym, ap, subst, ◌∙◌, inl, inr}
 use Rattle.std.specs.List.{list_any}
 use Rattle.std.proofs.lemmas.Bool.{false≢true, and_parts, cases_Bool}
 use Rattle.proof_semantics.specs.declared.literals.Lit.{Lit}
 use Rattle.proof_semantics.specs.Clauses.{literal_value, cube_value, negation, has_literal, has_opposites}
 use Rattle.proof_semantics.proofs.LiteralLaws.{literal_value-negation, cube_value-has}
-use Rattle.edge.specs.Units.{Spendings}
-use Rattle.edge.specs.Ends.{CountsConflicts}
-use Rattle.cdcl.specs.Solving.{with_conflicts, more_conflicts}
 use Rattle.cdcl.specs.Asking.{IsCore}
 use Rattle.ic3.proofs.FoundLaws.{part_same}
-
-counted_more : (count n : ℕ) → count < 2 ^ 64 → (count ≤ more_conflicts count n) × (more_conflicts count n < 2 ^ 64)
-counted_more count zero fits = (omega arith, fits)
-counted_more count (suc n) fits =
-    let h = counted_more count n fits in
-    let x : ℕ = more_conflicts count n in
-    let low : count ≤ more_conflicts count n = h.0 in
-    let high : more_conflicts count n < 2 ^ 64 = h.1 in
-    (omega arith, omega arith)
-
-pub counts : (old new : Spendings) (n : ℕ) → old.conflicts < 2 ^ 64 → new ≡ with_conflicts old n → CountsConflicts old new
-counts old new n fits e =
-    subst (λ m. CountsConflicts old m) (sym e)
-    (record { conflict_limit = refl; step_limit = refl; steps = refl; conflicts = (counted_more old.conflicts n fits).0 })
 
 not_false : (a : Bool) → a ≡ true → not a ≡ true → ⊥
 not_false true h n = false≢true n

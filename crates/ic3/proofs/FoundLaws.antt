@@ -16,10 +16,10 @@ use Rattle.cnf_unroll.specs.Situations.{situation_in}
 use Rattle.cnf_unroll.proofs.Truth.{both, together, literal_there, clause_there}
 use Rattle.cnf_unroll.proofs.BlockWriting.{Shows}
 use Rattle.cnf_unroll.proofs.ObligationLaws.{state_length, successor_length}
-use Rattle.ic3_questions.specs.Stepping.{Stepping, meets_from, IsArenaStep, EntersFrom, IsPredecessor, IsMissing, IsOver}
+use Rattle.ic3_semantics.specs.Stepping.{Stepping, meets_from, IsArenaStep, EntersFrom, IsPredecessor, IsMissing, IsOver}
 use Rattle.ic3_questions.specs.SteppingClauses.{base_clauses, level_guard, question_guard, guarded, denied_at, lemma_clause, avoid_clause, held_clauses, AreBelow, IsOn, AreAssumed, part_at}
 use Rattle.ic3.specs.SteppingInside.{IsHeldBy, IsWhole, ModelInto, CoreInto, question_clause}
-use Rattle.ic3_questions.specs.declared.lemmas.Lemma.{Lemma}
+use Rattle.ic3_semantics.specs.declared.lemmas.Lemma.{Lemma}
 use Rattle.ic3.specs.declared.stepping_questions.Questions.{Questions}
 use Rattle.ic3_questions.proofs.BaseLaws.{base_read, base_written}
 use Rattle.ic3.proofs.Guards.{guards, level_value, question_value, guarded_off, guarded_on, guarded_held, one_clause}

@@ -8,13 +8,13 @@ use Rattle.edge.specs.declared.solve_end.SolveEnd.{SolveEnd}
 use Rattle.cnf_unroll.specs.Numbers.{state_place, successor_place, clause_at_place, literal_in_block}
 use Rattle.cnf_unroll.specs.Laws.{AreOver}
 use Rattle.entry.specs.Laws.{IsGoodList}
-use Rattle.ic3_questions.specs.Searching.{Question}
-use Rattle.ic3_questions.specs.Stepping.{Stepping, no_lemmas, with_lemma, IsOver, IsPredecessor, IsMissing, IsFound, MeetsFrom, IsGoalFound}
+use Rattle.ic3_semantics.specs.Searching.{Question}
+use Rattle.ic3_semantics.specs.Stepping.{Stepping, no_lemmas, with_lemma, IsOver, IsPredecessor, IsMissing, IsFound, MeetsFrom, IsGoalFound}
 use Rattle.ic3_questions.specs.SteppingClauses.{base_clauses, first_guard, level_guard, guarded, avoid_clause, lemma_clause, held_clauses, Retires, AreBelow}
 use Rattle.ic3.specs.SteppingInside.{HasOneValuation, IsHeldBy, IsHeldWith, KeepsNumbers, Keeps, Grows, IsWhole, Holds, MayHold, TellsInto, TellsGoal, TellsLiteral}
-use Rattle.ic3_questions.specs.declared.lemmas.Lemma.{Lemma}
-use Rattle.ic3_questions.specs.declared.found.Found.{Found}
-use Rattle.ic3_questions.specs.declared.found.Found.TheVariants.{Step, Missing}
+use Rattle.ic3_semantics.specs.declared.lemmas.Lemma.{Lemma}
+use Rattle.ic3_semantics.specs.declared.found.Found.{Found}
+use Rattle.ic3_semantics.specs.declared.found.Found.TheVariants.{Step, Missing}
 use Rattle.ic3.specs.declared.stepping_questions.Questions.{Questions}
 use Rattle.cnf_unroll.proofs.Truth.{both, together}
 use Rattle.ic3.proofs.Guards.{retires_more, behind}

@@ -1,13 +1,12 @@
 -- Two neighbouring frames with the same lemmas are a closed set, which separates the starts from the goal.
-use Rattle.std.proofs.Common.{◌≡◌, ℕ, zero, suc, ◌+◌, ◌-◌, ◌<◌, Bool, true, false, ◌&&◌, cond, List, [], ◌∷◌, map, length, refl, sym, ap, subst, ◌∙◌, inl, inr, arith}
+use Rattle.std.proofs.Common.{◌≡◌, ℕ, zero, suc, ◌+◌, ◌<◌, Bool, true, false, ◌&&◌, cond, List, [], ◌∷◌, map, length, refl, sym, ap, subst, ◌∙◌}
 use Rattle.std.specs.List.{All, list_all, filter}
-use Rattle.std.proofs.lemmas.Bool.{false≢true, and_parts, and_from, or_cases}
+use Rattle.std.proofs.lemmas.Bool.{false≢true, and_parts, and_from}
 use Rattle.std.proofs.lemmas.List.Elements.{All-nil, All-cons, All-head, All-tail}
 use Rattle.aig_semantics.specs.Circuits.{Circuit}
 use Rattle.aig_semantics.specs.Runs.{successor}
 use Rattle.proof_semantics.specs.declared.literals.Lit.{Lit}
-use Rattle.proof_semantics.specs.Clauses.{literal_value, clause_value, clauses_value, cube_value, values_of, has_literal}
-use Rattle.proof_semantics.proofs.LiteralLaws.{clause_value-has}
+use Rattle.proof_semantics.specs.Clauses.{values_of}
 use Rattle.fair_semantics.specs.States.{meets_clauses}
 use Rattle.fair_semantics.specs.declared.entries.Kind.{Kind}
 use Rattle.fair_semantics.specs.declared.entries.Kind.TheVariants.{Reach, Wall}
@@ -18,47 +17,28 @@ use Rattle.fair_semantics.specs.Validity.{AreValid, NoStepLeaves}
 use Rattle.fair_semantics.proofs.Examples.{no_reach}
 use Rattle.ic3_frames.specs.Frames.{frame_at}
 use Rattle.ic3_frames.specs.Room.{allowed_by}
-use Rattle.ic3_questions.specs.declared.questions.Start.{Start}
-use Rattle.ic3_questions.specs.declared.questions.Start.TheVariants.{Initial, State}
-use Rattle.ic3_questions.specs.declared.questions.Goal.{Goal}
-use Rattle.ic3_questions.specs.declared.questions.Goal.TheVariants as goals
-use Rattle.ic3_questions.specs.Arenas.{MayStart, restricts, restricting, in_arena}
-use Rattle.ic3_questions.specs.Stepping.{IsArenaStep, IsOver}
-use Rattle.ic3_questions.specs.declared.questions.Reached.{Reached}
-use Rattle.ic3_questions.specs.declared.questions.Reached.TheVariants.{Closed}
-use Rattle.ic3_questions.specs.Searching.{Question, Misses, Separates, IsReached, closed_entry}
-use Rattle.ic3.specs.Starting.{start_cube}
-use Rattle.ic3.specs.Sound.{IsStartCube, has_one_of, IsSound, MissesLast}
-use Rattle.ic3.specs.Pushing.{Narrows}
-use Rattle.ic3.specs.Turning.{IsClosedAt}
+use Rattle.ic3_semantics.specs.declared.questions.Start.{Start}
+use Rattle.ic3_semantics.specs.declared.questions.Start.TheVariants.{Initial, State}
+use Rattle.ic3_semantics.specs.declared.questions.Goal.{Goal}
+use Rattle.ic3_semantics.specs.Arenas.{MayStart, restricts, restricting, in_arena}
+use Rattle.ic3_semantics.specs.Stepping.{IsArenaStep, IsOver}
+use Rattle.ic3_semantics.specs.declared.questions.Reached.{Reached}
+use Rattle.ic3_semantics.specs.declared.questions.Reached.TheVariants.{Closed}
+use Rattle.ic3_semantics.specs.Searching.{Question, Separates, IsReached, closed_entry}
+use Rattle.ic3_loops.specs.Starting.{start_cube}
+use Rattle.ic3_loops.specs.Sound.{IsStartCube, has_one_of, IsSound}
+use Rattle.ic3_loops.specs.Iterating.{IsClosedAt}
 use Rattle.ic3_questions.specs.SteppingClauses.{side_of, start_side, own_use, own_uses}
 use Rattle.ic3_questions.proofs.Sides.{sides_are_arena, own_uses_are, own_closed}
-use Rattle.ic3_questions.proofs.Separated.{separated}
-use Rattle.ic3.proofs.Sounds.{Levels, all_parts, grow_on}
+use Rattle.ic3_semantics.proofs.Separated.{separated}
+use Rattle.ic3_loops.proofs.Narrowing.{all_true, misses_within}
+use Rattle.ic3_loops.proofs.Sounds.{Levels, all_parts}
 
 all_frame : (P : List Lit → Type 0) (levels : Levels) (k : ℕ) → All P (frame_at levels 0) → All P (frame_at levels k)
 all_frame P [] zero h = h
 all_frame P [] (suc k) h = All-nil P
 all_frame P (own ∷ levels) zero h = h
 all_frame P (own ∷ levels) (suc k) h = all_frame P levels k (all_parts P own (frame_at levels 0) h).1
-
--- Clauses that each hold a literal of a cube are true where the cube is.
-one_true : (v : ℕ → Bool) (clause cube : List Lit) → has_one_of cube clause ≡ true → cube_value v cube ≡ true → clause_value v clause ≡ true
-one_true v clause [] some h = absurd (false≢true some)
-one_true v clause (a ∷ cube) some h =
-    let parts = and_parts (literal_value v a) (cube_value v cube) h in
-    elim (or_cases (has_literal clause a) (has_one_of cube clause) some) [
-      | inl here ↦ clause_value-has v clause a parts.0 here
-      | inr later ↦ one_true v clause cube later parts.1
-    ]
-
-pub all_true : (v : ℕ → Bool) (clauses : List (List Lit)) (cube : List Lit) → All (λ clause. has_one_of cube clause ≡ true) clauses
-    → cube_value v cube ≡ true → clauses_value v clauses ≡ true
-all_true v [] cube each h = refl
-all_true v (clause ∷ clauses) cube each h =
-    let P : List Lit → Type 0 = λ c. has_one_of cube c ≡ true in
-    and_from (clause_value v clause) (clauses_value v clauses) (one_true v clause cube (All-head P clause clauses each) h)
-    (all_true v clauses cube (All-tail P clause clauses each) h)
 
 -- ---- the uses of a search
 
@@ -173,28 +153,9 @@ region_stays q cube levels level sound below same s t step allowed inside =
     (ap (λ clauses. allowed_by clauses t) same ∙ ap (allowed_by (frame_at levels (level + 1))) (sym step.ends) ∙ next)
     (lies_in_arena q.view q.start t ends.1)
 
--- A set within one that misses the goal misses it.
-pub misses_within : (q : Question) (goal : Goal) (f g : List Bool → Bool) → ((s : List Bool) → f s ≡ false → g s ≡ false)
-    → Misses q goal f → Misses q goal g
-misses_within q (goals.State to) f g within h = within to.now h
-misses_within q (goals.Literal literal avoid) f g within h = λ p meets. within p.latches (h p meets)
-
 first_false : (a b : Bool) → a ≡ false → (a && b) ≡ false
 first_false true b e = absurd (false≢true (sym e))
 first_false false b e = refl
-
-not_inside : (a b : Bool) → (b ≡ true → a ≡ true) → a ≡ false → b ≡ false
-not_inside a true on e = absurd (false≢true (sym e ∙ on refl))
-not_inside a false on e = refl
-
--- Where the last frame missed the goal, each frame of narrower ones does.
-pub narrower_misses : (q : Question) (goal : Goal) (old new : Levels) (k : ℕ) → length new ≡ length old → k < length new
-    → Narrows old new → MissesLast q goal old → Misses q goal (allowed_by (frame_at new k))
-narrower_misses q goal old new k size below narrow misses =
-    misses_within q goal (allowed_by (frame_at old (length old - 1))) (allowed_by (frame_at new k))
-    (λ s. not_inside (allowed_by (frame_at old (length old - 1)) s) (allowed_by (frame_at new k) s)
-    (λ h. narrow (length old - 1) s (grow_on new (length old - 1) k s (omega arith) h)))
-    misses
 
 pub separates : (c : Circuit) (view : List Entry) (start : Start) (goal : Goal) (cube : List Lit) (levels : Levels) (level : ℕ)
     → AreValid c view → cube ≡ start_cube c start

@@ -1,7 +1,7 @@
--- A clause that no step of the arena leaves is a closed set.
-use Rattle.std.proofs.Common.{◌≡◌, ℕ, zero, suc, ◌+◌, ◌<◌, Bool, true, false, not, ◌&&◌, ◌||◌, List, [], ◌∷◌, ◌++◌, map, length, get_or, refl, sym, ap, subst, ◌∙◌, arith}
+-- A set of one clause separates: it is the closed set of three frames.
+use Rattle.std.proofs.Common.{◌≡◌, ℕ, zero, suc, ◌+◌, ◌<◌, Bool, true, false, ◌&&◌, ◌||◌, List, [], ◌∷◌, ◌++◌, map, length, get_or, refl, sym, ap, subst, ◌∙◌, arith}
 use Rattle.std.specs.List.{All}
-use Rattle.std.proofs.lemmas.Bool.{false≢true, and_parts, and_from}
+use Rattle.std.proofs.lemmas.Bool.{and_parts, and_from}
 use Rattle.std.proofs.lemmas.List.{length-map, get_or-map}
 use Rattle.std.proofs.lemmas.List.Folds.{list_all-append}
 use Rattle.std.proofs.lemmas.List.Elements.{All-nil, All-cons, All-append}
@@ -9,60 +9,29 @@ use Rattle.aig_semantics.specs.declared.traces.Position.{Position}
 use Rattle.aig_semantics.specs.Circuits.{Circuit}
 use Rattle.aig_semantics.specs.Runs.{successor}
 use Rattle.proof_semantics.specs.declared.literals.Lit.{Lit}
-use Rattle.proof_semantics.specs.Clauses.{literal_value, clause_value, clauses_value, cube_value, values_of, negation}
-use Rattle.proof_semantics.proofs.LiteralLaws.{cube_value-negations}
+use Rattle.proof_semantics.specs.Clauses.{literal_value, clause_value, clauses_value, cube_value, values_of}
 use Rattle.fair_semantics.specs.Entries.{Entry}
 use Rattle.fair_semantics.specs.Validity.{AreValid}
 use Rattle.ic3_frames.specs.Frames.{frame_at}
 use Rattle.ic3_frames.specs.Room.{allowed_by}
-use Rattle.ic3_questions.specs.declared.questions.Start.{Start}
-use Rattle.ic3_questions.specs.declared.questions.Goal.{Goal}
-use Rattle.ic3_questions.specs.declared.questions.Goal.TheVariants as goals
-use Rattle.ic3_questions.specs.declared.questions.Reached.{Reached}
-use Rattle.ic3_questions.specs.declared.questions.Reached.TheVariants.{Closed}
+use Rattle.ic3_semantics.specs.declared.questions.Start.{Start}
+use Rattle.ic3_semantics.specs.declared.questions.Goal.{Goal}
+use Rattle.ic3_semantics.specs.declared.questions.Goal.TheVariants as goals
+use Rattle.ic3_semantics.specs.declared.questions.Reached.{Reached}
+use Rattle.ic3_semantics.specs.declared.questions.Reached.TheVariants.{Closed}
 use Rattle.ic3_questions.specs.SteppingClauses.{own_uses}
-use Rattle.ic3_questions.specs.Searching.{Question, IsReached}
-use Rattle.ic3_questions.specs.Stepping.{Stepping, IsArenaStep, IsOver, meets_from, no_lemmas}
-use Rattle.ic3.specs.Starting.{start_cube}
-use Rattle.ic3.specs.Sound.{IsStartCube, has_one_of, IsSound, Agree}
-use Rattle.ic3.specs.Strengthening.{IsExcluded}
-use Rattle.ic3.specs.Single.{IsSingle, IsSingleOf}
-use Rattle.ic3.specs.Searches.{CountsUpTo}
+use Rattle.ic3_semantics.specs.Searching.{Question, IsReached}
+use Rattle.ic3_semantics.specs.Stepping.{Stepping, IsArenaStep, IsOver, no_lemmas}
+use Rattle.ic3_loops.specs.Starting.{start_cube}
+use Rattle.ic3_loops.specs.Sound.{IsStartCube, has_one_of, IsSound}
+use Rattle.ic3_loops.specs.Single.{IsSingle, IsSingleOf}
+use Rattle.ic3_semantics.specs.Searching.{CountsUpTo}
 use Rattle.edge.specs.Units.{Spendings}
 use Rattle.edge.specs.Ends.{CountsConflicts}
-use Rattle.ic3.proofs.Ended.{up_to_on, up_to_conflicts}
-use Rattle.ic3.proofs.Sounds.{Levels}
-use Rattle.ic3.proofs.Stuck.{negation_over}
-use Rattle.ic3.proofs.Begins.{one_of}
-use Rattle.ic3.proofs.Excluding.{twice, based-is, relative-is}
+use Rattle.ic3_loops.proofs.Ended.{up_to_on, up_to_conflicts}
+use Rattle.ic3_loops.proofs.Sounds.{Levels}
+use Rattle.ic3_loops.proofs.Begins.{one_of}
 use Rattle.ic3.proofs.Separating.{closed_reached}
-
-agree-none : (st : Stepping) → st.lemmas ≡ [] → Agree st.lemmas []
-agree-none st none k s = ap (λ lemmas. meets_from lemmas k s) none ∙ empty k
-  where
-    empty : (k : ℕ) → true ≡ allowed_by (frame_at [] k) s
-    empty zero = refl
-    empty (suc k) = refl
-
-not_false : (b : Bool) → not b ≡ true → b ≡ false
-not_false true e = absurd (false≢true e)
-not_false false e = refl
-
--- The negation of a cube that no step enters, and that holds in a state.
-pub single-is : (st : Stepping) (starts cube clause : List Lit) (to : List Bool) → st.lemmas ≡ [] → IsExcluded starts st 0 cube
-    → cube_value (values_of to) cube ≡ true → clause ≡ map negation cube → IsSingle st.question starts to clause
-single-is st starts cube clause to none excluded holds is =
-    let n : ℕ = length st.question.circuit.latches in
-    let v : ℕ → Bool = values_of to in
-    subst (IsSingle st.question starts to) (sym is)
-    (record {
-      over = negation_over n cube excluded.over;
-      based = based-is starts cube excluded.misses;
-      breaks =
-          not_false (clause_value v (map negation cube))
-          (sym (cube_value-negations v (map negation cube)) ∙ ap (cube_value v) (twice cube) ∙ holds);
-      kept = λ p arena inside. relative-is st [] 0 cube excluded.none (agree-none st none) 0 p refl arena refl inside;
-    })
 
 -- ---- three frames: the starts, and the clause twice
 

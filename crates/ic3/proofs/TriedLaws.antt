@@ -14,12 +14,13 @@ use Rattle.edge.specs.declared.solve_end.SolveEnd.{SolveEnd}
 use Rattle.cnf_unroll.specs.Numbers.{number, state_place, literal_in_block}
 use Rattle.cnf_unroll.specs.Situations.{situation_in}
 use Rattle.cnf_unroll.proofs.ObligationLaws.{state_length}
-use Rattle.ic3_questions.specs.Stepping.{Stepping, IsArenaStep, IsPredecessor, IsMissing, IsFound, MeetsFrom, IsGoalFound, IsOver}
+use Rattle.ic3_semantics.specs.Stepping.{Stepping, IsArenaStep, IsPredecessor, IsMissing, IsFound, MeetsFrom, IsGoalFound, IsOver}
 use Rattle.ic3_questions.specs.SteppingClauses.{base_clauses}
-use Rattle.ic3_questions.specs.declared.found.Found.{Found}
-use Rattle.ic3_questions.specs.declared.found.Found.TheVariants.{Step, Missing}
+use Rattle.ic3_semantics.specs.declared.found.Found.{Found}
+use Rattle.ic3_semantics.specs.declared.found.Found.TheVariants.{Step, Missing}
 use Rattle.ic3_questions.proofs.BaseLaws.{base_read}
-use Rattle.ic3.specs.SteppingInside.{IsHeldBy, IsHeldWith, TriedInto, TellsTried, TriedGoal, TellsTriedGoal, is_read}
+use Rattle.ic3.specs.SteppingInside.{IsHeldBy, IsHeldWith, TriedInto, TellsTried, TriedGoal, TellsTriedGoal}
+use Rattle.ic3_questions.specs.ReadVariables.{is_read}
 use Rattle.ic3.specs.declared.stepping_questions.Questions.{Questions}
 use Rattle.ic3.proofs.FoundLaws.{not_true, found_missing}
 use Rattle.ic3.proofs.GoalLaws.{Says, says_read, goal_none}

@@ -1,13 +1,4 @@
 pub mod SteppingInside
 pub mod SteppingStart
-pub mod Sound
-pub mod Lifting
-pub mod Blocking
-pub mod Strengthening
-pub mod Starting
-pub mod Pushing
-pub mod Holding
-pub mod Turning
 pub mod Searches
 pub mod SearchesInside
-pub mod Single

@@ -1,12 +1,11 @@
 -- What contracts see of a search that is asked again and again from one start, and keeps its frames from one question to
 -- the next (IC3: Bradley, 2011).
-use Rattle.std.specs.Prelude.{◌≡◌, ℕ, ◌+◌, ◌≤◌, List, ◌++◌, length}
+use Rattle.std.specs.Prelude.{ℕ, List, length}
 use Rattle.aig_semantics.specs.Circuits.{Circuit}
 use Rattle.proof_semantics.specs.declared.literals.Lit.{Lit}
 use Rattle.fair_semantics.specs.Entries.{Entry}
-use Rattle.edge.specs.Units.{Spendings}
 use Rattle.ic3_frames.specs.Room.{room}
-use Rattle.ic3_questions.specs.declared.questions.Start.{Start}
+use Rattle.ic3_semantics.specs.declared.questions.Start.{Start}
 
 -- A circuit and a start; the entries of the last question; and the lemmas of the frames, level by level: none before the
 -- first question, and none after a question that ended with an error.
@@ -19,15 +18,3 @@ pub record Searching : Type 0 where
 -- how many steps its questions may still take, all together, while none of them ends with an error
 abbrev pub steps_left : Searching → ℕ
 steps_left s = room (length s.circuit.latches) s.levels
-
--- the entries are the earlier ones, and possibly more behind them
-abbrev pub GoesOnFrom : List Entry → List Entry → Type 0
-GoesOnFrom earlier entries = (more : List Entry) × (entries ≡ earlier ++ more)
-
--- The limits are as before, no count fell, and at most so many steps were counted.
-pub record CountsUpTo (most : ℕ) (old new : Spendings) : Type 0 where
-  pub conflict_limit : new.conflict_limit ≡ old.conflict_limit
-  pub step_limit : new.step_limit ≡ old.step_limit
-  pub conflicts : old.conflicts ≤ new.conflicts
-  pub steps : old.steps ≤ new.steps
-  pub bound : new.steps ≤ old.steps + most

@@ -1,23 +1,38 @@
 -- What a search keeps (scaffolding): the cube of its starts, and frames that are sound for the entries of its last question.
-use Rattle.std.specs.Prelude.{◌≡◌, ℕ, ◌+◌, ◌<◌, ◌≤◌, List, [], ◌∷◌, ◌++◌, map, length}
-use Rattle.std.specs.Arc.{arc_value}
+use Rattle.std.specs.Prelude.{◌≡◌, ◌+◌, ◌≤◌, List, length}
+use Rattle.aig_semantics.specs.Circuits.{Circuit}
 use Rattle.proof_semantics.specs.declared.literals.Lit.{Lit}
+use Rattle.edge.specs.Units.{Spendings}
+use Rattle.fair_semantics.specs.Entries.{Entry}
+use Rattle.entry.specs.Laws.{IsGoodList}
+use Rattle.ic3_frames.specs.Room.{room}
+use Rattle.ic3_semantics.specs.declared.questions.Start.{Start}
+use Rattle.ic3_semantics.specs.declared.questions.Goal.{Goal}
+use Rattle.ic3_loops.specs.Propagating.{Narrows}
+use Rattle.std.specs.Arc.{arc_value}
 use Rattle.entry.specs.CheckedEntries.{viewed}
-use Rattle.ic3_questions.specs.declared.lemmas.Lemma.{Lemma}
-use Rattle.ic3_questions.specs.Searching.{Question, IsStart}
+use Rattle.ic3_semantics.specs.Searching.{Question, IsStart, IsGoal}
 use Rattle.ic3.specs.declared.asking_again.Search.TheInside.{Inside}
+use Rattle.ic3_loops.specs.Resuming.{MayGoOn}
 use Rattle.ic3.specs.Searches.{Searching}
-use Rattle.ic3.specs.Sound.{IsSound}
-use Rattle.ic3.specs.Starting.{start_cube}
+use Rattle.ic3_loops.specs.Starting.{start_cube}
 
--- at least two frames, which are sound
-pub record AreOpen (q : Question) (cube : List Lit) (levels : List (List (List Lit))) : Type 0 where
-  pub two : 2 ≤ length levels
-  pub sound : IsSound q cube levels
+abbrev pub question_of : Circuit → List Entry → Start → Question
+question_of c view start = record { circuit = c; view = view; start = start }
 
--- such frames, or none
-abbrev pub MayGoOn : Question → List Lit → List (List (List Lit)) → Type 0
-MayGoOn q cube levels = 0 < length levels → AreOpen q cube levels
+-- A good list of entries, a start of the circuit with its cube, and a goal of the circuit.
+pub record IsPosed (c : Circuit) (entries : List Entry) (from : Start) (cube : List Lit) (to : Goal) : Type 0 where
+  pub view : IsGoodList c entries
+  pub start : IsStart c from
+  pub starts : cube ≡ start_cube c from
+  pub goal : IsGoal c to
+
+-- Frames may go on; they exclude what they excluded, are no fewer, and each step that was counted left them less room.
+pub record GoesFurther (q : Question) (starts : List Lit) (before after : List (List (List Lit))) (a b : Spendings) : Type 0 where
+  pub ready : MayGoOn q starts after
+  pub narrows : Narrows before after
+  pub more : length before ≤ length after
+  pub paid : b.steps + room (length q.circuit.latches) after ≤ a.steps + room (length q.circuit.latches) before
 
 abbrev pub searching_in : Inside → Searching
 searching_in s = record {
@@ -31,11 +46,3 @@ pub record IsKept (s : Inside) : Type 0 where
   pub start : IsStart (arc_value s.circuit) s.start
   pub starts : s.starts ≡ start_cube (arc_value s.circuit) s.start
   pub frames : MayGoOn (record { circuit = arc_value s.circuit; view = viewed s.kept.seen; start = s.start }) s.starts s.kept.frames
-
--- lemmas as a solver has them: those of one level, and of all from level n on
-abbrev pub placed : ℕ → List (List Lit) → List Lemma
-placed level own = map (λ c. record { level = level; clause = c }) own
-
-abbrev pub all_placed : ℕ → List (List (List Lit)) → List Lemma
-all_placed n [] = []
-all_placed n (own ∷ levels) = placed n own ++ all_placed (n + 1) levels

@@ -1,6 +1,6 @@
 -- Scaffolding of inner functions. What the solver of a search keeps.
-use Rattle.std.specs.Prelude.{◌≡◌, ◌↔◌, ℕ, ◌+◌, ◌<◌, ◌≤◌, ◌==◌, ◌||◌, ◌⊎◌, Bool, true, false, List, [], ◌∷◌, ◌++◌, length, map, Option, Some, None}
-use Rattle.std.specs.List.{All, AllByRecursion, list_any}
+use Rattle.std.specs.Prelude.{◌≡◌, ◌↔◌, ℕ, ◌+◌, ◌<◌, ◌≤◌, ◌⊎◌, Bool, true, false, List, [], ◌∷◌, ◌++◌, length, map, Option, Some, None}
+use Rattle.std.specs.List.{All, AllByRecursion}
 use Rattle.aig_semantics.specs.declared.traces.Position.{Position}
 use Rattle.aig_semantics.specs.Circuits.{Circuit, IsChecked}
 use Rattle.aig_semantics.specs.Literals.{variable_of, is_negated}
@@ -15,11 +15,12 @@ use Rattle.cnf_unroll.specs.Situations.{situation_in}
 use Rattle.cnf_unroll.specs.Numbers.{state_place, successor_place, clause_at_place, literal_in_block}
 use Rattle.cnf_unroll.specs.Laws.{AreOver}
 use Rattle.entry.specs.Laws.{IsGoodList}
-use Rattle.ic3_questions.specs.Stepping.{Stepping, meets_from, IsOver}
+use Rattle.ic3_semantics.specs.Stepping.{Stepping, meets_from, IsOver}
+use Rattle.ic3_questions.specs.ReadVariables.{is_read}
 use Rattle.ic3_questions.specs.SteppingClauses.{base_clauses, first_guard, held_clauses, guarded, denied_at, level_guard, question_guard, Retires, AreBelow, AreAssumed, part_at}
-use Rattle.ic3_questions.specs.declared.found.Found.{Found}
-use Rattle.ic3_questions.specs.declared.found.Found.TheVariants.{Step, Missing}
-use Rattle.ic3_questions.specs.declared.lemmas.Lemma.{Lemma}
+use Rattle.ic3_semantics.specs.declared.found.Found.{Found}
+use Rattle.ic3_semantics.specs.declared.found.Found.TheVariants.{Step, Missing}
+use Rattle.ic3_semantics.specs.declared.lemmas.Lemma.{Lemma}
 use Rattle.ic3.specs.declared.stepping_questions.Questions.{Questions}
 
 -- a circuit's values are those of its equations
@@ -131,12 +132,6 @@ abbrev pub TellsGoal : Questions → Circuit → ℕ → List Lit → Option Pos
 TellsGoal s c level literals (Some p) =
     (v : ℕ → Bool) × ModelGoal s level literals v × (p ≡ (situation_in c 0 v).position)
 TellsGoal s c level literals None = NoModelGoal s level literals
-
--- the variable is 0, an input, a latch or a gate: a clause of the block may hold its number
-abbrev pub is_read : Circuit → ℕ → Bool
-is_read c v =
-    (v == 0) || list_any (λ u. u == v) c.inputs || list_any (λ latch. latch.var == v) c.latches
-    || list_any (λ gate. gate.var == v) c.gates
 
 -- what is told of a position at which an AIGER literal is met, by where its variable is defined
 abbrev pub TellsLiteral : Questions → Circuit → ℕ → ℕ → Option Position → Type 0

@@ -1,29 +1,32 @@
 //! A search that is asked again and again from one start. The main type is `Search`.
 ghost use Rattle.std.specs.Prelude.{◌≡◌, ◌+◌, ◌*◌, ◌^◌, ◌≤◌, [], length, IfOk, IfErr, OnOk, OnErr};
 ghost use Rattle.std.specs.Arc.{arc_value};
-ghost use Rattle.entry.specs.CheckedEntries.{viewed};
+ghost use Rattle.entry.specs.CheckedEntries.{viewed, GoesOnFrom};
 ghost use Rattle.entry.specs.Laws.{IsGoodList};
-ghost use Rattle.ic3.specs.Searches.{steps_left, GoesOnFrom, CountsUpTo};
+ghost use Rattle.ic3_semantics.specs.Searching.{CountsUpTo};
+ghost use Rattle.ic3.specs.Searches.{steps_left};
 ghost use Rattle.ic3_frames.specs.Room.{room};
-ghost use Rattle.ic3.specs.SearchesInside.{MayGoOn};
-ghost use Rattle.ic3.specs.Starting.{start_cube};
-ghost use Rattle.ic3_questions.specs.Searching.{IsStart, IsGoal, IsReached, IsReachEnd};
+ghost use Rattle.ic3_loops.specs.Propagating.{Narrows};
+ghost use Rattle.ic3_loops.specs.Resuming.{MayGoOn};
+ghost use Rattle.ic3_loops.specs.Starting.{start_cube};
+ghost use Rattle.ic3_semantics.specs.Searching.{IsStart, IsGoal, IsReached, IsReachEnd};
 
-use crate::searching::reach_on;
-use crate::starting::start_cube;
+use crate::searching::{Asked, reach_on};
 use circuit::Circuit;
 use cnf::Cube;
 use edge::Meter;
-use entry::Checked;
+use entry::{Checked, catch_up};
 use ic3_frames::Frames;
-use ic3_questions::{Goal, ReachEnd, Reached, Start};
+use ic3_loops::start_cube;
+use ic3_semantics::{Goal, ReachEnd, Reached, Start};
 use items::Items;
 use std::alloc::{AllocError, Global};
 use std::marker::Model;
 use std::mem;
 use std::sync::Arc;
 
-/// The entries of the last question, and its frames, or none; and how many questions its solvers were asked so far.
+/// The entries of the last question that did not want memory for them, and the frames, or none after an error; and how
+/// many questions the solvers were asked so far.
 #[derive(Drop)]
 struct Kept {
     seen: Items<Arc<Checked>>,
@@ -32,8 +35,8 @@ struct Kept {
 }
 
 /// A search for paths of a circuit from one start, which is asked again and again: for other goals, and under views that
-/// go on from those before. Its frames are kept from one question to the next, so that all questions together take no
-/// more steps than one may.
+/// go on from those before. Its frames are kept from one question to the next, until one ends with an error, so that the
+/// questions between two errors take together no more steps than one may.
 #[derive(Drop)]
 pub struct Search {
     circuit: Arc<Circuit>,
@@ -51,32 +54,6 @@ impl Model for Search {
     ghost view = { searching_in };
 
     ghost invariant = { IsKept };
-}
-
-fn share(alloc: Global, view: &[Arc<Checked>]) -> Result<Items<Arc<Checked>>, AllocError>
-    ensures { IfOk result (λ copy. viewed copy ≡ viewed view.now) }
-{
-    let mut copy = Items::new(alloc);
-    for shared in view {
-        copy.push(Arc::try_clone(shared)?)?;
-    }
-    Ok(copy)
-}
-
-// Takes in what the view has more than was seen. The error is want of memory, and changes nothing.
-fn catch_up(
-    alloc: Global,
-    seen: &mut Items<Arc<Checked>>,
-    view: &[Arc<Checked>],
-) -> Result<(), AllocError>
-    requires { GoesOnFrom (viewed seen.old) (viewed view.now) }
-    ensures seen { OnOk result (viewed seen.new ≡ viewed view.now) }
-    ensures kept { OnErr result (seen.new ≡ seen.old) }
-{
-    if seen.len() < view.len() {
-        *seen = share(alloc, view)?;
-    }
-    Ok(())
 }
 
 // The next question of a search with what it keeps, as `Search::reach` has it.
@@ -114,19 +91,24 @@ fn reach_again(
       view = viewed kept.new.seen;
       start = start.now;
     }) starts.now kept.new.frames }
+    ensures narrows { OnOk result (Narrows kept.old.frames kept.new.frames) }
+    ensures more { OnOk result (length kept.old.frames ≤ length kept.new.frames) }
     ensures lost { OnErr result (kept.new.frames ≡ []) }
     ensures view { OnOk result (viewed kept.new.seen ≡ viewed view.now) }
     ensures seen { GoesOnFrom (viewed kept.new.seen) (viewed view.now) }
 {
     let mut frames = mem::replace(&mut kept.frames, Frames::new(alloc));
     catch_up(alloc, &mut kept.seen, view)?;
-    let reached = reach_on(
-        alloc,
+    let asked = Asked {
         c,
         view,
         start,
         starts,
         goal,
+    };
+    let reached = reach_on(
+        alloc,
+        &asked,
         &mut frames,
         &mut kept.solver_questions,
         meter,
@@ -178,8 +160,9 @@ impl Search {
 
     /// A path from the start to the goal by steps that the entries of the view allow; or, exactly where there is none, a
     /// closed set. From the initial states reach entries alone restrict the steps. The steps that a question counts are
-    /// taken from those that are left. Each error but that of memory comes where the meter's count of its kind is at its
-    /// limit; after an error the frames are lost, and the next question begins new ones.
+    /// taken from those that are left; its frames exclude what they excluded, and are no fewer. Each error but that of
+    /// memory comes where the meter's count of its kind is at its limit; after an error the frames are lost, and the next
+    /// question begins new ones.
     pub fn reach(
         &mut self,
         alloc: Global,
@@ -198,6 +181,8 @@ impl Search {
         ensures end { IfErr result (IsReachEnd meter.new) }
         ensures counted { CountsUpTo (steps_left self.old) meter.old meter.new }
         ensures paid { OnOk result (meter.new.steps + steps_left self.new ≤ meter.old.steps + steps_left self.old) }
+        ensures narrows { OnOk result (Narrows self.old.levels self.new.levels) }
+        ensures more { OnOk result (length self.old.levels ≤ length self.new.levels) }
         ensures lost { OnErr result (self.new.levels ≡ []) }
         ensures circuit { self.new.circuit ≡ self.old.circuit }
         ensures start { self.new.start ≡ self.old.start }

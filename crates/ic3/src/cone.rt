@@ -2,7 +2,6 @@
 //! main type is `Cone`. Each clause that comes is one of the base, whatever the choice: no contract rests on it.
 ghost use Rattle.ic3.specs.SteppingInside.{Grows};
 
-use crate::stepping_clauses::add;
 use cdcl::Solver;
 use circuit::{Circuit, Gate};
 use cnf::{Db, Lit};
@@ -11,7 +10,7 @@ use std::alloc::{AllocError, Global};
 
 /// Which clauses came. The base has that of the constants first; then three for each gate, one for each constraint, two for
 /// each latch, in the order of the circuit; then those of the entries.
-#[derive(Debug, Drop)]
+#[derive(Drop)]
 pub(crate) struct Cone {
     // For each variable the first clause of its gate, or 0.
     firsts: Vec<usize>,
@@ -74,7 +73,7 @@ fn put(base: &Db, solver: &mut Solver, from: usize, to: usize) -> Result<(), All
     ensures { Grows base.now.clauses solver.old.added solver.new.added }
 {
     for place in from..to.min(base.len()) {
-        add(solver, base.as_slice()[place].clone()?)?;
+        solver.add_sized(base.as_slice()[place].clone()?)?;
     }
     Ok(())
 }

@@ -7,42 +7,24 @@
 //! | `Search::new` | a search from a start, which was asked nothing yet |
 //! | `Search::reach` | what `reach` gives; goal after goal, while the view grows, over frames that are kept |
 //! | `Search::frames`, `Search::solver_questions` | how many these are, and how many questions its solvers were asked |
-//! | `Steps` | the solver that a search asks: steps into cubes, goals that are met; public for its tests |
+//! | `Steps` | the solver of one step that a search asks; public for its tests |
 //!
-//! What is asked and answered is defined in `ic3_questions`, and in `Searches` of `specs/`; the rest of `specs/` is
-//! scaffolding. The loops: `turning` (block, push, open a frame), `blocking` (with `obligations`, `lifting`, `ending`,
-//! `replaying`, `strengthening`, `shortening` and `ordering`), `pushing`, `closing`, `starting`, `single` (a set of one
-//! literal, before frames), over `steps` (the solver of one step, with `cone`: which clauses it has, and `trying`: its
-//! steps are tried on all) and `putting` (a lemma for solver and frames). `asking_again` keeps frames, and `going_on`
-//! puts their lemmas into a new solver.
+//! The search is told in `ic3_loops`, over any solver of one step; here is the solver: `steps`, with `cone` (which clauses
+//! of the circuit it has) and `trying` (its steps are tried on all). What is asked and answered is defined in
+//! `ic3_semantics`, and in `Searches` of `specs/`; the rest of `specs/` is scaffolding.
 #![tactic(auto)]
 
 mod asking_again;
-mod blocking;
-mod closing;
 mod cone;
-mod ending;
-mod going_on;
-mod lifting;
-mod obligations;
-mod ordering;
-mod pushing;
-mod putting;
-mod replaying;
 mod searching;
-mod shortening;
-mod single;
-mod starting;
 mod stepping_clauses;
 mod stepping_lemmas;
 mod stepping_questions;
 mod stepping_start;
 mod steps;
-mod strengthening;
 mod trying;
-mod turning;
 
 pub use asking_again::Search;
-pub use ic3_questions::{Goal, ReachEnd, Reached, Start};
+pub use ic3_semantics::{Goal, ReachEnd, Reached, Start};
 pub use searching::reach;
 pub use steps::Steps;

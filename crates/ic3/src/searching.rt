@@ -4,26 +4,23 @@ ghost use Rattle.entry.specs.CheckedEntries.{viewed};
 ghost use Rattle.entry.specs.Laws.{IsGoodList};
 ghost use Rattle.ic3_frames.specs.Frames.{frame_at};
 ghost use Rattle.ic3_frames.specs.Room.{room};
-ghost use Rattle.ic3.specs.Sound.{AvoidsAsked};
-ghost use Rattle.ic3.specs.Searches.{CountsUpTo};
-ghost use Rattle.ic3.specs.SearchesInside.{MayGoOn};
-ghost use Rattle.ic3.specs.Starting.{start_cube};
+ghost use Rattle.ic3_loops.specs.Sound.{AvoidsAsked};
+ghost use Rattle.ic3_semantics.specs.Searching.{CountsUpTo};
+ghost use Rattle.ic3_loops.specs.Resuming.{MayGoOn};
+ghost use Rattle.ic3.specs.SearchesInside.{question_of, IsPosed, GoesFurther};
 ghost use Rattle.ic3_questions.specs.SteppingClauses.{own_uses};
-ghost use Rattle.ic3_questions.specs.Stepping.{no_lemmas};
-ghost use Rattle.ic3_questions.specs.Searching.{IsStart, IsGoal, IsReached, IsReachEnd, CountsSearch};
+ghost use Rattle.ic3_semantics.specs.Stepping.{no_lemmas};
+ghost use Rattle.ic3_semantics.specs.Searching.{IsStart, IsGoal, IsReached, IsReachEnd, CountsSearch};
 
-use crate::closing::lemmas_from;
-use crate::going_on::make_ready;
-use crate::single::single;
-use crate::starting::start_cube;
 use crate::steps::Steps;
-use crate::turning::{Turned, turn_on};
 use circuit::Circuit;
 use cnf::{Clause, Cube};
 use edge::Meter;
 use entry::Checked;
 use ic3_frames::Frames;
-use ic3_questions::{Goal, ReachEnd, Reached, Start, own_uses};
+use ic3_loops::{Iterated, iterate, lemmas_from, resume, single, start_cube};
+use ic3_questions::own_uses;
+use ic3_semantics::{Goal, ReachEnd, Reached, Start};
 use items::Items;
 use std::alloc::{AllocError, Global};
 use std::sync::Arc;
@@ -53,60 +50,45 @@ pub fn reach(
     let starts = start_cube(alloc, c, start)?;
     let mut frames = Frames::new(alloc);
     let mut solver_questions = 0;
-    reach_on(
-        alloc,
+    let asked = Asked {
         c,
         view,
         start,
-        &starts,
+        starts: &starts,
         goal,
-        &mut frames,
-        &mut solver_questions,
-        meter,
-    )
+    };
+    reach_on(alloc, &asked, &mut frames, &mut solver_questions, meter)
 }
 
-/// The same with frames that are kept from an earlier question with this start, or none: they go on. `starts` is the cube
-/// of the starts. `solver_questions` rises by the questions of the solver. After an error nothing is known of the frames.
+/// What is asked: a circuit, the entries that are known, a start with its cube, and a goal.
+#[derive(Drop)]
+pub(crate) struct Asked<'a, 'b> {
+    pub(crate) c: &'a Circuit,
+    pub(crate) view: &'a [Arc<Checked>],
+    pub(crate) start: &'a Start,
+    pub(crate) starts: &'a Cube,
+    pub(crate) goal: &'a Goal<'b>,
+}
+
+/// The same with frames that are kept from an earlier question with this start, or none: they go on. `solver_questions`
+/// rises by the questions of the solver. After an error nothing is known of the frames.
 pub(crate) fn reach_on(
     alloc: Global,
-    c: &Circuit,
-    view: &[Arc<Checked>],
-    start: &Start,
-    starts: &Cube,
-    goal: &Goal<'_>,
+    asked: &Asked<'_, '_>,
     frames: &mut Frames,
     solver_questions: &mut u64,
     meter: &mut Meter,
 ) -> Result<Reached, ReachEnd>
-    requires view { IsGoodList c.now (viewed view.now) }
-    requires start { IsStart c.now start.now }
-    requires starts { starts.now ≡ start_cube c.now start.now }
-    requires goal { IsGoal c.now goal.now }
-    requires open { MayGoOn (record {
-      circuit = c.now;
-      view = viewed view.now;
-      start = start.now;
-    }) starts.now frames.old }
-    ensures reached { IfOk result (IsReached (record {
-      circuit = c.now;
-      view = viewed view.now;
-      start = start.now;
-    }) goal.now) }
-    ensures open { OnOk result (MayGoOn (record {
-      circuit = c.now;
-      view = viewed view.now;
-      start = start.now;
-    }) starts.now frames.new) }
+    requires asked { IsPosed asked.now.c.now (viewed asked.now.view.now) asked.now.start.now asked.now.starts.now asked.now.goal.now }
+    requires open { MayGoOn (question_of asked.now.c.now (viewed asked.now.view.now) asked.now.start.now) asked.now.starts.now frames.old }
+    ensures reached { IfOk result (IsReached (question_of asked.now.c.now (viewed asked.now.view.now) asked.now.start.now) asked.now.goal.now) }
+    ensures kept { OnOk result (GoesFurther (question_of asked.now.c.now (viewed asked.now.view.now) asked.now.start.now) asked.now.starts.now
+        frames.old frames.new meter.old meter.new) }
     ensures end { IfErr result (IsReachEnd meter.new) }
-    ensures counted { CountsUpTo (room (length c.now.latches) frames.old) meter.old meter.new }
-    ensures paid { let n = length c.now.latches in
-        OnOk result (meter.new.steps + room n frames.new ≤ meter.old.steps + room n frames.old) }
+    ensures counted { CountsUpTo (room (length asked.now.c.now.latches) frames.old) meter.old meter.new }
 {
-    let mut steps = Steps::new(alloc, c, view, start, avoided(goal))?;
-    let reached = reach_by(
-        alloc, c, view, start, starts, goal, &mut steps, frames, meter,
-    );
+    let mut steps = Steps::new(alloc, asked.c, asked.view, asked.start, avoided(asked.goal))?;
+    let reached = reach_by(alloc, asked, &mut steps, frames, meter);
     *solver_questions = solver_questions.saturating_add(steps.solver_questions());
     reached
 }
@@ -114,98 +96,50 @@ pub(crate) fn reach_on(
 // The same by a solver that has no lemmas.
 fn reach_by(
     alloc: Global,
-    c: &Circuit,
-    view: &[Arc<Checked>],
-    start: &Start,
-    starts: &Cube,
-    goal: &Goal<'_>,
+    asked: &Asked<'_, '_>,
     steps: &mut Steps<'_>,
     frames: &mut Frames,
     meter: &mut Meter,
 ) -> Result<Reached, ReachEnd>
-    requires view { IsGoodList c.now (viewed view.now) }
-    requires start { IsStart c.now start.now }
-    requires starts { starts.now ≡ start_cube c.now start.now }
-    requires goal { IsGoal c.now goal.now }
-    requires avoids { AvoidsAsked steps.old.avoid goal.now }
-    requires steps { steps.old ≡ no_lemmas (record {
-      circuit = c.now;
-      view = viewed view.now;
-      start = start.now;
-    }) steps.old.avoid }
-    requires open { MayGoOn (record {
-      circuit = c.now;
-      view = viewed view.now;
-      start = start.now;
-    }) starts.now frames.old }
-    ensures reached { IfOk result (IsReached (record {
-      circuit = c.now;
-      view = viewed view.now;
-      start = start.now;
-    }) goal.now) }
-    ensures open { OnOk result (MayGoOn (record {
-      circuit = c.now;
-      view = viewed view.now;
-      start = start.now;
-    }) starts.now frames.new) }
+    requires asked { IsPosed asked.now.c.now (viewed asked.now.view.now) asked.now.start.now asked.now.starts.now asked.now.goal.now }
+    requires avoids { AvoidsAsked steps.old.avoid asked.now.goal.now }
+    requires steps { steps.old ≡ no_lemmas (question_of asked.now.c.now (viewed asked.now.view.now) asked.now.start.now) steps.old.avoid }
+    requires open { MayGoOn (question_of asked.now.c.now (viewed asked.now.view.now) asked.now.start.now) asked.now.starts.now frames.old }
+    ensures reached { IfOk result (IsReached (question_of asked.now.c.now (viewed asked.now.view.now) asked.now.start.now) asked.now.goal.now) }
+    ensures kept { OnOk result (GoesFurther (question_of asked.now.c.now (viewed asked.now.view.now) asked.now.start.now) asked.now.starts.now
+        frames.old frames.new meter.old meter.new) }
     ensures end { IfErr result (IsReachEnd meter.new) }
-    ensures counted { CountsUpTo (room (length c.now.latches) frames.old) meter.old meter.new }
-    ensures paid { let n = length c.now.latches in
-        OnOk result (meter.new.steps + room n frames.new ≤ meter.old.steps + room n frames.old) }
+    ensures counted { CountsUpTo (room (length asked.now.c.now.latches) frames.old) meter.old meter.new }
 {
-    match single(alloc, start, starts, goal, steps, meter)? {
-        Some(clause) => Ok(close_one(alloc, view, start, clause)?),
-        None => turns(alloc, c, view, start, starts, goal, steps, frames, meter),
+    match single(alloc, asked.start, asked.starts, asked.goal, steps, meter)? {
+        Some(clause) => Ok(close_one(alloc, asked.view, asked.start, clause)?),
+        None => by_frames(alloc, asked, steps, frames, meter),
     }
 }
 
 // The same by frames.
-fn turns(
+fn by_frames(
     alloc: Global,
-    _c: &Circuit,
-    view: &[Arc<Checked>],
-    start: &Start,
-    starts: &Cube,
-    goal: &Goal<'_>,
+    asked: &Asked<'_, '_>,
     steps: &mut Steps<'_>,
     frames: &mut Frames,
     meter: &mut Meter,
 ) -> Result<Reached, ReachEnd>
-    requires view { IsGoodList _c.now (viewed view.now) }
-    requires start { IsStart _c.now start.now }
-    requires starts { starts.now ≡ start_cube _c.now start.now }
-    requires goal { IsGoal _c.now goal.now }
-    requires avoids { AvoidsAsked steps.old.avoid goal.now }
-    requires steps { steps.old ≡ no_lemmas (record {
-      circuit = _c.now;
-      view = viewed view.now;
-      start = start.now;
-    }) steps.old.avoid }
-    requires open { MayGoOn (record {
-      circuit = _c.now;
-      view = viewed view.now;
-      start = start.now;
-    }) starts.now frames.old }
-    ensures reached { IfOk result (IsReached (record {
-      circuit = _c.now;
-      view = viewed view.now;
-      start = start.now;
-    }) goal.now) }
-    ensures open { OnOk result (MayGoOn (record {
-      circuit = _c.now;
-      view = viewed view.now;
-      start = start.now;
-    }) starts.now frames.new) }
+    requires asked { IsPosed asked.now.c.now (viewed asked.now.view.now) asked.now.start.now asked.now.starts.now asked.now.goal.now }
+    requires avoids { AvoidsAsked steps.old.avoid asked.now.goal.now }
+    requires steps { steps.old ≡ no_lemmas (question_of asked.now.c.now (viewed asked.now.view.now) asked.now.start.now) steps.old.avoid }
+    requires open { MayGoOn (question_of asked.now.c.now (viewed asked.now.view.now) asked.now.start.now) asked.now.starts.now frames.old }
+    ensures reached { IfOk result (IsReached (question_of asked.now.c.now (viewed asked.now.view.now) asked.now.start.now) asked.now.goal.now) }
+    ensures kept { OnOk result (GoesFurther (question_of asked.now.c.now (viewed asked.now.view.now) asked.now.start.now) asked.now.starts.now
+        frames.old frames.new meter.old meter.new) }
     ensures end { IfErr result (IsReachEnd meter.new) }
-    ensures counted { CountsUpTo (room (length _c.now.latches) frames.old) meter.old meter.new }
-    ensures paid { let n = length _c.now.latches in
-        OnOk result (meter.new.steps + room n frames.new ≤ meter.old.steps + room n frames.old) }
+    ensures counted { CountsUpTo (room (length asked.now.c.now.latches) frames.old) meter.old meter.new }
 {
-    make_ready(alloc, starts, steps, frames)?;
-    match turn_on(alloc, starts, goal, steps, frames, meter)? {
-        Turned::Path(positions) => Ok(Reached::Path(positions)),
-        Turned::Closed(level) => Ok(close(alloc, view, start, frames, level)?),
-        Turned::More => Err(ReachEnd::Memory),
+    resume(alloc, asked.starts, steps, frames)?;
+    match iterate(alloc, asked.starts, asked.goal, steps, frames, meter)? {
+        Iterated::Path(positions) => Ok(Reached::Path(positions)),
+        Iterated::Closed(level) => Ok(close(alloc, asked.view, asked.start, frames, level)?),
+        Iterated::More => unreachable!(),
     }
 }
 

@@ -1,23 +1,12 @@
 //! How guarded clauses come into a solver.
-ghost use Rattle.std.specs.Prelude.{◌≡◌, ◌∷◌, [], ◌++◌, map, OnOk, OnErr};
+ghost use Rattle.std.specs.Prelude.{◌≡◌, ◌∷◌, [], ◌++◌, map, OnOk};
 ghost use Rattle.ic3_questions.specs.SteppingClauses.{guarded, denied_at};
 ghost use Rattle.ic3.specs.SteppingInside.{Grows, IsWhole};
 
-use cdcl::{Solver, are_sized};
-use cnf::{Clause, Cube, Db};
+use cdcl::Solver;
+use cnf::{Cube, Db};
 use ic3_questions::guarded_denial;
 use std::alloc::{AllocError, Global};
-
-/// Adds a clause. Numbers from 2^63 on are want of memory, which changes nothing.
-pub(crate) fn add(solver: &mut Solver, clause: Clause) -> Result<(), AllocError>
-    ensures ok { OnOk result (solver.new.added ≡ solver.old.added ++ clause ∷ []) }
-    ensures err { OnErr result (solver.new ≡ solver.old) }
-{
-    if !are_sized(clause.as_slice()) {
-        return Err(AllocError);
-    }
-    solver.add(clause)
-}
 
 /// Adds all clauses of the base.
 pub(crate) fn add_all(solver: &mut Solver, clauses: &Db) -> Result<(), AllocError>
@@ -25,7 +14,7 @@ pub(crate) fn add_all(solver: &mut Solver, clauses: &Db) -> Result<(), AllocErro
     ensures whole { OnOk result (IsWhole clauses.now.clauses solver.new.added) }
 {
     for clause in clauses.as_slice() {
-        add(solver, clause.clone()?)?;
+        solver.add_sized(clause.clone()?)?;
     }
     Ok(())
 }
@@ -42,10 +31,7 @@ pub(crate) fn add_denials(
         ≡ solver.old.added ++ map (λ cube. guarded guard (denied_at place.now cube)) cubes.now) }
 {
     for cube in cubes {
-        add(
-            solver,
-            guarded_denial(alloc, guard, place, cube.as_slice())?,
-        )?;
+        solver.add_sized(guarded_denial(alloc, guard, place, cube.as_slice())?)?;
     }
     Ok(())
 }

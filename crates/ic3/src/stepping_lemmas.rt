@@ -4,7 +4,7 @@ ghost use Rattle.ic3.specs.SteppingInside.{MayHold};
 
 use crate::stepping_questions::{Questions, hold_clause};
 use cnf::Clause;
-use ic3_questions::Lemma;
+use ic3_semantics::Lemma;
 use std::alloc::{AllocError, Global};
 
 /// Puts a lemma behind the others, and its clause into the solver. The error is want of memory, and changes nothing.

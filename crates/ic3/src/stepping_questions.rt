@@ -1,6 +1,5 @@
 //! The clauses of the solver of a search, and its questions. The main type is `Questions`.
-ghost use Rattle.std.specs.Prelude.{◌≡◌, ◌==◌, ◌↔◌, ℕ, Bool, true, ◌+◌, ◌++◌, ◌∷◌, [], map, IfOk, IfErr, OnOk, OnErr};
-ghost use Rattle.std.specs.List.{list_any};
+ghost use Rattle.std.specs.Prelude.{◌≡◌, ◌==◌, ◌↔◌, ℕ, Bool, true, ◌+◌, ◌++◌, [], map, IfOk, IfErr, OnOk, OnErr};
 ghost use Rattle.proof_semantics.specs.Clauses.{cube_value, has_literal, has_opposites};
 ghost use Rattle.edge.specs.Ends.{CountsConflicts, IsEnd};
 ghost use Rattle.cdcl.specs.Asking.{IsAsked, assigned};
@@ -8,19 +7,20 @@ ghost use Rattle.cnf_unroll.specs.Numbers.{clause_at_place, state_place, literal
 ghost use Rattle.cnf_unroll.specs.Situations.{situation_in};
 ghost use Rattle.ic3_questions.specs.SteppingClauses.{level_guard, question_guard, IsOn, AreAssumed, part_at, is_apart};
 ghost use Rattle.ic3.specs.SteppingInside.{KeepsNumbers, Begins, Rests, Keeps, AnswersInto, TellsInto};
-ghost use Rattle.ic3.specs.SteppingInside.{AnswersGoal, TellsGoal, TellsLiteral, Holds, is_read};
+ghost use Rattle.ic3.specs.SteppingInside.{AnswersGoal, TellsGoal, TellsLiteral, Holds};
+ghost use Rattle.ic3_questions.specs.ReadVariables.{is_read};
 
-use crate::stepping_clauses::add;
 use cdcl::{Asked, Assignment, Solver, are_sized, has_opposites};
 use circuit::{Circuit, Position};
-use cnf::{Cube, Lit};
+use cnf::{Cube, Lit, has_literal};
 use edge::{Meter, SolveEnd};
-use ic3_questions::{Found, guarded, guarded_denial, input_place, literal_at};
+use ic3_questions::{guarded, guarded_denial, input_place, is_read, literal_at, literal_in_block};
+use ic3_semantics::Found;
 use items::Items;
 use std::alloc::{AllocError, Global};
 
 /// A solver with guarded clauses, and its numbers.
-#[derive(Debug, Drop)]
+#[derive(Drop)]
 pub(crate) struct Questions {
     pub(crate) solver: Solver,
     /// The latches' numbers at the state, and at the successor.
@@ -140,7 +140,6 @@ pub(crate) fn ask(
     if !are_sized(assumptions) {
         return Err(SolveEnd::Memory);
     }
-    let _before = meter.spending().conflicts();
     if has_opposites_behind(free, assumptions) {
         return Ok(Asked::Unsat(Vec::from_slice(alloc, assumptions)?));
     }
@@ -172,12 +171,6 @@ pub(crate) fn position_of(
     Ok(Position { latches, inputs })
 }
 
-fn has(literals: &[Lit], literal: Lit) -> bool
-    ensures { result ≡ has_literal literals.now literal }
-{
-    literals.iter().any(|other| literal.is(*other))
-}
-
 /// The literals of a cube whose literals at a place are among these.
 pub(crate) fn part_at(
     alloc: Global,
@@ -189,7 +182,7 @@ pub(crate) fn part_at(
 {
     let mut part = Cube::new(alloc);
     for literal in cube.as_slice() {
-        if has(core, literal_at(place, *literal)) {
+        if has_literal(core, literal_at(place, *literal)) {
             part.push(*literal)?;
         }
     }
@@ -206,7 +199,7 @@ fn begin(alloc: Global, s: &mut Questions, cube: &[Lit]) -> Result<u64, AllocErr
     let number = s.asked.checked_add(1).ok_or(AllocError)?;
     let guard = question_guard(s.free, number)?;
     let clause = guarded_denial(alloc, guard, s.here.as_slice(), cube)?;
-    add(&mut s.solver, clause)?;
+    s.solver.add_sized(clause)?;
     s.asked = number;
     Ok(number)
 }
@@ -256,7 +249,7 @@ pub(crate) fn retire(alloc: Global, s: &mut Questions) -> Result<(), AllocError>
     }
     let guard = question_guard(s.free, s.asked)?;
     let unit = guarded(alloc, guard, &[], &[])?;
-    add(&mut s.solver, unit)
+    s.solver.add_sized(unit)
 }
 
 // What the question for a step into the cube answers.
@@ -360,40 +353,6 @@ fn goal(
     }
 }
 
-fn is_input(c: &Circuit, variable: u64) -> bool
-    ensures { result ≡ list_any (λ u. u == variable) c.now.inputs }
-{
-    c.inputs().iter().any(|input| *input == variable)
-}
-
-fn is_latch(c: &Circuit, variable: u64) -> bool
-    ensures { result ≡ list_any (λ latch. latch.var == variable) c.now.latches }
-{
-    c.latches().iter().any(|latch| latch.var == variable)
-}
-
-fn is_gate(c: &Circuit, variable: u64) -> bool
-    ensures { result ≡ list_any (λ gate. gate.var == variable) c.now.gates }
-{
-    c.gates().iter().any(|gate| gate.var == variable)
-}
-
-/// Whether a clause of the block may hold the variable's number: it is 0, an input, a latch or a gate.
-pub(crate) fn is_read(c: &Circuit, variable: u64) -> bool
-    ensures { result ≡ is_read c.now variable }
-{
-    variable == 0 || is_input(c, variable) || is_latch(c, variable) || is_gate(c, variable)
-}
-
-pub(crate) fn literal_in_block(literal: u64) -> Lit
-    ensures { result ≡ literal_in_block 0 literal }
-{
-    Lit {
-        var: 1 + literal / 2,
-        positive: literal % 2 != 1,
-    }
-}
-
 /// A position from a level at which the AIGER literal is met; `None` where there is none. The clauses say nothing of a
 /// variable that is defined nowhere, which is false at each position.
 pub(crate) fn goal_at(
@@ -415,7 +374,6 @@ pub(crate) fn goal_at(
     } else if literal % 2 == 1 {
         goal(alloc, c, s, level, &[], meter)
     } else {
-        let _before = meter.spending().conflicts();
         Ok(None)
     }
 }
@@ -433,7 +391,7 @@ pub(crate) fn hold_clause(
     let above = level.checked_add(1).ok_or(AllocError)?;
     let guard = level_guard(s.free, level)?;
     let held = guarded(alloc, guard, s.here.as_slice(), clause)?;
-    add(&mut s.solver, held)?;
+    s.solver.add_sized(held)?;
     s.levels = s.levels.max(above);
     Ok(())
 }

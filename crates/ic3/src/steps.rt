@@ -6,27 +6,29 @@ ghost use Rattle.edge.specs.Ends.{CountsConflicts, IsEnd};
 ghost use Rattle.entry.specs.CheckedEntries.{viewed};
 ghost use Rattle.entry.specs.Laws.{IsGoodList};
 ghost use Rattle.fair_semantics.specs.Validity.{AreValid};
-ghost use Rattle.ic3_questions.specs.Searching.{IsStart};
-ghost use Rattle.ic3_questions.specs.Stepping.{IsOver, IsFound, IsGoalFound, no_lemmas, with_lemma};
+ghost use Rattle.ic3_semantics.specs.Searching.{IsStart};
+ghost use Rattle.ic3_semantics.specs.Stepping.{IsOver, IsFound, IsGoalFound, no_lemmas, with_lemma};
 
 use crate::cone::{Cone, meet, meet_nexts};
 use crate::stepping_clauses::add_all;
 use crate::stepping_lemmas::hold_lemma;
-use crate::stepping_questions::{Questions, goal_at, is_read, predecessor};
+use crate::stepping_questions::{Questions, goal_at, predecessor};
 use crate::stepping_start::{base, questions_of};
 use crate::trying::{try_goal, try_predecessor};
 use circuit::{Circuit, Position};
 use cnf::{Clause, Cube, Db};
 use edge::{Meter, SolveEnd};
 use entry::Checked;
-use ic3_questions::{Found, Lemma, Start};
+use ic3_loops::StepSolver;
+use ic3_questions::is_read;
+use ic3_semantics::{Found, Lemma, Start};
 use std::alloc::{AllocError, Global};
 use std::marker::Model;
 use std::sync::Arc;
 
 /// The solver of the search from one start. Contracts see its question, the cubes that a goal avoids, and its lemmas in
 /// the order in which they came.
-#[derive(Debug, Drop)]
+#[derive(Drop)]
 pub struct Steps<'a> {
     c: &'a Circuit,
     view: &'a [Arc<Checked>],
@@ -42,7 +44,7 @@ pub struct Steps<'a> {
 
 impl<'a> Model for Steps<'a> {
     ghost use Rattle.entry.specs.CheckedEntries.{viewed};
-    ghost use Rattle.ic3_questions.specs.Stepping.{Stepping};
+    ghost use Rattle.ic3_semantics.specs.Stepping.{Stepping};
 
     ghost Value = { Stepping };
 
@@ -298,5 +300,53 @@ impl<'a> Steps<'a> {
     {
         add_all(&mut self.questions.solver, &self.base)?;
         goal_at(alloc, self.c, &mut self.questions, level, literal, meter)
+    }
+}
+
+impl<'a> StepSolver for Steps<'a> {
+    ghost seen = { λ s. s };
+
+    fn latches(&self) -> usize {
+        Steps::latches(self)
+    }
+
+    fn circuit(&self) -> &Circuit {
+        Steps::circuit(self)
+    }
+
+    fn view(&self) -> &[Arc<Checked>] {
+        Steps::view(self)
+    }
+
+    fn start(&self) -> &Start {
+        Steps::start(self)
+    }
+
+    fn avoid(&self) -> &[Cube] {
+        Steps::avoid(self)
+    }
+
+    fn hold(&mut self, level: u64, clause: &Clause) -> Result<(), AllocError> {
+        Steps::hold(self, level, clause)
+    }
+
+    fn predecessor(
+        &mut self,
+        alloc: Global,
+        level: u64,
+        cube: &Cube,
+        meter: &mut Meter,
+    ) -> Result<Found, SolveEnd> {
+        Steps::predecessor(self, alloc, level, cube, meter)
+    }
+
+    fn meets_goal(
+        &mut self,
+        alloc: Global,
+        level: u64,
+        literal: u64,
+        meter: &mut Meter,
+    ) -> Result<Option<Position>, SolveEnd> {
+        Steps::meets_goal(self, alloc, level, literal, meter)
     }
 }

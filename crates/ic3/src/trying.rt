@@ -6,18 +6,17 @@ ghost use Rattle.proof_semantics.specs.Clauses.{cube_value, values_of};
 ghost use Rattle.edge.specs.Ends.{CountsConflicts, IsEnd};
 ghost use Rattle.cnf_unroll.specs.Numbers.{state_place, successor_place};
 ghost use Rattle.cnf_unroll.specs.Situations.{situation_in};
-ghost use Rattle.ic3_questions.specs.Stepping.{meets_from};
+ghost use Rattle.ic3_semantics.specs.Stepping.{meets_from};
 ghost use Rattle.ic3.specs.SteppingInside.{Keeps, TriedInto, TellsTried, TriedGoal, TellsTriedGoal};
 
-use crate::stepping_questions::{
-    Questions, ask_goal, ask_into, literal_in_block, part_at, position_of, retire,
-};
-use crate::strengthening::holds_in;
+use crate::stepping_questions::{Questions, ask_goal, ask_into, part_at, position_of, retire};
 use cdcl::{Asked, Assignment};
 use circuit::{Circuit, Position, eval_into, literal_value};
 use cnf::{Cube, Db, eval, holds};
 use edge::{Meter, SolveEnd};
-use ic3_questions::{Found, Lemma, input_place};
+use ic3_loops::holds_in;
+use ic3_questions::{input_place, literal_in_block};
+use ic3_semantics::{Found, Lemma};
 use items::Items;
 use std::alloc::{AllocError, Global};
 

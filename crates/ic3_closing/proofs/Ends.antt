@@ -1,35 +1,12 @@
 -- What questions leave of a meter, and literals that are all positive.
-use Rattle.std.proofs.Common.{◌≡◌, ℕ, zero, suc, ◌<◌, ◌≤◌, ◌^◌, Bool, true, false, not, ◌&&◌, ◌||◌, nat_eq, List, [], ◌∷◌, Result, Ok, Err, refl, sym, subst, ◌∙◌, arith}
+use Rattle.std.proofs.Common.{◌≡◌, Bool, true, false, not, ◌&&◌, ◌||◌, nat_eq, List, [], ◌∷◌, Result, Ok, Err, refl, ◌∙◌, arith}
 use Rattle.std.specs.List.{list_any, list_all}
 use Rattle.std.specs.Result.{IfOk}
 use Rattle.std.proofs.lemmas.Bool.{and_parts, false≢true}
 use Rattle.proof_semantics.specs.declared.literals.Lit.{Lit}
 use Rattle.proof_semantics.specs.Clauses.{bool_eq, negation, has_literal, has_opposites}
-use Rattle.edge.specs.Faults.{one_more}
 use Rattle.edge.specs.Units.{Spendings}
 use Rattle.edge.specs.Ends.{CountsConflicts}
-use Rattle.cdcl.specs.Solving.{more_conflicts, with_conflicts}
-
-grows : (count m : ℕ) → count ≤ m → m < 2 ^ 64 → count ≤ one_more m
-grows count m low high = omega arith
-
-capped : (m : ℕ) → one_more m < 2 ^ 64
-capped m = omega arith
-
-within : (count n : ℕ) → count < 2 ^ 64 → (count ≤ more_conflicts count n) × (more_conflicts count n < 2 ^ 64)
-within count zero small = (omega arith, small)
-within count (suc n) small =
-    let h = within count n small in
-    (grows count (more_conflicts count n) h.0 h.1, capped (more_conflicts count n))
-
-pub counts : (old new : Spendings) (n : ℕ) → old.conflicts < 2 ^ 64 → new ≡ with_conflicts old n → CountsConflicts old new
-counts old new n small e =
-    subst (CountsConflicts old) (sym e) (record {
-      conflict_limit = refl;
-      step_limit = refl;
-      steps = refl;
-      conflicts = (within old.conflicts n small).0;
-    })
 
 pub counts_none : (a : Spendings) → CountsConflicts a a
 counts_none a = record { conflict_limit = refl; step_limit = refl; steps = refl; conflicts = omega arith }

@@ -1,15 +1,17 @@
 -- What is kept of a closed set keeps the facts of the whole.
-use Rattle.std.proofs.Common.{◌≡◌, ℕ, suc, ◌+◌, ◌<◌, Bool, true, false, cond, List, [], ◌∷◌, ◌++◌, get_or, refl, ◌∙◌, arith}
+use Rattle.std.proofs.Common.{◌≡◌, ℕ, suc, ◌+◌, ◌<◌, ◌≤◌, Bool, true, false, cond, List, [], ◌∷◌, ◌++◌, map, length, get_or, refl, sym, ap₂, ◌∙◌, arith}
 use Rattle.std.specs.List.{All, AllPairs, list_all}
 use Rattle.std.proofs.lemmas.Bool.{and_parts, and_from}
 use Rattle.std.proofs.lemmas.List.Elements.{All-head, All-tail, All-nil, All-cons, All-append}
 use Rattle.std.proofs.lemmas.List.Kept.{AllPairs-cons}
+use Rattle.std.proofs.lemmas.List.{get_or-map}
 use Rattle.std.proofs.lemmas.List.Folds.{list_all-append}
 use Rattle.proof_semantics.specs.declared.literals.Lit.{Lit}
 use Rattle.fair_semantics.specs.declared.entries.Side.TheVariants.{Any as AnySide}
 use Rattle.fair_semantics.specs.declared.entries.Use.{Use}
 use Rattle.fair_semantics.specs.Entries.{lies_on}
-use Rattle.ic3_closing.specs.Keeping.{kept_clauses, kept_use, kept_uses}
+use Rattle.ic3_closing.specs.declared.sets.ClosedSet.{ClosedSet}
+use Rattle.ic3_closing.specs.Keeping.{kept_clauses, kept_use, kept_uses, IsPartOf}
 
 -- ---- clauses
 
@@ -92,3 +94,39 @@ uses_lie sets s marks sides i (u ∷ uses) h =
     list_all-append (λ v. lies_on v.side (sets v.entry s)) here rest
     ∙ and_from (lie sets s here) (lie sets s rest) (use_lies sets s (get_or marks i false) (get_or sides i false) u parts.0)
     (uses_lie sets s marks sides (i + 1) uses parts.1)
+
+-- ---- the whole is a part of itself
+
+abbrev AreOn : List Bool → ℕ → ℕ → Type 0
+AreOn marks i n = (j : ℕ) → i ≤ j → j < i + n → get_or marks j false ≡ true
+
+all_clauses : (marks : List Bool) (i : ℕ) (clauses : List (List Lit)) → AreOn marks i (length clauses) → kept_clauses marks i clauses ≡ clauses
+all_clauses marks i [] on = refl
+all_clauses marks i (clause ∷ clauses) on =
+    ap₂ (λ b rest. cond b (clause ∷ rest) rest) (on i (omega arith) (omega arith))
+    (all_clauses marks (i + 1) clauses (λ j low high. on j (omega (arith, low)) (omega (arith, high))))
+
+all_uses : (marks : List Bool) (i : ℕ) (uses : List Use) → AreOn marks i (length uses) → kept_uses marks marks i uses ≡ uses
+all_uses marks i [] on = refl
+all_uses marks i (u ∷ uses) on =
+    let here = on i (omega arith) (omega arith) in
+    ap₂ (λ front rest. front ++ rest) (ap₂ (λ a b. kept_use a b u) here here)
+    (all_uses marks (i + 1) uses (λ j low high. on j (omega (arith, low)) (omega (arith, high))))
+
+no_clause : List Lit
+no_clause = []
+
+no_use : Use
+no_use = record { entry = 0; side = AnySide }
+
+marked : {X : Type 0} (xs : List X) (d : X) → AreOn (map (λ x. true) xs) 0 (length xs)
+marked xs d j low high = get_or-map (λ x. true) xs j d false (omega (arith, high))
+
+pub whole_part : (whole : ClosedSet) → IsPartOf whole.clauses whole.uses whole
+whole_part whole = record {
+  kept = map (λ clause. true) whole.clauses;
+  used = map (λ u. true) whole.uses;
+  sided = map (λ u. true) whole.uses;
+  clauses_are = sym (all_clauses (map (λ clause. true) whole.clauses) 0 whole.clauses (marked whole.clauses no_clause));
+  uses_are = sym (all_uses (map (λ u. true) whole.uses) 0 whole.uses (marked whole.uses no_use));
+}

@@ -1,11 +1,10 @@
 -- Where the question for a goal has no model, no position from a state of the clauses meets it.
-use Rattle.std.proofs.Common.{◌≡◌, ℕ, suc, ◌<◌, ◌==◌, ◌⊎◌, Bool, true, false, not, ◌&&◌, ◌||◌, nat_eq, List, [], ◌∷◌, ◌++◌, map, length, refl, sym, ap, subst, ◌∙◌, inl, inr, arith}
-use Rattle.std.specs.List.{All, Contains, list_any}
-use Rattle.std.proofs.lemmas.Bool.{false≢true, and_from, eqb-true, false_from_ne_true}
-use Rattle.std.proofs.lemmas.List.Folds.{list_any-append}
+use Rattle.std.proofs.Common.{◌≡◌, ℕ, ◌<◌, Bool, true, false, not, ◌&&◌, ◌||◌, nat_eq, List, [], ◌∷◌, ◌++◌, map, length, refl, sym, ap, subst, ◌∙◌}
+use Rattle.std.specs.List.{All}
+use Rattle.std.proofs.lemmas.Bool.{and_from, false_from_ne_true}
 use Rattle.std.proofs.lemmas.List.Elements.{All-head, All-tail, All-append, All-cons}
 use Rattle.aig_semantics.specs.Literals.{variable_of}
-use Rattle.aig_semantics.specs.Circuits.{Circuit, IsChecked, defined}
+use Rattle.aig_semantics.specs.Circuits.{Circuit, IsChecked}
 use Rattle.aig_semantics.specs.Runs.{successor}
 use Rattle.proof_semantics.specs.declared.literals.Lit.{Lit}
 use Rattle.proof_semantics.specs.Clauses.{bool_eq, negation, literal_value, clause_value, clauses_value, cube_value, values_of, has_opposites}
@@ -21,55 +20,13 @@ use Rattle.cnf_unroll.proofs.ObligationLaws.{state_length}
 use Rattle.cnf_unroll.proofs.BlockReading.{IsRead, HasOneValuation}
 use Rattle.cnf_unroll.proofs.BlockWriting.{literal_shown}
 use Rattle.entry.specs.Laws.{IsGoodList}
-use Rattle.ic3_questions.specs.declared.questions.Start.{Start}
-use Rattle.ic3_questions.specs.Arenas.{restricting}
-use Rattle.ic3_questions.specs.Searching.{Question}
-use Rattle.ic3_questions.specs.Stepping.{IsArenaStep}
+use Rattle.ic3_semantics.specs.declared.questions.Start.{Start}
+use Rattle.ic3_semantics.specs.Arenas.{restricting}
+use Rattle.ic3_semantics.specs.Searching.{Question}
+use Rattle.ic3_semantics.specs.Stepping.{IsArenaStep}
 use Rattle.ic3_questions.specs.SteppingClauses.{own_uses}
 use Rattle.ic3_questions.proofs.BaseLaws.{base_written}
-use Rattle.ic3_closing.specs.Goals.{is_read, goal_set, MissesLiteral}
-
--- ---- variables of the block
-
-or_left_or_right : (a b : Bool) → (a || b) ≡ true → (a ≡ true) ⊎ (b ≡ true)
-or_left_or_right true b h = inl refl
-or_left_or_right false b h = inr h
-
-only : (vs : List ℕ) (v : ℕ) → list_any (λ u. u == v) vs ≡ true → Contains vs v
-only [] v h = absurd (false≢true h)
-only (u ∷ vs) v h = elim (or_left_or_right (u == v) (list_any (λ w. w == v) vs) h) [
-  | inl t ↦ (0, omega arith, eqb-true u v t)
-  | inr t ↦ let rest = only vs v t in (suc rest.0, (let l : rest.0 < length vs = rest.1 in omega arith), rest.2)
-]
-
-any_map : {X : Type 0} (f : X → ℕ) (v : ℕ) (xs : List X) → list_any (λ u. u == v) (map f xs) ≡ list_any (λ x. f x == v) xs
-any_map f v [] = refl
-any_map f v (x ∷ xs) = ap (λ b. (f x == v) || b) (any_map f v xs)
-
-defined_is : (c : Circuit) (v : ℕ) → list_any (λ u. u == v) (defined c)
-    ≡ (list_any (λ u. u == v) c.inputs || list_any (λ latch. latch.var == v) c.latches || list_any (λ gate. gate.var == v) c.gates)
-defined_is c v =
-    list_any-append (λ u. u == v) (c.inputs ++ map (λ latch. latch.var) c.latches) (map (λ gate. gate.var) c.gates)
-    ∙ ap (λ b. b || list_any (λ u. u == v) (map (λ gate. gate.var) c.gates))
-    (list_any-append (λ u. u == v) c.inputs (map (λ latch. latch.var) c.latches)
-    ∙ ap (λ b. list_any (λ u. u == v) c.inputs || b) (any_map (λ latch. latch.var) v c.latches))
-    ∙ ap (λ b. list_any (λ u. u == v) c.inputs || list_any (λ latch. latch.var == v) c.latches || b) (any_map (λ gate. gate.var) v c.gates)
-
-four : (a b c d : Bool) → (a || b || c || d) ≡ (a || (b || c || d))
-four true b c d = refl
-four false b c d = refl
-
-pub read_from : (c : Circuit) (v : ℕ) → is_read c v ≡ true → IsRead c v
-read_from c v h =
-    let whole : ((v == 0) || list_any (λ u. u == v) (defined c)) ≡ true =
-    ap (λ b. (v == 0) || b) (defined_is c v)
-    ∙ sym (four (v == 0) (list_any (λ u. u == v) c.inputs) (list_any (λ latch. latch.var == v) c.latches) (list_any (λ gate. gate.var == v) c.gates))
-    ∙ h
-    in
-    elim (or_left_or_right (v == 0) (list_any (λ u. u == v) (defined c)) whole) [
-      | inl t ↦ inl (eqb-true v 0 t)
-      | inr t ↦ inr (only (defined c) v t)
-    ]
+use Rattle.ic3_closing.specs.Goals.{goal_set, MissesLiteral}
 
 -- ---- one literal is apart
 

@@ -12,11 +12,11 @@ use Rattle.fair_semantics.specs.Entries.{Entry, entry_at, set_at, AreClosed}
 use Rattle.fair_semantics.proofs.Examples.{no_reach}
 use Rattle.cnf_unroll.specs.Laws.{ObligationsTell, AreOver}
 use Rattle.entry.specs.Laws.{IsGoodList}
-use Rattle.ic3_questions.specs.declared.questions.Start.{Start}
-use Rattle.ic3_questions.specs.declared.questions.Start.TheVariants.{Initial, State}
-use Rattle.ic3_questions.specs.declared.questions.Goal.{Goal}
-use Rattle.ic3_questions.specs.declared.questions.Goal.TheVariants as goals
-use Rattle.ic3_questions.specs.Searching.{Question, Misses, Separates, closed_entry}
+use Rattle.ic3_semantics.specs.declared.questions.Start.{Start}
+use Rattle.ic3_semantics.specs.declared.questions.Start.TheVariants.{Initial, State}
+use Rattle.ic3_semantics.specs.declared.questions.Goal.{Goal}
+use Rattle.ic3_semantics.specs.declared.questions.Goal.TheVariants as goals
+use Rattle.ic3_semantics.specs.Searching.{Question, Misses, Separates, closed_entry}
 use Rattle.ic3_closing.specs.Keeping.{kept_clauses, kept_uses}
 use Rattle.ic3_closing.specs.Standing.{Stands}
 use Rattle.ic3_closing.proofs.Kept.{clauses_all, clauses_true, uses_all, lie, uses_lie}

@@ -1,8 +1,9 @@
--- What is kept of the clauses and uses of a closed set (scaffolding).
-use Rattle.std.specs.Prelude.{ℕ, ◌+◌, Bool, true, false, List, [], ◌∷◌, ◌++◌, slice_index_or, if◌then◌else◌}
+-- A closed set that lost some of its clauses and uses.
+use Rattle.std.specs.Prelude.{◌≡◌, ℕ, ◌+◌, Bool, true, false, List, [], ◌∷◌, ◌++◌, slice_index_or, if◌then◌else◌}
 use Rattle.proof_semantics.specs.declared.literals.Lit.{Lit}
 use Rattle.fair_semantics.specs.declared.entries.Side.TheVariants.{Any}
 use Rattle.fair_semantics.specs.declared.entries.Use.{Use}
+use Rattle.ic3_closing.specs.declared.sets.ClosedSet.{ClosedSet}
 
 -- the clauses that are marked, the first of them by mark i
 abbrev pub kept_clauses : List Bool → ℕ → List (List Lit) → List (List Lit)
@@ -21,3 +22,11 @@ abbrev pub kept_uses : List Bool → List Bool → ℕ → List Use → List Use
 kept_uses marks sides i [] = []
 kept_uses marks sides i (u ∷ uses) =
     kept_use (slice_index_or marks i false) (slice_index_or sides i false) u ++ kept_uses marks sides (i + 1) uses
+
+-- A part of a closed set: the clauses and the uses that are marked, in their order, a use possibly without its side.
+pub record IsPartOf (clauses : List (List Lit)) (uses : List Use) (part : ClosedSet) : Type 0 where
+  pub kept : List Bool
+  pub used : List Bool
+  pub sided : List Bool
+  pub clauses_are : part.clauses ≡ kept_clauses kept 0 clauses
+  pub uses_are : part.uses ≡ kept_uses used sided 0 uses

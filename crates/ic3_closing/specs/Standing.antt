@@ -9,8 +9,8 @@ use Rattle.fair_semantics.specs.Entries.{Entry, entry_at, used_entries}
 use Rattle.cdcl.specs.Solving.{HasNoModel}
 use Rattle.cnf_unroll.specs.Obligations.{shared_clauses, broken_literals}
 use Rattle.entry.specs.Faults.{are_known}
-use Rattle.ic3_questions.specs.declared.questions.Goal.{Goal}
-use Rattle.ic3_questions.specs.Searching.{Question, Misses}
+use Rattle.ic3_semantics.specs.declared.questions.Goal.{Goal}
+use Rattle.ic3_semantics.specs.Searching.{Question, Misses}
 
 -- the clauses that the obligations of an entry with these clauses and uses share
 abbrev pub shared_by : Circuit → List Entry → List (List Lit) → List Use → List (List Lit)

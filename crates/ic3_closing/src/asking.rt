@@ -1,47 +1,14 @@
-//! A solver of given clauses, and questions to it, which count conflicts alone.
-ghost use Rattle.std.specs.Prelude.{◌≡◌, ◌++◌, ◌∷◌, [], true, false, IfOk, IfErr, OnOk};
+//! Questions to a solver, which count conflicts alone.
+ghost use Rattle.std.specs.Prelude.{◌≡◌, true, false, IfOk, IfErr};
 ghost use Rattle.proof_semantics.specs.Clauses.{has_opposites};
 ghost use Rattle.edge.specs.Ends.{CountsConflicts, IsEnd};
 ghost use Rattle.cdcl.specs.Asking.{IsAsked};
 ghost use Rattle.cdcl.specs.Solving.{HasNoModel};
 
 use cdcl::{Asked, Solver, are_sized};
-use cnf::{Clause, Lit};
+use cnf::Lit;
 use edge::{Meter, SolveEnd};
-use std::alloc::{AllocError, Global};
-
-/// Adds a clause. Numbers from 2^63 on are want of memory.
-pub(crate) fn add(solver: &mut Solver, clause: Clause) -> Result<(), AllocError>
-    ensures { OnOk result (solver.new.added ≡ solver.old.added ++ clause ∷ []) }
-{
-    if !are_sized(clause.as_slice()) {
-        return Err(AllocError);
-    }
-    solver.add(clause)
-}
-
-fn add_all(solver: &mut Solver, clauses: Vec<Clause>) -> Result<(), AllocError>
-    ensures { OnOk result (solver.new.added ≡ solver.old.added ++ clauses.items) }
-{
-    for clause in clauses {
-        add(solver, clause)?;
-    }
-    Ok(())
-}
-
-/// A solver with these clauses.
-pub(crate) fn solver_with(alloc: Global, clauses: Vec<Clause>) -> Result<Solver, AllocError>
-    ensures { IfOk result (λ solver. solver.added ≡ clauses.items) }
-{
-    let mut solver = Solver::new(alloc)?;
-    match add_all(&mut solver, clauses) {
-        Ok(()) => Ok(solver),
-        Err(refused) => {
-            drop(solver);
-            Err(refused)
-        }
-    }
-}
+use std::alloc::Global;
 
 /// Asks the solver. Numbers from 2^63 on are want of memory.
 pub(crate) fn ask(
@@ -59,7 +26,6 @@ pub(crate) fn ask(
     if !are_sized(assumptions) {
         return Err(SolveEnd::Memory);
     }
-    let _before = meter.spending().conflicts();
     solver.ask(alloc, assumptions, meter)
 }
 

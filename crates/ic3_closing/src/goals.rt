@@ -1,6 +1,5 @@
 //! Whether clauses exclude a goal. The main call is `misses`.
-ghost use Rattle.std.specs.Prelude.{◌≡◌, ◌==◌, ◌||◌, ◌++◌, true, length, map, IfOk, IfErr};
-ghost use Rattle.std.specs.List.{list_any};
+ghost use Rattle.std.specs.Prelude.{◌≡◌, true, length, map, IfOk, IfErr};
 ghost use Rattle.proof_semantics.specs.Clauses.{negation};
 ghost use Rattle.edge.specs.Ends.{CountsConflicts, IsEnd};
 ghost use Rattle.fair_semantics.specs.States.{meets_clauses};
@@ -9,56 +8,23 @@ ghost use Rattle.cnf_unroll.specs.Obligations.{shared_clauses};
 ghost use Rattle.cnf_unroll.specs.Laws.{AreOver};
 ghost use Rattle.entry.specs.CheckedEntries.{viewed};
 ghost use Rattle.entry.specs.Laws.{IsGoodList};
-ghost use Rattle.ic3_questions.specs.Arenas.{restricting};
-ghost use Rattle.ic3_questions.specs.Searching.{IsGoal, Misses};
+ghost use Rattle.ic3_semantics.specs.Arenas.{restricting};
+ghost use Rattle.ic3_semantics.specs.Searching.{IsGoal, Misses};
 ghost use Rattle.ic3_questions.specs.SteppingClauses.{own_uses};
-ghost use Rattle.ic3_closing.specs.Goals.{is_read, goal_set, MissesLiteral};
+ghost use Rattle.ic3_closing.specs.Goals.{goal_set, MissesLiteral};
 
-use crate::asking::{is_refused, solver_with};
+use crate::asking::is_refused;
 use cdcl::Solver;
 use circuit::{Circuit, one_valuation};
 use cnf::{Clause, Cube, Lit, holds};
 use cnf_unroll::{ClauseSet, shared};
 use edge::{Meter, SolveEnd};
 use entry::Checked;
-use ic3_questions::{Goal, Start, own_uses, used};
+use ic3_questions::{is_read, literal_in_block, own_uses, used};
+use ic3_semantics::{Goal, Start};
 use items::Items;
 use std::alloc::{AllocError, Global};
 use std::sync::Arc;
-
-fn is_input(c: &Circuit, variable: u64) -> bool
-    ensures { result ≡ list_any (λ u. u == variable) c.now.inputs }
-{
-    c.inputs().iter().any(|input| *input == variable)
-}
-
-fn is_latch(c: &Circuit, variable: u64) -> bool
-    ensures { result ≡ list_any (λ latch. latch.var == variable) c.now.latches }
-{
-    c.latches().iter().any(|latch| latch.var == variable)
-}
-
-fn is_gate(c: &Circuit, variable: u64) -> bool
-    ensures { result ≡ list_any (λ gate. gate.var == variable) c.now.gates }
-{
-    c.gates().iter().any(|gate| gate.var == variable)
-}
-
-// Whether the variable is 0, an input, a latch or a gate; of others the clauses of a block say nothing.
-fn is_read(c: &Circuit, variable: u64) -> bool
-    ensures { result ≡ is_read c.now variable }
-{
-    variable == 0 || is_input(c, variable) || is_latch(c, variable) || is_gate(c, variable)
-}
-
-fn literal_in_block(literal: u64) -> Lit
-    ensures { result ≡ literal_in_block 0 literal }
-{
-    Lit {
-        var: 1 + literal / 2,
-        positive: literal % 2 != 1,
-    }
-}
 
 // The clause that a state meets where it is not in the cube.
 fn denial(alloc: Global, cube: &[Lit]) -> Result<Clause, AllocError>
@@ -121,7 +87,7 @@ fn solver_from(
         (own_uses (viewed view.now) start.now) (goal_set clauses.now avoid.now)) }
 {
     let steps = steps_from(alloc, c, view, start, clauses, avoid)?;
-    solver_with(alloc, steps)
+    Solver::with_clauses(alloc, steps)
 }
 
 // Whether no state that meets the clauses is that of a position at which the literal is met as goal. Of a variable that

@@ -7,7 +7,7 @@ ghost use Rattle.std.specs.Prelude.{◌≡◌, ◌<◌, length, IfErr};
 ghost use Rattle.std.specs.List.{All, list_all};
 ghost use Rattle.edge.specs.Ends.{CountsConflicts, IsEnd};
 
-use crate::asking::{add, ask};
+use crate::asking::ask;
 use crate::goals::goal_set;
 use crate::sets::ClosedSet;
 use crate::standing::{is_signed, lend};
@@ -51,7 +51,7 @@ fn add_behind(
     for literal in clause {
         out.push(*literal)?;
     }
-    add(solver, out)
+    solver.add_sized(out)
 }
 
 // Adds so many clauses from a place on, and answers the place behind them.

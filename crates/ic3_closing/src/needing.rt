@@ -14,7 +14,7 @@ use cnf_unroll::broken;
 use edge::{Meter, SolveEnd};
 use entry::Checked;
 use fair_semantics::Use;
-use ic3_questions::Goal;
+use ic3_semantics::Goal;
 use std::alloc::{AllocError, Global};
 use std::sync::Arc;
 

@@ -5,7 +5,7 @@ use fair_semantics::Use;
 use items::Items;
 
 /// The clauses, over latch numbers, and the uses, over numbers of a view, of an entry that separates a start from a goal.
-#[derive(Debug, Drop)]
+#[derive(Drop)]
 pub struct ClosedSet {
     pub clauses: Items<Clause>,
     pub uses: Items<Use>,

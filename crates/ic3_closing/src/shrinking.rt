@@ -3,7 +3,8 @@ ghost use Rattle.std.specs.Prelude.{◌≡◌, length, IfOk, IfErr};
 ghost use Rattle.edge.specs.Ends.{CountsConflicts, IsEnd};
 ghost use Rattle.entry.specs.CheckedEntries.{viewed};
 ghost use Rattle.entry.specs.Laws.{IsGoodList};
-ghost use Rattle.ic3_questions.specs.Searching.{IsGoal, Separates, closed_entry};
+ghost use Rattle.ic3_semantics.specs.Searching.{IsGoal, Separates, closed_entry};
+ghost use Rattle.ic3_closing.specs.Keeping.{IsPartOf};
 
 use crate::keeping::kept;
 use crate::needing::needed;
@@ -13,13 +14,13 @@ use circuit::Circuit;
 use cnf_unroll::obligations_tell;
 use edge::{Meter, SolveEnd};
 use entry::Checked;
-use ic3_questions::{Goal, Start};
+use ic3_semantics::{Goal, Start};
 use std::alloc::Global;
 use std::sync::Arc;
 
-/// An entry that separates the start from the goal, with some of the clauses and uses of one that does, a use possibly
-/// without its side; where no smaller one is found, the same. `Spent` comes only where the meter's count of conflicts
-/// is at its limit; the other error is want of memory.
+/// An entry that separates the start from the goal, with some of the clauses and uses of one that does, in their order, a
+/// use possibly without its side. `Spent` comes only where the meter's count of conflicts is at its limit; the other error
+/// is want of memory.
 pub fn shrink(
     alloc: Global,
     c: &Circuit,
@@ -41,6 +42,7 @@ pub fn shrink(
       view = viewed view.now;
       start = start.now;
     }) goal.now (closed_entry start.now part.clauses part.uses)) }
+    ensures part { IfOk result (IsPartOf whole.clauses whole.uses) }
     ensures end { IfErr result (IsEnd meter.new) }
     ensures counted { CountsConflicts meter.old meter.new }
 {

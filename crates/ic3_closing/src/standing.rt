@@ -10,10 +10,10 @@ ghost use Rattle.cnf_unroll.specs.Laws.{AreOver};
 ghost use Rattle.entry.specs.CheckedEntries.{viewed};
 ghost use Rattle.entry.specs.Faults.{is_signed, are_known};
 ghost use Rattle.entry.specs.Laws.{IsGoodList};
-ghost use Rattle.ic3_questions.specs.Searching.{IsGoal};
+ghost use Rattle.ic3_semantics.specs.Searching.{IsGoal};
 ghost use Rattle.ic3_closing.specs.Standing.{shared_by, NoneBreaks, Stands};
 
-use crate::asking::{is_refused, solver_with};
+use crate::asking::is_refused;
 use crate::goals::misses;
 use crate::sets::ClosedSet;
 use cdcl::{Solver, has_opposites};
@@ -23,7 +23,7 @@ use cnf_unroll::{Used, broken, shared};
 use edge::{Meter, SolveEnd};
 use entry::Checked;
 use fair_semantics::{Side, Use};
-use ic3_questions::{Goal, Start};
+use ic3_semantics::{Goal, Start};
 use items::Items;
 use std::alloc::{AllocError, Global};
 use std::sync::Arc;
@@ -131,7 +131,7 @@ fn solver_of(
     let uses = part.uses.as_slice();
     let used = lend(alloc, view, uses)?;
     let begun = shared(alloc, c, used.as_slice(), uses, &part.clauses)?;
-    solver_with(alloc, begun.clauses.into_vec())
+    Solver::with_clauses(alloc, begun.clauses.into_vec())
 }
 
 // Whether no step breaks the clause. One with a literal beside its negation is not asked for.

@@ -32,10 +32,10 @@ use Rattle.cnf_unroll.proofs.BlockWriting.{Shows, block_value, block_shown, bloc
 use Rattle.cnf_unroll.proofs.ObligationLaws.{state_length, successor_length}
 use Rattle.entry.specs.Laws.{IsGoodList}
 use Rattle.entry.proofs.Readable.{uses_readable, own_named}
-use Rattle.ic3_questions.specs.declared.questions.Start.{Start}
-use Rattle.ic3_questions.specs.Arenas.{restricting, in_arena}
-use Rattle.ic3_questions.specs.Searching.{Question}
-use Rattle.ic3_questions.specs.Stepping.{IsArenaStep}
+use Rattle.ic3_semantics.specs.declared.questions.Start.{Start}
+use Rattle.ic3_semantics.specs.Arenas.{restricting, in_arena}
+use Rattle.ic3_semantics.specs.Searching.{Question}
+use Rattle.ic3_semantics.specs.Stepping.{IsArenaStep}
 use Rattle.ic3_questions.specs.SteppingClauses.{own_uses, base_clauses, first_guard}
 use Rattle.ic3_questions.proofs.Sides.{sides_are_arena, own_uses_are, own_closed}
 

@@ -1,5 +1,4 @@
-pub mod Arenas
-pub mod Separated
 pub mod Sides
 pub mod BaseLaws
 pub mod Restricting
+pub mod ReadVariables

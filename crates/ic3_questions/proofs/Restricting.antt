@@ -2,8 +2,8 @@
 use Rattle.std.proofs.Common.{◌≡◌, ℕ, ◌+◌, true, false, List, ◌∷◌, refl}
 use Rattle.std.specs.List.{filter}
 use Rattle.fair_semantics.specs.Entries.{Entry, Numbered, numbered_from}
-use Rattle.ic3_questions.specs.declared.questions.Start.{Start}
-use Rattle.ic3_questions.specs.Arenas.{restricts}
+use Rattle.ic3_semantics.specs.declared.questions.Start.{Start}
+use Rattle.ic3_semantics.specs.Arenas.{restricts}
 
 -- the entries from place m on that restrict the steps
 abbrev pub restricting_from : Start → ℕ → List Entry → List Numbered

@@ -16,9 +16,9 @@ use Rattle.fair_semantics.specs.Validity.{AreValid}
 use Rattle.fair_semantics.specs.Allowing.{allows_by, all_allow}
 use Rattle.fair_semantics.proofs.Lists.{valid-names, reach-unnamed}
 use Rattle.fair_semantics.proofs.Sets.{entry_at-place}
-use Rattle.ic3_questions.specs.declared.questions.Start.{Start}
-use Rattle.ic3_questions.specs.declared.questions.Start.TheVariants.{Initial, State}
-use Rattle.ic3_questions.specs.Arenas.{restricts, restricting, keeps_to, in_arena}
+use Rattle.ic3_semantics.specs.declared.questions.Start.{Start}
+use Rattle.ic3_semantics.specs.declared.questions.Start.TheVariants.{Initial, State}
+use Rattle.ic3_semantics.specs.Arenas.{restricts, restricting, keeps_to, in_arena}
 use Rattle.ic3_questions.specs.SteppingClauses.{side_of, start_side, own_use, own_uses}
 
 -- ---- one entry

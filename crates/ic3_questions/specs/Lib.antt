@@ -1,6 +1,2 @@
-pub mod Arenas
-pub mod Searching
-pub mod Stepping
-pub mod Ends
 pub mod SteppingClauses
-pub mod Laws
+pub mod ReadVariables

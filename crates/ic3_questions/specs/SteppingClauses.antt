@@ -12,12 +12,12 @@ use Rattle.fair_semantics.specs.declared.entries.Use.{Use}
 use Rattle.fair_semantics.specs.Entries.{Entry, Numbered, set_at}
 use Rattle.cnf_unroll.specs.Numbers.{minus, state_place, literal_at_place, clause_at_place}
 use Rattle.cnf_unroll.specs.Obligations.{shared_clauses, after_step}
-use Rattle.ic3_questions.specs.Arenas.{restricting}
-use Rattle.ic3_questions.specs.Searching.{Question}
-use Rattle.ic3_questions.specs.Stepping.{Stepping}
-use Rattle.ic3_questions.specs.declared.lemmas.Lemma.{Lemma}
-use Rattle.ic3_questions.specs.declared.questions.Start.{Start}
-use Rattle.ic3_questions.specs.declared.questions.Start.TheVariants.{Initial, State}
+use Rattle.ic3_semantics.specs.Arenas.{restricting}
+use Rattle.ic3_semantics.specs.Searching.{Question}
+use Rattle.ic3_semantics.specs.Stepping.{Stepping}
+use Rattle.ic3_semantics.specs.declared.lemmas.Lemma.{Lemma}
+use Rattle.ic3_semantics.specs.declared.questions.Start.{Start}
+use Rattle.ic3_semantics.specs.declared.questions.Start.TheVariants.{Initial, State}
 
 -- ---- the block under the entries that restrict the steps, on the start's sides
 

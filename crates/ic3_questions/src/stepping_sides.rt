@@ -3,13 +3,13 @@ ghost use Rattle.std.specs.Prelude.{◌≡◌, ◌<◌, length, map, IfOk};
 ghost use Rattle.fair_semantics.specs.Entries.{set_at};
 ghost use Rattle.cnf_unroll.specs.Lending.{lent, lent_all};
 ghost use Rattle.entry.specs.CheckedEntries.{entry_in, viewed};
-ghost use Rattle.ic3_questions.specs.Arenas.{restricts, restricting};
+ghost use Rattle.ic3_semantics.specs.Arenas.{restricts, restricting};
 ghost use Rattle.ic3_questions.specs.SteppingClauses.{start_side, own_use, own_uses};
 
-use crate::questions::Start;
 use cnf_unroll::Used;
 use entry::{Checked, side};
 use fair_semantics::{Kind, Side, Use};
+use ic3_semantics::Start;
 use items::Items;
 use std::alloc::{AllocError, Global};
 use std::sync::Arc;

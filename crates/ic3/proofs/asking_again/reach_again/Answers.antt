@@ -1,7 +1,7 @@
 use Rattle.std.proofs.Common.{◌++◌, sym, ap, subst, ◌∙◌}
 use Rattle.entry.specs.CheckedEntries.{viewed}
-use Rattle.ic3_questions.specs.Searching.{Question}
-use Rattle.ic3.specs.SearchesInside.{MayGoOn}
+use Rattle.ic3_semantics.specs.Searching.{Question}
+use Rattle.ic3_loops.specs.Resuming.{MayGoOn}
 use Rattle.ic3.proofs.GoingOn.{goes_on, none_open, on_same}
 use Rattle.ic3.proofs.asking_again.reach_again.Goals as goal
 
@@ -24,7 +24,7 @@ returns-in_err-reached-clause-open c =
 pub returns-clause-open : goal.returns-clause-open
 returns-clause-open c =
     subst (λ view. MayGoOn (record { circuit = c.args.c.now; view = view; start = c.args.start.now }) c.args.starts.now c.reach_on.new.frames)
-    (sym c.in_ok-catch_up.ensures.seen) c.in_ok-reached.ensures.open
+    (sym c.in_ok-catch_up.ensures.seen) c.in_ok-reached.ensures.kept.ready
 
 pub returns-in_err-catch_up-clause-seen : goal.returns-in_err-catch_up-clause-seen
 returns-in_err-catch_up-clause-seen c =

@@ -1,7 +1,7 @@
 use Rattle.std.proofs.Common.{length, sym, subst}
 use Rattle.entry.specs.CheckedEntries.{viewed}
-use Rattle.ic3_questions.specs.Searching.{Question}
-use Rattle.ic3.specs.SearchesInside.{MayGoOn}
+use Rattle.ic3_semantics.specs.Searching.{Question}
+use Rattle.ic3_loops.specs.Resuming.{MayGoOn}
 use Rattle.ic3.proofs.GoingOn.{none_open, counts_first}
 use Rattle.ic3.proofs.searching.reach.Goals as goal
 

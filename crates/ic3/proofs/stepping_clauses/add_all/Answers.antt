@@ -7,8 +7,8 @@ returns-in_err-clone-clause-grows c =
     grows_take c.args.clauses.now.clauses c.args.solver.now.added c.loop-clause.solver.added c.loop-clause.clause-index
     (c.loop-clause.invariant ∙ ap (λ xs. c.args.solver.now.added ++ take c.loop-clause.clause-index xs) c.as_slice-clause-items.ensures)
 
-pub returns-in_err-add-clause-grows : goal.returns-in_err-add-clause-grows
-returns-in_err-add-clause-grows c =
-    grows_take c.args.clauses.now.clauses c.args.solver.now.added c.add.new.solver.added c.loop-clause.clause-index
-    (ap (λ s. s.added) c.in_err-add.ensures.err
+pub returns-in_err-add_sized-clause-grows : goal.returns-in_err-add_sized-clause-grows
+returns-in_err-add_sized-clause-grows c =
+    grows_take c.args.clauses.now.clauses c.args.solver.now.added c.add_sized.new.self.added c.loop-clause.clause-index
+    (ap (λ s. s.added) c.in_err-add_sized.ensures.err
     ∙ (c.loop-clause.invariant ∙ ap (λ xs. c.args.solver.now.added ++ take c.loop-clause.clause-index xs) c.as_slice-clause-items.ensures))

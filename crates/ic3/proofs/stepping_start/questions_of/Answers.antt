@@ -1,6 +1,6 @@
 use Rattle.std.proofs.Common.{[], ◌++◌, map, ap₂, subst, ◌∙◌}
 use Rattle.entry.specs.CheckedEntries.{viewed}
-use Rattle.ic3_questions.specs.Searching.{Question}
+use Rattle.ic3_semantics.specs.Searching.{Question}
 use Rattle.ic3_questions.specs.SteppingClauses.{base_clauses, guarded, denied_at}
 use Rattle.ic3.specs.SteppingInside.{Grows}
 use Rattle.ic3.proofs.Holding.{begun_held}

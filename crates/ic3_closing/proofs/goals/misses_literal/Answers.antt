@@ -4,7 +4,8 @@ use Rattle.fair_semantics.specs.States.{meets_clauses}
 use Rattle.entry.specs.CheckedEntries.{viewed}
 use Rattle.ic3_closing.specs.Goals.{MissesLiteral, goal_set}
 use Rattle.ic3_closing.proofs.Ends.{on_flag}
-use Rattle.ic3_closing.proofs.Missing.{read_from, one_apart, goal_missed}
+use Rattle.ic3_questions.proofs.ReadVariables.{read_from}
+use Rattle.ic3_closing.proofs.Missing.{one_apart, goal_missed}
 use Rattle.ic3_closing.proofs.goals.misses_literal.Goals as goal
 
 pub is_refused-refused-requires : goal.is_refused-refused-requires

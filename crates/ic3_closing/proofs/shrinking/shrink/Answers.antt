@@ -1,6 +1,7 @@
 use Rattle.std.proofs.Common.{◌<◌, get_or, subst}
 use Rattle.std.proofs.lemmas.List.{length-map}
 use Rattle.entry.specs.CheckedEntries.{entry_in, viewed}
+use Rattle.ic3_closing.proofs.Kept.{whole_part}
 use Rattle.ic3_closing.proofs.Parting.{over_part, present_part, part_separates}
 use Rattle.ic3_closing.proofs.shrinking.shrink.Goals as goal
 
@@ -23,3 +24,15 @@ returns-then-branch-clause-separates c =
     c.in_ok-marks.marks.clauses.items c.in_ok-marks.marks.uses.items c.in_ok-marks.marks.sides.items
     c.obligations_tell.ensures c.requires.view c.requires.separates c.in_ok-part.ensures.clauses c.in_ok-part.ensures.uses
     (c.in_ok-stands.ensures.stands c.if-branch.true)
+
+pub returns-then-branch-clause-part : goal.returns-then-branch-clause-part
+returns-then-branch-clause-part c = record {
+  kept = c.in_ok-marks.marks.clauses.items;
+  used = c.in_ok-marks.marks.uses.items;
+  sided = c.in_ok-marks.marks.sides.items;
+  clauses_are = c.in_ok-part.ensures.clauses;
+  uses_are = c.in_ok-part.ensures.uses;
+}
+
+pub returns-else-branch-clause-part : goal.returns-else-branch-clause-part
+returns-else-branch-clause-part c = whole_part c.args.whole

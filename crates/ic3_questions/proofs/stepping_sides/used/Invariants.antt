@@ -1,7 +1,7 @@
 use Rattle.std.proofs.Common.{◌≡◌, ◌++◌, drop}
 use Rattle.cnf_unroll.specs.Lending.{lent_all}
 use Rattle.entry.specs.CheckedEntries.{viewed}
-use Rattle.ic3_questions.specs.Arenas.{restricting}
+use Rattle.ic3_semantics.specs.Arenas.{restricting}
 use Rattle.ic3_questions.proofs.Restricting.{restricting_from}
 use Rattle.ic3_questions.proofs.stepping_sides.used.Given as goal
 

@@ -1,6 +1,6 @@
 use Rattle.std.proofs.Common.{subst, length}
 use Rattle.cnf_unroll.specs.Laws.{AreOver}
-use Rattle.ic3_questions.specs.Stepping.{Stepping}
+use Rattle.ic3_semantics.specs.Stepping.{Stepping}
 use Rattle.ic3.proofs.steps.Steps.avoid.Goals as goal
 
 pub returns-clause-over : goal.returns-clause-over

@@ -1,6 +1,6 @@
 use Rattle.std.proofs.Common.{subst}
 use Rattle.fair_semantics.specs.Validity.{AreValid}
-use Rattle.ic3_questions.specs.Stepping.{Stepping}
+use Rattle.ic3_semantics.specs.Stepping.{Stepping}
 use Rattle.ic3.proofs.steps.Steps.circuit.Goals as goal
 
 pub returns-clause-valid : goal.returns-clause-valid

@@ -1,6 +1,6 @@
 use Rattle.std.proofs.Common.{sym, subst, length}
 use Rattle.entry.specs.CheckedEntries.{viewed}
-use Rattle.ic3_questions.specs.Stepping.{Stepping, IsOver}
+use Rattle.ic3_semantics.specs.Stepping.{Stepping, IsOver}
 use Rattle.ic3.proofs.Holding.{may_held}
 use Rattle.ic3.proofs.steps.Steps.hold.Goals as goal
 

@@ -1,6 +1,6 @@
 use Rattle.std.proofs.Common.{refl, sym, subst, IfOk, IfSome, ◌∙◌}
 use Rattle.entry.specs.CheckedEntries.{viewed}
-use Rattle.ic3_questions.specs.Stepping.{Stepping, IsGoalFound}
+use Rattle.ic3_semantics.specs.Stepping.{Stepping, IsGoalFound}
 use Rattle.ic3.specs.SteppingInside.{IsHeldWith, TellsTriedGoal}
 use Rattle.ic3.specs.declared.stepping_questions.Questions.{Questions}
 use Rattle.ic3.proofs.Holding.{after_growth, after_question}

@@ -1,7 +1,7 @@
 use Rattle.std.proofs.Common.{subst, length}
 use Rattle.std.specs.List.{All}
 use Rattle.cnf_unroll.specs.Laws.{AreOver}
-use Rattle.ic3_questions.specs.Stepping.{Stepping}
+use Rattle.ic3_semantics.specs.Stepping.{Stepping}
 use Rattle.ic3.proofs.steps.Steps.view.Goals as goal
 
 pub returns-clause-over : goal.returns-clause-over

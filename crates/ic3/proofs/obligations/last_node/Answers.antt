@@ -1,7 +1,0 @@
-use Rattle.std.proofs.Common.{refl}
-use Rattle.ic3.proofs.Obliging.{last-first}
-use Rattle.ic3.proofs.obligations.last_node.Goals as goal
-
-pub returns : goal.returns
-returns c =
-    last-first c.args.steps.now c.args._level c.args._top c.args.literal c.args.position _ c.requires.level c.requires.found refl c.in_ok-cube.ensures

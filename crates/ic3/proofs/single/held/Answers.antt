@@ -1,8 +1,0 @@
-use Rattle.std.proofs.Common.{sym, ◌∙◌}
-use Rattle.ic3.proofs.Singles.{single-is}
-use Rattle.ic3.proofs.single.held.Goals as goal
-
-pub returns-in-Some-clause-single : goal.returns-in-Some-clause-single
-returns-in-Some-clause-single c =
-    single-is c.args.steps.now c.args.starts.now c.in_ok-cube.cube c.in_ok-negation-in-Some.field-0 c.args.to.now c.requires
-    (rw c.in-Some.is at c.in_ok-ask.ensures.asked).0 (sym c.holds_in.ensures ∙ c.if-not-holds_in.false) c.in_ok-negation-in-Some.ensures

@@ -1,5 +1,0 @@
-use Rattle.std.proofs.Common.{◌≡◌, ◌++◌}
-use Rattle.ic3_closing.proofs.asking.add_all.Given as goal
-
-abbrev pub invariant-loop-clause : goal.invariant-loop-clause
-invariant-loop-clause l = l.solver.added ++ l.clause-iterator.rest.items ≡ l.initial.solver.added ++ l.fn.clauses.items

@@ -1,0 +1,17 @@
+pub mod Sounds
+pub mod Stuck
+pub mod Lowest
+pub mod Starts
+pub mod Closes
+pub mod Ended
+pub mod Begins
+pub mod Narrowing
+pub mod Excluding
+pub mod Excluded
+pub mod Obliging
+pub mod HeldLemmas
+pub mod Broken
+pub mod Ways
+pub mod Lifted
+pub mod Singles
+pub mod Kept

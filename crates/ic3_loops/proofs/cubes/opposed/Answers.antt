@@ -1,0 +1,7 @@
+use Rattle.std.proofs.Common.{rules}
+use Rattle.ic3_loops.proofs.Excluded.{opposed-is}
+use Rattle.ic3_loops.proofs.cubes.opposed.Goals as goal
+
+pub returns-then-contains : goal.returns-then-contains
+returns-then-contains c =
+    opposed-is c.args.starts.now c.args.cube.now c.loop-literal.literal-index _ (search rules) (search rules) (search rules)

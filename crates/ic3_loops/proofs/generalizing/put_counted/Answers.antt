@@ -1,0 +1,45 @@
+use Rattle.std.proofs.Common.{◌≡◌, ℕ, ◌<◌, ◌^◌, length, ap, subst, ◌∙◌, ◌+◌, arith}
+use Rattle.ic3_frames.specs.Frames.{with_lemma}
+use Rattle.ic3_frames.proofs.Meaning.{number-stays}
+use Rattle.ic3_loops.proofs.Ended.{one_step}
+use Rattle.ic3_loops.proofs.Lowest.{with_lowest}
+use Rattle.ic3_loops.proofs.Excluding.{stronger-is}
+use Rattle.ic3_loops.proofs.Excluded.{put-excludes, put-narrows}
+use Rattle.ic3_loops.proofs.generalizing.put_counted.Goals as goal
+
+small : (a n : ℕ) → n ≡ a → n < 2 ^ 64 → a < 2 ^ 64
+small a n is below = subst (λ m. m < 2 ^ 64) is below
+
+pub returns-in_err-put_lemma-clause-counted : goal.returns-in_err-put_lemma-clause-counted
+returns-in_err-put_lemma-clause-counted g c =
+    one_step c.args.meter.now c.lemma-2.new.self (small c.args.meter.now.steps c.steps_of.result c.steps_of.ensures.value c.steps_of.ensures.small)
+    c.in_ok-lemma.ensures.counted
+
+pub returns-clause-counted : goal.returns-clause-counted
+returns-clause-counted g c =
+    one_step c.args.meter.now c.lemma-2.new.self (small c.args.meter.now.steps c.steps_of.result c.steps_of.ensures.value c.steps_of.ensures.small)
+    c.in_ok-lemma.ensures.counted
+
+pub returns-clause-number : goal.returns-clause-number
+returns-clause-number g c = ap length c.in_ok-put_lemma.ensures.frames ∙ number-stays c.args.frames.now c.in_ok-level.level c.args.lemma
+
+pub returns-clause-excluded : goal.returns-clause-excluded
+returns-clause-excluded g c =
+    put-excludes c.args.frames.now c.put_lemma.new.frames (c.args.from + 1) c.args.lemma c.args.state.now c.requires.level
+    (c.in_ok-put_lemma.ensures.frames ∙ ap (λ k. with_lemma c.args.frames.now k c.args.lemma) c.in_ok-level.ensures) c.requires.excluded
+
+pub returns-clause-narrows : goal.returns-clause-narrows
+returns-clause-narrows g c =
+    put-narrows c.args.frames.now c.put_lemma.new.frames (c.args.from + 1) c.args.lemma c.requires.level
+    (c.in_ok-put_lemma.ensures.frames ∙ ap (λ k. with_lemma c.args.frames.now k c.args.lemma) c.in_ok-level.ensures)
+
+pub returns-clause-lowest : goal.returns-clause-lowest
+returns-clause-lowest g c =
+    with_lowest c.args.frames.now c.put_lemma.new.frames (c.args.from + 1) c.args.lemma (omega arith)
+    (c.in_ok-put_lemma.ensures.frames ∙ ap (λ k. with_lemma c.args.frames.now k c.args.lemma) c.in_ok-level.ensures)
+
+pub returns-clause-stronger : goal.returns-clause-stronger
+returns-clause-stronger g c =
+    rw (c.in_ok-put_lemma.ensures.frames, c.in_ok-level.ensures)
+    (stronger-is (length (g.S.StepSolver.seen c.args.steps.now).question.circuit.latches) c.args.frames.now (c.args.from + 1) c.args.lemma c.args.state.now
+    c.requires.level c.requires.size c.requires.frame c.requires.excluded)

@@ -1,0 +1,54 @@
+use Rattle.std.proofs.Common.{◌+◌, ◌≤◌, length, refl, sym, subst, arith}
+use Rattle.std.proofs.lemmas.Bool.{false≢true}
+use Rattle.ic3_frames.specs.Room.{room}
+use Rattle.ic3_semantics.specs.Searching.{Question}
+use Rattle.ic3_loops.specs.Sound.{AreStuck}
+use Rattle.ic3_semantics.specs.Searching.{CountsUpTo}
+use Rattle.ic3_loops.specs.Iterating.{IsIterated}
+use Rattle.ic3_loops.proofs.Stuck.{narrow_on}
+use Rattle.ic3_loops.proofs.Ended.{keeps_on, up_to_none, up_to_on}
+use Rattle.ic3_loops.proofs.iterating.iterate.Goals as goal
+
+pub iterations-init : goal.iterations-init
+iterations-init g c = record {
+  search = c.requires.search;
+  two = c.requires.two;
+  more = omega arith;
+  narrows = λ k s allowed. allowed;
+  lowest = λ later. absurd (false≢true (sym later));
+  question = record { question = refl; avoid = refl };
+  paid = omega arith;
+  counted = up_to_none (room (length (g.S.StepSolver.seen c.args.steps.now).question.circuit.latches) c.args.frames.now) c.args.meter.now;
+}
+
+pub iteration-requires-clause-lowest : goal.iteration-requires-clause-lowest
+iteration-requires-clause-lowest g c = λ later.
+    let before = c.iterations.invariant in
+    subst (λ q. AreStuck q c.iterations.frames 0) (sym before.question.question) (before.lowest later)
+
+pub iterations-preserved : goal.iterations-preserved
+iterations-preserved g c =
+    let most = room (length (g.S.StepSolver.seen c.args.steps.now).question.circuit.latches) c.args.frames.now in
+    let before = c.iterations.invariant in
+    let says = c.in_ok-ended.ensures in
+    let is = before.question.question in
+    let less =
+    subst (λ (q : Question). c.iteration.new.meter.steps + room (length q.circuit.latches) c.iteration.new.frames
+    ≤ c.iterations.meter.steps + room (length q.circuit.latches) c.iterations.frames) is says.room
+    in
+    record {
+      search = says.search;
+      two = says.two;
+      more = omega (arith, says.more, before.more);
+      narrows = narrow_on c.args.frames.now c.iterations.frames c.iteration.new.frames before.narrows says.narrows;
+      lowest = λ _.
+          subst (λ q. AreStuck q c.iteration.new.frames 0) is
+          (subst (IsIterated (g.S.StepSolver.seen c.iterations.steps).question c.args.goal.now c.iteration.new.frames) c.in-More.is says.outcome);
+      question = keeps_on (g.S.StepSolver.seen c.args.steps.now) (g.S.StepSolver.seen c.iterations.steps) (g.S.StepSolver.seen c.iteration.new.steps) before.question says.question;
+      paid = omega (arith, less, before.paid);
+      counted =
+          up_to_on most (room (length (g.S.StepSolver.seen c.args.steps.now).question.circuit.latches) c.iterations.frames) c.args.meter.now c.iterations.meter c.iteration.new.meter
+          before.counted before.paid
+          (subst (λ (q : Question). CountsUpTo (room (length q.circuit.latches) c.iterations.frames) c.iterations.meter c.iteration.new.meter) is
+          says.counted);
+    }

@@ -1,0 +1,11 @@
+pub mod Sound
+pub mod Lifting
+pub mod Blocking
+pub mod Generalizing
+pub mod Starting
+pub mod Propagating
+pub mod Holding
+pub mod Iterating
+pub mod Resuming
+pub mod Single
+pub mod Keeping

@@ -1,0 +1,104 @@
+//! Cubes that no step enters become lemmas, with fewer literals and as high as they are seen to hold. The main call is
+//! `generalize`.
+ghost use Rattle.std.specs.Prelude.{◌≡◌, ◌+◌, ◌<◌, ◌≤◌, ◌||◌, true, false, length, IfOk, IfErr, IfSome, OnOk};
+ghost use Rattle.proof_semantics.specs.Clauses.{clause_value, cube_value, values_of, has_literal, lit_eq, is_part};
+ghost use Rattle.edge.specs.Faults.{one_more};
+ghost use Rattle.ic3_frames.specs.Frames.{frame_at};
+ghost use Rattle.ic3_frames.specs.Room.{allowed_by};
+ghost use Rattle.ic3_semantics.specs.Searching.{IsReachEnd};
+ghost use Rattle.ic3_semantics.specs.Stepping.{IsMissing, IsOver};
+ghost use Rattle.ic3_loops.specs.Starting.{value_literals, misses_starts};
+ghost use Rattle.ic3_loops.specs.Sound.{IsSearch, IsRelative, KeepsQuestion, has_one_of};
+ghost use Rattle.ic3_semantics.specs.Searching.{CountsUpTo};
+ghost use Rattle.ic3_loops.specs.Propagating.{Narrows, KeepsLowest};
+ghost use Rattle.ic3_loops.specs.Blocking.{IsStronger};
+ghost use Rattle.ic3_loops.specs.Generalizing.{IsOpposed, IsBased, with_literal};
+
+use crate::cubes::based;
+use crate::iterating::steps_of;
+use crate::lemmas::{one_more, put_lemma};
+use crate::shortening::{highest, shorten};
+use crate::step_solver::StepSolver;
+use cnf::{Clause, Cube, Lit};
+use edge::{Held, Meter};
+use ic3_frames::Frames;
+use ic3_semantics::ReachEnd;
+use std::alloc::{AllocError, Global};
+
+/// Puts a lemma against the state of an obligation into the frame of a level, from the one above `below` on, as high as
+/// it is seen to hold, and counts it; answers the level. The state lies in the cube, which misses the starts. No step
+/// leads from the frame `below` into `part`, a part of the cube, of which literals are dropped while that stays so.
+pub(crate) fn generalize<S: StepSolver>(
+    alloc: Global,
+    starts: &Cube,
+    below: u64,
+    state: &[bool],
+    cube: &Cube,
+    part: Cube,
+    steps: &mut S,
+    frames: &mut Frames,
+    meter: &mut Meter,
+) -> Result<u64, ReachEnd>
+    requires search { IsSearch starts.now (S.seen steps.old) frames.old }
+    requires level { below + 1 < length frames.old }
+    requires size { length state.now ≡ length (S.seen steps.old).question.circuit.latches }
+    requires frame { allowed_by (frame_at frames.old (below + 1)) state.now ≡ true }
+    requires among { is_part cube.now (value_literals 0 state.now) ≡ true }
+    requires misses { misses_starts starts.now cube.now ≡ true }
+    requires missing { IsMissing (S.seen steps.old) below cube.now part }
+    ensures search { OnOk result (IsSearch starts.now (S.seen steps.new) frames.new) }
+    ensures level { IfOk result (λ level. (below + 1 ≤ level) × (level < length frames.old)) }
+    ensures excluded { IfOk result (λ level. allowed_by (frame_at frames.new level) state.now ≡ false) }
+    ensures stronger { IfOk result (λ level.
+        IsStronger (length (S.seen steps.old).question.circuit.latches) level frames.old frames.new) }
+    ensures narrows { OnOk result (Narrows frames.old frames.new) }
+    ensures lowest { OnOk result (KeepsLowest frames.old frames.new) }
+    ensures number { OnOk result (length frames.new ≡ length frames.old) }
+    ensures question { KeepsQuestion (S.seen steps.old) (S.seen steps.new) }
+    ensures one { OnOk result (meter.new.steps ≡ one_more meter.old.steps) }
+    ensures counted { CountsUpTo 1 meter.old meter.new }
+    ensures end { IfErr result (IsReachEnd meter.new) }
+{
+    let first = based(alloc, starts, cube, part)?;
+    let shorter = shorten(alloc, starts, below, first, steps, frames, meter)?;
+    let from = highest(alloc, starts, below, &shorter, steps, frames, meter)?;
+    let lemma = shorter.negation()?;
+    put_counted(starts, from, state, lemma, steps, frames, meter)
+}
+
+// Counts the lemma, and puts it into the frame above the level `from`.
+fn put_counted<S: StepSolver>(
+    starts: &Cube,
+    from: u64,
+    state: &[bool],
+    lemma: Clause,
+    steps: &mut S,
+    frames: &mut Frames,
+    meter: &mut Meter,
+) -> Result<u64, ReachEnd>
+    requires search { IsSearch starts.now (S.seen steps.old) frames.old }
+    requires level { from + 1 < length frames.old }
+    requires size { length state.now ≡ length (S.seen steps.old).question.circuit.latches }
+    requires frame { allowed_by (frame_at frames.old (from + 1)) state.now ≡ true }
+    requires excluded { clause_value (values_of state.now) lemma ≡ false }
+    requires over { IsOver (length (S.seen steps.old).question.circuit.latches) lemma }
+    requires based { has_one_of starts.now lemma ≡ true }
+    requires relative { IsRelative (S.seen steps.old).question frames.old (from + 1) lemma }
+    ensures search { OnOk result (IsSearch starts.now (S.seen steps.new) frames.new) }
+    ensures level { IfOk result (λ level. level ≡ from + 1) }
+    ensures excluded { OnOk result (allowed_by (frame_at frames.new (from + 1)) state.now ≡ false) }
+    ensures stronger { OnOk result (IsStronger (length (S.seen steps.old).question.circuit.latches) (from + 1) frames.old frames.new) }
+    ensures narrows { OnOk result (Narrows frames.old frames.new) }
+    ensures lowest { OnOk result (KeepsLowest frames.old frames.new) }
+    ensures number { OnOk result (length frames.new ≡ length frames.old) }
+    ensures question { KeepsQuestion (S.seen steps.old) (S.seen steps.new) }
+    ensures one { OnOk result (meter.new ≡ record meter.old { steps = one_more meter.old.steps }) }
+    ensures counted { CountsUpTo 1 meter.old meter.new }
+    ensures end { IfErr result (IsReachEnd meter.new) }
+{
+    let level = one_more(from)?;
+    let _ = steps_of(meter);
+    meter.lemma(&frames.at(level), &lemma, state)?;
+    put_lemma(starts, level, lemma, steps, frames)?;
+    Ok(level)
+}

@@ -1,5 +1,0 @@
-use Rattle.ic3_questions.proofs.Separated.{separated}
-use Rattle.ic3_questions.proofs.laws.separated_goals_are_not_reached.Goals as goal
-
-pub returns : goal.returns
-returns c = separated

@@ -1,0 +1,5 @@
+pub mod Arenas
+pub mod Searching
+pub mod Stepping
+pub mod Ends
+pub mod Laws
