@@ -1,11 +1,4 @@
-pub mod Allowed
-pub mod Walks
-pub mod Steps
-pub mod Counting
 pub mod Turned
-pub mod Seated
+pub mod LentBoards
 pub mod Together
 pub mod Skeletons
-pub mod Pools
-pub mod Stems
-pub mod Kept

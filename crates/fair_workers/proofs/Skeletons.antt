@@ -21,10 +21,11 @@ use Rattle.entry.specs.CheckedEntries.{CheckedEntry}
 use Rattle.entry.specs.declared.origins.Origin.{Origin}
 use Rattle.entry.specs.declared.origins.Origin.TheVariants.{Given, Worker as FoundBy}
 use Rattle.wall_store.specs.Boards.{BoardState, plain, Allow, EachBehind, FromWorker, IsFind, properties_of, most_entries}
+use Rattle.fair_round.specs.Spending.{IsSpent}
 use Rattle.fair_workers.specs.declared.limits.Report.{Report}
-use Rattle.fair_workers.specs.Runs.{Task, AreLimits, IsSpent, IsFull, IsReport}
+use Rattle.fair_workers.specs.Runs.{Task, AreLimits, IsFull, IsReport}
 use Rattle.fair_workers.specs.Laws.{NoReportWithoutLimits}
-use Rattle.fair_workers.proofs.Seated.{not-excluded}
+use Rattle.fair_workers.proofs.LentBoards.{not-excluded}
 
 -- ---- counting lists of values
 
@@ -280,7 +281,7 @@ no-report task j report limits one none conflicts steps room is =
       | inl full ↦ full-not task j report limits one none room is full
       | inr spent ↦
           let d : Spendings = record { conflicts = 0; conflict_limit = None; steps = 0; step_limit = None } in
-          let inside : 0 < length report.workers = omega (arith, is.count, limits.some) in
-          let with_limits = is.limits 0 d inside in
+          let inside : 0 < length report.workers = omega (arith, is.spent.count, limits.some) in
+          let with_limits = (is.spent.each 0 d inside).limits in
           not-spent (get_or report.workers 0 d) (with_limits.conflicts ∙ conflicts) (with_limits.steps ∙ steps) (spent 0 d inside)
     ]

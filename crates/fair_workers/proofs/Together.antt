@@ -1,10 +1,10 @@
 -- Workers that take turns over one board.
-use Rattle.std.proofs.Common.{◌≡◌, ◌≢◌, ℕ, ◌+◌, ◌-◌, ◌*◌, ◌<◌, ◌≤◌, max, min, Bool, true, false, ◌||◌, List, [], ◌∷◌, ◌++◌, ◌⊎◌, inl, inr, None, map, length, get_or, set, take, refl, sym, ap, ◌∙◌, subst, arith}
-use Rattle.std.specs.Prelude.{Contains}
+use Rattle.std.proofs.Common.{◌≡◌, ◌≢◌, ℕ, ◌+◌, ◌-◌, ◌*◌, ◌<◌, ◌≤◌, max, min, Bool, true, false, ◌||◌, List, [], ◌∷◌, ◌++◌, ◌⊎◌, inl, inr, None, map, length, get_or, set, take, drop, refl, sym, ap, ◌∙◌, subst, arith}
+use Rattle.std.specs.Prelude.{Contains, ◌==◌}
 use Rattle.std.specs.List.{All}
 use Rattle.std.proofs.Math.Seq.{map-set_same}
-use Rattle.std.proofs.lemmas.Bool.{false≢true, cases_lt}
-use Rattle.std.proofs.lemmas.List.{get_or-map, get_or_past, get_or_append_left, get_or-set_same, get_or-set_other, get_or-replicate, length-set, length-map, length-append, append-nil, append_assoc, map-append, take_all, take-append-le}
+use Rattle.std.proofs.lemmas.Bool.{false≢true, cases_lt, eq-eqb, ne_eqb}
+use Rattle.std.proofs.lemmas.List.{get_or-map, get_or_past, get_or_append_left, get_or-set_same, get_or-set_other, get_or-replicate, length-set, length-map, length-append, append-nil, append_assoc, map-append, map-set, take_all, take-append-le, drop_all, drop-append-le}
 use Rattle.std.proofs.Math.Seq.{get_or-append_seam}
 use Rattle.std.proofs.lemmas.List.Elements.{All-nil, All-push, All-set, All-map, All-head, All-tail, All-cons, All-append, All-weaker}
 use Rattle.std.proofs.lemmas.List.Sums.{sum_by-set}
@@ -12,60 +12,69 @@ use Rattle.aig_semantics.specs.Circuits.{Circuit, fair_literals}
 use Rattle.edge.specs.Units.{Spendings}
 use Rattle.entry.specs.declared.origins.Origin.{Origin}
 use Rattle.entry.specs.declared.origins.Origin.TheVariants.{Given, Worker as FoundBy}
-use Rattle.entry.specs.CheckedEntries.{CheckedEntry}
+use Rattle.entry.specs.CheckedEntries.{CheckedEntry, GoesOnFrom}
 use Rattle.fair_semantics.specs.declared.skeletons.Skeleton.{Skeleton}
-use Rattle.skeleton.specs.Finding.{GoesOnFrom, IsAllowed}
+use Rattle.skeleton.specs.Finding.{IsAllowed}
 use Rattle.wall_store.specs.declared.outcomes.Served.{Served}
-use Rattle.wall_store.specs.Boards.{BoardState, IsBoard, FromWorker, plain, properties_of, outcome_of, most_entries, first_board}
+use Rattle.wall_store.specs.Boards.{BoardState, IsBoard, FromWorker, is_by, found_by, turn_of, AscendBy, Ascend, plain, properties_of, outcome_of, most_entries, first_board}
 use Rattle.wall_store.specs.Events.{seen_by, list_of, IsSettled}
+use Rattle.wall_store.proofs.Ascending.{ascend_empty, ascend_later, ascend_push, found_own, found_others}
+use Rattle.fair_round.specs.Spending.{IsSpent, path_steps}
 use Rattle.fair_workers.specs.declared.limits.Limits.{Limits}
+use Rattle.fair_workers.specs.declared.limits.Report.{Report}
 use Rattle.fair_workers.specs.declared.working.Phase.{Phase}
 use Rattle.fair_workers.specs.declared.working.Phase.TheVariants as phases
 use Rattle.fair_workers.specs.declared.working.Worker.{Worker}
-use Rattle.fair_workers.specs.declared.crews.Member.{Member}
-use Rattle.fair_workers.specs.declared.seats.Seat.{Seat}
-use Rattle.fair_workers.specs.Walks.{KeepsLimits}
-use Rattle.fair_workers.specs.Runs.{Task, IsFoundWithin, IsBoardOf, IsAnswered, IsSpent, IsWithLimits, IsFull, IsReport, most_situations, path_steps, most_steps, most_turns}
+use Rattle.fair_workers.specs.declared.board_workers.BoardWorker.{BoardWorker}
+use Rattle.fair_workers.specs.declared.lending.LentBoard.{LentBoard}
+use Rattle.fair_workers.specs.Runs.{Task, IsFoundWithin, IsBoardOf, IsWithLimits, IsInBudget, AreSpentOn, IsFull, IsAnswer, IsReport, most_situations, most_steps, most_turns}
 use Rattle.fair_workers.specs.Knowing.{Known}
-use Rattle.fair_workers.specs.Working.{rank, is_running, is_refused, left, left_at_first, searches_left, searches_ahead, search_steps, steps_through, IsIn, IsStuck, IsWorker, Turns}
-use Rattle.fair_workers.specs.Crews.{known_at, known_of, any_refused, left_by, left_of, searches_left_by, KeepsWithin, runs_at, IsOfTurn, GoesOnBy, StaysSeat, IsMember, TakesTurn, Follows, AreWorkers, IsCrew, IsOver, task_of}
+use Rattle.fair_workers.specs.Working.{rank, is_running, is_refused, left, left_at_first, searches_left, searches_ahead, search_steps, steps_through, IsIn, IsStuck, IsWorker, Turns, KeepsLimits}
+use Rattle.fair_workers.specs.BoardWorkers.{known_at, known_of, any_refused, left_by, left_of, searches_left_by, KeepsWithin, runs_at, turns_at, IsOfTurn, GoesOnBy, StaysLent, IsBoardWorker, TakesTurn, Follows, AreWorkers, ServeTask, HaveEnded, task_of}
 use Rattle.fair_workers.proofs.Turned.{turn-within, is-running}
-use Rattle.fair_workers.proofs.Seated.{is-not-none, some-is, seen-size, seen-within}
-use Rattle.fair_workers.proofs.Counting.{steps-first, steps-kept, steps-over, steps-last}
+use Rattle.fair_workers.proofs.LentBoards.{is-not-none, some-is, seen-size, seen-within}
+use Rattle.fair_round.proofs.Counting.{steps-first, steps-kept, steps-over, steps-last}
 
 -- ---- the beginning
 
-pub crew-none : (limits : Limits) (j : ℕ) (b : BoardState) → AreWorkers limits j b []
-crew-none limits j b = record {
+-- of a board whose entries are all given no worker found one
+own-fresh : (b : BoardState) (w turns : ℕ) → length b.entries ≡ b.given → Ascend w (drop b.given b.entries) turns
+own-fresh b w turns fresh =
+    ascend_empty w (drop b.given b.entries) turns (ap (found_by w) (drop_all b.given b.entries (omega (arith, fresh))))
+
+pub workers-none : (limits : Limits) (j : ℕ) (b : BoardState) → length b.entries ≡ b.given → AreWorkers limits j b []
+workers-none limits j b fresh = record {
   numbers = λ k below. absurd (omega arith);
-  each = All-nil (IsMember j b);
+  each = All-nil (IsBoardWorker j b);
   within = All-nil (λ w. IsWithLimits limits w.worker.meter);
   steps = All-nil (KeepsWithin limits j b.limit b.circuit);
+  own = λ w. own-fresh b w (turns_at [] w) fresh;
 }
 
-pub crew-push : (limits : Limits) (j : ℕ) (b : BoardState) (crew : List Member) (w : Member) → AreWorkers limits j b crew
-    → w.number ≡ length crew → IsMember j b w → IsWithLimits limits w.worker.meter → KeepsWithin limits j b.limit b.circuit w
-    → AreWorkers limits j b (crew ++ w ∷ [])
-crew-push limits j b crew w are number is within sparing =
-    let numbers : List ℕ = map (λ (v : Member). v.number) crew in
-    let size : length numbers ≡ length crew = length-map crew (λ (v : Member). v.number) in
-    let split : map (λ (v : Member). v.number) (crew ++ w ∷ []) ≡ numbers ++ w.number ∷ [] = map-append (λ (v : Member). v.number) crew (w ∷ []) in
+pub workers-push : (limits : Limits) (j : ℕ) (b : BoardState) (workers : List BoardWorker) (w : BoardWorker) → AreWorkers limits j b workers
+    → w.number ≡ length workers → IsBoardWorker j b w → IsWithLimits limits w.worker.meter → KeepsWithin limits j b.limit b.circuit w
+    → length b.entries ≡ b.given → AreWorkers limits j b (workers ++ w ∷ [])
+workers-push limits j b workers w are number is within sparing fresh =
+    let numbers : List ℕ = map (λ (v : BoardWorker). v.number) workers in
+    let size : length numbers ≡ length workers = length-map workers (λ (v : BoardWorker). v.number) in
+    let split : map (λ (v : BoardWorker). v.number) (workers ++ w ∷ []) ≡ numbers ++ w.number ∷ [] = map-append (λ (v : BoardWorker). v.number) workers (w ∷ []) in
     record {
       numbers = λ k below.
           ap (λ xs. get_or xs k 0) split
-          ∙ elim (cases_lt k (length crew)) [
+          ∙ elim (cases_lt k (length workers)) [
             | inl earlier ↦ get_or_append_left numbers (w.number ∷ []) 0 k (omega (arith, size)) ∙ are.numbers k earlier
             | inr late ↦
-                let at : k ≡ length numbers = omega (arith, size, below, length-append crew (w ∷ [])) in
+                let at : k ≡ length numbers = omega (arith, size, below, length-append workers (w ∷ [])) in
                 ap (λ m. get_or (numbers ++ w.number ∷ []) m 0) at ∙ get_or-append_seam numbers w.number [] 0 ∙ number ∙ sym size ∙ sym at
           ];
-      each = All-push (IsMember j b) crew w are.each is;
-      within = All-push (λ v. IsWithLimits limits v.worker.meter) crew w are.within within;
-      steps = All-push (KeepsWithin limits j b.limit b.circuit) crew w are.steps sparing;
+      each = All-push (IsBoardWorker j b) workers w are.each is;
+      within = All-push (λ v. IsWithLimits limits v.worker.meter) workers w are.within within;
+      steps = All-push (KeepsWithin limits j b.limit b.circuit) workers w are.steps sparing;
+      own = λ v. own-fresh b v (turns_at (workers ++ w ∷ []) v) fresh;
     }
 
 -- at the beginning the whole list has been seen, and the list may grow by so many entries
-pub sparing-first : (limits : Limits) (j : ℕ) (b : BoardState) (w : Member) → b.limit ≤ length b.entries + limits.skeletons
+pub sparing-first : (limits : Limits) (j : ℕ) (b : BoardState) (w : BoardWorker) → b.limit ≤ length b.entries + limits.skeletons
     → w.seen ≡ length b.entries → w.worker.phase ≡ phases.Asks → w.worker.meter.steps ≡ 0 → KeepsWithin limits j b.limit b.circuit w
 sparing-first limits j b w few seen phase none =
     let ahead : searches_ahead w.worker.phase ≡ 1 = ap searches_ahead phase in
@@ -75,10 +84,10 @@ sparing-first limits j b w few seen phase none =
 first-turns : (limit given seen : ℕ) → given ≤ seen → 0 + left limit seen phases.Asks ≤ left_at_first limit given
 first-turns limit given seen whole = omega (arith, whole)
 
-pub member-first : (j : ℕ) (b : BoardState) (m : Member) → IsBoard b → m.number < b.workers → m.worker.scout.circuit ≡ b.circuit
-    → m.worker.scout.property ≡ j → m.worker.scout.seen ≡ [] → m.worker.phase ≡ phases.Asks → m.turns ≡ 0 → m.seen ≡ seen_by b m.number
-    → seen_by b m.number ≡ length b.entries → properties_of b.served ≡ j ∷ [] → IsMember j b m
-member-first j b m is below circuit property none phase turns seen whole served =
+pub worker-first : (j : ℕ) (b : BoardState) (m : BoardWorker) → IsBoard b → m.number < b.workers → m.worker.rounds.circuit ≡ b.circuit
+    → m.worker.rounds.property ≡ j → m.worker.rounds.seen ≡ [] → m.worker.phase ≡ phases.Asks → m.turns ≡ 0 → m.seen ≡ seen_by b m.number
+    → seen_by b m.number ≡ length b.entries → properties_of b.served ≡ j ∷ [] → IsBoardWorker j b m
+worker-first j b m is below circuit property none phase turns seen whole served =
     let k : Known = known_at b m.number m.turns in
     let size : b.given ≤ length (list_of b m.number) = omega (arith, is.given, whole, seen-size b m.number is below) in
     record {
@@ -99,17 +108,17 @@ member-first j b m is below circuit property none phase turns seen whole served 
 
 -- ---- whose turn it is
 
-pub runs-here : (crew : List Member) (k : ℕ) (w : Member) → k < length crew → is_running (get_or crew k w).worker.phase ≡ runs_at crew k
-runs-here crew k w below = ap is_running (sym (get_or-map (λ (v : Member). v.worker.phase) crew k w phases.Closed below))
+pub runs-here : (workers : List BoardWorker) (k : ℕ) (w : BoardWorker) → k < length workers → is_running (get_or workers k w).worker.phase ≡ runs_at workers k
+runs-here workers k w below = ap is_running (sym (get_or-map (λ (v : BoardWorker). v.worker.phase) workers k w phases.Closed below))
 
-pub runs-past : (crew : List Member) (k : ℕ) → length crew ≤ k → runs_at crew k ≡ false
-runs-past crew k past = ap is_running (get_or_past (map (λ (v : Member). v.worker.phase) crew) k phases.Closed (omega (arith, length-map crew (λ (v : Member). v.worker.phase))))
+pub runs-past : (workers : List BoardWorker) (k : ℕ) → length workers ≤ k → runs_at workers k ≡ false
+runs-past workers k past = ap is_running (get_or_past (map (λ (v : BoardWorker). v.worker.phase) workers) k phases.Closed (omega (arith, length-map workers (λ (v : BoardWorker). v.worker.phase))))
 
-pub runs-inside : (crew : List Member) (k : ℕ) → runs_at crew k ≡ true → k < length crew
-runs-inside crew k h =
-    elim (cases_lt k (length crew)) [
+pub runs-inside : (workers : List BoardWorker) (k : ℕ) → runs_at workers k ≡ true → k < length workers
+runs-inside workers k h =
+    elim (cases_lt k (length workers)) [
       | inl below ↦ below
-      | inr past ↦ absurd (false≢true (sym (runs-past crew k past) ∙ h))
+      | inr past ↦ absurd (false≢true (sym (runs-past workers k past) ∙ h))
     ]
 
 -- ---- a turn
@@ -124,9 +133,9 @@ same-or-not i k =
 pub within-on : (limits : Limits) (old new : Spendings) → KeepsLimits old new → IsWithLimits limits old → IsWithLimits limits new
 within-on limits old new kept h = record { conflicts = kept.conflicts ∙ h.conflicts; steps = kept.steps ∙ h.steps }
 
-number-at : (limits : Limits) (j : ℕ) (b : BoardState) (crew : List Member) (k : ℕ) (d : Member) → AreWorkers limits j b crew → k < length crew
-    → (get_or crew k d).number ≡ k
-number-at limits j b crew k d are below = sym (get_or-map (λ (v : Member). v.number) crew k d 0 below) ∙ are.numbers k below
+number-at : (limits : Limits) (j : ℕ) (b : BoardState) (workers : List BoardWorker) (k : ℕ) (d : BoardWorker) → AreWorkers limits j b workers → k < length workers
+    → (get_or workers k d).number ≡ k
+number-at limits j b workers k d are below = sym (get_or-map (λ (v : BoardWorker). v.number) workers k d 0 below) ∙ are.numbers k below
 
 -- what another one's turn leaves of a worker
 phase-stays : (j : ℕ) (k l : Known) (meter : Spendings) (p : Phase) → l.circuit ≡ k.circuit → l.limit ≡ k.limit → l.list ≡ k.list
@@ -158,13 +167,13 @@ worker-stays j k l w circuit properties turns given limit list settled is = reco
   served = properties ∙ is.served;
   circuit = is.circuit ∙ sym circuit;
   property = is.property;
-  on = subst (λ (xs : List CheckedEntry). GoesOnFrom w.scout.seen (plain xs)) (sym list) is.on;
+  on = subst (λ (xs : List CheckedEntry). GoesOnFrom w.rounds.seen (plain xs)) (sym list) is.on;
   phase = phase-stays j k l w.meter w.phase circuit limit list settled is.phase;
   short = subst (λ (n : ℕ). n ≤ most_entries) (sym limit) is.short;
   turns = turns-stay k.turns l.turns (length k.list) (length l.list) k.limit l.limit k.given l.given (rank w.phase) turns (ap length list) limit given is.turns;
 }
 
-other-stays : (j n turn : ℕ) (b c : BoardState) (m : Member) → IsBoard b → m.number ≢ n → GoesOnBy n turn b c → IsMember j b m → IsMember j c m
+other-stays : (j n turn : ℕ) (b c : BoardState) (m : BoardWorker) → IsBoard b → m.number ≢ n → GoesOnBy n turn b c → IsBoardWorker j b m → IsBoardWorker j c m
 other-stays j n turn b c m board other on is =
     let same_seen : seen_by c m.number ≡ seen_by b m.number = on.others m.number other in
     let within : seen_by b m.number ≤ length b.entries = seen-within b m.number board is.number in
@@ -179,56 +188,131 @@ other-stays j n turn b c m board other on is =
           (λ has. some-is (outcome_of c.served j) (on.outcomes j (is-not-none (outcome_of b.served j) has))) is.worker;
     }
 
-pub crew-turn : (limits : Limits) (j : ℕ) (b c : BoardState) (crew : List Member) (k : ℕ) (w v : Member) → IsBoard b → IsBoard c
-    → AreWorkers limits j b crew → k < length crew → w ≡ get_or crew k w → TakesTurn j b w c v → AreWorkers limits j c (set crew k v)
-crew-turn limits j b c crew k w v board after are below at turn =
-    let mine : w.number ≡ k = ap (λ (u : Member). u.number) at ∙ number-at limits j b crew k w are below in
-    let numbers_same : map (λ (u : Member). u.number) (set crew k v) ≡ map (λ (u : Member). u.number) crew =
-    map-set_same (λ (u : Member). u.number) crew k v w (turn.number ∙ ap (λ (u : Member). u.number) at)
+-- ---- the entries of each worker
+
+by-own : (k turn : ℕ) (origin : Origin) → FromWorker origin (λ work. (work.author ≡ k) × (work.turn ≡ turn))
+    → (is_by k origin ≡ true) × (turn_of origin ≡ turn)
+by-own k turn Given found = absurd found
+by-own k turn (FoundBy work) found = (eq-eqb work.author k found.0, found.1)
+
+unlike : (n i k : ℕ) → n ≡ k → i ≢ k → (n == i) ≡ false
+unlike n i k same other = ne_eqb n i (λ e. other (sym e ∙ same))
+
+by-other : (i k turn : ℕ) (origin : Origin) → i ≢ k → FromWorker origin (λ work. (work.author ≡ k) × (work.turn ≡ turn)) → is_by i origin ≡ false
+by-other i k turn Given other found = absurd found
+by-other i k turn (FoundBy work) other found = unlike work.author i k found.0 other
+
+-- the entries of a worker with those of a turn of its own,
+own-mine : (k turn turns : ℕ) (found more : List CheckedEntry) → All (IsOfTurn k turn) more → length more + turn ≤ turns → turns ≤ turn + 1
+    → Ascend k found turn → Ascend k (found ++ more) turns
+own-mine k turn turns found [] each paid one a =
+    ascend_later k found (found ++ []) turn turns (ap (found_by k) (append-nil found)) (omega (arith, paid)) a
+own-mine k turn turns found (e ∷ []) each paid one a =
+    let next : turn + 1 ≡ turns = omega (arith, paid, one) in
+    let mine = by-own k turn e.origin (each 0 e (omega arith)) in
+    subst (Ascend k (found ++ e ∷ [])) next (ascend_push k found (found ++ e ∷ []) e turn (found_own k found e mine.0) mine.1 a)
+own-mine k turn turns found (e ∷ f ∷ more) each paid one a = absurd (omega (arith, paid, one))
+
+-- and with those of another one's turn
+own-other : (i k turn turns : ℕ) (found more : List CheckedEntry) → i ≢ k → All (IsOfTurn k turn) more → Ascend i found turns
+    → Ascend i (found ++ more) turns
+own-other i k turn turns found more other each a =
+    ascend_later i found (found ++ more) turns turns
+    (found_others i found more (λ m d below. by-other i k turn (get_or more m d).origin other (each m d below))) (omega arith) a
+
+turns-here : (workers : List BoardWorker) (k : ℕ) (w : BoardWorker) → k < length workers → w ≡ get_or workers k w → turns_at workers k ≡ w.turns
+turns-here workers k w below at = get_or-map (λ (m : BoardWorker). m.turns) workers k w 0 below ∙ ap (λ (m : BoardWorker). m.turns) (sym at)
+
+turns-set : (workers : List BoardWorker) (k : ℕ) (v : BoardWorker) → k < length workers → turns_at (set workers k v) k ≡ v.turns
+turns-set workers k v below =
+    ap (λ (ts : List ℕ). get_or ts k 0) (map-set (λ (m : BoardWorker). m.turns) workers k v)
+    ∙ get_or-set_same (map (λ (m : BoardWorker). m.turns) workers) k v.turns 0 (omega (arith, below, length-map workers (λ (m : BoardWorker). m.turns)))
+
+turns-else : (workers : List BoardWorker) (k i : ℕ) (v : BoardWorker) → i ≢ k → turns_at (set workers k v) i ≡ turns_at workers i
+turns-else workers k i v other =
+    ap (λ (ts : List ℕ). get_or ts i 0) (map-set (λ (m : BoardWorker). m.turns) workers k v)
+    ∙ get_or-set_other (map (λ (m : BoardWorker). m.turns) workers) k i v.turns 0 other
+
+found-on : (n turn : ℕ) (b c : BoardState) → b.given ≤ length b.entries → (on : GoesOnBy n turn b c)
+    → drop c.given c.entries ≡ drop b.given b.entries ++ on.entries.0
+found-on n turn b c within on =
+    ap (λ (m : ℕ). drop m c.entries) on.given ∙ ap (drop b.given) on.entries.1 ∙ drop-append-le b.given b.entries on.entries.0 within
+
+own-turned : (j : ℕ) (b c : BoardState) (workers : List BoardWorker) (k : ℕ) (w v : BoardWorker) → IsBoard b → k < length workers → w ≡ get_or workers k w → w.number ≡ k
+    → TakesTurn j b w c v → ((i : ℕ) → Ascend i (drop b.given b.entries) (turns_at workers i))
+    → (i : ℕ) → Ascend i (drop c.given c.entries) (turns_at (set workers k v) i)
+own-turned j b c workers k w v board below at number turn own i =
+    let on : GoesOnBy w.number w.turns b c = turn.board in
+    let found : List CheckedEntry = drop b.given b.entries in
+    let more : List CheckedEntry = on.entries.0 in
+    let split : drop c.given c.entries ≡ found ++ more = found-on w.number w.turns b c board.given on in
+    let each : All (IsOfTurn k w.turns) more = subst (λ (n : ℕ). All (IsOfTurn n w.turns) more) number on.entries.2 in
+    let paid : length more + w.turns ≤ v.turns = omega (arith, turn.paid, ap length on.entries.1, length-append b.entries more) in
+    elim (same-or-not i k) [
+      | inl same ↦
+          let before : Ascend k found w.turns = subst (Ascend k found) (turns-here workers k w below at) (own k) in
+          let mine : Ascend k (found ++ more) v.turns = own-mine k w.turns v.turns found more each paid turn.one before in
+          subst (λ (m : ℕ). Ascend m (drop c.given c.entries) (turns_at (set workers k v) m)) (sym same)
+          (subst (λ (es : List CheckedEntry). Ascend k es (turns_at (set workers k v) k)) (sym split)
+          (subst (Ascend k (found ++ more)) (sym (turns-set workers k v below)) mine))
+      | inr other ↦
+          subst (λ (es : List CheckedEntry). Ascend i es (turns_at (set workers k v) i)) (sym split)
+          (subst (Ascend i (found ++ more)) (sym (turns-else workers k i v other)) (own-other i k w.turns (turns_at workers i) found more other each (own i)))
+    ]
+
+pub workers-turn : (limits : Limits) (j : ℕ) (b c : BoardState) (workers : List BoardWorker) (k : ℕ) (w v : BoardWorker) → IsBoard b → IsBoard c
+    → AreWorkers limits j b workers → k < length workers → w ≡ get_or workers k w → TakesTurn j b w c v → AreWorkers limits j c (set workers k v)
+workers-turn limits j b c workers k w v board after are below at turn =
+    let mine : w.number ≡ k = ap (λ (u : BoardWorker). u.number) at ∙ number-at limits j b workers k w are below in
+    let numbers_same : map (λ (u : BoardWorker). u.number) (set workers k v) ≡ map (λ (u : BoardWorker). u.number) workers =
+    map-set_same (λ (u : BoardWorker). u.number) workers k v w (turn.number ∙ ap (λ (u : BoardWorker). u.number) at)
     in
     record {
-      numbers = λ i inside. ap (λ xs. get_or xs i 0) numbers_same ∙ are.numbers i (omega (arith, inside, length-set crew k v));
+      numbers = λ i inside. ap (λ xs. get_or xs i 0) numbers_same ∙ are.numbers i (omega (arith, inside, length-set workers k v));
       each = λ i d inside.
           elim (same-or-not i k) [
             | inl same ↦
-                subst (IsMember j c) (sym (ap (λ m. get_or (set crew k v) m d) same ∙ get_or-set_same crew k v d below)) turn.member
+                subst (IsBoardWorker j c) (sym (ap (λ m. get_or (set workers k v) m d) same ∙ get_or-set_same workers k v d below)) turn.worker
             | inr other ↦
-                let there : i < length crew = omega (arith, inside, length-set crew k v) in
-                subst (IsMember j c) (sym (get_or-set_other crew k i v d other))
-                (other-stays j w.number w.turns b c (get_or crew i d) board
-                (λ e. other (sym (number-at limits j b crew i d are there) ∙ e ∙ mine)) turn.board (are.each i d there))
+                let there : i < length workers = omega (arith, inside, length-set workers k v) in
+                subst (IsBoardWorker j c) (sym (get_or-set_other workers k i v d other))
+                (other-stays j w.number w.turns b c (get_or workers i d) board
+                (λ e. other (sym (number-at limits j b workers i d are there) ∙ e ∙ mine)) turn.board (are.each i d there))
           ];
-      within = All-set (λ u. IsWithLimits limits u.worker.meter) crew k v
+      within = All-set (λ u. IsWithLimits limits u.worker.meter) workers k v
           (within-on limits w.worker.meter v.worker.meter turn.limits
-          (subst (λ (u : Member). IsWithLimits limits u.worker.meter) (sym at) (are.within k w below))) are.within;
+          (subst (λ (u : BoardWorker). IsWithLimits limits u.worker.meter) (sym at) (are.within k w below))) are.within;
       steps =
           let cost : ℕ = search_steps b.circuit j in
           let before : KeepsWithin limits j b.limit b.circuit w = subst (KeepsWithin limits j b.limit b.circuit) (sym at) (are.steps k w below) in
           let mine : KeepsWithin limits j b.limit b.circuit v =
           steps-kept v.worker.meter.steps w.worker.meter.steps (searches_left_by b.limit v) (searches_left_by b.limit w) cost ((limits.skeletons + 1) * cost) turn.steps before
           in
-          let all : All (KeepsWithin limits j b.limit b.circuit) (set crew k v) = All-set (KeepsWithin limits j b.limit b.circuit) crew k v mine are.steps in
-          subst (λ (n : ℕ). All (KeepsWithin limits j n c.circuit) (set crew k v)) (sym turn.board.limit)
-          (subst (λ (d : Circuit). All (KeepsWithin limits j b.limit d) (set crew k v)) (sym turn.board.circuit) all);
+          let all : All (KeepsWithin limits j b.limit b.circuit) (set workers k v) = All-set (KeepsWithin limits j b.limit b.circuit) workers k v mine are.steps in
+          subst (λ (n : ℕ). All (KeepsWithin limits j n c.circuit) (set workers k v)) (sym turn.board.limit)
+          (subst (λ (d : Circuit). All (KeepsWithin limits j b.limit d) (set workers k v)) (sym turn.board.circuit) all);
+      own = own-turned j b c workers k w v board below at mine turn are.own;
     }
 
--- a turn at a seat of the board
-pub seat-turn : (j : ℕ) (b : BoardState) (m : Member) (t : Seat) (v : Worker) → IsBoard b → IsMember j b m
-    → StaysSeat (record { board = b; number = m.number; seen = m.seen; turns = m.turns }) t
+-- a turn of a worker to which the board is lent
+pub board-turn : (j : ℕ) (b : BoardState) (m : BoardWorker) (t : LentBoard) (v : Worker) → IsBoard b → IsBoardWorker j b m
+    → StaysLent (record { board = b; number = m.number; seen = m.seen; turns = m.turns }) t
     → Turns j 0 (known_at b m.number m.turns) m.worker (known_of t) v
     → TakesTurn j b m t.board (record { number = m.number; seen = t.seen; turns = t.turns; worker = v })
-seat-turn j b m t v board is stays turn =
+board-turn j b m t v board is stays turn =
     let here : length (list_of b m.number) ≡ m.seen = seen-size b m.number board is.number ∙ sym is.seen in
-    let there : length (list_of t.board t.number) ≡ t.seen = seen-size t.board t.number stays.seat.board stays.seat.number ∙ sym stays.seat.seen in
+    let there : length (list_of t.board t.number) ≡ t.seen = seen-size t.board t.number stays.lent.board stays.lent.number ∙ sym stays.lent.seen in
     let cost : ℕ = search_steps b.circuit j in
     record {
-      member = record {
-        number = subst (λ (n : ℕ). n < t.board.workers) stays.number stays.seat.number;
-        seen = subst (λ (n : ℕ). t.seen ≡ seen_by t.board n) stays.number stays.seat.seen;
+      worker = record {
+        number = subst (λ (n : ℕ). n < t.board.workers) stays.number stays.lent.number;
+        seen = subst (λ (n : ℕ). t.seen ≡ seen_by t.board n) stays.number stays.lent.seen;
         worker = subst (λ (n : ℕ). IsWorker j (known_at t.board n t.turns) v) stays.number turn.worker;
       };
       board = stays.board;
       number = refl;
+      one = stays.one;
+      paid = stays.paid;
       limits = turn.limits;
       less =
           subst (λ (n : ℕ). left b.limit t.seen v.phase < left b.limit n m.worker.phase) here
@@ -244,22 +328,23 @@ seat-turn j b m t v board is stays turn =
           (steps_through m.worker (searches_left b.limit (length (list_of b m.number)) m.worker.phase) cost) turn.steps)));
     }
 
-pub less-turn : (limit : ℕ) (crew : List Member) (k : ℕ) (w v : Member) → k < length crew → w ≡ get_or crew k w → left_by limit v < left_by limit w
-    → left_of limit (set crew k v) < left_of limit crew
-less-turn limit crew k w v below at less =
-    let sums = sum_by-set (left_by limit) crew k v w below in
-    let here : left_by limit (get_or crew k w) ≡ left_by limit w = ap (left_by limit) (sym at) in
+pub less-turn : (limit : ℕ) (workers : List BoardWorker) (k : ℕ) (w v : BoardWorker) → k < length workers → w ≡ get_or workers k w → left_by limit v < left_by limit w
+    → left_of limit (set workers k v) < left_of limit workers
+less-turn limit workers k w v below at less =
+    let sums = sum_by-set (left_by limit) workers k v w below in
+    let here : left_by limit (get_or workers k w) ≡ left_by limit w = ap (left_by limit) (sym at) in
     omega (arith, sums, here, less)
 
-within-of : (turn most : ℕ) (origin : Origin) → turn < most → FromWorker origin (λ work. work.turn ≡ turn) → FromWorker origin (λ work. work.turn < most)
-within-of turn most Given below found = found
-within-of turn most (FoundBy work) below found = omega (arith, below, found)
+within-of : (n turn most : ℕ) (origin : Origin) → turn < most → FromWorker origin (λ work. (work.author ≡ n) × (work.turn ≡ turn))
+    → FromWorker origin (λ work. work.turn < most)
+within-of n turn most Given below found = found
+within-of n turn most (FoundBy work) below found = omega (arith, below, found.1)
 
 within-more : (most more : ℕ) (origin : Origin) → most ≤ more → FromWorker origin (λ work. work.turn < most) → FromWorker origin (λ work. work.turn < more)
 within-more most more Given less found = found
 within-more most more (FoundBy work) less found = omega (arith, less, found)
 
-pub follows-turn : (j : ℕ) (b c : BoardState) (m n : Member) → IsBoard c → IsMember j b m → is_running m.worker.phase ≡ true → TakesTurn j b m c n
+pub follows-turn : (j : ℕ) (b c : BoardState) (m n : BoardWorker) → IsBoard c → IsBoardWorker j b m → is_running m.worker.phase ≡ true → TakesTurn j b m c n
     → Follows b c
 follows-turn j b c m n after is running turn =
     let most : ℕ = left_at_first b.limit b.given in
@@ -277,7 +362,7 @@ follows-turn j b c m n after is running turn =
       entries = (
         on.entries.0,
         on.entries.1,
-        All-weaker (IsOfTurn m.turns) (IsFoundWithin most) (λ e found. within-of m.turns most e.origin below found) on.entries.0 on.entries.2,
+        All-weaker (IsOfTurn m.number m.turns) (IsFoundWithin most) (λ e found. within-of m.number m.turns most e.origin below found) on.entries.0 on.entries.2,
       );
     }
 
@@ -290,8 +375,9 @@ turns-least task j b is properties =
         → (limit - first) * 3 + 6 ≤ 3 * (more + 1 + properties)
     least limit first given more properties short same one = grind (arith)
 
-board-of-on : (task : Task) (j : ℕ) (b c : BoardState) → task.properties ≡ j ∷ [] → IsBoardOf task b → Follows b c → IsBoardOf task c
-board-of-on task j b c properties is on = record {
+board-of-on : (task : Task) (j : ℕ) (b c : BoardState) → task.properties ≡ j ∷ [] → IsBoardOf task b → Follows b c
+    → ((w : ℕ) → AscendBy w (drop c.given c.entries)) → IsBoardOf task c
+board-of-on task j b c properties is on own = record {
   board = on.board;
   circuit = on.circuit ∙ is.circuit;
   properties = on.properties ∙ is.properties;
@@ -305,12 +391,13 @@ board-of-on task j b c properties is on = record {
         (All-weaker (IsFoundWithin (left_at_first b.limit b.given)) (IsFoundWithin (most_turns task))
         (λ e found. within-more (left_at_first b.limit b.given) (most_turns task) e.origin (turns-least task j b is properties) found) on.entries.0 on.entries.2),
   );
+  own = λ w. subst (λ (n : ℕ). AscendBy w (drop n c.entries)) (on.given ∙ is.given) (own w);
 }
 
-pub crew-on : (task : Task) (j : ℕ) (b c : BoardState) (crew later : List Member) → IsCrew task j b crew → Follows b c
-    → AreWorkers task.limits j c later → length later ≡ length crew → IsCrew task j c later
-crew-on task j b c crew later is on are size = record {
-  board = board-of-on task j b c is.properties is.board on;
+pub workers-on : (task : Task) (j : ℕ) (b c : BoardState) (workers later : List BoardWorker) → ServeTask task j b workers → Follows b c
+    → AreWorkers task.limits j c later → length later ≡ length workers → ServeTask task j c later
+workers-on task j b c workers later is on are size = record {
+  board = board-of-on task j b c is.properties is.board on (λ w. (are.own w).0);
   properties = is.properties;
   count = size ∙ is.count;
   workers = are;
@@ -332,12 +419,6 @@ only-in xs i j e (k, inside, at) =
 
 pub settled-by : (served : List Served) (j : ℕ) → properties_of served ≡ j ∷ [] → outcome_of served j ≢ None → IsSettled served
 settled-by served j e has i is_open = has (ap (outcome_of served) (sym (only-in (properties_of served) i j e is_open.0)) ∙ is_open.1)
-
-pub answered-of : (task : Task) (j : ℕ) (b : BoardState) (crew : List Member) → IsCrew task j b crew → outcome_of b.served j ≢ None → IsAnswered task b
-answered-of task j b crew is has = record {
-  board = is.board;
-  settled = settled-by b.served j (is.board.properties ∙ is.properties) has;
-}
 
 -- The list of the board is full, and allows a skeleton of property j.
 abbrev IsStuckOn : ℕ → BoardState → Type 0
@@ -373,18 +454,18 @@ or-false : (a b : Bool) → (a || b) ≡ false → (a ≡ false) × (b ≡ false
 or-false true b h = absurd (false≢true (sym h))
 or-false false b h = (refl, h)
 
-cause-of : (j : ℕ) (b : BoardState) (crew : List Member) → IsBoard b → outcome_of b.served j ≡ None → All (λ w. is_running w.worker.phase ≡ false) crew
-    → any_refused crew ≡ false → All (IsMember j b) crew → IsStuckOn j b ⊎ All (λ w. IsSpent w.worker.meter) crew
+cause-of : (j : ℕ) (b : BoardState) (workers : List BoardWorker) → IsBoard b → outcome_of b.served j ≡ None → All (λ w. is_running w.worker.phase ≡ false) workers
+    → any_refused workers ≡ false → All (IsBoardWorker j b) workers → IsStuckOn j b ⊎ All (λ w. IsSpent w.worker.meter) workers
 cause-of j b [] is none over kept each = inr (All-nil (λ w. IsSpent w.worker.meter))
-cause-of j b (w ∷ crew) is none over kept each =
-    let kepts = or-false (is_refused w.worker.phase) (any_refused crew) kept in
-    let mine : IsMember j b w = All-head (IsMember j b) w crew each in
-    elim (told j b w.number w.turns w.worker.meter w.worker.phase is mine.number none (All-head (λ (u : Member). is_running u.worker.phase ≡ false) w crew over) kepts.0 mine.worker.phase) [
+cause-of j b (w ∷ workers) is none over kept each =
+    let kepts = or-false (is_refused w.worker.phase) (any_refused workers) kept in
+    let mine : IsBoardWorker j b w = All-head (IsBoardWorker j b) w workers each in
+    elim (told j b w.number w.turns w.worker.meter w.worker.phase is mine.number none (All-head (λ (u : BoardWorker). is_running u.worker.phase ≡ false) w workers over) kepts.0 mine.worker.phase) [
       | inl stuck ↦ inl stuck
       | inr spent ↦
-          elim (cause-of j b crew is none (All-tail (λ (u : Member). is_running u.worker.phase ≡ false) w crew over) kepts.1 (All-tail (IsMember j b) w crew each)) [
+          elim (cause-of j b workers is none (All-tail (λ (u : BoardWorker). is_running u.worker.phase ≡ false) w workers over) kepts.1 (All-tail (IsBoardWorker j b) w workers each)) [
             | inl stuck ↦ inl stuck
-            | inr rest ↦ inr (All-cons (λ u. IsSpent u.worker.meter) w crew spent rest)
+            | inr rest ↦ inr (All-cons (λ u. IsSpent u.worker.meter) w workers spent rest)
           ]
     ]
 
@@ -396,14 +477,14 @@ full-of j b e stuck = record {
       (stuck.1.0, subst (λ (m : ℕ). IsAllowed b.circuit m (plain b.entries) stuck.1.0) (sym same) stuck.1.1);
 }
 
-over-all : (crew : List Member) → IsOver crew → All (λ w. is_running w.worker.phase ≡ false) crew
-over-all crew over = λ k d below. runs-here crew k d below ∙ over k below
+over-all : (workers : List BoardWorker) → HaveEnded workers → All (λ w. is_running w.worker.phase ≡ false) workers
+over-all workers over = λ k d below. runs-here workers k d below ∙ over k below
 
 max-none : (n : ℕ) → max n 0 ≡ n
 max-none n = grind (arith)
 
 -- a worker's steps, in the words of its task
-steps-least : (task : Task) (j : ℕ) (b : BoardState) (w : Member) → b.circuit ≡ task.circuit → task.properties ≡ j ∷ []
+steps-least : (task : Task) (j : ℕ) (b : BoardState) (w : BoardWorker) → b.circuit ≡ task.circuit → task.properties ≡ j ∷ []
     → KeepsWithin task.limits j b.limit b.circuit w → w.worker.meter.steps ≤ most_steps task
 steps-least task j b w circuit properties h =
     let here : KeepsWithin task.limits j b.limit task.circuit w = subst (λ (d : Circuit). KeepsWithin task.limits j b.limit d w) circuit h in
@@ -417,28 +498,45 @@ steps-least task j b w circuit properties h =
     ≤ (task.limits.skeletons + length properties) * ((most_situations task.circuit properties + 1) * path_steps (length task.circuit.latches))) (sym properties)
     (subst (λ (n : ℕ). w.worker.meter.steps ≤ (task.limits.skeletons + 1) * ((n + 1) * paths)) (sym (max-none situations)) few)
 
-cause-told : (j : ℕ) (b : BoardState) (crew : List Member) (spent : List Spendings) → properties_of b.served ≡ j ∷ []
-    → spent ≡ map (λ w. w.worker.meter) crew → IsStuckOn j b ⊎ All (λ w. IsSpent w.worker.meter) crew → IsFull b ⊎ All IsSpent spent
-cause-told j b crew spent e same (inl stuck) = inl (full-of j b e stuck)
-cause-told j b crew spent e same (inr all) = inr (subst (All IsSpent) (sym same) (All-map IsSpent (λ (w : Member). w.worker.meter) crew all))
+cause-told : (j : ℕ) (b : BoardState) (workers : List BoardWorker) (spent : List Spendings) → properties_of b.served ≡ j ∷ []
+    → spent ≡ map (λ w. w.worker.meter) workers → IsStuckOn j b ⊎ All (λ w. IsSpent w.worker.meter) workers → IsFull b ⊎ All IsSpent spent
+cause-told j b workers spent e same (inl stuck) = inl (full-of j b e stuck)
+cause-told j b workers spent e same (inr all) = inr (subst (All IsSpent) (sym same) (All-map IsSpent (λ (w : BoardWorker). w.worker.meter) workers all))
 
-pub report-of : (task : Task) (j : ℕ) (b : BoardState) (crew : List Member) (spent : List Spendings) → IsCrew task j b crew → IsOver crew
-    → any_refused crew ≡ false → outcome_of b.served j ≡ None → spent ≡ map (λ w. w.worker.meter) crew → IsReport task (record { board = b; workers = spent })
-report-of task j b crew spent is over kept none same =
-    let served : properties_of b.served ≡ j ∷ [] = is.board.properties ∙ is.properties in
+spent-of : (task : Task) (j : ℕ) (b : BoardState) (workers : List BoardWorker) (spent : List Spendings) → ServeTask task j b workers
+    → spent ≡ map (λ w. w.worker.meter) workers → All IsInBudget spent → AreSpentOn task spent
+spent-of task j b workers spent is same within =
+    let meters : List Spendings = map (λ (w : BoardWorker). w.worker.meter) workers in
+    let limits : All (IsWithLimits task.limits) spent = subst (All (IsWithLimits task.limits)) (sym same)
+    (All-map (IsWithLimits task.limits) (λ (w : BoardWorker). w.worker.meter) workers is.workers.within)
+    in
+    let few : All (λ (w : BoardWorker). w.worker.meter.steps ≤ most_steps task) workers = λ k d below.
+    steps-least task j b (get_or workers k d) is.board.circuit is.properties (is.workers.steps k d below)
+    in
+    let most : All (λ (s : Spendings). s.steps ≤ most_steps task) spent = subst (All (λ (s : Spendings). s.steps ≤ most_steps task)) (sym same)
+    (All-map (λ (s : Spendings). s.steps ≤ most_steps task) (λ (w : BoardWorker). w.worker.meter) workers few)
+    in
+    record {
+      count = ap length same ∙ length-map workers (λ (w : BoardWorker). w.worker.meter) ∙ is.count;
+      each = λ k d below. record { limits = limits k d below; within = within k d below; most = most k d below };
+    }
+
+pub answer-of : (task : Task) (j : ℕ) (r : Report) (workers : List BoardWorker) → ServeTask task j r.board workers → outcome_of r.board.served j ≢ None
+    → r.workers ≡ map (λ w. w.worker.meter) workers → All IsInBudget r.workers → IsAnswer task r
+answer-of task j r workers is has same within = record {
+  answered = record { board = is.board; settled = settled-by r.board.served j (is.board.properties ∙ is.properties) has };
+  spent = spent-of task j r.board workers r.workers is same within;
+}
+
+pub report-of : (task : Task) (j : ℕ) (r : Report) (workers : List BoardWorker) → ServeTask task j r.board workers → HaveEnded workers → any_refused workers ≡ false
+    → outcome_of r.board.served j ≡ None → r.workers ≡ map (λ w. w.worker.meter) workers → All IsInBudget r.workers → IsReport task r
+report-of task j r workers is over kept none same within =
+    let served : properties_of r.board.served ≡ j ∷ [] = is.board.properties ∙ is.properties in
     record {
       board = is.board;
-      unanswered = (j, (open-one b.served j served, none));
-      count = ap length same ∙ length-map crew (λ (w : Member). w.worker.meter) ∙ is.count;
-      limits = subst (All (IsWithLimits task.limits)) (sym same)
-          (All-map (IsWithLimits task.limits) (λ (w : Member). w.worker.meter) crew is.workers.within);
-      cause = cause-told j b crew spent served same (cause-of j b crew is.board.board none (over-all crew over) kept is.workers.each);
-      steps =
-          let few : All (λ (w : Member). w.worker.meter.steps ≤ most_steps task) crew = λ k d below.
-          steps-least task j b (get_or crew k d) is.board.circuit is.properties (is.workers.steps k d below)
-          in
-          subst (All (λ (s : Spendings). s.steps ≤ most_steps task)) (sym same)
-          (All-map (λ (s : Spendings). s.steps ≤ most_steps task) (λ (w : Member). w.worker.meter) crew few);
+      unanswered = (j, (open-one r.board.served j served, none));
+      spent = spent-of task j r.board workers r.workers is same within;
+      cause = cause-told j r.board workers r.workers served same (cause-of j r.board workers is.board.board none (over-all workers over) kept is.workers.each);
     }
 
 -- ---- the first board
@@ -459,7 +557,13 @@ first-of b c j limits given e is = record {
   limit = ap (λ (d : BoardState). d.limit) e;
   given = ap (λ (d : BoardState). d.given) e;
   entries = ([], ap (λ (d : BoardState). d.entries) e ∙ sym (append-nil given), All-nil (IsFoundWithin (most_turns (task_of c j limits given))));
+  own = λ w. (ascend_empty w (drop (length given) b.entries) 0
+      (ap (λ (d : BoardState). found_by w (drop (length given) d.entries)) e ∙ ap (found_by w) (drop_all (length given) given (omega arith)))).0;
 }
+
+pub first-fresh : (b : BoardState) (c : Circuit) (properties : List ℕ) (workers more : ℕ) (given : List CheckedEntry)
+    → b ≡ first_board c properties workers more given → length b.entries ≡ b.given
+first-fresh b c properties workers more given e = subst (λ (d : BoardState). length d.entries ≡ d.given) (sym e) refl
 
 pub first-grows : (b : BoardState) (c : Circuit) (properties : List ℕ) (workers more : ℕ) (given : List CheckedEntry)
     → b ≡ first_board c properties workers more given → b.limit ≤ length b.entries + more

@@ -8,21 +8,20 @@ use Rattle.aig_semantics.specs.Circuits.{Circuit, fair_literals}
 use Rattle.edge.specs.Units.{Spendings}
 use Rattle.fair_semantics.specs.Entries.{Entry, used_entries, AreClosed}
 use Rattle.fair_semantics.specs.Skeletons.{IsSkeleton}
-use Rattle.entry.specs.CheckedEntries.{CheckedEntry}
+use Rattle.entry.specs.CheckedEntries.{CheckedEntry, GoesOnFrom}
 use Rattle.entry.specs.declared.origins.Origin.{Origin}
 use Rattle.entry.specs.declared.origins.Origin.TheVariants.{Given, Worker as FoundBy}
-use Rattle.skeleton.specs.Finding.{GoesOnFrom}
 use Rattle.wall_store.specs.declared.outcomes.Posted.{Posted}
 use Rattle.wall_store.specs.declared.outcomes.Posted.TheVariants as posts
 use Rattle.wall_store.specs.Boards.{FromWorker, most_entries, plain}
-use Rattle.fair_workers.specs.Deeds.{IsWorkOf}
-use Rattle.fair_workers.specs.Runs.{path_steps}
+use Rattle.fair_round.specs.Spending.{path_steps}
+use Rattle.fair_round.specs.Deeds.{IsWorkOf}
 use Rattle.fair_workers.specs.Knowing.{Known, AreSettled, Keeps, KeepsList, SeesMore, HasPosted, HasFinished, IsOwn}
 use Rattle.fair_workers.specs.declared.working.Phase.{Phase}
 use Rattle.fair_workers.specs.declared.working.Phase.TheVariants as phases
 use Rattle.fair_workers.specs.declared.working.Worker.{Worker}
 use Rattle.fair_workers.specs.Working.{rank, left, left_to, left_at_first, searches_ahead, searches_left, searches_left_to, search_steps, steps_through, is_running, phase_after, IsAtLimit, IsIn, IsWorker, Turns, Thinks}
-use Rattle.fair_workers.proofs.Counting.{steps-fewer, steps-behind}
+use Rattle.fair_round.proofs.Counting.{steps-fewer, steps-behind}
 
 -- ---- lists that go on
 
@@ -91,7 +90,10 @@ fewer-grown m n s t limit grown within = omega (arith, limit, grown, within)
 -- ---- turns
 
 same : (k : Known) → KeepsList k k
-same k = record { keeps = record { circuit = refl; properties = refl; given = refl; limit = refl; turns = omega arith }; list = refl }
+same k = record {
+  keeps = record { circuit = refl; properties = refl; number = refl; given = refl; limit = refl; turns = omega arith; settled = λ j h. h };
+  list = refl;
+}
 
 -- where the list stays
 pub kept-turn : (j searches : ℕ) (k l : Known) (w : Worker) (p : Phase) → IsWorker j k w → KeepsList k l → rank p < rank w.phase
@@ -106,7 +108,7 @@ kept-turn j searches k l w p is kept less fewer here =
         served = kept.keeps.properties ∙ is.served;
         circuit = is.circuit ∙ sym kept.keeps.circuit;
         property = is.property;
-        on = subst (λ (xs : List CheckedEntry). GoesOnFrom w.scout.seen (plain xs)) (sym kept.list) is.on;
+        on = subst (λ (xs : List CheckedEntry). GoesOnFrom w.rounds.seen (plain xs)) (sym kept.list) is.on;
         phase = here;
         short = short-on k.limit l.limit kept.keeps.limit is.short;
         turns = turns-on k l (left k.limit (length k.list) w.phase) (left l.limit (length l.list) p) kept.keeps falls is.turns;
@@ -133,7 +135,7 @@ seen-turn j searches k l w p is sees falls fewer here = record {
     served = sees.keeps.properties ∙ is.served;
     circuit = is.circuit ∙ sym sees.keeps.circuit;
     property = is.property;
-    on = goes-on-in w.scout.seen k l sees is.on;
+    on = goes-on-in w.rounds.seen k l sees is.on;
     phase = here;
     short = short-on k.limit l.limit sees.keeps.limit is.short;
     turns = turns-on k l (left k.limit (length k.list) w.phase) (left l.limit (length l.list) p) sees.keeps falls is.turns;

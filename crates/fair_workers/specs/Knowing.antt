@@ -1,6 +1,6 @@
 -- Scaffolding of inner functions. What a worker knows of a list that it shares with others, and what a call for the list
 -- makes of that. It goes for a board on which workers take turns, and for whatever else may lend one a list.
-use Rattle.std.specs.Prelude.{◌≡◌, ℕ, ◌+◌, ◌<◌, ◌≤◌, Bool, true, List, ◌++◌, length, Contains, Option, IfNone}
+use Rattle.std.specs.Prelude.{◌≡◌, ℕ, ◌+◌, ◌<◌, ◌≤◌, Bool, true, false, List, ◌++◌, length, Contains, Option, Some, None}
 use Rattle.std.specs.List.{Any}
 use Rattle.aig_semantics.specs.Circuits.{Circuit}
 use Rattle.fair_semantics.specs.Entries.{used_entries, AreClosed}
@@ -28,13 +28,15 @@ pub record Known : Type 0 where
 abbrev pub AreSettled : Known → Type 0
 AreSettled k = (j : ℕ) → Contains k.properties j → k.settled j ≡ true
 
--- What each call leaves, refused or not: it is one turn more at most.
+-- What each call leaves, refused or not: it is one turn more at most, and what is settled stays so.
 pub record Keeps (k l : Known) : Type 0 where
   pub circuit : l.circuit ≡ k.circuit
   pub properties : l.properties ≡ k.properties
+  pub number : l.number ≡ k.number
   pub given : l.given ≡ k.given
   pub limit : l.limit ≡ k.limit
   pub turns : l.turns ≤ k.turns + 1
+  pub settled : (j : ℕ) → k.settled j ≡ true → l.settled j ≡ true
 
 -- the entries that were seen are the same
 pub record KeepsList (k l : Known) : Type 0 where
@@ -63,10 +65,14 @@ pub record HasFinished (j : ℕ) (k l : Known) : Type 0 where
   pub keeps : KeepsList k l
   pub settled : l.settled j ≡ true
 
--- an open property was asked for
+-- What the answer to a question for an open property tells: each has an outcome; or this one is open.
+abbrev pub TellsAsked : Known → Option ℕ → Type 0
+TellsAsked l None = AreSettled l
+TellsAsked l (Some j) = Contains l.properties j × (l.settled j ≡ false)
+
 pub record HasAsked (k : Known) (r : Option ℕ) (l : Known) : Type 0 where
   pub keeps : KeepsList k l
-  pub tells : IfNone r (AreSettled l)
+  pub tells : TellsAsked l r
 
 -- What a worker may post is an entry of its own and of this turn, that is of the circuit, whose uses are closed among the
 -- entries that it has seen, and whose skeleton, one of a property of the list, these allow.

@@ -1,10 +1,5 @@
 pub mod Runs
-pub mod Walks
-pub mod Deeds
 pub mod Knowing
 pub mod Working
-pub mod Crews
+pub mod BoardWorkers
 pub mod Laws
-pub mod Pools
-pub mod Scouts
-pub mod Stems

@@ -1,15 +1,16 @@
 -- What workers leave that search over one board: an answer for each property, or a report that shows what was spent.
 -- The search is FAIR (Bradley, Somenzi, Hassan, Zhang, An incremental approach to model checking progress properties,
 -- 2011); that several workers share its list is this program's.
-use Rattle.std.specs.Prelude.{◌≡◌, ℕ, ◌+◌, ◌*◌, ◌^◌, ◌<◌, ◌≤◌, ◌⊎◌, min, max, List, [], ◌∷◌, ◌++◌, length, Some}
+use Rattle.std.specs.Prelude.{◌≡◌, ℕ, ◌+◌, ◌*◌, ◌<◌, ◌≤◌, ◌⊎◌, min, max, List, [], ◌∷◌, ◌++◌, length, drop}
 use Rattle.std.specs.List.{All}
 use Rattle.aig_semantics.specs.Circuits.{Circuit, fair_literals}
 use Rattle.fair_semantics.specs.declared.skeletons.Skeleton.{Skeleton}
-use Rattle.edge.specs.Units.{Spendings, limit_of}
+use Rattle.edge.specs.Units.{Spendings, IsWithin, limit_of}
 use Rattle.entry.specs.CheckedEntries.{CheckedEntry}
 use Rattle.skeleton.specs.Finding.{IsAllowed}
-use Rattle.wall_store.specs.Boards.{BoardState, IsBoard, FromWorker, plain, most_entries, properties_of}
+use Rattle.wall_store.specs.Boards.{BoardState, IsBoard, FromWorker, AscendBy, plain, most_entries, properties_of}
 use Rattle.wall_store.specs.Events.{IsOpen, IsSettled}
+use Rattle.fair_round.specs.Spending.{IsSpent, path_steps}
 use Rattle.fair_workers.specs.declared.limits.Limits.{Limits}
 use Rattle.fair_workers.specs.declared.limits.Report.{Report}
 use Rattle.fair_workers.specs.declared.limits.Ended.{Ended}
@@ -38,7 +39,8 @@ abbrev pub IsFoundWithin : ℕ → CheckedEntry → Type 0
 IsFoundWithin turns e = FromWorker e.origin (λ work. work.turn < turns)
 
 -- A board of the task: its circuit, properties, workers and limit are those of the task; its list is the given entries, and
--- then those that workers found, within the turns that a worker takes at most; and it is what a board is at any time.
+-- then those that workers found, within the turns that a worker takes at most, each worker's in ascending turns; and it is
+-- what a board is at any time.
 pub record IsBoardOf (task : Task) (b : BoardState) : Type 0 where
   pub board : IsBoard b
   pub circuit : b.circuit ≡ task.circuit
@@ -47,20 +49,22 @@ pub record IsBoardOf (task : Task) (b : BoardState) : Type 0 where
   pub limit : b.limit ≡ min (length task.given + task.limits.skeletons) most_entries
   pub given : b.given ≡ length task.given
   pub entries : (found : List CheckedEntry) × (b.entries ≡ task.given ++ found) × All (IsFoundWithin (most_turns task)) found
+  pub own : (w : ℕ) → AscendBy w (drop (length task.given) b.entries)
 
--- an answer: each served property has an outcome
+-- each served property has an outcome
 pub record IsAnswered (task : Task) (b : BoardState) : Type 0 where
   pub board : IsBoardOf task b
   pub settled : IsSettled b.served
-
--- the count of conflicts, or that of steps, equals its limit
-abbrev pub IsSpent : Spendings → Type 0
-IsSpent spent = (spent.conflict_limit ≡ Some spent.conflicts) ⊎ (spent.step_limit ≡ Some spent.steps)
 
 -- counted against these limits
 pub record IsWithLimits (limits : Limits) (spent : Spendings) : Type 0 where
   pub conflicts : spent.conflict_limit ≡ limit_of limits.conflicts
   pub steps : spent.step_limit ≡ limit_of limits.steps
+
+-- no count is above its limit
+pub record IsInBudget (spent : Spendings) : Type 0 where
+  pub conflicts : IsWithin spent.conflicts spent.conflict_limit
+  pub steps : IsWithin spent.steps spent.step_limit
 
 -- The list is as long as it may become, and of each open property there is a skeleton that all its entries allow.
 pub record IsFull (b : BoardState) : Type 0 where
@@ -72,10 +76,6 @@ abbrev pub most_situations : Circuit → List ℕ → ℕ
 most_situations c [] = 0
 most_situations c (j ∷ properties) = max (max 1 (length (fair_literals c j))) (most_situations c properties)
 
--- how many steps one search for a path takes at most, over n latches
-unfoldable pub path_steps : ℕ → ℕ
-path_steps n = (2 ^ n + 2) * (2 ^ n + 2)
-
 -- How many steps a worker takes at most, whatever its limit is. It seeks a lasso once for each entry by which the list may
 -- grow and once for each property; and a path to the first situation of a skeleton, to each further one, and back.
 abbrev pub most_steps : Task → ℕ
@@ -83,15 +83,28 @@ most_steps task =
     (task.limits.skeletons + length task.properties)
     * ((most_situations task.circuit task.properties + 1) * path_steps (length task.circuit.latches))
 
--- A report: a property is open, and either the list is full, or each worker has spent what it may. No worker took more
--- steps than a worker takes at most.
+-- What a worker spent: counted against the limits of the task, within them, and no more steps than a worker takes at most.
+pub record IsSpentOn (task : Task) (spent : Spendings) : Type 0 where
+  pub limits : IsWithLimits task.limits spent
+  pub within : IsInBudget spent
+  pub most : spent.steps ≤ most_steps task
+
+-- what each worker spent
+pub record AreSpentOn (task : Task) (workers : List Spendings) : Type 0 where
+  pub count : length workers ≡ task.limits.workers
+  pub each : All (IsSpentOn task) workers
+
+-- An answer: each served property has an outcome; and what each worker spent.
+pub record IsAnswer (task : Task) (r : Report) : Type 0 where
+  pub answered : IsAnswered task r.board
+  pub spent : AreSpentOn task r.workers
+
+-- A report without an answer: a property is open, and either the list is full, or each worker has spent what it may.
 pub record IsReport (task : Task) (r : Report) : Type 0 where
   pub board : IsBoardOf task r.board
   pub unanswered : (j : ℕ) × IsOpen r.board.served j
-  pub count : length r.workers ≡ task.limits.workers
-  pub limits : All (IsWithLimits task.limits) r.workers
+  pub spent : AreSpentOn task r.workers
   pub cause : IsFull r.board ⊎ All IsSpent r.workers
-  pub steps : All (λ spent. spent.steps ≤ most_steps task) r.workers
 
 -- Why workers end without an answer; want of memory says nothing.
 abbrev pub IsEnded : Task → Ended → Type 0

@@ -2,17 +2,17 @@
 use Rattle.std.specs.Prelude.{◌≡◌, ℕ, ◌+◌, ◌-◌, ◌*◌, ◌<◌, ◌≤◌, max, Bool, true, false, ◌∷◌, [], length}
 use Rattle.aig_semantics.specs.Circuits.{Circuit, fair_literals}
 use Rattle.edge.specs.Units.{Spendings}
+use Rattle.entry.specs.CheckedEntries.{GoesOnFrom}
 use Rattle.fair_semantics.specs.declared.skeletons.Skeleton.{Skeleton}
-use Rattle.skeleton.specs.Finding.{GoesOnFrom, IsAllowed}
+use Rattle.skeleton.specs.Finding.{IsAllowed}
 use Rattle.wall_store.specs.declared.outcomes.Posted.{Posted}
 use Rattle.wall_store.specs.declared.outcomes.Posted.TheVariants as posts
 use Rattle.wall_store.specs.Boards.{most_entries, plain}
+use Rattle.fair_round.specs.Spending.{IsSpent, path_steps}
 use Rattle.fair_workers.specs.declared.working.Phase.{Phase}
 use Rattle.fair_workers.specs.declared.working.Phase.TheVariants as phases
 use Rattle.fair_workers.specs.declared.working.Worker.{Worker}
 use Rattle.fair_workers.specs.Knowing.{Known}
-use Rattle.fair_workers.specs.Runs.{IsSpent, path_steps}
-use Rattle.fair_workers.specs.Walks.{KeepsLimits}
 
 -- how many phases may follow before the worker has seen more, or has ended
 abbrev pub rank : Phase → ℕ
@@ -121,12 +121,17 @@ IsIn j k meter phases.Full = IsStuck j k
 IsIn j k meter phases.Spent = IsSpent meter
 IsIn j k meter phases.Refused = Unit {0}
 
+-- the limits are as before
+pub record KeepsLimits (old new : Spendings) : Type 0 where
+  pub conflicts : new.conflict_limit ≡ old.conflict_limit
+  pub steps : new.step_limit ≡ old.step_limit
+
 -- A worker that serves property j and knows this. With each turn less is left, so there are no more turns than that.
 pub record IsWorker (j : ℕ) (k : Known) (w : Worker) : Type 0 where
   pub served : k.properties ≡ j ∷ []
-  pub circuit : w.scout.circuit ≡ k.circuit
-  pub property : w.scout.property ≡ j
-  pub on : GoesOnFrom w.scout.seen (plain k.list)
+  pub circuit : w.rounds.circuit ≡ k.circuit
+  pub property : w.rounds.property ≡ j
+  pub on : GoesOnFrom w.rounds.seen (plain k.list)
   pub phase : IsIn j k w.meter w.phase
   pub short : k.limit ≤ most_entries
   pub turns : k.turns + left_to k w ≤ left_at_first k.limit k.given
@@ -143,8 +148,8 @@ pub record Turns (j searches : ℕ) (k : Known) (w : Worker) (l : Known) (v : Wo
 -- The worker thought over what it has seen, in so many searches, which changed its query and its meter alone.
 pub record Thinks (j searches : ℕ) (k : Known) (w v : Worker) : Type 0 where
   pub phase : v.phase ≡ w.phase
-  pub circuit : v.scout.circuit ≡ w.scout.circuit
-  pub property : v.scout.property ≡ w.scout.property
-  pub on : GoesOnFrom v.scout.seen (plain k.list)
+  pub circuit : v.rounds.circuit ≡ w.rounds.circuit
+  pub property : v.rounds.property ≡ w.rounds.property
+  pub on : GoesOnFrom v.rounds.seen (plain k.list)
   pub limits : KeepsLimits w.meter v.meter
   pub steps : v.meter.steps ≤ steps_through w searches (search_steps k.circuit j)

@@ -3,24 +3,25 @@
 //!
 //! | Call | Gives |
 //! |---|---|
-//! | `run_turns` | the board with an outcome, by workers that take turns on one thread; or what they have spent |
+//! | `run_turns` | the board with an outcome or without one, and what was spent, by workers that take turns on one thread |
 //! | `no_report_without_limits` | nothing: the law of when there is no report |
+//!
+//! | Word | Means |
+//! |---|---|
+//! | worker (`Worker`) | its rounds (of `fair_round`), its meter, and its phase: what it does next, or how it ended |
+//! | shared list (`SharedList`) | the list of entries with the outcomes, as one worker has it in a turn, whatever it is kept in |
+//! | worker of a board (`BoardWorker`) | a worker with its number, how many entries of the board it has seen, and its turns |
+//! | lent board (`LentBoard`) | the board as the shared list of one of its workers, for one turn |
 //!
 //! The definitions stand in `specs/`. Workers and properties are counted from 0.
 #![tactic(auto)]
 
-mod crews;
-mod deciding;
+mod board_workers;
 mod laws;
+mod lending;
 mod limits;
-mod pool;
-mod scouting;
-mod seats;
-mod seeking;
+mod shared_list;
 mod turns;
-mod walking;
-mod walls;
-mod ways;
 mod working;
 
 pub use laws::no_report_without_limits;

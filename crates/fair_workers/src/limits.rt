@@ -1,4 +1,4 @@
-//! What workers may spend, and what they leave where they find no answer.
+//! What workers may spend, and what they leave.
 
 use edge::Spending;
 use items::Items;
@@ -7,7 +7,7 @@ use wall_store::Board;
 
 /// How many workers there are, 1 to 64; how many conflicts and steps each of them may count, where 4,294,967,295 or
 /// more is no limit; and by how many entries the list may grow, 65,536 at most.
-#[derive(Debug, Clone, Copy, PartialEq, Eq)]
+#[derive(Clone, Copy)]
 pub struct Limits {
     pub workers: u32,
     pub conflicts: u64,
@@ -15,7 +15,7 @@ pub struct Limits {
     pub skeletons: u32,
 }
 
-/// The board that workers leave without an answer, and what each of them has spent, from worker 0 on.
+/// The board that workers leave, and what each of them has spent, from worker 0 on.
 #[derive(Drop)]
 pub struct Report {
     pub board: Board,
@@ -25,7 +25,7 @@ pub struct Report {
 /// Why workers ended without an answer.
 #[derive(Drop)]
 pub enum Ended {
-    /// The list is full and leaves a skeleton, or what each worker may spend is spent: what they leave.
+    /// A property is open, and the list is full and leaves a skeleton, or what each worker may spend is spent.
     Spent(Report),
     /// Memory ran out.
     Memory,

@@ -1,14 +1,17 @@
 //! Workers that take turns on one thread. The main call is `run_turns`.
 
-ghost use Rattle.std.specs.Prelude.{◌≡◌, ◌≢◌, ◌<◌, ◌≤◌, [], ◌∷◌, true, false, None, Ok, Err, map, length, IfOk, IfErr};
+ghost use Rattle.std.specs.Prelude.{◌≡◌, ◌≢◌, ◌<◌, ◌≤◌, [], ◌∷◌, true, false, None, Ok, Err, All, map, length, vec_capacity, IfOk, IfErr};
 ghost use Rattle.std.specs.Arc.{arc_value};
 ghost use Rattle.wall_store.specs.Boards.{IsSoundList, outcome_of, most_entries};
-ghost use Rattle.fair_workers.specs.Runs.{AreLimits, IsAnswered, IsEnded};
-ghost use Rattle.fair_workers.specs.Crews.{IsCrew, IsOver, any_refused, task_of};
+ghost use Rattle.fair_workers.specs.Runs.{AreLimits, IsInBudget, IsAnswer, IsEnded};
+ghost use Rattle.fair_workers.specs.BoardWorkers.{ServeTask, HaveEnded, any_refused, task_in};
 
-use crate::crews::{Member, any_refused, crew_of, due, next_running, spendings, take_turn};
+use crate::board_workers::{
+    BoardWorker, RunTask, any_refused, due, next_running, spendings, turn_of, workers_on,
+};
 use crate::limits::{Ended, Limits, Report};
 use circuit::Circuit;
+use edge::Spending;
 use entry::Checked;
 use std::alloc::Global;
 use std::sync::Arc;
@@ -17,24 +20,19 @@ use wall_store::Board;
 // The turns of the schedule.
 fn by_schedule(
     alloc: Global,
-    c: &Arc<Circuit>,
-    j: u32,
-    limits: Limits,
-    _given: &[Arc<Checked>],
+    task: &RunTask<'_>,
     schedule: &[u32],
-    crew: &mut [Member],
+    workers: &mut [BoardWorker],
     board: Board,
 ) -> Board
-    requires { IsCrew
-        (task_of (arc_value c.now) j limits (map arc_value _given.now)) j board crew.old }
-    ensures { IsCrew
-        (task_of (arc_value c.now) j limits (map arc_value _given.now)) j result crew.new }
+    requires { ServeTask (task_in task.now) task.now.property board workers.old }
+    ensures { ServeTask (task_in task.now) task.now.property result workers.new }
 {
     let mut board = board;
-    let mut at = due(schedule, 0, crew);
+    let mut at = due(schedule, 0, workers);
     while at < schedule.len() {
-        board = take_turn(alloc, c, j, limits, crew, schedule[at] as usize, board);
-        at = due(schedule, at + 1, crew);
+        board = turn_of(alloc, task, workers, schedule[at] as usize, board);
+        at = due(schedule, at + 1, workers);
     }
     board
 }
@@ -42,24 +40,19 @@ fn by_schedule(
 // Turns from worker 0 upwards, again and again, until all have ended.
 fn round_robin(
     alloc: Global,
-    c: &Arc<Circuit>,
-    j: u32,
-    limits: Limits,
-    _given: &[Arc<Checked>],
-    crew: &mut [Member],
+    task: &RunTask<'_>,
+    workers: &mut [BoardWorker],
     board: Board,
 ) -> Board
-    requires { IsCrew
-        (task_of (arc_value c.now) j limits (map arc_value _given.now)) j board crew.old }
-    ensures crew { IsCrew
-        (task_of (arc_value c.now) j limits (map arc_value _given.now)) j result crew.new }
-    ensures over { IsOver crew.new }
+    requires { ServeTask (task_in task.now) task.now.property board workers.old }
+    ensures workers { ServeTask (task_in task.now) task.now.property result workers.new }
+    ensures over { HaveEnded workers.new }
 {
     let mut board = board;
-    let mut k = next_running(crew, 0);
-    while k < crew.len() {
-        board = take_turn(alloc, c, j, limits, crew, k, board);
-        k = next_running(crew, k + 1);
+    let mut k = next_running(workers, 0);
+    while k < workers.len() {
+        board = turn_of(alloc, task, workers, k, board);
+        k = next_running(workers, k + 1);
     }
     board
 }
@@ -75,85 +68,90 @@ fn has_outcome(board: &Board, j: u32) -> bool
     }
 }
 
-// The board with its outcome; else want of memory, where a worker was refused some; else the report.
-fn ended(
-    alloc: Global,
-    _c: &Arc<Circuit>,
-    j: u32,
-    _limits: Limits,
-    _given: &[Arc<Checked>],
-    crew: &[Member],
-    board: Board,
-) -> Result<Board, Ended>
-    requires crew { IsCrew (task_of (arc_value _c.now) j _limits (map arc_value _given.now)) j board crew.now }
-    requires over { IsOver crew.now }
-    ensures answered { IfOk result (IsAnswered (task_of (arc_value _c.now) j _limits (map arc_value _given.now))) }
-    ensures ended { IfErr result (IsEnded (task_of (arc_value _c.now) j _limits (map arc_value _given.now))) }
-    ensures first { outcome_of board.served j ≢ None → result ≡ Ok board }
-    ensures refused { outcome_of board.served j ≡ None → any_refused crew.now ≡ true → result ≡ Err Ended.Memory }
+// The report of workers that have ended: with an outcome; else want of memory, where a worker was refused some; else
+// without an outcome.
+fn ended(task: &RunTask<'_>, workers: &[BoardWorker], report: Report) -> Result<Report, Ended>
+    requires workers { ServeTask (task_in task.now) task.now.property report.board workers.now }
+    requires over { HaveEnded workers.now }
+    requires spent { report.workers ≡ map (λ m. m.worker.meter) workers.now }
+    requires within { All IsInBudget report.workers }
+    ensures answer { IfOk result (IsAnswer (task_in task.now)) }
+    ensures ended { IfErr result (IsEnded (task_in task.now)) }
+    ensures first { outcome_of report.board.served task.now.property ≢ None → result ≡ Ok report }
+    ensures refused { outcome_of report.board.served task.now.property ≡ None → any_refused workers.now ≡ true
+        → result ≡ Err Ended.Memory }
 {
-    if has_outcome(&board, j) {
-        return Ok(board);
+    if has_outcome(&report.board, task.property) {
+        return Ok(report);
     }
-    if any_refused(crew) {
+    if any_refused(workers) {
         return Err(Ended::Memory);
     }
-    reported(alloc, _c, j, _limits, _given, crew, board)
+    Err(Ended::Spent(report))
 }
 
-// The report of workers none of which was refused memory, where the property has no outcome.
-fn reported(
+// All turns of the workers, and what they then leave.
+fn all_turns(
     alloc: Global,
-    _c: &Arc<Circuit>,
-    _j: u32,
-    _limits: Limits,
-    _given: &[Arc<Checked>],
-    crew: &[Member],
-    board: Board,
-) -> Result<Board, Ended>
-    requires crew { IsCrew (task_of (arc_value _c.now) _j _limits (map arc_value _given.now)) _j board crew.now }
-    requires over { IsOver crew.now }
-    requires unanswered { outcome_of board.served _j ≡ None }
-    requires unrefused { any_refused crew.now ≡ false }
-    ensures never { IfOk result (λ _board. ⊥) }
-    ensures ended { IfErr result (IsEnded (task_of (arc_value _c.now) _j _limits (map arc_value _given.now))) }
-{
-    let workers = spendings(alloc, crew)?;
-    Err(Ended::Spent(Report { board, workers }))
-}
-
-// All turns.
-fn run_crew(
-    alloc: Global,
-    c: &Arc<Circuit>,
-    j: u32,
-    limits: Limits,
+    task: &RunTask<'_>,
     schedule: &[u32],
-    given: &[Arc<Checked>],
-    crew: &mut [Member],
+    workers: &mut [BoardWorker],
     board: Board,
-) -> Result<Board, Ended>
-    requires { IsCrew (task_of (arc_value c.now) j limits (map arc_value given.now)) j board crew.old }
-    ensures answered { IfOk result (IsAnswered (task_of (arc_value c.now) j limits (map arc_value given.now))) }
-    ensures ended { IfErr result (IsEnded (task_of (arc_value c.now) j limits (map arc_value given.now))) }
+    room: Vec<Spending>,
+) -> Result<Report, Ended>
+    requires workers { ServeTask (task_in task.now) task.now.property board workers.old }
+    requires empty { room.items ≡ [] }
+    requires room { task.now.limits.workers ≤ vec_capacity room }
+    ensures answer { IfOk result (IsAnswer (task_in task.now)) }
+    ensures ended { IfErr result (IsEnded (task_in task.now)) }
 {
-    let board = by_schedule(alloc, c, j, limits, given, schedule, crew, board);
-    let board = round_robin(alloc, c, j, limits, given, crew, board);
-    ended(alloc, c, j, limits, given, crew, board)
+    let board = by_schedule(alloc, task, schedule, workers, board);
+    let board = round_robin(alloc, task, workers, board);
+    let spent = spendings(workers, room);
+    let report = Report {
+        board,
+        workers: spent,
+    };
+    ended(task, workers, report)
 }
 
-/// The board of workers that search over one list for a fair lasso of property `j`, or for a refutation, until there is
-/// one. The list begins with the given entries, each sound behind those before it.
+// What the workers of a task leave.
+fn run_task(alloc: Global, task: &RunTask<'_>, schedule: &[u32]) -> Result<Report, Ended>
+    requires property { task.now.property < length (arc_value task.now.circuit.now).justice }
+    requires limits { AreLimits task.now.limits }
+    requires few_given { length task.now.given.now ≤ most_entries }
+    requires given { IsSoundList (arc_value task.now.circuit.now) (map arc_value task.now.given.now) }
+    ensures answer { IfOk result (IsAnswer (task_in task.now)) }
+    ensures ended { IfErr result (IsEnded (task_in task.now)) }
+{
+    let limits = task.limits;
+    let room = Vec::with_capacity(alloc, limits.workers as usize)?;
+    let board = Board::new(
+        alloc,
+        task.circuit,
+        &[task.property],
+        limits.workers,
+        limits.skeletons,
+        task.given,
+    )?;
+    board.holds();
+    let mut workers = workers_on(alloc, task, &board)?;
+    all_turns(alloc, task, schedule, &mut workers, board, room)
+}
+
+/// What workers leave that search over one list for a fair lasso of property `j`, or for a refutation, until there is
+/// one: the board with its outcome, and what each worker has spent. The list begins with the given entries, each sound
+/// behind those before it.
 ///
 /// A turn of a worker is its work up to its next event of the board, that event included, or to its end. The schedule
 /// says who takes the first turns; a number of it that is no worker's, or that of a worker that has ended, is skipped.
 /// Then the workers take turns from worker 0 upwards, again and again. No clause says who takes a turn; tests show it.
 ///
 /// A worker that is refused memory ends, and the others go on. An outcome comes before want of memory, and that before a
-/// report. `Spent` comes only where the property has no outcome, and either the list is full and its entries allow a
-/// skeleton, or each worker has spent its conflicts or its steps. Whatever their limit is, no worker takes more steps than
-/// `most_steps` says; so a limit above that is never spent. Nor does one take more turns than `most_turns` says; within
-/// these it found what it added to the list.
+/// report without an outcome. `Spent` comes only where the property has no outcome, and either the list is full and its
+/// entries allow a skeleton, or each worker has spent its conflicts or its steps. Whatever their limit is, no worker takes
+/// more steps than `most_steps` says; so a limit above that is never spent. Nor does one take more turns than `most_turns`
+/// says; within these, in ascending turns, it found what it added to the list.
 pub fn run_turns(
     alloc: Global,
     c: &Arc<Circuit>,
@@ -161,12 +159,12 @@ pub fn run_turns(
     limits: Limits,
     schedule: &[u32],
     given: &[Arc<Checked>],
-) -> Result<Board, Ended>
+) -> Result<Report, Ended>
     requires property { j < length (arc_value c.now).justice }
     requires limits { AreLimits limits }
     requires few_given { length given.now ≤ most_entries }
     requires given { IsSoundList (arc_value c.now) (map arc_value given.now) }
-    ensures answered { IfOk result (IsAnswered (record {
+    ensures answer { IfOk result (IsAnswer (record {
       circuit = arc_value c.now;
       properties = j ∷ [];
       limits = limits;
@@ -179,8 +177,11 @@ pub fn run_turns(
       given = map arc_value given.now;
     })) }
 {
-    let board = Board::new(alloc, c, &[j], limits.workers, limits.skeletons, given)?;
-    board.holds();
-    let mut crew = crew_of(alloc, c, j, limits, &board)?;
-    run_crew(alloc, c, j, limits, schedule, given, &mut crew, board)
+    let task = RunTask {
+        circuit: c,
+        property: j,
+        limits,
+        given,
+    };
+    run_task(alloc, &task, schedule)
 }

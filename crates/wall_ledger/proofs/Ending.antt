@@ -1,26 +1,26 @@
 -- Turns of a pass in memory, by what happens in them.
 use Rattle.std.proofs.Common.{Global, ◌≡◌, ℕ, ◌+◌, ◌<◌, ◌≤◌, inl, inr, true, List, map, length, vec_capacity, refl, sym, ap, ◌∙◌, subst, arith}
 use Rattle.std.specs.Prelude.{Option, Some, None, ◌==◌}
-use Rattle.std.specs.List.{All, AllPairs, Contains}
+use Rattle.std.specs.List.{Contains}
 use Rattle.std.specs.Arc.{arc_value}
 use Rattle.std.specs.declared.vec.Vec.{Vec}
 use Rattle.std.specs.declared.sync.Arc.{Arc}
 use Rattle.entry.specs.declared.checked.Checked.{Checked}
 use Rattle.atomic_table.specs.Seated.{TableId}
-use Rattle.std.proofs.lemmas.List.Elements.{All-weaker}
 use Rattle.aig_semantics.specs.Circuits.{Circuit}
 use Rattle.entry.specs.CheckedEntries.{CheckedEntry}
 use Rattle.wall_store.specs.declared.outcomes.Outcome.{Outcome}
 use Rattle.wall_store.specs.declared.outcomes.Finished.{Finished}
 use Rattle.wall_store.specs.declared.outcomes.Finished.TheVariants as ends
-use Rattle.wall_store.specs.Boards.{BoardState, IsBoard, IsSoundList, IsTrueOf, properties_of}
+use Rattle.wall_store.specs.Boards.{BoardState, IsBoard, IsSoundList, IsTrueOf, properties_of, found_by}
 use Rattle.wall_store.specs.Events.{seen_by, shown_to, Looks, Finishes, OpensNext}
 use Rattle.wall_store.specs.Laws.{OutcomesStay}
+use Rattle.wall_store.proofs.Ascending.{ascend_later}
 use Rattle.wall_ledger.specs.declared.marks.PassMark.{PassMark}
 use Rattle.wall_ledger.specs.declared.pass.Hand.{Hand}
-use Rattle.wall_ledger.specs.Passes.{PassState, LedgerState, found_by, turn_of, IsBoardOf, GoesOn}
+use Rattle.wall_ledger.specs.Passes.{PassState, LedgerState, IsBoardOf, GoesOn}
 use Rattle.wall_ledger.specs.Turns.{Turn, HasLooked, HasFinished, HasOpened, IsRefused, marks_finished, marks_opened, is_passed}
-use Rattle.wall_ledger.specs.Rules.{Face, IsFrom, IsOwned, Event, Ascend, shown_face, kept_face}
+use Rattle.wall_ledger.specs.Rules.{Face, IsFrom, IsOwned, Event, shown_face, kept_face}
 use Rattle.wall_ledger.specs.Shows.{shown_finished, shown_opened}
 use Rattle.wall_ledger.specs.Hands.{face_in, board_in, ticket_in, number_or, pass_of, state_of, ledger_of, noting, IsMirror, HasTurn, IsEnding}
 use Rattle.wall_ledger.specs.Tickets.{IsSameSeat}
@@ -29,13 +29,6 @@ use Rattle.wall_ledger.proofs.Events.{at_number, event_goes}
 use Rattle.wall_ledger.proofs.Marking.{marked_properties, there_from, closing_properties, crowning_properties}
 use Rattle.wall_ledger.proofs.Turned.{rests, looks, finishes, opens_next}
 use Rattle.wall_ledger.proofs.Showing.{finished_shows, opened_shows}
-
--- ---- the turns of own entries
-
-pub ascend_more : (k : ℕ) (l m : List CheckedEntry) (t : ℕ) → found_by k m ≡ found_by k l → Ascend k l t → Ascend k m (t + 1)
-ascend_more k l m t same a =
-    subst (λ (es : List CheckedEntry). AllPairs (λ i j. i < j) (map (λ e. turn_of e.origin) es) × All (λ e. turn_of e.origin < t + 1) es) (sym same)
-    (a.0, All-weaker (λ (e : CheckedEntry). turn_of e.origin < t) (λ (e : CheckedEntry). turn_of e.origin < t + 1) (λ e h. omega arith) (found_by k l) a.1)
 
 -- ---- what is known in a turn
 
@@ -80,7 +73,7 @@ module _ (m : Hand) (h : HasTurn m) (mirror : (l : List CheckedEntry) × IsMirro
       sound = now.sound;
     };
     turns = refl;
-    ascend = ascend_more m.number (face_in m).list (face_in m).list (face_in m).turns refl h.ascend;
+    ascend = ascend_later m.number (face_in m).list (face_in m).list (face_in m).turns ((face_in m).turns + 1) refl (omega arith) h.ascend;
   }
 
   pub looks_end : IsMirror m (board_in m).entries (face_in m)
@@ -102,7 +95,7 @@ module _ (m : Hand) (h : HasTurn m) (mirror : (l : List CheckedEntry) × IsMirro
       sound = now.sound;
     };
     turns = refl;
-    ascend = ascend_more m.number (face_in m).list (board_in m).entries (face_in m).turns owned_in.own h.ascend;
+    ascend = ascend_later m.number (face_in m).list (board_in m).entries (face_in m).turns ((face_in m).turns + 1) owned_in.own (omega arith) h.ascend;
   }
 
   finished_kinds : (j : ℕ) (o : Outcome) (r : Finished) → marked_properties (marks_finished (face_in m).marks j o r) ≡ marked_properties (face_in m).marks
@@ -131,7 +124,7 @@ module _ (m : Hand) (h : HasTurn m) (mirror : (l : List CheckedEntry) × IsMirro
       sound = now.sound;
     };
     turns = refl;
-    ascend = ascend_more m.number (face_in m).list (face_in m).list (face_in m).turns refl h.ascend;
+    ascend = ascend_later m.number (face_in m).list (face_in m).list (face_in m).turns ((face_in m).turns + 1) refl (omega arith) h.ascend;
   }
 
   opened_kinds : (least : ℕ) (r : Option ℕ) → marked_properties (marks_opened (face_in m).marks least r) ≡ marked_properties (face_in m).marks
@@ -159,7 +152,7 @@ module _ (m : Hand) (h : HasTurn m) (mirror : (l : List CheckedEntry) × IsMirro
       sound = now.sound;
     };
     turns = refl;
-    ascend = ascend_more m.number (face_in m).list (face_in m).list (face_in m).turns refl h.ascend;
+    ascend = ascend_later m.number (face_in m).list (face_in m).list (face_in m).turns ((face_in m).turns + 1) refl (omega arith) h.ascend;
   }
 
   -- ---- what a turn comes to

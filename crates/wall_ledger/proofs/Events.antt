@@ -10,9 +10,9 @@ use Rattle.atomic_table.proofs.Lists.{at_set, set_else}
 use Rattle.std.proofs.lemmas.List.{take-append-le, length-append, take_all, take-append-drop}
 use Rattle.entry.specs.CheckedEntries.{CheckedEntry}
 use Rattle.wall_store.specs.declared.outcomes.Outcome.{Outcome}
-use Rattle.wall_store.specs.Boards.{BoardState, outcome_of}
+use Rattle.wall_store.specs.Boards.{BoardState, outcome_of, found_by}
 use Rattle.wall_store.specs.Events.{seen_by}
-use Rattle.wall_ledger.specs.Passes.{Marked, PassState, StartsWith, found_by, AreMarksOf, GoesOn}
+use Rattle.wall_ledger.specs.Passes.{Marked, PassState, StartsWith, AreMarksOf, GoesOn}
 use Rattle.wall_ledger.specs.Turns.{HasWon}
 use Rattle.wall_ledger.specs.Tickets.{Turns, Learns}
 use Rattle.wall_ledger.specs.Rules.{Face, IsFrom, IsOwned, Chart, IsSeated, Fits, AmongThem, Kept, IsTold, Told, Event}

@@ -9,14 +9,14 @@ use Rattle.std.specs.declared.sync.Arc.{Arc}
 use Rattle.atomic_table.specs.declared.shared.Seat.{Seat}
 use Rattle.entry.specs.declared.checked.Checked.{Checked}
 use Rattle.entry.specs.CheckedEntries.{CheckedEntry}
-use Rattle.wall_store.specs.Boards.{BoardState, IsSoundList}
+use Rattle.wall_store.specs.Boards.{BoardState, IsSoundList, found_by, turn_of, Ascend}
 use Rattle.wall_ledger.specs.declared.pass.Hand.{Hand}
 use Rattle.wall_ledger.specs.declared.lock.Doing.{Doing}
 use Rattle.wall_ledger.specs.declared.lock.Stage.TheVariants.{Idle}
-use Rattle.wall_ledger.specs.Passes.{PassState, StartsWith, found_by, turn_of}
+use Rattle.wall_ledger.specs.Passes.{PassState, StartsWith}
 use Rattle.wall_ledger.specs.Turns.{taking, HasTaken, HaveMet}
 use Rattle.wall_ledger.specs.Tickets.{Sees, idle}
-use Rattle.wall_ledger.specs.Rules.{Face, Kept, Ascend}
+use Rattle.wall_ledger.specs.Rules.{Face, Kept}
 use Rattle.wall_ledger.specs.Seats.{note_of, AreMeeting, IsBefore}
 use Rattle.wall_ledger.specs.Hands.{head_or, number_or, face_in, pass_of, state_of, IsMirror, IsResting}
 use Rattle.wall_ledger.proofs.Events.{at_number}

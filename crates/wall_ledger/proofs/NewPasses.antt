@@ -1,25 +1,25 @@
 -- The passes of a new ledger.
 use Rattle.std.proofs.Common.{◌≡◌, ◌≢◌, ℕ, zero, suc, ◌+◌, ◌-◌, ◌<◌, ◌≤◌, inl, inr, Bool, true, false, List, [], ◌∷◌, ◌++◌, map, length, take, vec_capacity, refl, sym, ap, ◌∙◌, subst, arith, append-nil}
 use Rattle.std.specs.Prelude.{Option, Some, None, IfSome, ◌==◌, if◌then◌else◌}
-use Rattle.std.specs.List.{All, AllPairs, AllByRecursion}
+use Rattle.std.specs.List.{All, AllByRecursion}
 use Rattle.std.specs.Arc.{arc_value}
 use mathlib.Core.Option.{some, some-injective, some-ne-none}
 use lib.ListN.{get_elem?}
 use Rattle.atomic_table.specs.Seated.{TableId}
 use Rattle.std.proofs.lemmas.List.{take_all}
-use Rattle.std.proofs.lemmas.List.Elements.{All-nil}
 use Rattle.aig_semantics.specs.Circuits.{Circuit}
 use Rattle.entry.specs.CheckedEntries.{CheckedEntry}
 use Rattle.entry.specs.declared.origins.Origin.TheVariants.{Given}
 use Rattle.wall_store.specs.declared.outcomes.Outcome.{Outcome}
 use Rattle.wall_store.specs.declared.outcomes.Served.{Served}
-use Rattle.wall_store.specs.Boards.{BoardState, IsBoard, properties_of, outcome_of, first_board}
+use Rattle.wall_store.specs.Boards.{BoardState, IsBoard, properties_of, outcome_of, first_board, Ascend}
+use Rattle.wall_store.proofs.Ascending.{none_found, ascend_empty}
 use Rattle.wall_ledger.specs.declared.marks.PassMark.{PassMark}
 use Rattle.wall_ledger.specs.declared.pass.Hand.{Hand}
-use Rattle.wall_ledger.specs.Passes.{blank, won, Marked, PassState, LedgerState, is_by, found_by, turn_of, AreMarksOf, new_pass, new_passes}
+use Rattle.wall_ledger.specs.Passes.{blank, won, Marked, PassState, LedgerState, AreMarksOf, new_pass, new_passes}
 use Rattle.wall_ledger.specs.Turns.{HasWon, IsBegun}
 use Rattle.wall_ledger.specs.Tickets.{Forks, idle}
-use Rattle.wall_ledger.specs.Rules.{Face, added, Chart, Fits, Kept, Ascend, fresh, fresh_from, blank_marks, first_faces}
+use Rattle.wall_ledger.specs.Rules.{Face, added, Chart, Fits, Kept, fresh, fresh_from, blank_marks, first_faces}
 use Rattle.wall_ledger.specs.Seats.{tail_of, head_of, unseated, IsStart}
 use Rattle.wall_ledger.specs.Shows.{mark_shown, blank_shown}
 use Rattle.wall_ledger.specs.Hands.{head_or, face_in, pass_of, state_of, ledger_of, IsMirror, IsResting}
@@ -91,17 +91,6 @@ cut_right first k v below is = ap head_of (is ∙ unseated_step first k below)
 
 -- ---- the pass at its seat
 
-none_found : (k : ℕ) (l : List CheckedEntry) → All (λ e. e.origin ≡ Given) l → found_by k l ≡ []
-none_found k [] a = refl
-none_found k (e ∷ l) a =
-    let mine : is_by k e.origin ≡ false = ap (is_by k) (a 0 e (omega arith)) in
-    rw mine (none_found k l (λ i d below. a (suc i) d (omega arith)))
-
-ascend_none : (k : ℕ) (l : List CheckedEntry) (t : ℕ) → All (λ e. e.origin ≡ Given) l → Ascend k l t
-ascend_none k l t a =
-    subst (λ (es : List CheckedEntry). AllPairs (λ i j. i < j) (map (λ e. turn_of e.origin) es) × All (λ e. turn_of e.origin < t) es) (sym (none_found k l a))
-    ((λ i j d less below. absurd (omega arith)), All-nil (λ e. turn_of e.origin < t))
-
 module _ (s : Hand) (start : IsStart s.first.value.value) (client : List Face)
     (me : s.place.me ≡ (idle 4294967295 client, [])) (one : client ≡ fresh s.first.value.value (blank_marks s.first.value.value) s.number ∷ []) where
   new_client : s.place.me.0.client ≡ fresh s.first.value.value (blank_marks s.first.value.value) s.number ∷ []
@@ -132,7 +121,7 @@ module _ (s : Hand) (start : IsStart s.first.value.value) (client : List Face)
           few = start.board.limit;
           sound = start.board.sound;
         });
-        ascend = subst (λ (g : Face). Ascend s.number g.list s.turns) (sym new_face) (ascend_none s.number s.first.value.value.entries s.turns start.origins);
+        ascend = subst (λ (g : Face). Ascend s.number g.list s.turns) (sym new_face) (ascend_empty s.number s.first.value.value.entries s.turns (none_found s.number s.first.value.value.entries start.origins));
         stage = ap (λ m. m.0.stage) me;
         empty = ap (λ m. m.1) me;
         budget = (let b : s.place.me.0.budget ≡ 4294967295 = ap (λ m. m.0.budget) me in omega arith);

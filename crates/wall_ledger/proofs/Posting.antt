@@ -1,13 +1,11 @@
 -- A post, as a turn of a pass in memory.
-use Rattle.std.proofs.Common.{Global, ◌≡◌, ℕ, suc, ◌+◌, ◌<◌, ◌≤◌, ◌⊎◌, inl, inr, true, false, List, [], ◌∷◌, ◌++◌, map, length, take, drop, get_or, vec_capacity, refl, sym, ap, ◌∙◌, subst, arith}
-use Rattle.std.specs.List.{All, AllPairs, Any}
+use Rattle.std.proofs.Common.{Global, ◌≡◌, ℕ, ◌+◌, ◌<◌, ◌≤◌, ◌⊎◌, inl, inr, true, false, List, [], ◌∷◌, ◌++◌, map, length, take, drop, vec_capacity, refl, sym, ap, ◌∙◌, subst, arith}
+use Rattle.std.specs.List.{Any}
 use Rattle.std.specs.Arc.{arc_value}
 use Rattle.std.specs.declared.vec.Vec.{Vec}
 use Rattle.std.specs.declared.sync.Arc.{Arc}
 use Rattle.std.proofs.lemmas.Bool.{eq-eqb}
 use Rattle.std.proofs.lemmas.List.{length-append, length-map, take-append-le}
-use Rattle.std.proofs.lemmas.List.Elements.{All-weaker, All-append, All-cons, All-nil, filter-append}
-use Rattle.std.proofs.lemmas.List.Quantifiers.{all_pairs_push}
 use Rattle.aig_semantics.specs.Circuits.{Circuit}
 use Rattle.fair_semantics.specs.declared.skeletons.Skeleton.{Skeleton}
 use Rattle.fair_semantics.specs.Skeletons.{IsSkeleton, excludes}
@@ -18,21 +16,22 @@ use Rattle.entry.specs.declared.origins.Origin.TheVariants.{Given, Worker}
 use Rattle.entry.specs.declared.origins.Work.{Work}
 use Rattle.wall_store.specs.declared.outcomes.Posted.{Posted}
 use Rattle.wall_store.specs.declared.outcomes.Posted.TheVariants as posts
-use Rattle.wall_store.specs.Boards.{BoardState, IsBoard, IsSoundList, FromWorker, Allow, plain}
+use Rattle.wall_store.specs.Boards.{BoardState, IsBoard, IsSoundList, FromWorker, Allow, plain, is_by, found_by, turn_of, Ascend}
 use Rattle.wall_store.specs.Events.{seen_by, list_of, shown_to, with_post, entries_after, IsPostOf, MayPost, Posts, IsPosted}
 use Rattle.wall_store.specs.Scanning.{IsRefused}
+use Rattle.wall_store.proofs.Ascending.{ascend_later, ascend_push, found_own}
 use Rattle.wall_store.proofs.Excluding.{allowed_excludes, none_excludes, excludes_earlier, plain-append, plain-split}
 use Rattle.wall_ledger.specs.declared.marks.PassMark.{PassMark}
 use Rattle.wall_ledger.specs.declared.pass.Hand.{Hand}
-use Rattle.wall_ledger.specs.Passes.{is_by, found_by, turn_of, IsPassPost, MayPassPost}
+use Rattle.wall_ledger.specs.Passes.{IsPassPost, MayPassPost}
 use Rattle.wall_ledger.specs.Turns.{HasPosted, marks_posted}
-use Rattle.wall_ledger.specs.Rules.{Event, Ascend, added, shown_face}
+use Rattle.wall_ledger.specs.Rules.{Event, added, shown_face}
 use Rattle.wall_ledger.specs.Shows.{shown_posted, was_appended}
 use Rattle.wall_ledger.specs.Hands.{face_in, board_in, ticket_in, number_or, pass_of, ledger_of, IsMirror, HasTurn, IsEnding}
 use Rattle.wall_ledger.proofs.Marking.{marked_properties, closing_properties}
 use Rattle.wall_ledger.proofs.Turned.{posts_}
 use Rattle.wall_ledger.proofs.Showing.{posted_shows}
-use Rattle.wall_ledger.proofs.Ending.{ascend_more, owned_in, kinds_in, from_first, has_turn}
+use Rattle.wall_ledger.proofs.Ending.{owned_in, kinds_in, from_first, has_turn}
 
 -- ---- origins
 
@@ -85,38 +84,14 @@ module _ (m : Hand) (h : HasTurn m) (mirror : (l : List CheckedEntry) × IsMirro
 
 -- ---- the turns of own entries, with a new one
 
-all_map : (l : List CheckedEntry) (t : ℕ) → All (λ e. turn_of e.origin < t) l → All (λ n. n < t) (map (λ e. turn_of e.origin) l)
-all_map [] t a = All-nil (λ n. n < t)
-all_map (e ∷ l) t a =
-    All-cons (λ n. n < t) (turn_of e.origin) (map (λ z. turn_of z.origin) l) (a 0 e (omega arith)) (all_map l t (λ k d below. a (suc k) d (omega arith)))
-
-map_push : (l : List CheckedEntry) (e : CheckedEntry) → map (λ z. turn_of z.origin) (l ++ e ∷ []) ≡ map (λ z. turn_of z.origin) l ++ turn_of e.origin ∷ []
-map_push [] e = refl
-map_push (x ∷ l) e = ap (λ (ns : List ℕ). turn_of x.origin ∷ ns) (map_push l e)
-
-pub ascend_push : (k : ℕ) (l m : List CheckedEntry) (e : CheckedEntry) (t : ℕ) → found_by k m ≡ found_by k l ++ e ∷ [] → turn_of e.origin ≡ t
-    → Ascend k l t → Ascend k m (t + 1)
-ascend_push k l m e t same at a =
-    subst (λ (es : List CheckedEntry). AllPairs (λ i j. i < j) (map (λ z. turn_of z.origin) es) × All (λ z. turn_of z.origin < t + 1) es) (sym same) (
-      subst (AllPairs (λ i j. i < j)) (sym (map_push (found_by k l) e))
-          (all_pairs_push (λ i j. i < j) (map (λ z. turn_of z.origin) (found_by k l)) (turn_of e.origin) a.0
-          (λ i d below. subst (λ (n : ℕ). get_or (map (λ z. turn_of z.origin) (found_by k l)) i d < n) (sym at) (all_map (found_by k l) t a.1 i d below))),
-      All-append (λ z. turn_of z.origin < t + 1) (found_by k l) (e ∷ [])
-          (All-weaker (λ (z : CheckedEntry). turn_of z.origin < t) (λ (z : CheckedEntry). turn_of z.origin < t + 1) (λ z below. omega arith) (found_by k l) a.1)
-          (All-cons (λ z. turn_of z.origin < t + 1) e [] (omega arith) (All-nil (λ z. turn_of z.origin < t + 1))),
-    )
-
 by_own : (e : CheckedEntry) (work : Work) (k : ℕ) → e.origin ≡ Worker work → work.author ≡ k → is_by k e.origin ≡ true
 by_own e work k from author = ap (is_by k) from ∙ eq-eqb work.author k author
 
-found_own : (k : ℕ) (l : List CheckedEntry) (e : CheckedEntry) → is_by k e.origin ≡ true → found_by k (l ++ e ∷ []) ≡ found_by k l ++ e ∷ []
-found_own k l e mine = filter-append (λ (z : CheckedEntry). is_by k z.origin) l (e ∷ []) ∙ ap (λ (es : List CheckedEntry). found_by k l ++ es) (rw mine refl)
-
 pub posted_ascend : (k : ℕ) (l entries : List CheckedEntry) (e : CheckedEntry) (r : Posted) (t : ℕ) → is_by k e.origin ≡ true → turn_of e.origin ≡ t
     → found_by k entries ≡ found_by k l → Ascend k l t → Ascend k (entries_after entries e r) (t + 1)
-posted_ascend k l entries e posts.Closed t mine at same a = ascend_more k l entries t same a
-posted_ascend k l entries e posts.Full t mine at same a = ascend_more k l entries t same a
-posted_ascend k l entries e (posts.Stale n) t mine at same a = ascend_more k l entries t same a
+posted_ascend k l entries e posts.Closed t mine at same a = ascend_later k l entries t (t + 1) same (omega arith) a
+posted_ascend k l entries e posts.Full t mine at same a = ascend_later k l entries t (t + 1) same (omega arith) a
+posted_ascend k l entries e (posts.Stale n) t mine at same a = ascend_later k l entries t (t + 1) same (omega arith) a
 posted_ascend k l entries e (posts.Appended n) t mine at same a =
     ascend_push k l (entries ++ e ∷ []) e t (found_own k entries e mine ∙ ap (λ (es : List CheckedEntry). es ++ e ∷ []) same) at a
 

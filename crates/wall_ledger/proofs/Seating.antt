@@ -11,8 +11,8 @@ use Rattle.std.proofs.lemmas.List.{take-append-drop, length-append}
 use Rattle.std.proofs.lemmas.List.Elements.{filter-append}
 use Rattle.entry.specs.CheckedEntries.{CheckedEntry}
 use Rattle.wall_store.specs.declared.outcomes.Outcome.{Outcome}
-use Rattle.wall_store.specs.Boards.{BoardState}
-use Rattle.wall_ledger.specs.Passes.{StartsWith, found_by, is_by}
+use Rattle.wall_store.specs.Boards.{BoardState, is_by, found_by}
+use Rattle.wall_ledger.specs.Passes.{StartsWith}
 use Rattle.wall_ledger.specs.Turns.{HasWon}
 use Rattle.wall_ledger.specs.Tickets.{Forks, Merges, Sees, IsAlone}
 use Rattle.wall_ledger.specs.Rules.{Face, IsOwned, Chart, IsSeated, Fits, AmongThem, HasNumber, IsNumbered, Kept}

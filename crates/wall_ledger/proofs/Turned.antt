@@ -13,10 +13,10 @@ use Rattle.wall_store.specs.declared.outcomes.Posted.{Posted}
 use Rattle.wall_store.specs.declared.outcomes.Posted.TheVariants as posts
 use Rattle.wall_store.specs.declared.outcomes.Finished.{Finished}
 use Rattle.wall_store.specs.declared.outcomes.Finished.TheVariants as ends
-use Rattle.wall_store.specs.Boards.{BoardState, properties_of, outcome_of}
+use Rattle.wall_store.specs.Boards.{BoardState, properties_of, outcome_of, is_by, found_by}
 use Rattle.wall_store.specs.Events.{shown_to, with_post, entries_after, served_after, IsPosted, IsFinished, IsNextOpen}
 use Rattle.wall_store.proofs.Serving.{properties_stay, outcome_after}
-use Rattle.wall_ledger.specs.Passes.{is_by, found_by, AreMarksOf}
+use Rattle.wall_ledger.specs.Passes.{AreMarksOf}
 use Rattle.wall_ledger.specs.Turns.{HasWon, marks_posted, marks_finished, marks_opened, is_passed}
 use Rattle.wall_ledger.specs.Rules.{Face, IsOwned, IsTold, Event, shown_face, kept_face}
 use Rattle.wall_ledger.proofs.Charts.{won_true}

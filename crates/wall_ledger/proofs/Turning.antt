@@ -2,12 +2,12 @@
 use Rattle.std.proofs.Common.{◌≡◌, ℕ, ◌+◌, ◌-◌, ◌<◌, ◌^◌, inl, List, [], ◌∷◌, sym, ap, ◌∙◌, subst, arith}
 use Rattle.std.specs.Prelude.{Option, None}
 use Rattle.atomic_table.specs.declared.shared.Seat.{Seat}
-use Rattle.wall_store.specs.Boards.{BoardState}
+use Rattle.wall_store.specs.Boards.{BoardState, Ascend}
 use Rattle.wall_ledger.specs.declared.pass.Hand.{Hand}
 use Rattle.wall_ledger.specs.declared.lock.Doing.{Doing}
 use Rattle.wall_ledger.specs.declared.lock.Stage.TheVariants.{Holding}
 use Rattle.wall_ledger.specs.Tickets.{holding, idle, ticket_of, IsLeaving, IsLeavingLonger, Turns}
-use Rattle.wall_ledger.specs.Rules.{Face, Kept, IsTold, Told, IsNumbered, Ascend, added}
+use Rattle.wall_ledger.specs.Rules.{Face, Kept, IsTold, Told, IsNumbered, added}
 use Rattle.wall_ledger.specs.Hands.{head_or, value_or, face_in, board_in, ticket_in, IsMirror, IsResting, HasTurn, IsEnding}
 use Rattle.wall_ledger.proofs.Events.{event_keeps}
 

@@ -3,12 +3,12 @@ use Rattle.std.specs.Prelude.{◌≡◌, ℕ, ◌+◌, ◌≤◌, List, [], ◌�
 use Rattle.std.specs.Arc.{arc_value}
 use Rattle.atomic_table.specs.Seated.{TableId}
 use Rattle.entry.specs.CheckedEntries.{CheckedEntry}
-use Rattle.wall_store.specs.Boards.{BoardState, IsSoundList, most_entries, properties_of}
+use Rattle.wall_store.specs.Boards.{BoardState, IsSoundList, most_entries, properties_of, Ascend}
 use Rattle.wall_ledger.specs.declared.pass.Hand.{Hand}
 use Rattle.wall_ledger.specs.declared.lock.Stage.{Stage}
 use Rattle.wall_ledger.specs.declared.lock.Stage.TheVariants.{Idle, Waiting, Holding, Raised}
 use Rattle.wall_ledger.specs.Passes.{PassState, LedgerState}
-use Rattle.wall_ledger.specs.Rules.{Face, IsTold, Ascend, Event}
+use Rattle.wall_ledger.specs.Rules.{Face, IsTold, Event}
 use Rattle.wall_ledger.specs.Tickets.{ticket_of}
 use Rattle.wall_ledger.specs.Shows.{mark_shown}
 

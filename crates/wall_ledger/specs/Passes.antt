@@ -1,12 +1,10 @@
 -- A ledger is a board behind a lock; its passes are what threads use it by. What a pass knows, and how the board goes
 -- on from there. A lock that serves its tickets in order is known from Lamport's bakery (1974); the rules by which
 -- passes know of a shared list are this program's.
-use Rattle.std.specs.Prelude.{◌≡◌, ◌≢◌, ℕ, zero, suc, ◌+◌, ◌<◌, ◌≤◌, ◌==◌, Bool, false, List, [], ◌∷◌, ◌++◌, map, length, filter, Option, Some, None, if◌then◌else◌}
-use Rattle.std.specs.List.{All, AllPairs, Any}
+use Rattle.std.specs.Prelude.{◌≡◌, ◌≢◌, ℕ, zero, suc, ◌+◌, ◌≤◌, ◌==◌, List, [], ◌∷◌, ◌++◌, map, length, Option, Some, None, if◌then◌else◌}
+use Rattle.std.specs.List.{Any}
 use Rattle.atomic_table.specs.Seated.{TableId}
 use Rattle.aig_semantics.specs.Circuits.{Circuit}
-use Rattle.entry.specs.declared.origins.Origin.{Origin}
-use Rattle.entry.specs.declared.origins.Origin.TheVariants.{Given, Worker}
 use Rattle.entry.specs.declared.origins.Work.{Work}
 use Rattle.entry.specs.CheckedEntries.{CheckedEntry, StandIn}
 use Rattle.fair_semantics.specs.Skeletons.{IsSkeleton}
@@ -14,7 +12,7 @@ use Rattle.wall_store.specs.declared.outcomes.Outcome.{Outcome}
 use Rattle.wall_store.specs.declared.outcomes.Served.{Served}
 use Rattle.wall_ledger.specs.declared.marks.Shown.{Shown}
 use Rattle.wall_ledger.specs.declared.marks.Shown.TheVariants as shows
-use Rattle.wall_store.specs.Boards.{BoardState, IsBoard, FromWorker, Allow, plain, properties_of, outcome_of}
+use Rattle.wall_store.specs.Boards.{BoardState, IsBoard, FromWorker, Allow, plain, properties_of, outcome_of, found_by, Ascend}
 use Rattle.wall_store.specs.Events.{seen_by}
 
 -- What a pass shows of a property: nothing; that it won it, with the outcome that it handed in; or that there is an
@@ -58,15 +56,6 @@ pub record LedgerState : Type 0 where
 abbrev pub StartsWith : List CheckedEntry → List CheckedEntry → Type 0
 StartsWith front list = (rest : List CheckedEntry) × (list ≡ front ++ rest)
 
--- the entry is one that this worker found
-abbrev pub is_by : ℕ → Origin → Bool
-is_by worker Given = false
-is_by worker (Worker work) = work.author == worker
-
--- the entries of a list that a worker found while the list was in use: those behind the given ones
-abbrev pub found_by : ℕ → List CheckedEntry → List CheckedEntry
-found_by worker entries = filter (λ e. is_by worker e.origin) entries
-
 -- What a mark says of the property's outcome.
 abbrev pub IsMarkOf : Mark → Option Outcome → Type 0
 IsMarkOf blank outcome = Unit {0}
@@ -96,14 +85,8 @@ pub record GoesOn (p : PassState) (b : BoardState) : Type 0 where
   pub marks : AreMarksOf p.marks b.served
 
 -- The turns in which a pass found its entries ascend, and are below those that it has had.
-abbrev pub turn_of : Origin → ℕ
-turn_of Given = 0
-turn_of (Worker work) = work.turn
-
 abbrev pub OwnTurns : PassState → Type 0
-OwnTurns p =
-    AllPairs (λ i j. i < j) (map (λ e. turn_of e.origin) (found_by p.number p.list))
-    × All (λ e. turn_of e.origin < p.turns) (found_by p.number p.list)
+OwnTurns p = Ascend p.number p.list p.turns
 
 -- What a pass may post: an entry of its own, of this turn and of the circuit, whose uses stand in the list that the
 -- pass has seen, with a skeleton of a served property that this list allows.

@@ -1,13 +1,13 @@
 -- What passes and the board keep under the lock (scaffolding).
 use Rattle.std.specs.Prelude.{◌≡◌, ◌≢◌, ℕ, zero, suc, ◌+◌, ◌-◌, ◌<◌, ◌≤◌, ◌⊎◌, List, [], ◌∷◌, ◌++◌, map, length, take, Option, Some, None, IfSome}
-use Rattle.std.specs.List.{All, AllPairs, AllByRecursion}
+use Rattle.std.specs.List.{AllByRecursion}
 use mathlib.Core.Option.{some}
 use lib.ListN.{get_elem?}
 use Rattle.entry.specs.CheckedEntries.{CheckedEntry}
 use Rattle.wall_store.specs.declared.outcomes.Outcome.{Outcome}
-use Rattle.wall_store.specs.Boards.{BoardState, properties_of, outcome_of}
+use Rattle.wall_store.specs.Boards.{BoardState, properties_of, outcome_of, found_by}
 use Rattle.wall_store.specs.Events.{seen_by}
-use Rattle.wall_ledger.specs.Passes.{blank, Marked, StartsWith, found_by, AreMarksOf, turn_of}
+use Rattle.wall_ledger.specs.Passes.{blank, Marked, StartsWith, AreMarksOf}
 use Rattle.wall_ledger.specs.Turns.{HasWon}
 
 -- What the lock knows of a pass, or of a note, which has a list and a stamp and no number.
@@ -27,11 +27,6 @@ pub record IsFrom (first b : BoardState) : Type 0 where
   pub limit : b.limit ≡ first.limit
   pub given : b.given ≡ length first.entries
   pub front : StartsWith first.entries b.entries
-
--- the turns in which worker k found its entries of this list ascend, and are below a number
-abbrev pub Ascend : ℕ → List CheckedEntry → ℕ → Type 0
-Ascend k list turns =
-    AllPairs (λ i j. i < j) (map (λ e. turn_of e.origin) (found_by k list)) × All (λ e. turn_of e.origin < turns) (found_by k list)
 
 -- what a pass with the number k knows of the board
 pub record IsOwned (b : BoardState) (f : Face) (k : ℕ) : Type 0 where

@@ -2,8 +2,8 @@
 use Rattle.std.specs.Prelude.{◌≡◌, ℕ, ◌-◌, List, [], ◌∷◌, map, length, Some, None, IfSome}
 use Rattle.std.specs.List.{All}
 use Rattle.entry.specs.declared.origins.Origin.TheVariants.{Given}
-use Rattle.wall_store.specs.Boards.{BoardState, IsBoard, outcome_of}
-use Rattle.wall_ledger.specs.Passes.{PassState, StartsWith, found_by}
+use Rattle.wall_store.specs.Boards.{BoardState, IsBoard, outcome_of, found_by}
+use Rattle.wall_ledger.specs.Passes.{PassState, StartsWith}
 use Rattle.wall_ledger.specs.Rules.{Face, fresh_from, blank_marks}
 
 abbrev pub tail_of : List Face → List Face

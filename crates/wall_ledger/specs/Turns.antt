@@ -9,9 +9,9 @@ use Rattle.wall_store.specs.declared.outcomes.Posted.TheVariants as posts
 use Rattle.wall_store.specs.declared.outcomes.Finished.{Finished}
 use Rattle.wall_store.specs.declared.outcomes.Finished.TheVariants as ends
 use Rattle.aig_semantics.specs.Circuits.{Circuit}
-use Rattle.wall_store.specs.Boards.{BoardState, outcome_of, first_board, most_entries}
+use Rattle.wall_store.specs.Boards.{BoardState, outcome_of, first_board, most_entries, found_by}
 use Rattle.wall_store.specs.Events.{Looks, Posts, Finishes, OpensNext}
-use Rattle.wall_ledger.specs.Passes.{Mark, blank, won, closed, Marked, PassState, LedgerState, StartsWith, found_by, IsBoardOf, GoesOn, new_passes}
+use Rattle.wall_ledger.specs.Passes.{Mark, blank, won, closed, Marked, PassState, LedgerState, StartsWith, IsBoardOf, GoesOn, new_passes}
 
 -- ---- marks
 

@@ -1,6 +1,6 @@
 -- The board: a list of entries that workers share, and what was found of each property that it serves. Its list becomes
 -- that of a certificate, after FAIR (Bradley, Somenzi, Hassan, Zhang, 2011); that workers share it is this program's.
-use Rattle.std.specs.Prelude.{◌≡◌, ℕ, ◌+◌, ◌<◌, ◌≤◌, ◌==◌, min, true, List, [], ◌∷◌, ◌++◌, map, length, replicate, Option, Some, None, if◌then◌else◌}
+use Rattle.std.specs.Prelude.{◌≡◌, ℕ, ◌+◌, ◌<◌, ◌≤◌, ◌==◌, min, Bool, true, false, List, [], ◌∷◌, ◌++◌, map, length, filter, replicate, Option, Some, None, if◌then◌else◌}
 use Rattle.std.specs.List.{All, Any, AllPairs}
 use Rattle.aig_semantics.specs.Circuits.{Circuit}
 use Rattle.aig_semantics.specs.Stimuli.{IsFairLassoOf}
@@ -59,6 +59,28 @@ IsSoundList c entries = EachBehind (IsSound c) entries
 abbrev pub FromWorker : Origin → (Work → Type 0) → Type 0
 FromWorker Given P = ⊥
 FromWorker (Worker work) P = P work
+
+-- the entry is one that this worker found
+abbrev pub is_by : ℕ → Origin → Bool
+is_by worker Given = false
+is_by worker (Worker work) = work.author == worker
+
+-- those of a list of entries whose origin is this worker
+abbrev pub found_by : ℕ → List CheckedEntry → List CheckedEntry
+found_by worker entries = filter (λ e. is_by worker e.origin) entries
+
+-- the turn in which the entry was found
+abbrev pub turn_of : Origin → ℕ
+turn_of Given = 0
+turn_of (Worker work) = work.turn
+
+-- the turns in which a worker found its entries of this list ascend
+abbrev pub AscendBy : ℕ → List CheckedEntry → Type 0
+AscendBy worker list = AllPairs (λ i j. i < j) (map (λ e. turn_of e.origin) (found_by worker list))
+
+-- they ascend, and are below a number
+abbrev pub Ascend : ℕ → List CheckedEntry → ℕ → Type 0
+Ascend worker list turns = AscendBy worker list × All (λ e. turn_of e.origin < turns) (found_by worker list)
 
 abbrev pub properties_of : List Served → List ℕ
 properties_of served = map (λ s. s.property) served

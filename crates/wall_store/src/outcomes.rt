@@ -4,14 +4,14 @@ use aig_semantics::Lasso;
 use entry::Refutation;
 
 /// What was found of a property: a fair lasso, or a refutation of all its skeletons over the entries of the list.
-#[derive(Debug, Drop)]
+#[derive(Drop)]
 pub enum Outcome {
     Lasso(Lasso),
     Holds(Refutation),
 }
 
 /// A property that a board serves, by its number, and its outcome, if there is one.
-#[derive(Debug, Drop)]
+#[derive(Drop)]
 pub struct Served {
     pub property: u32,
     pub outcome: Option<Outcome>,

@@ -7,8 +7,8 @@ use Rattle.fair_workers.proofs.working.look.Goals as goal
 
 pub returns-clause-turns : goal.returns-clause-turns
 returns-clause-turns g c =
-    let k = g.W.Wall.known c.args.wall.now in
-    let l = g.W.Wall.known c.look.new.self in
+    let k = g.L.SharedList.known c.args.shared.now in
+    let l = g.L.SharedList.known c.look.new.self in
     let w = c.args.worker.now in
     elim c.match-look.branch [
       | in-Ok b ↦

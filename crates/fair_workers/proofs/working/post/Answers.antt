@@ -9,13 +9,13 @@ use Rattle.fair_workers.proofs.working.post.Goals as goal
 pub post-requires-clause-may : goal.post-requires-clause-may
 post-requires-clause-may g c =
     let e = arc_value c.args.entry in
-    may-post c.args._j (g.W.Wall.known c.args.wall.now) e e.origin c.requires.worker.served c.requires.entry.circuit c.requires.entry.closed
+    may-post c.args._j (g.L.SharedList.known c.args.shared.now) e e.origin c.requires.worker.served c.requires.entry.circuit c.requires.entry.closed
     c.requires.entry.used c.requires.entry.work
 
 pub returns-clause-turns : goal.returns-clause-turns
 returns-clause-turns g c =
-    let k = g.W.Wall.known c.args.wall.now in
-    let l = g.W.Wall.known c.post.new.self in
+    let k = g.L.SharedList.known c.args.shared.now in
+    let l = g.L.SharedList.known c.post.new.self in
     let w = c.args.worker.now in
     elim c.match-post.branch [
       | in-Ok b ↦

@@ -1,0 +1,238 @@
+//! What a worker keeps from round to round. The main type is `Rounds`.
+
+ghost use Rattle.std.specs.Prelude.{◌≡◌, ◌<◌, ◌^◌, [], List, length, All, IfOk, IfErr, IfSome, OnOk, OnErr};
+ghost use Rattle.std.specs.Arc.{arc_value};
+ghost use Rattle.edge.specs.Ends.{CountsConflicts};
+ghost use Rattle.entry.specs.CheckedEntries.{viewed, GoesOnFrom};
+ghost use Rattle.entry.specs.Laws.{IsGoodList};
+ghost use Rattle.fair_semantics.specs.Entries.{Entry};
+ghost use Rattle.skeleton.specs.Finding.{IsFound, BeginsNone};
+ghost use Rattle.fair_round.specs.Spending.{IsStop};
+ghost use Rattle.fair_round.specs.Scopes.{IsScope, asking_of_scope, entries_of};
+ghost use Rattle.fair_round.specs.Pools.{IsBegun, IsReachedRun};
+ghost use Rattle.fair_round.specs.Stems.{IsFit};
+
+use crate::pool::{Begun, Run, keep, pooled};
+use crate::scope::Scope;
+use crate::stopping::{Stop, solver_stop};
+use circuit::{Circuit, Position};
+use cnf::Cube;
+use edge::Meter;
+use entry::{Checked, share};
+use ic3::{Search, Start};
+use items::Items;
+use skeleton::{Found, Query, never_stays};
+use std::alloc::{AllocError, Global};
+use std::marker::Model;
+use std::sync::Arc;
+
+/// What a worker keeps from round to round: its query, the entries that it has seen, runs whose states were reached, cubes
+/// of states in which no skeleton begins, the search from the initial states, and what each of two kinds of rounds has
+/// cost. Contracts see of it what they see of a query.
+#[derive(Drop)]
+pub struct Rounds {
+    circuit: Arc<Circuit>,
+    query: Query,
+    seen: Items<Arc<Checked>>,
+    runs: Vec<Run>,
+    avoid: Items<Cube>,
+    search: Option<Search>,
+    costs: Costs,
+}
+
+// What rounds have cost in which the first literal was asked for, and those in which a state was. The cheaper comes next.
+#[derive(Clone, Copy)]
+struct Costs {
+    by_literal: u64,
+    by_state: u64,
+}
+
+// Where a worker begins: the first by literals, the second by states; the third never asks for literals.
+fn first_costs(worker: u32) -> Costs {
+    let by_literal = match worker % 3 {
+        0 => 0,
+        1 => 1,
+        _ => u64::MAX,
+    };
+    Costs {
+        by_literal,
+        by_state: 0,
+    }
+}
+
+fn add_cost(costs: &mut Costs, by_literal: bool, cost: u64) {
+    if by_literal {
+        costs.by_literal = costs.by_literal.saturating_add(cost);
+    } else {
+        costs.by_state = costs.by_state.saturating_add(cost);
+    }
+}
+
+impl Model for Rounds {
+    ghost use Rattle.skeleton.specs.Finding.{Asking};
+    ghost use Rattle.fair_round.specs.Rounds.{asking_of, IsKept};
+
+    ghost Value = { Asking };
+
+    ghost view = { asking_of };
+
+    ghost invariant = { IsKept };
+}
+
+// A skeleton that the view allows, or a refutation.
+fn found(
+    alloc: Global,
+    query: &mut Query,
+    view: &[Arc<Checked>],
+    meter: &mut Meter,
+) -> Result<Found, Stop>
+    requires on { GoesOnFrom query.old.seen (viewed view.now) }
+    requires good { IsGoodList query.old.circuit (viewed view.now) }
+    requires few { length view.now < 2 ^ 32 }
+    ensures found { IfOk result (IsFound query.old.circuit query.old.property (viewed view.now)) }
+    ensures stop { IfErr result (IsStop meter.new) }
+    ensures counted { CountsConflicts meter.old meter.new }
+    ensures circuit { query.new.circuit ≡ query.old.circuit }
+    ensures property { query.new.property ≡ query.old.property }
+    ensures seen { GoesOnFrom query.new.seen (viewed view.now) }
+{
+    match query.next(alloc, view, meter) {
+        Ok(found) => Ok(found),
+        Err(end) => Err(solver_stop(end, meter)),
+    }
+}
+
+// A search from the initial states that was asked nothing yet.
+fn new_search(alloc: Global, c: &Arc<Circuit>) -> Result<Search, AllocError>
+    ensures { IfOk result (λ made. (view : List Entry) → IsFit (arc_value c.now) view made) }
+{
+    Search::new(alloc, c, Start::Initial)
+}
+
+impl Rounds {
+    /// The rounds of a worker of this number for property `j`, before the first: nothing is seen. The error is want of
+    /// memory.
+    pub fn new(alloc: Global, c: &Arc<Circuit>, j: u32, worker: u32) -> Result<Rounds, AllocError>
+        requires { j < length (arc_value c.now).justice }
+        ensures { IfOk result (λ made. made ≡ record { circuit = arc_value c.now; property = j; seen = [] }) }
+    {
+        let circuit = Arc::try_clone(c)?;
+        Ok(Rounds {
+            circuit,
+            query: Query::new(alloc, c, j, worker)?,
+            seen: Items::new(alloc),
+            runs: Vec::new(alloc),
+            avoid: Items::new(alloc),
+            search: None,
+            costs: first_costs(worker),
+        })
+    }
+
+    // Takes the view for what was seen.
+    fn catch_up(&mut self, alloc: Global, view: &[Arc<Checked>]) -> Result<(), AllocError>
+        requires on { GoesOnFrom self.old.seen (viewed view.now) }
+        ensures circuit { self.new.circuit ≡ self.old.circuit }
+        ensures property { self.new.property ≡ self.old.property }
+        ensures caught { OnOk result (self.new.seen ≡ viewed view.now) }
+        ensures kept { OnErr result (self.new ≡ self.old) }
+    {
+        never_stays();
+        self.seen = share(alloc, view)?;
+        Ok(())
+    }
+
+    /// A skeleton that the view allows, or a refutation.
+    pub fn next(
+        &mut self,
+        alloc: Global,
+        view: &[Arc<Checked>],
+        meter: &mut Meter,
+    ) -> Result<Found, Stop>
+        requires on { GoesOnFrom self.old.seen (viewed view.now) }
+        requires good { IsGoodList self.old.circuit (viewed view.now) }
+        requires few { length view.now < 2 ^ 32 }
+        ensures found { IfOk result (IsFound self.old.circuit self.old.property (viewed view.now)) }
+        ensures stop { IfErr result (IsStop meter.new) }
+        ensures counted { CountsConflicts meter.old meter.new }
+        ensures circuit { self.new.circuit ≡ self.old.circuit }
+        ensures property { self.new.property ≡ self.old.property }
+        ensures seen { GoesOnFrom self.new.seen (viewed view.now) }
+        ensures caught { OnOk result (self.new.seen ≡ viewed view.now) }
+    {
+        self.catch_up(alloc, view)?;
+        found(alloc, &mut self.query, view, meter)
+    }
+
+    /// A skeleton that the entries, which were seen, allow and that begins in a state that was reached, and the way to it.
+    pub(crate) fn pooled(
+        &mut self,
+        alloc: Global,
+        scope: &Scope<'_>,
+        meter: &mut Meter,
+    ) -> Result<Option<Begun>, Stop>
+        requires scope { IsScope scope.now }
+        requires seen { self.old ≡ asking_of_scope scope.now }
+        ensures begun { IfOk result (λ found. IfSome found (IsBegun scope.now.circuit.now scope.now.property (entries_of scope.now))) }
+        ensures stop { IfErr result (IsStop meter.new) }
+        ensures counted { CountsConflicts meter.old meter.new }
+        ensures same { self.new ≡ self.old }
+    {
+        pooled(
+            alloc,
+            scope,
+            &mut self.query,
+            &mut self.runs,
+            &mut self.avoid,
+            meter,
+        )
+    }
+
+    /// The cubes of states in which no skeleton begins that the entries which were seen allow.
+    pub(crate) fn avoided(&self) -> &[Cube]
+        ensures { All (BeginsNone self.now.circuit self.now.property self.now.seen) result.now }
+    {
+        self.avoid.as_slice()
+    }
+
+    /// Whether the first literal is asked for next, and not a state.
+    pub(crate) fn asks_literal(&self) -> bool {
+        self.costs.by_literal < u64::MAX && self.costs.by_literal <= self.costs.by_state
+    }
+
+    /// Adds to what one of the two has cost, in conflicts, steps, questions for a literal and rounds.
+    pub(crate) fn charge(&mut self, by_literal: bool, cost: u64)
+        ensures { self.new ≡ self.old }
+    {
+        add_cost(&mut self.costs, by_literal, cost);
+    }
+
+    /// The search from the initial states; it is put back where it answers.
+    pub(crate) fn take_search(&mut self, alloc: Global, c: &Circuit) -> Result<Search, AllocError>
+        requires { self.old.circuit ≡ c.now }
+        ensures fit { IfOk result (IsFit c.now self.old.seen) }
+        ensures same { self.new ≡ self.old }
+    {
+        match self.search.take() {
+            Some(search) => Ok(search),
+            None => new_search(alloc, &self.circuit),
+        }
+    }
+
+    /// Keeps the search for the next round.
+    pub(crate) fn put_search(&mut self, _c: &Circuit, kept: Search)
+        requires circuit { self.old.circuit ≡ _c.now }
+        requires fit { IsFit _c.now self.old.seen kept }
+        ensures { self.new ≡ self.old }
+    {
+        self.search = Some(kept);
+    }
+
+    /// Keeps a run whose states were reached. The error is want of memory.
+    pub(crate) fn keep(&mut self, c: &Circuit, positions: Items<Position>) -> Result<(), AllocError>
+        requires circuit { self.old.circuit ≡ c.now }
+        requires run { IsReachedRun c.now positions }
+        ensures { self.new ≡ self.old }
+    {
+        keep(c, &mut self.runs, positions)
+    }
+}

@@ -1,0 +1,151 @@
+-- Scaffolding of inner functions. The workers that take turns over one board, and what a turn leaves of the board.
+use Rattle.std.specs.Prelude.{◌≡◌, ◌≢◌, ℕ, ◌+◌, ◌*◌, ◌<◌, ◌≤◌, Bool, false, List, ◌∷◌, [], ◌++◌, map, length, drop, slice_index_or, is_some, None}
+use Rattle.std.specs.List.{All, list_any, sum_by}
+use Rattle.std.specs.Arc.{arc_value}
+use Rattle.aig_semantics.specs.Circuits.{Circuit}
+use Rattle.entry.specs.CheckedEntries.{CheckedEntry}
+use Rattle.wall_store.specs.Boards.{BoardState, IsBoard, FromWorker, Ascend, properties_of, outcome_of}
+use Rattle.wall_store.specs.Events.{seen_by, list_of}
+use Rattle.fair_workers.specs.declared.working.Phase.TheVariants as phases
+use Rattle.fair_workers.specs.declared.lending.LentBoard.{LentBoard}
+use Rattle.fair_workers.specs.declared.board_workers.BoardWorker.{BoardWorker}
+use Rattle.fair_workers.specs.declared.limits.Limits.{Limits}
+use Rattle.fair_workers.specs.declared.board_workers.RunTask.{RunTask}
+use Rattle.fair_workers.specs.Runs.{Task, IsFoundWithin, IsBoardOf, IsWithLimits}
+use Rattle.fair_workers.specs.Knowing.{Known}
+use Rattle.fair_workers.specs.Working.{is_running, is_refused, left, left_at_first, searches_left, search_steps, steps_through, IsWorker, KeepsLimits}
+
+-- what worker n of a board knows of it, after so many turns
+abbrev pub known_at : BoardState → ℕ → ℕ → Known
+known_at b n turns = record {
+  circuit = b.circuit;
+  properties = properties_of b.served;
+  number = n;
+  turns = turns;
+  given = b.given;
+  limit = b.limit;
+  list = list_of b n;
+  settled = λ j. is_some (outcome_of b.served j);
+}
+
+-- ---- lent boards
+
+abbrev pub known_of : LentBoard → Known
+known_of s = known_at s.board s.number s.turns
+
+-- lent to a worker of the board, which has seen so many entries
+pub record IsLent (s : LentBoard) : Type 0 where
+  pub board : IsBoard s.board
+  pub number : s.number < s.board.workers
+  pub seen : s.seen ≡ seen_by s.board s.number
+
+-- worker n found the entry in this turn
+abbrev pub IsOfTurn : ℕ → ℕ → CheckedEntry → Type 0
+IsOfTurn n turn e = FromWorker e.origin (λ work. (work.author ≡ n) × (work.turn ≡ turn))
+
+-- What the events of worker n in one of its turns leave of a board: entries and outcomes stay, and what the other workers
+-- have seen; what is added is of this worker and turn.
+pub record GoesOnBy (n turn : ℕ) (b c : BoardState) : Type 0 where
+  pub circuit : c.circuit ≡ b.circuit
+  pub properties : properties_of c.served ≡ properties_of b.served
+  pub workers : c.workers ≡ b.workers
+  pub limit : c.limit ≡ b.limit
+  pub given : c.given ≡ b.given
+  pub entries : (more : List CheckedEntry) × (c.entries ≡ b.entries ++ more) × All (IsOfTurn n turn) more
+  pub outcomes : (j : ℕ) → outcome_of b.served j ≢ None → outcome_of c.served j ≢ None
+  pub others : (m : ℕ) → m ≢ n → seen_by c m ≡ seen_by b m
+
+-- What a call leaves of a lent board: it takes one turn at most, and adds no entry without one.
+pub record StaysLent (s t : LentBoard) : Type 0 where
+  pub lent : IsLent t
+  pub number : t.number ≡ s.number
+  pub board : GoesOnBy s.number s.turns s.board t.board
+  pub one : t.turns ≤ s.turns + 1
+  pub paid : length t.board.entries + s.turns ≤ length s.board.entries + t.turns
+
+-- ---- workers of a board
+
+-- how much is left to do for a worker
+abbrev pub left_by : ℕ → BoardWorker → ℕ
+left_by limit m = left limit m.seen m.worker.phase
+
+abbrev pub searches_left_by : ℕ → BoardWorker → ℕ
+searches_left_by limit m = searches_left limit m.seen m.worker.phase
+
+-- A worker that serves property j over a board.
+pub record IsBoardWorker (j : ℕ) (b : BoardState) (m : BoardWorker) : Type 0 where
+  pub number : m.number < b.workers
+  pub seen : m.seen ≡ seen_by b m.number
+  pub worker : IsWorker j (known_at b m.number m.turns) m.worker
+
+-- A turn of a worker.
+pub record TakesTurn (j : ℕ) (b : BoardState) (m : BoardWorker) (c : BoardState) (n : BoardWorker) : Type 0 where
+  pub worker : IsBoardWorker j c n
+  pub board : GoesOnBy m.number m.turns b c
+  pub number : n.number ≡ m.number
+  pub one : n.turns ≤ m.turns + 1
+  pub paid : length c.entries + m.turns ≤ length b.entries + n.turns
+  pub limits : KeepsLimits m.worker.meter n.worker.meter
+  pub less : left_by b.limit n < left_by b.limit m
+  pub steps :
+      steps_through n.worker (searches_left_by b.limit n) (search_steps b.circuit j)
+      ≤ steps_through m.worker (searches_left_by b.limit m) (search_steps b.circuit j)
+
+-- What turns leave of a board: entries are added alone, each found in one of the turns that a worker has, and it is what
+-- a board is at any time.
+pub record Follows (b c : BoardState) : Type 0 where
+  pub board : IsBoard c
+  pub circuit : c.circuit ≡ b.circuit
+  pub properties : properties_of c.served ≡ properties_of b.served
+  pub workers : c.workers ≡ b.workers
+  pub limit : c.limit ≡ b.limit
+  pub given : c.given ≡ b.given
+  pub entries : (more : List CheckedEntry) × (c.entries ≡ b.entries ++ more) × All (IsFoundWithin (left_at_first b.limit b.given)) more
+
+-- The steps that a worker has taken, and those of all searches that are left to it, where no list is longer than the
+-- limit, are no more than those of a search for each entry by which the list may grow, and one more.
+abbrev pub KeepsWithin : Limits → ℕ → ℕ → Circuit → BoardWorker → Type 0
+KeepsWithin limits j limit c m =
+    steps_through m.worker (searches_left_by limit m) (search_steps c j) ≤ (limits.skeletons + 1) * search_steps c j
+
+-- how many turns worker k has taken
+abbrev pub turns_at : List BoardWorker → ℕ → ℕ
+turns_at workers k = slice_index_or (map (λ m. m.turns) workers) k 0
+
+-- The workers over a board, in the order of their numbers; each found its entries in turns that it has taken.
+pub record AreWorkers (limits : Limits) (j : ℕ) (b : BoardState) (workers : List BoardWorker) : Type 0 where
+  pub numbers : (k : ℕ) → k < length workers → slice_index_or (map (λ m. m.number) workers) k 0 ≡ k
+  pub each : All (IsBoardWorker j b) workers
+  pub within : All (λ m. IsWithLimits limits m.worker.meter) workers
+  pub steps : All (KeepsWithin limits j b.limit b.circuit) workers
+  pub own : (w : ℕ) → Ascend w (drop b.given b.entries) (turns_at workers w)
+
+-- the task of one property
+abbrev pub task_of : Circuit → ℕ → Limits → List CheckedEntry → Task
+task_of c j limits given = record { circuit = c; properties = j ∷ []; limits = limits; given = given }
+
+abbrev pub task_in : RunTask → Task
+task_in t = task_of (arc_value t.circuit.now) t.property t.limits (map arc_value t.given.now)
+
+-- The workers of a task, and their board.
+pub record ServeTask (task : Task) (j : ℕ) (b : BoardState) (all : List BoardWorker) : Type 0 where
+  pub board : IsBoardOf task b
+  pub properties : task.properties ≡ j ∷ []
+  pub count : length all ≡ task.limits.workers
+  pub workers : AreWorkers task.limits j b all
+
+-- worker k is there and has not ended
+abbrev pub runs_at : List BoardWorker → ℕ → Bool
+runs_at workers k = is_running (slice_index_or (map (λ m. m.worker.phase) workers) k phases.Closed)
+
+-- how much is left to do for all
+abbrev pub left_of : ℕ → List BoardWorker → ℕ
+left_of limit workers = sum_by (left_by limit) workers
+
+-- one of them was refused memory
+abbrev pub any_refused : List BoardWorker → Bool
+any_refused workers = list_any (λ m. is_refused m.worker.phase) workers
+
+-- all have ended
+abbrev pub HaveEnded : List BoardWorker → Type 0
+HaveEnded workers = (k : ℕ) → k < length workers → runs_at workers k ≡ false
