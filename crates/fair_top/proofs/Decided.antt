@@ -1,7 +1,6 @@
 -- What `solve` gives, from the model and from what it comes to for the circuit.
-use Rattle.std.proofs.Common.{◌≡◌, ◌⊎◌, ◌<◌, ◌≤◌, ◌^◌, ℕ, List, [], ◌∷◌, ◌++◌, ◌+◌, map, length, take, refl, sym, ◌∙◌, ap, ap₂, subst, Bool, inl, inr, arith, Ok, Err}
-use Rattle.std.specs.Prelude.{Option, Result, IfOk, IfErr, min}
-use Rattle.std.proofs.Math.Nat.{min-le_left}
+use Rattle.std.proofs.Common.{◌≡◌, ◌⊎◌, ◌<◌, ◌≤◌, ◌^◌, ℕ, List, [], ◌∷◌, ◌++◌, map, length, take, refl, sym, ◌∙◌, ap, ap₂, subst, Bool, inl, inr, arith, Ok, Err}
+use Rattle.std.specs.Prelude.{Option, Result, IfOk, IfErr}
 use Rattle.std.proofs.lemmas.List.{map-append, append_assoc, length-map}
 use Rattle.aig_semantics.specs.Circuits.{Circuit}
 use Rattle.aiger_grammar.specs.Models.{Model}
@@ -33,6 +32,7 @@ use Rattle.fair_top.specs.Solve.{task_of, IsWrittenAs, HasAsked, GivesSolve, Sho
 use Rattle.fair_top.specs.Solved.{IsPrinted, EndsFor, SolvesUnlessCut}
 use Rattle.fair_top.specs.Statuses.{status_in}
 use Rattle.fair_top.specs.Judged.{IsModelOf, EndsWithoutModel}
+use Rattle.fair_top.proofs.Judging.{same_accepted}
 
 -- Entries of a board.
 
@@ -52,12 +52,6 @@ pub proved_in_order : (c : Circuit) (entries : List CheckedEntry) → IsSoundLis
 proved_in_order c entries sound = proved_from c entries [] entries refl sound
 
 -- What it comes to for the circuit of a model.
-
-same_accepted : (a b : Accepted) → ◌≡◌ {A = Status} (statuses.Done (done_of a)) (statuses.Done (done_of b)) → a ≡ b
-same_accepted (accepted.Lasso j p f) (accepted.Lasso k q g) e = cc
-same_accepted (accepted.Lasso j p f) (accepted.Holds k n) e = cc
-same_accepted (accepted.Holds j n) (accepted.Lasso k q g) e = cc
-same_accepted (accepted.Holds j n) (accepted.Holds k o) e = cc
 
 shows : (c : Circuit) (request : SolveRequest) (status : Status) (text : List ℕ) (found : Accepted) → EndsFor c request status text
     → status ≡ statuses.Done (done_of found) → Shows c found
@@ -157,10 +151,6 @@ good_stimulus c request s positions from text written true_one small all stands 
     let good : IsGood c text (accepted.Lasso j positions from) = subst (λ (t : List ℕ). IsGood c t (accepted.Lasso j positions from)) (sym same)
     (written j s positions from small stands (subst (λ (t : List ℕ). length t ≤ most_bytes) same short)) in
     (accepted.Lasso j positions from, refl, refl, tt, good, (s, same, all, stands), true_one text (accepted.Lasso j positions from) good)
-
--- a list within this limit grew by so many entries at most from nothing
-pub few_entries : (entries limit most all : ℕ) → entries ≤ limit → limit ≡ min (0 + most) all → entries ≤ most
-few_entries entries limit most all within is = omega (arith, within, is, min-le_left (0 + most) all)
 
 pub good_certificate : (c : Circuit) (request : SolveRequest) (b : BoardState) (list : List CheckedEntry) (refutation : Refutation) (count : ℕ) (text : List ℕ)
     → WrittenCertificatesAreGood c → GoodIsTrue c → IsBoard b → b.circuit ≡ c → list ≡ b.entries → length b.entries ≤ request.skeletons

@@ -1,5 +1,5 @@
 -- What `wave` gives, from the model, the end of the check of the answer and the lasso that was kept.
-use Rattle.std.proofs.Common.{◌≡◌, ◌⊎◌, ℕ, ◌<◌, Bool, true, false, List, [], ◌∷◌, length, take, Some, refl, sym, ◌∙◌, ap, subst, inl, inr, arith, Ok, Err}
+use Rattle.std.proofs.Common.{◌≡◌, ◌⊎◌, ℕ, ◌<◌, Bool, true, false, List, [], ◌∷◌, length, take, None, Some, refl, sym, ◌∙◌, ap, subst, inl, inr, arith, Ok, Err}
 use Rattle.std.specs.Prelude.{Option, Result, IfOk, IfErr}
 use Rattle.std.specs.List.{All}
 use Rattle.std.proofs.lemmas.List.Elements.{All-take}
@@ -7,7 +7,7 @@ use Rattle.aig_semantics.specs.declared.traces.Lasso.{Lasso as LassoOf}
 use Rattle.aig_semantics.specs.Circuits.{Circuit}
 use Rattle.aiger_grammar.specs.Models.{Model}
 use Rattle.circuit.specs.declared.faults.ModelFault.{ModelFault}
-use Rattle.edge.specs.Reads.{Reads}
+use Rattle.edge.specs.Reads.{ReadsOf, Reads}
 use Rattle.edge.specs.Writes.{Writes}
 use Rattle.certificate.specs.declared.ends.Accepted.{Accepted}
 use Rattle.certificate.specs.declared.ends.Accepted.TheVariants.{Lasso, Holds}
@@ -28,7 +28,7 @@ use Rattle.fair_top.specs.Wave.{EndsWave, GivesWave, wave_status, DecidesWave}
 use Rattle.fair_top.specs.Waved.{CarriesLasso, IsWritten, IsWaved}
 use Rattle.fair_top.specs.Statuses.{is_read_fault, ends_silently, status_in}
 use Rattle.fair_top.specs.Texts.{text_of}
-use Rattle.fair_top.specs.Headline.{IsSilent, IsAnswered, HoldsModel, ReadsModelFirst, HasWritten}
+use Rattle.fair_top.specs.Headline.{IsSilent, IsAnswered, HoldsModel, ReadsModel, ReadsModelFirst, HasWritten}
 use Rattle.fair_top.specs.Judged.{IsModelOf, IsFaultOf, EndsWithoutModel}
 use Rattle.fair_top.proofs.Judging.{End, same_bad}
 
@@ -71,6 +71,13 @@ carries c m told (Ok (Lasso n positions from)) kept same (text, may, lasso, is, 
     (lasso, is, (text, subst (λ (k : Circuit). HasGoodLasso k text n lasso) same good))
 carries c m told (Ok (Holds n entries)) kept same h = tt
 carries c m told (Err end) kept same h = tt
+
+-- so one is there
+pub lasso_is_kept : (m : Model) (end : End) (kept : Option LassoOf) (found : Accepted) (n positions from : ℕ) → CarriesLasso m end kept
+    → end ≡ Ok found → found ≡ Lasso n positions from → kept ≡ None → ⊥
+lasso_is_kept m (Ok (Lasso n positions from)) kept found j p f (lasso, is, good) e same none = absurd (cc)
+lasso_is_kept m (Ok (Holds n entries)) kept found j p f carried e same none = absurd (cc)
+lasso_is_kept m (Err end) kept found j p f carried e same none = absurd (cc)
 
 -- the status is that of the end, or want of memory
 pub waved_status : (m : Model) (end : End) (kept : Option LassoOf) (result : Result Outcome Status) → CarriesLasso m end kept → IsWaved m end kept result
@@ -271,8 +278,8 @@ waved_aloud m (Err ends.ReadFault) kept (Ok outcome) carried w = absurd (cc w)
 waved_aloud m (Err ends.Memory) kept (Ok outcome) carried w = absurd (cc w)
 
 -- ANSWER was read after a model
-pub both_read : {Shelf : Type 0} (Read : Shelf → List ℕ → Bool → Shelf → Type 0) (held : List ℕ → Option (List ℕ)) (model answer : List ℕ)
-    (end : End) (status : Status) (old mid new : Shelf) → is_read_fault status ≡ has_unread end → Reads Read model false old mid → HoldsModel held model
+pub both_read : {Shelf : Type 0} (Read : ReadsOf Shelf) (held : List ℕ → Option (List ℕ)) (model answer : List ℕ)
+    (end : End) (status : Status) (old mid new : Shelf) → is_read_fault status ≡ has_unread end → ReadsModel Read model false old mid → HoldsModel held model
     → Reads Read answer (has_unread end) mid new → ReadsModelFirst Read held (model ∷ answer ∷ []) (is_read_fault status) old new
 both_read Read held model answer end status old mid new same first holds second =
     inr (mid, first, holds, inl (subst (λ (failed : Bool). Reads Read answer failed mid new) (sym same) second))

@@ -1,6 +1,7 @@
 -- How a run ends, from what is asked for and from what its command gives.
 use Rattle.std.proofs.Common.{◌≡◌, ◌⊎◌, inl, inr, ℕ, Bool, true, false, List, [], ◌∷◌, refl, sym, ◌∙◌, ap, subst, Ok, Err}
 use Rattle.std.specs.Prelude.{Option, Result, IfOk}
+use Rattle.edge.specs.Reads.{ReadsOf}
 use Rattle.edge.specs.Writes.{Adds, AddsPart, Writes}
 use Rattle.fair_top.specs.declared.commands.generating.GenRequest.{GenRequest}
 use Rattle.fair_top.specs.declared.status.Status.{Status}
@@ -97,19 +98,19 @@ demo_is_silent held words before now request status asks (inl e) read = absurd (
 demo_is_silent held words before now request status asks (inr e) read = inr e
 
 -- no read failed where the text of the end was not written whole
-pub read_before : {Shelf : Type 0} (Read : Shelf → List ℕ → Bool → Shelf → Type 0) (held : List ℕ → Option (List ℕ)) (words : List (List ℕ)) (status : Status) (old new : Shelf)
+pub read_before : {Shelf : Type 0} (Read : ReadsOf Shelf) (held : List ℕ → Option (List ℕ)) (words : List (List ℕ)) (status : Status) (old new : Shelf)
     → is_read_fault status ≡ false → HasRead Read held words status old new → HasRead Read held words statuses.WriteFault old new
 read_before Read held words status old new none (inl (usage, same, e)) = inl (usage, same, refl)
 read_before Read held words status old new none (inr (asked, asks, reads)) =
     inr (asked, asks, subst (λ (failed : Bool). ReadsModelFirst Read held (names_in asked) failed old new) none reads)
 
 -- where words are refused, or memory is, nothing was read
-none_of : {Shelf : Type 0} (Read : Shelf → List ℕ → Bool → Shelf → Type 0) (held : List ℕ → Option (List ℕ)) (names : List (List ℕ)) (old : Shelf)
+none_of : {Shelf : Type 0} (Read : ReadsOf Shelf) (held : List ℕ → Option (List ℕ)) (names : List (List ℕ)) (old : Shelf)
     → ReadsModelFirst Read held names false old old
 none_of Read held [] old = (refl, refl)
 none_of Read held (model ∷ others) old = inl (0, refl)
 
-pub nothing_read : {Shelf : Type 0} (Read : Shelf → List ℕ → Bool → Shelf → Type 0) (held : List ℕ → Option (List ℕ)) (words : List (List ℕ)) (status : Status) (old : Shelf)
+pub nothing_read : {Shelf : Type 0} (Read : ReadsOf Shelf) (held : List ℕ → Option (List ℕ)) (words : List (List ℕ)) (status : Status) (old : Shelf)
     → IsTakenOrUsage words → is_read_fault status ≡ false → HasRead Read held words status old old
 nothing_read Read held words status old (inl usage) none = inl (usage, refl, none)
 nothing_read Read held words status old (inr (asked, asks)) none =

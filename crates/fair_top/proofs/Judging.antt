@@ -1,13 +1,15 @@
 -- The verdict on both texts, from the model and the end of the check.
 use Rattle.std.proofs.Common.{◌≡◌, ◌⊎◌, ℕ, ◌≤◌, Bool, false, List, [], ◌∷◌, Some, refl, sym, ◌∙◌, ap, subst, inl, inr, arith, Ok, Err}
-use Rattle.std.specs.Prelude.{Option, Result}
+use Rattle.std.specs.Prelude.{Option, Result, IfOk}
 use Rattle.aig_semantics.specs.Circuits.{Circuit}
 use Rattle.aiger_grammar.specs.Models.{Model}
 use Rattle.aiger_grammar.specs.BothForms.{SameFault}
 use Rattle.circuit.specs.declared.faults.ModelFault.{ModelFault}
 use Rattle.edge.specs.Faults.{Rose}
-use Rattle.edge.specs.Reads.{Reads}
+use Rattle.edge.specs.Reads.{ReadsOf, Reads}
 use Rattle.certificate.specs.declared.ends.Accepted.{Accepted}
+use Rattle.certificate.specs.declared.ends.Accepted.TheVariants as accepted
+use Rattle.certificate.specs.Answers.{Shows}
 use Rattle.certificate.specs.declared.ends.AnswerEnd.{AnswerEnd}
 use Rattle.certificate.specs.declared.ends.AnswerEnd.TheVariants as ends
 use Rattle.fair_top.specs.declared.status.Status.{Status}
@@ -15,9 +17,9 @@ use Rattle.fair_top.specs.declared.status.Status.TheVariants as statuses
 use Rattle.certificate.specs.Ends.{DecidesEnd}
 use Rattle.fair_top.specs.ModelTexts.{IsModelText}
 use Rattle.fair_top.specs.ModelGiven.{OfSomeText}
-use Rattle.fair_top.specs.Check.{status_of, JudgesAs, DecidesCheck}
+use Rattle.fair_top.specs.Check.{done_of, status_of, JudgesAs, DecidesCheck, ShownByCheck}
 use Rattle.fair_top.specs.Statuses.{is_read_fault}
-use Rattle.fair_top.specs.Headline.{IsSilent, IsAnswered, HoldsModel, ReadsModelFirst}
+use Rattle.fair_top.specs.Headline.{IsSilent, IsAnswered, HoldsModel, ReadsModel, ReadsModelFirst}
 use Rattle.fair_top.specs.Judged.{IsModelOf, IsFaultOf, EndsWithoutModel}
 use Rattle.certificate.specs.Ends.{CheckSays, EndsWith, has_unread}
 
@@ -104,6 +106,23 @@ without_model_exact model answer statuses.Usage h verdict d = absurd h
 without_model_exact model answer (statuses.Unknown report) h verdict d = absurd h
 without_model_exact model answer (statuses.NoProperty n) h verdict d = absurd h
 
+-- What is shown.
+
+pub same_accepted : (a b : Accepted) → ◌≡◌ {A = Status} (statuses.Done (done_of a)) (statuses.Done (done_of b)) → a ≡ b
+same_accepted (accepted.Lasso j p f) (accepted.Lasso k q g) e = cc
+same_accepted (accepted.Lasso j p f) (accepted.Holds k n) e = cc
+same_accepted (accepted.Holds j n) (accepted.Lasso k q g) e = cc
+same_accepted (accepted.Holds j n) (accepted.Holds k o) e = cc
+
+pub judged_shown : (c : Circuit) (m : Model) (model : Option (List ℕ)) (end : End) (status : Status) → c ≡ m.circuit → IsModelOf model m
+    → IfOk end (Shows c) → status ≡ status_of end → (a : Accepted) → status ≡ statuses.Done (done_of a) → ShownByCheck model a
+judged_shown c m model (Ok found) status same h shows is a e =
+    let shown : Shows c a = subst (λ (x : Accepted). Shows c x) (same_accepted found a (sym is ∙ e)) shows in
+    (h.text.0, h.text.1, (m, h.text.2, subst (λ (k : Circuit). Shows k a) same shown))
+judged_shown c m model (Err (ends.Refused fault)) status same h shows is a e = let wrong : statuses.Refused fault ≡ statuses.Done (done_of a) = sym is ∙ e in cc
+judged_shown c m model (Err ends.ReadFault) status same h shows is a e = let wrong : statuses.ReadFault ≡ statuses.Done (done_of a) = sym is ∙ e in cc
+judged_shown c m model (Err ends.Memory) status same h shows is a e = let wrong : statuses.Memory ≡ statuses.Done (done_of a) = sym is ∙ e in cc
+
 -- Reads and faults.
 
 status_failed : (end : End) → is_read_fault (status_of end) ≡ has_unread end
@@ -113,8 +132,8 @@ status_failed (Err ends.ReadFault) = refl
 status_failed (Err ends.Memory) = refl
 
 -- ANSWER was read after a model
-pub both_read : {Shelf : Type 0} (Read : Shelf → List ℕ → Bool → Shelf → Type 0) (held : List ℕ → Option (List ℕ)) (model answer : List ℕ)
-    (end : End) (old mid new : Shelf) → Reads Read model false old mid → HoldsModel held model → Reads Read answer (has_unread end) mid new
+pub both_read : {Shelf : Type 0} (Read : ReadsOf Shelf) (held : List ℕ → Option (List ℕ)) (model answer : List ℕ)
+    (end : End) (old mid new : Shelf) → ReadsModel Read model false old mid → HoldsModel held model → Reads Read answer (has_unread end) mid new
     → ReadsModelFirst Read held (model ∷ answer ∷ []) (is_read_fault (status_of end)) old new
 both_read Read held model answer end old mid new first holds second =
     inr (mid, first, holds, inl (subst (λ (failed : Bool). Reads Read answer failed mid new) (sym (status_failed end)) second))

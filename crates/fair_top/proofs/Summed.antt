@@ -1,11 +1,16 @@
 -- What `demo` sums up.
-use Rattle.std.proofs.Common.{◌≡◌, inl, inr, ℕ, false, List, sym, ◌∙◌, ap, subst, Ok, Err, Some}
-use Rattle.std.specs.Prelude.{Option, Result, IfOk, IfErr}
+use Rattle.std.proofs.Common.{◌≡◌, inl, inr, ℕ, Bool, false, true, List, [], sym, ◌∙◌, ap, subst, Ok, Err, Some}
+use Rattle.std.specs.Prelude.{Result, IfOk, IfErr}
 use Rattle.aig_semantics.specs.Circuits.{Circuit}
 use Rattle.certificate.specs.declared.ends.Accepted.{Accepted}
 use Rattle.certificate.specs.declared.ends.Accepted.TheVariants as accepted
-use Rattle.certificate.specs.Answers.{IsGood}
-use Rattle.certificate.specs.Ends.{CheckSays}
+use Rattle.certificate.specs.declared.ends.AnswerEnd.{AnswerEnd}
+use Rattle.certificate.specs.declared.ends.AnswerEnd.TheVariants as ends
+use Rattle.certificate.specs.declared.ends.AnswerFault.{AnswerFault}
+use Rattle.certificate.specs.Ends.{EndsWith, has_unread}
+use Rattle.edge.specs.InMemory.{ShelfInMemory, text_of}
+use Rattle.edge.specs.Reads.{Reads}
+use Rattle.edge.proofs.Steady.{ReadsInMemory, no_read_fails}
 use Rattle.wall_store.specs.Boards.{BoardState}
 use Rattle.fair_top.specs.declared.commands.demonstrating.DemoRequest.{DemoRequest}
 use Rattle.fair_top.specs.declared.status.Status.{Status}
@@ -15,13 +20,22 @@ use Rattle.fair_top.specs.declared.texts.Outcome.{Outcome}
 use Rattle.fair_top.specs.Check.{done_of}
 use Rattle.fair_top.specs.Statuses.{status_in, is_read_fault}
 use Rattle.fair_top.specs.Demo.{SumsUp, IsSummedUp}
+use Rattle.fair_top.proofs.Judging.{End}
 
--- a text that is told and accepted is good for what it is accepted as
-pub said : (c : Circuit) (told : Option (List ℕ)) (text : List ℕ) (found : Accepted) → told ≡ Some text → CheckSays c told (Ok found)
-    → (other : Accepted) × IsGood c text other
-said c told text found e (inl (inl wrong)) = absurd (cc)
-said c told text found e (inl (inr (read, may, good))) = (found, subst (λ (t : List ℕ). IsGood c t found) (sym (may text e)) good)
-said c told text found e (inr wrong) = absurd (cc)
+-- The check of a good answer.
+
+-- it is not refused,
+pub never_refused : (found : Accepted) (end : End) (why : AnswerEnd) (fault : AnswerFault) → end ≡ Err why → why ≡ ends.Refused fault → EndsWith end (Ok found) → ⊥
+never_refused found end why fault is refused (inl (inl e)) = absurd (cc)
+never_refused found end why fault is refused (inl (inr e)) = absurd (cc)
+never_refused found end why fault is refused (inr e) = absurd (cc)
+
+-- and is read to its end where no call of the shelf is to fail
+pub never_unread : (end : End) (why : AnswerEnd) (name text : List ℕ) (old new : ShelfInMemory) → end ≡ Err why → why ≡ ends.ReadFault
+    → old.failing ≡ [] → text_of old.texts name ≡ Some text → Reads ReadsInMemory name (has_unread end) old new → ⊥
+never_unread end why name text old new is unread steady told reads =
+    let failed : has_unread end ≡ true = ap (λ (e : End). has_unread e) (is ∙ ap (λ (a : AnswerEnd). Err a) unread) in
+    no_read_fails name text old new steady told (subst (λ (f : Bool). Reads ReadsInMemory name f old new) failed reads)
 
 -- the status is that of a board or of a report
 

@@ -66,8 +66,8 @@ abbrev pub SumsUpAnswer : Circuit → DemoRequest → Status → List ℕ → Ty
 SumsUpAnswer c request status text =
     (board : BoardState) × (status ≡ statuses.Done (done.Demo board)) × SumsUpBoard c request text board
 
--- The workers leave a report, so a budget is spent, of entries or of each worker, and there is nothing to check: the
--- summary says so.
+-- The status carries a report: a budget is spent, of entries or of each worker. There is nothing to check, and the summary
+-- says so.
 abbrev pub SumsUpReport : Circuit → DemoRequest → Status → List ℕ → Type 0
 SumsUpReport c request status text =
     (report : Report) × (status ≡ statuses.Unknown report) × IsReport (demo_task c) report

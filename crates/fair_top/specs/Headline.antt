@@ -1,12 +1,13 @@
 -- What a run of the program answers, writes and reads, whatever its commands are.
-use Rattle.std.specs.Prelude.{◌≡◌, ◌≢◌, ◌⊎◌, ℕ, Bool, true, false, List, [], ◌∷◌, Option, Some}
+use Rattle.std.specs.Prelude.{◌≡◌, ◌≢◌, ◌⊎◌, ◌+◌, ℕ, Bool, true, false, List, [], ◌∷◌, Option, Some}
+use Rattle.aig_semantics.specs.declared.limits.TheConstants.{MAX_MODEL_BYTES}
 use Rattle.circuit.specs.declared.faults.ModelFault.TheVariants.{Cycle}
 use Rattle.clap.specs.Walk.{Row}
 use Rattle.clap.specs.Simple.{subcommand_of}
 use Rattle.clap.specs.Faults.{fault_of}
 use Rattle.edge.specs.Told.{IfTold}
 use Rattle.edge.specs.Faults.{Rose}
-use Rattle.edge.specs.Reads.{Reads}
+use Rattle.edge.specs.Reads.{ReadsOf, Within, Reads}
 use Rattle.edge.specs.Writes.{Adds, AddsPart, Writes}
 use Rattle.unless_memory.specs.Answers.{GivesSome}
 use Rattle.certificate.specs.declared.ends.Accepted.{Accepted}
@@ -126,25 +127,29 @@ FailedOf held (model ∷ others) before now =
 abbrev pub ReadFailed : (List ℕ → Option (List ℕ)) → List (List ℕ) → (List ℕ → ℕ) → (List ℕ → ℕ) → Type 0
 ReadFailed held words before now = (asked : Asked) × AsksFor words asked × FailedOf held (names_in asked) before now
 
--- Which reads lead from one state of a shelf to another, where `Read old name failed new` says that one read does. A
--- failed read is the last one.
+-- Which reads lead from one state of a shelf to another, where `Read old name from room failed new` says that one read does.
+-- A failed read is the last one.
 
 -- reads of the names, in this order
-abbrev pub ReadsInTurn : {Shelf : Type 0} → (Shelf → List ℕ → Bool → Shelf → Type 0) → List (List ℕ) → Bool → Shelf → Shelf → Type 0
+abbrev pub ReadsInTurn : {Shelf : Type 0} → ReadsOf Shelf → List (List ℕ) → Bool → Shelf → Shelf → Type 0
 ReadsInTurn Read [] failed old new = (new ≡ old) × (failed ≡ false)
 ReadsInTurn Read (name ∷ names) failed old new =
     Reads Read name failed old new ⊎ ((mid : _) × Reads Read name false old mid × ReadsInTurn Read names failed mid new)
 
+-- reads of MODEL, none of which goes behind the limit on a model's text and one byte more
+abbrev pub ReadsModel : {Shelf : Type 0} → ReadsOf Shelf → List ℕ → Bool → Shelf → Shelf → Type 0
+ReadsModel Read model failed old new = Reads (Within (MAX_MODEL_BYTES + 1) Read) model failed old new
+
 -- reads of MODEL, and of the others only where its text is a model's
-abbrev pub ReadsModelFirst : {Shelf : Type 0} → (Shelf → List ℕ → Bool → Shelf → Type 0) → (List ℕ → Option (List ℕ)) → List (List ℕ) → Bool → Shelf → Shelf → Type 0
+abbrev pub ReadsModelFirst : {Shelf : Type 0} → ReadsOf Shelf → (List ℕ → Option (List ℕ)) → List (List ℕ) → Bool → Shelf → Shelf → Type 0
 ReadsModelFirst Read held [] failed old new = (new ≡ old) × (failed ≡ false)
 ReadsModelFirst Read held (model ∷ others) failed old new =
-    Reads Read model failed old new
-    ⊎ ((mid : _) × Reads Read model false old mid × HoldsModel held model × ReadsInTurn Read others failed mid new)
+    ReadsModel Read model failed old new
+    ⊎ ((mid : _) × ReadsModel Read model false old mid × HoldsModel held model × ReadsInTurn Read others failed mid new)
 
 -- the reads of a run: none for words that are no command, and else those of what they ask for. Exactly where one
 -- failed the status says so.
-abbrev pub HasRead : {Shelf : Type 0} → (Shelf → List ℕ → Bool → Shelf → Type 0) → (List ℕ → Option (List ℕ)) → List (List ℕ) → Status → Shelf → Shelf → Type 0
+abbrev pub HasRead : {Shelf : Type 0} → ReadsOf Shelf → (List ℕ → Option (List ℕ)) → List (List ℕ) → Status → Shelf → Shelf → Type 0
 HasRead Read held words status old new =
     (IsUsage words × (new ≡ old) × (is_read_fault status ≡ false))
     ⊎ ((asked : Asked) × AsksFor words asked × ReadsModelFirst Read held (names_in asked) (is_read_fault status) old new)

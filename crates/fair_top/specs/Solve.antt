@@ -113,8 +113,7 @@ PrintsAnswer model request status text =
     × IsWithinList request.skeletons found
     × OfSomeText model (λ bytes. OfModel bytes (λ c. IsGood c text found × IsWrittenAs c text found))
 
--- The status carries a report of the workers: the list is full and leaves a skeleton, or each of them has spent its
--- conflicts or its steps.
+-- The status carries a report: the list is full and leaves a skeleton, or each worker has spent its conflicts or its steps.
 abbrev pub SaysUnknown : Option (List ℕ) → SolveRequest → Status → Type 0
 SaysUnknown model request status =
     (report : Report) × (status ≡ statuses.Unknown report)

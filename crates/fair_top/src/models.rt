@@ -2,13 +2,14 @@
 
 ghost use Rattle.std.specs.Prelude.{◌≡◌, ◌⊎◌, ◌↔◌, ℕ, ◌+◌, List, Option, Some, Ok, Err, IsTrue, IfOk, IfErr, take};
 ghost use Rattle.edge.specs.Faults.{Rose, NoneFell};
-ghost use Rattle.edge.specs.Reads.{KeepsTexts, Reads};
+ghost use Rattle.edge.specs.Reads.{KeepsTexts};
 ghost use Rattle.edge.specs.Told.{IfTold};
 ghost use Rattle.circuit.specs.declared.faults.ModelFault.{ModelFault as FaultOf};
 ghost use Rattle.aiger_grammar.specs.Models.{Model as ModelOf};
 ghost use Rattle.aiger_grammar.specs.BothForms.{SameFault};
 ghost use Rattle.fair_top.specs.ModelTexts.{is_binary, IsTextIn, HasFaultIn, IsModelText, IsBadModel};
 ghost use Rattle.fair_top.specs.Judged.{IsModelOf, IsFaultOf, EndsWithoutModel};
+ghost use Rattle.fair_top.specs.Headline.{ReadsModel};
 ghost use Rattle.fair_top.specs.Statuses.{has_read_fault};
 
 use crate::status::Status;
@@ -23,7 +24,7 @@ pub(crate) fn model_of<H: Shelf>(alloc: Global, shelf: &mut H, name: &str) -> Re
     ensures found { IfOk result (IsModelOf (H.held shelf.old name.now)) }
     ensures ended { IfErr result (EndsWithoutModel (H.held shelf.old name.now)) }
     ensures read { result ≡ Err Status.ReadFault → Rose (H.faults shelf.old name.now) (H.faults shelf.new name.now) }
-    ensures reads { Reads H.reads name.now (has_read_fault result) shelf.old shelf.new }
+    ensures reads { ReadsModel H.reads name.now (has_read_fault result) shelf.old shelf.new }
     ensures counts { NoneFell (H.faults shelf.old) (H.faults shelf.new) }
     ensures kept { KeepsTexts (H.held shelf.old) (H.held shelf.new) }
 {

@@ -88,8 +88,8 @@ pub fn run_alone<H: Shelf, O: Sink>(
     ensures silent { IsSilent result → out.new ≡ out.old }
 
     // A failed read or write is answered only where it came. The reads are of the names that the words give, in turn,
-    // MODEL's first and ANSWER's only where MODEL is a model's text. Of reads and of writes a failed one is the last, and
-    // is answered.
+    // MODEL's first and ANSWER's only where MODEL is a model's text. No read of MODEL goes behind the limit on a model's
+    // text and one byte more. Of reads and of writes a failed one is the last, and is answered.
     ensures read { result ≡ Status.ReadFault → ReadFailed (H.held shelf.old) (bytes_of words.now) (H.faults shelf.old) (H.faults shelf.new) }
     ensures reads { HasRead H.reads (H.held shelf.old) (bytes_of words.now) result shelf.old shelf.new }
     ensures written { HasWritten O.writes result out.old out.new }

@@ -15,7 +15,8 @@ pub enum Status {
     Done(Done),
     /// `check`: the answer is not a good one, and this is its first failing item.
     Refused(AnswerFault),
-    /// `solve` and `demo`: a stated budget is spent, of entries of the list or of each worker, and this is what the workers leave.
+    /// `solve` and `demo`: a stated budget is spent, of entries of the list or of each worker, as the report shows: a board
+    /// without an outcome, and what each worker has spent.
     Unknown(Report),
     /// The bytes of MODEL are the text of no model, and this is their first fault.
     BadModel(ModelFault),
@@ -49,7 +50,7 @@ pub enum Done {
     },
     /// `gen`: the text of the model was written.
     Printed,
-    /// `demo`: property 0 of the generated model was decided, and this is the board of the workers, with its outcome.
+    /// `demo`: property 0 of the generated model was decided, and this is a board with its outcome.
     Demo(Board),
 }
 

@@ -1,7 +1,7 @@
 //! The command `demo`: two workers decide property 0 of a generated model, and the answer is checked. The main call is
 //! `demonstrate`. Writes nothing.
 
-ghost use Rattle.std.specs.Prelude.{◌≡◌, ◌≤◌, List, Some, length, codes, false, IfOk, IfErr, OnOk, IfSome, IfNone};
+ghost use Rattle.std.specs.Prelude.{◌≡◌, ◌≤◌, List, [], Some, length, codes, false, IfOk, IfErr, IfSome, IfNone};
 ghost use Rattle.clap.specs.Simple.{app_of, with_subcommand};
 ghost use Rattle.clap.specs.Walk.{rows_of};
 ghost use Rattle.clap.specs.Matches.{found_of};
@@ -10,7 +10,7 @@ ghost use Rattle.std.specs.Arc.{arc_value};
 ghost use Rattle.certificate.specs.declared.ends.Accepted.{Accepted as AcceptedOf};
 ghost use Rattle.certificate.specs.Answers.{IsGood};
 ghost use Rattle.wall_store.specs.Boards.{outcome_of};
-ghost use Rattle.fair_workers.specs.Runs.{IsAnswered as IsAnsweredBy, IsReport};
+ghost use Rattle.fair_workers.specs.Runs.{IsAnswered as IsAnsweredBy, IsAnswer, IsReport};
 ghost use Rattle.fair_top.specs.Check.{done_of};
 ghost use Rattle.fair_top.specs.Commands.{Asked as AskedFor, meant, Means};
 ghost use Rattle.fair_top.specs.Demo.{demo_command, demo_task, verdict_text, summary_text, SumsUpAnswer, SumsUpBoard, SumsUpReport, SumsUp, GivesDemo};
@@ -22,7 +22,7 @@ use crate::commands::solving::{DEFAULTS, SolveRequest, entry_count, limits_of, p
 use crate::status::{Done, Status};
 use crate::texts::Outcome;
 use crate::words::{number_of, required_number};
-use certificate::check_answer;
+use certificate::{AnswerEnd, check_answer};
 use circuit::Circuit;
 use clap::{ArgMatches, Command};
 use edge::{MemShelf, Shelf};
@@ -34,7 +34,7 @@ use text_grammar::push_number;
 use wall_store::Outcome as Found;
 
 /// The model of `scramble` that `demo` decides.
-#[derive(Clone, Copy, Debug, PartialEq, Eq)]
+#[derive(Clone, Copy)]
 pub struct DemoRequest {
     /// 0 to 4,294,967,295.
     pub seed: u64,
@@ -111,24 +111,25 @@ fn run_for(alloc: Global, request: &DemoRequest, circuit: &Arc<Circuit>) -> Resu
 {
     let limits = limits_of(&REQUEST);
     match run_turns(alloc, circuit, REQUEST.property, limits, &[], &[]) {
-        Ok(board) => answered(alloc, request, circuit, board),
+        Ok(report) => answered(alloc, request, circuit, report),
         Err(Ended::Spent(report)) => reported(alloc, request, circuit, report),
         Err(Ended::Memory) => Err(Status::Memory),
     }
 }
 
-// The summary of a board with an outcome, of which the answer is checked.
+// The summary of an answer, which is checked.
 fn answered(
     alloc: Global,
     request: &DemoRequest,
     circuit: &Circuit,
-    board: Board,
+    report: Report,
 ) -> Result<Outcome, Status>
     requires one { length circuit.now.justice ≡ 1 }
-    requires answered { IsAnsweredBy (demo_task circuit.now) board }
+    requires answer { IsAnswer (demo_task circuit.now) report }
     ensures found { IfOk result (λ outcome. SumsUpAnswer circuit.now request.now outcome.status outcome.text.items) }
     ensures ended { IfErr result (λ status. status ≡ Status.Memory) }
 {
+    let Report { board, .. } = report;
     match checked_summary(alloc, request, circuit, &board) {
         Ok(text) => Ok(Outcome {
             status: Status::Done(Done::Demo(board)),
@@ -204,10 +205,10 @@ fn reported(
     }
 }
 
-// Checks the text of an answer as `check` does. What is printed is a good answer, and the shelf tells it whole: nothing but
-// memory can be wanting.
+// Checks the text of a good answer as `check` does. The shelf tells it whole and no read fails, so nothing but memory can be
+// wanting.
 fn checked(alloc: Global, circuit: &Circuit, text: Vec<u8>) -> Result<(), Status>
-    ensures good { OnOk result ((found : AcceptedOf) × IsGood circuit.now text.items found) }
+    requires { (found : AcceptedOf) × IsGood circuit.now text.items found }
     ensures ended { IfErr result (λ status. status ≡ Status.Memory) }
 {
     let mut shelf = match shelf_with(alloc, text) {
@@ -216,13 +217,16 @@ fn checked(alloc: Global, circuit: &Circuit, text: Vec<u8>) -> Result<(), Status
     };
     match check_answer(alloc, circuit, &mut shelf, "answer") {
         Ok(_) => Ok(()),
-        Err(_) => Err(Status::Memory),
+        Err(AnswerEnd::Memory) => Err(Status::Memory),
+        Err(AnswerEnd::Refused(_)) => unreachable!(),
+        Err(AnswerEnd::ReadFault) => unreachable!(),
     }
 }
 
-// A shelf that holds the text as `answer`.
+// A shelf that holds the text as `answer`, and of which no call fails.
 fn shelf_with(alloc: Global, text: Vec<u8>) -> Result<MemShelf, AllocError>
-    ensures { IfOk result (λ shelf. ⟦<MemShelf as Shelf>⟧.held shelf (codes "answer") ≡ Some text.items) }
+    ensures held { IfOk result (λ shelf. ⟦<MemShelf as Shelf>⟧.held shelf (codes "answer") ≡ Some text.items) }
+    ensures steady { IfOk result (λ shelf. shelf.failing ≡ []) }
 {
     let mut texts = Vec::new(alloc);
     texts.push((String::from_str(alloc, "answer")?, text))?;

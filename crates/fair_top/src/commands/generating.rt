@@ -22,7 +22,7 @@ use model_gen::{ring, scramble};
 use std::alloc::{AllocError, Global};
 
 /// Which generated model is asked for, and in which form.
-#[derive(Clone, Copy, Debug, PartialEq, Eq)]
+#[derive(Clone, Copy)]
 pub struct GenRequest {
     pub kind: GenKind,
     /// 0 to 4,294,967,295.
@@ -34,7 +34,7 @@ pub struct GenRequest {
 }
 
 /// The kinds of generated models.
-#[derive(Clone, Copy, Debug, PartialEq, Eq)]
+#[derive(Clone, Copy)]
 pub enum GenKind {
     /// Latches in a ring, of which one begins with 1.
     Ring,
@@ -122,10 +122,21 @@ fn generated_text(alloc: Global, request: &GenRequest) -> Result<Vec<u8>, AllocE
     ensures { IfOk result (λ text. IsTextOfRequest request.now text.items) }
 {
     let model = asked_model(alloc, request)?;
+    let text = written(alloc, request, &model);
+    drop(model);
+    text
+}
+
+// The text of the model that is asked for, in the form that is asked for.
+fn written(alloc: Global, request: &GenRequest, model: &Model) -> Result<Vec<u8>, AllocError>
+    requires model { model.now ≡ asked_model request.now }
+    requires ordered { IsOrdered model.now }
+    ensures { IfOk result (λ text. IsTextOfRequest request.now text.items) }
+{
     if request.binary {
-        aiger_binary::write(alloc, &model)
+        aiger_binary::write(alloc, model)
     } else {
-        aiger_ascii::write(alloc, &model)
+        aiger_ascii::write(alloc, model)
     }
 }
 

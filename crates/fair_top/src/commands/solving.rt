@@ -42,7 +42,7 @@ use stimulus::Stimulus;
 use wall_store::Outcome as Found;
 
 /// Which property is to be decided, and by what means.
-#[derive(Clone, Copy, Debug, PartialEq, Eq)]
+#[derive(Clone, Copy)]
 pub struct SolveRequest {
     /// The number of the property, counted from 0.
     pub property: u32,
@@ -147,11 +147,11 @@ fn solved(alloc: Global, circuit: Circuit, request: &SolveRequest) -> Result<Out
     if request.property as usize >= circuit.property_count() {
         return with_text(alloc, Status::NoProperty(request.property));
     }
-    searched(alloc, circuit, request)
+    share_and_run(alloc, circuit, request)
 }
 
-// The same for a property that is there.
-fn searched(alloc: Global, circuit: Circuit, request: &SolveRequest) -> Result<Outcome, Status>
+// The same for a property that is there: the workers share the circuit.
+fn share_and_run(alloc: Global, circuit: Circuit, request: &SolveRequest) -> Result<Outcome, Status>
     requires within { AreWithin request.now }
     requires property { request.now.property < length circuit.justice }
     ensures found { IfOk result (λ outcome. EndsFor circuit request.now outcome.status outcome.text.items) }
@@ -163,7 +163,7 @@ fn searched(alloc: Global, circuit: Circuit, request: &SolveRequest) -> Result<O
     }
 }
 
-// The same for a circuit that the workers share.
+// The same for a circuit that is shared.
 fn run_for(alloc: Global, circuit: &Arc<Circuit>, request: &SolveRequest) -> Result<Outcome, Status>
     requires within { AreWithin request.now }
     requires property { request.now.property < length (arc_value circuit.now).justice }
@@ -172,7 +172,7 @@ fn run_for(alloc: Global, circuit: &Arc<Circuit>, request: &SolveRequest) -> Res
 {
     let limits = limits_of(request);
     match run_turns(alloc, circuit, request.property, limits, &[], &[]) {
-        Ok(board) => printed(alloc, circuit, request, &board),
+        Ok(report) => printed(alloc, circuit, request, &report.board),
         Err(Ended::Spent(report)) => with_text(alloc, Status::Unknown(report)),
         Err(Ended::Memory) => Err(Status::Memory),
     }

@@ -99,7 +99,7 @@ fn waved(
     match end {
         Ok(Accepted::Lasso { property, .. }) => match kept {
             Some(lasso) => printed(alloc, model, property, &lasso),
-            None => Err(Status::Memory),
+            None => unreachable!(),
         },
         Ok(Accepted::Holds { .. }) => { refused(alloc, AnswerFault::UnknownStatus) }
         Err(AnswerEnd::Refused(fault)) => refused(alloc, fault),

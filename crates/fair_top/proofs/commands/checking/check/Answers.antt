@@ -4,7 +4,7 @@ use Rattle.fair_top.specs.ModelGiven.{OfSomeText}
 use Rattle.fair_top.specs.Check.{JudgesAs}
 use Rattle.fair_top.specs.Statuses.{is_read_fault}
 use Rattle.fair_top.specs.Headline.{IsSilent, IsAnswered, ReadsModelFirst}
-use Rattle.fair_top.proofs.Judging.{told_form, judged, judged_exact, without_model, without_model_exact, read_failed, both_read, rose_since}
+use Rattle.fair_top.proofs.Judging.{told_form, judged, judged_exact, judged_shown, without_model, without_model_exact, read_failed, both_read, rose_since}
 use Rattle.fair_top.proofs.commands.checking.check.Goals as goal
 
 pub returns-in-Ok-clause-found : goal.returns-in-Ok-clause-found
@@ -20,6 +20,11 @@ returns-in-Ok-clause-exactly g c = λ verdict d.
     subst (λ (s : Status). IsAnswered verdict s) (sym c.checked.ensures)
     (judged_exact c.circuit.result.now c.in-Ok.model (held c.args.shelf.now c.args.model.now) (held c.model_of.new.shelf c.args.answer.now) (held c.args.shelf.now c.args.answer.now)
     c.check_answer.result c.circuit.ensures.circuit (c.in-Ok.ensures.kept c.args.answer.now) c.in-Ok.ensures.found c.check_answer.ensures.exactly verdict d)
+
+pub returns-in-Ok-clause-shown : goal.returns-in-Ok-clause-shown
+returns-in-Ok-clause-shown g c =
+    judged_shown c.circuit.result.now c.in-Ok.model (g.H.Shelf.held c.args.shelf.now c.args.model.now) c.check_answer.result c.checked.result
+    c.circuit.ensures.circuit c.in-Ok.ensures.found c.check_answer.ensures.shown c.checked.ensures
 
 pub returns-in-Ok-clause-read : goal.returns-in-Ok-clause-read
 returns-in-Ok-clause-read g c = λ e. inr (

@@ -1,10 +1,9 @@
-use Rattle.std.proofs.Common.{rules, ◌≡◌, Some, subst}
+use Rattle.std.proofs.Common.{rules, ◌≡◌, Some, subst, arith}
 use Rattle.aig_semantics.specs.Circuits.{Circuit}
 use Rattle.aig_semantics.specs.Stimuli.{IsFairLassoOf}
 use Rattle.entry.specs.Proved.{IsGoodRefutation}
 use Rattle.wall_store.specs.Boards.{plain, outcome_of}
 use Rattle.wall_store.specs.declared.outcomes.Outcome.TheVariants.{Lasso, Holds}
-use Rattle.fair_top.proofs.Decided.{few_entries}
 use Rattle.fair_top.proofs.commands.solving.printed.Goals as goal
 
 pub stimulus_text-written-requires-clause-fair : goal.stimulus_text-written-requires-clause-fair
@@ -25,4 +24,4 @@ certificate_text-written-requires-clause-good c =
 
 pub certificate_text-written-requires-clause-few : goal.certificate_text-written-requires-clause-few
 certificate_text-written-requires-clause-few c =
-    few_entries _ _ _ _ c.requires.answered.board.board.within c.requires.answered.board.limit
+    omega (arith, c.requires.answered.board.board.within, c.requires.answered.board.limit)
