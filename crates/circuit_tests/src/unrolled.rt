@@ -101,8 +101,8 @@ fn skeleton_text(alloc: Global, c: &Circuit, set: &ClauseSet) -> Result<String, 
         set,
         uses: &[],
     };
-    let db = skeleton_cnf(alloc, c, 0, &[used])?;
-    written(alloc, &db)
+    let clauses = skeleton_cnf(alloc, c, 0, &[used])?;
+    written(alloc, &clauses)
 }
 
 fn is_skeleton(alloc: Global, c: &Circuit, wanted: &str) -> Result<bool, AllocError> {

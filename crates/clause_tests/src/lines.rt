@@ -213,7 +213,9 @@ fn four(alloc: Global) -> Result<Db, AllocError> {
 
 fn restarts_of_four(alloc: Global) -> Result<u64, AllocError> {
     let mut checker = sent(Checker::new(alloc, four(alloc)?)?);
-    right_restarts(alloc, &mut checker)
+    let count = right_restarts(alloc, &mut checker);
+    drop(checker);
+    count
 }
 
 #[test]
@@ -224,7 +226,9 @@ fn restarts_in_their_order(rt: HostRuntime) -> Result<(), Fail> {
 
 fn answer_alone(alloc: Global, line: &str) -> Result<Answer, AllocError> {
     let mut checker = Checker::new(alloc, four(alloc)?)?;
-    answer(&mut checker, line)
+    let given = answer(&mut checker, line);
+    drop(checker);
+    given
 }
 
 #[test]
@@ -252,7 +256,9 @@ fn right_lines(checker: &mut Checker) -> Result<u64, AllocError> {
 fn lines_of_six(alloc: Global) -> Result<u64, AllocError> {
     let db = clauses(alloc, &[&[-1], &[-4, -2], &[4, 2], &[1], &[3, 3], &[2, -2]])?;
     let mut checker = Checker::new(alloc, db)?;
-    right_lines(&mut checker)
+    let count = right_lines(&mut checker);
+    drop(checker);
+    count
 }
 
 #[test]
@@ -273,7 +279,9 @@ fn is_fine(checker: &mut Checker) -> Result<[bool; 5], AllocError> {
 
 fn is_fine_with_empty(alloc: Global) -> Result<[bool; 5], AllocError> {
     let mut checker = Checker::new(alloc, clauses(alloc, &[&[1], &[]])?)?;
-    is_fine(&mut checker)
+    let fine = is_fine(&mut checker);
+    drop(checker);
+    fine
 }
 
 #[test]

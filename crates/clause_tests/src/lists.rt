@@ -1,6 +1,6 @@
 //! Clauses, lists of clauses and cubes, with values worked out by hand.
 use crate::literals::{clause, literal};
-use cnf::{Clause, Cube, Db, Proof, eval, holds, subset};
+use cnf::{Clause, Cube, Db, Proof, eval, has_literal, holds, subset};
 use std::alloc::{AllocError, Global};
 use std::test::*;
 
@@ -140,8 +140,21 @@ fn is_cube_negated(alloc: Global) -> Result<bool, AllocError> {
     is_negated(alloc, &cube(alloc)?)
 }
 
+// Whether the cube has 4 and -2, and neither negation.
+fn contains_its_own(alloc: Global) -> Result<bool, AllocError> {
+    Ok(has_its_own(&cube(alloc)?))
+}
+
+fn has_its_own(cube: &Cube) -> bool {
+    cube.contains(literal(4))
+        && cube.contains(literal(-2))
+        && !cube.contains(literal(-4))
+        && !has_literal(cube.as_slice(), literal(2))
+}
+
 #[test]
 fn cubes(rt: HostRuntime) -> Result<(), Fail> {
+    assert!(rt; contains_its_own(rt.alloc())?);
     assert_eq!(rt; length_of_copy(rt.alloc())?, 2);
     assert!(rt; is_cube_negated(rt.alloc())?);
     Ok(())

@@ -202,7 +202,9 @@ fn both_ways(session: &mut Session, alloc: Global) -> Result<([bool; 3], [bool; 
 
 fn one_way_and_the_other(alloc: Global) -> Result<([bool; 3], [bool; 2]), AllocError> {
     let mut session = Session::new(alloc);
-    both_ways(&mut session, alloc)
+    let found = both_ways(&mut session, alloc);
+    drop(session);
+    found
 }
 
 #[test]
@@ -230,7 +232,9 @@ fn leaves_one(session: &mut Session, alloc: Global) -> Result<bool, AllocError> 
 // Whether the false literal of (1 2 3) is watched no more, and the two others are.
 fn false_one_is_left(alloc: Global) -> Result<bool, AllocError> {
     let mut session = Session::new(alloc);
-    leaves_one(&mut session, alloc)
+    let is_left = leaves_one(&mut session, alloc);
+    drop(session);
+    is_left
 }
 
 #[test]
@@ -269,7 +273,9 @@ fn add_far_apart(session: &mut Session, alloc: Global) -> Result<[bool; 4], Allo
 // What is told of variables far apart, with the clauses (-2^62 7) and (-7 2^40 9), once 2^62 is assumed.
 fn far_apart(alloc: Global) -> Result<[bool; 4], AllocError> {
     let mut session = Session::new(alloc);
-    add_far_apart(&mut session, alloc)
+    let told = add_far_apart(&mut session, alloc);
+    drop(session);
+    told
 }
 
 #[test]
@@ -296,7 +302,9 @@ fn follow(session: &mut Session, alloc: Global) -> Result<(usize, bool), AllocEr
 // How many literals the row gives, and whether it ends in a conflict with the negation of its last.
 fn follow_row(alloc: Global) -> Result<(usize, bool), AllocError> {
     let mut session = Session::new(alloc);
-    follow(&mut session, alloc)
+    let followed = follow(&mut session, alloc);
+    drop(session);
+    followed
 }
 
 #[test]

@@ -3,7 +3,7 @@
 use circuit::ModelEnd;
 use edge::{Failed, ReadEnd, SolveEnd};
 use entry::EntryEnd;
-use ic3_questions::ReachEnd;
+use ic3_semantics::ReachEnd;
 use proved_entries::ProvingEnd;
 use std::alloc::{AllocError, AllocFailed};
 use std::io;

@@ -3,8 +3,8 @@
 
 ghost use Rattle.std.specs.Prelude.{◌≡◌, true, []};
 ghost use Rattle.std.specs.Arc.{arc_value};
-ghost use Rattle.ic3.specs.Searches.{GoesOnFrom};
-ghost use Rattle.ic3_questions.specs.Searching.{IsStart, IsGoal};
+ghost use Rattle.entry.specs.CheckedEntries.{GoesOnFrom};
+ghost use Rattle.ic3_semantics.specs.Searching.{IsStart, IsGoal};
 
 use crate::failure::Failure;
 use crate::models::circuit_in;

@@ -196,6 +196,70 @@ $enddefinitions $end
 #50
 ";
 
+// Two inputs and two latches, both the bits of a bus of one name, the inputs' higher one first; outputs that are a latch
+// under its own name, and the same latch negated.
+const BUSES: &[u8] =
+    b"aag 4 2 2 2 0 0 0 1\n2\n4\n6 2\n8 4\n6\n7\n1\n6\ni0 w[1]\ni1 w[0]\nl0 w[0]\nl1 w[1]\no0 w[0]\no1 w[0]\n";
+
+const BUSES_DUMP: &[u8] = b"$timescale 1ns $end
+$comment fairlive j0 $end
+$scope module fairlive $end
+$var wire 2 ! w [1:0] $end
+$var wire 2 \" w.l1 [1:0] $end
+$var wire 1 # w[0] $end
+$var wire 1 $ j0.0 $end
+$var wire 1 % loop $end
+$upscope $end
+$enddefinitions $end
+#0
+b10 !
+b00 \"
+1#
+0$
+0%
+#10
+b10 !
+b01 \"
+0#
+1$
+1%
+#20
+b10 !
+b01 \"
+0#
+1$
+1%
+#30
+";
+
+// Indices with a gap, and a bit alone.
+const BITS: &[u8] = b"aag 3 2 1 0 0 0 0 1\n2\n4\n6 6 6\n1\n6\ni0 v[3]\ni1 v[1]\nl0 u[0]\n";
+
+const BITS_DUMP: &[u8] = b"$timescale 1ns $end
+$comment fairlive j0 $end
+$scope module fairlive $end
+$var wire 1 ! v[3] $end
+$var wire 1 \" v[1] $end
+$var wire 1 # u[0] $end
+$var wire 1 $ j0.0 $end
+$var wire 1 % loop $end
+$upscope $end
+$enddefinitions $end
+#0
+1!
+0\"
+1#
+1$
+1%
+#10
+1!
+0\"
+1#
+1$
+1%
+#20
+";
+
 // No input and no latch: a property without a literal.
 pub(crate) const NOTHING: &[u8] = b"aag 0 0 0 0 0 0 0 1\n0\n";
 
@@ -212,16 +276,18 @@ $enddefinitions $end
 #20
 ";
 
-fn are_dumps(alloc: Global) -> Result<[bool; 3], AllocError> {
+fn are_dumps(alloc: Global) -> Result<[bool; 5], AllocError> {
     Ok([
         is_dump(alloc, TOGGLE, b"0", &[b"", b""], 0, TOGGLE_DUMP)?,
         is_dump(alloc, NAMED, b"0", &[b"1", b"0", b"1"], 1, NAMED_DUMP)?,
+        is_dump(alloc, BUSES, b"00", &[b"10", b"10"], 1, BUSES_DUMP)?,
+        is_dump(alloc, BITS, b"1", &[b"10"], 0, BITS_DUMP)?,
         is_dump(alloc, NOTHING, b"", &[b""], 0, NOTHING_DUMP)?,
     ])
 }
 
 #[test]
 fn dumps_are_as_worked_out(rt: HostRuntime) -> Result<(), Fail> {
-    assert_eq!(rt; are_dumps(rt.alloc())?, [true; 3]);
+    assert_eq!(rt; are_dumps(rt.alloc())?, [true; 5]);
     Ok(())
 }

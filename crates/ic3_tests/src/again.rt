@@ -1,17 +1,20 @@
 //! One search that is asked for many goals, one after the other, against a search of all states. The main call is
 //! `agrees_again`.
 ghost use Rattle.std.specs.Prelude.{◌≡◌, []};
-ghost use Rattle.ic3.specs.Searches.{GoesOnFrom};
-ghost use Rattle.ic3_questions.specs.Searching.{IsGoal};
+ghost use Rattle.entry.specs.CheckedEntries.{GoesOnFrom};
+ghost use Rattle.ic3_semantics.specs.Searching.{IsGoal};
 
-use crate::drawing::{circuit_of, is_in, is_path, meets, reached};
+use crate::cases::Arena;
+use crate::drawing::arena_of;
+use crate::drawn_views::parts_of;
+use crate::searching::NO_LIMIT;
+use crate::stops::Stop;
 use circuit::Circuit;
-use drawn_circuits::{Drawn, circuit_drawn, rest, state_of};
+use drawn_circuits::{literal_count, rest, state_of};
 use edge::Meter;
 use entry::good_lists_grow;
 use ic3::{Goal, ReachEnd, Reached, Search, Start};
 use std::alloc::{AllocError, Global};
-use std::sync::Arc;
 
 // What the search answers next, without entries.
 fn ask(
@@ -71,13 +74,12 @@ fn ask_literal(
     ask(alloc, c, search, &goal, meter)
 }
 
-// Whether the search answers for a state as a search of all states does, of which `states` are those that are reached.
+// Whether the search answers for a state as a search of all states does.
 fn agrees_on_state(
     alloc: Global,
     c: &Circuit,
     search: &mut Search,
-    d: &Drawn,
-    states: &[bool],
+    arena: Arena<'_>,
     to: u64,
     meter: &mut Meter,
 ) -> Result<bool, AllocError>
@@ -86,9 +88,10 @@ fn agrees_on_state(
     ensures circuit { search.new.circuit ≡ c.now }
     ensures on { GoesOnFrom search.new.view [] }
 {
-    let values = state_of(alloc, d, to)?;
+    let values = state_of(alloc, arena.d, to)?;
+    let wanted = arena.has_path(alloc, &Goal::State(values.as_slice()))?;
     let found = ask_state(alloc, c, search, values.as_slice(), meter);
-    Ok(is_path(&found, is_in(states, to)))
+    Ok(is_path(&found, wanted))
 }
 
 // The same for a literal.
@@ -96,8 +99,7 @@ fn agrees_on_literal(
     alloc: Global,
     c: &Circuit,
     search: &mut Search,
-    d: &Drawn,
-    states: &[bool],
+    arena: Arena<'_>,
     number: u64,
     meter: &mut Meter,
 ) -> Result<bool, AllocError>
@@ -106,11 +108,14 @@ fn agrees_on_literal(
     ensures circuit { search.new.circuit ≡ c.now }
     ensures on { GoesOnFrom search.new.view [] }
 {
-    let end = c.max().saturating_add(1).saturating_mul(2);
-    let literal = rest(number.wrapping_mul(5), end);
-    let met = meets(alloc, d, states, literal)?;
+    let literal = rest(number.wrapping_mul(5), literal_count(arena.d));
+    let goal = Goal::Literal {
+        literal,
+        avoid: &[],
+    };
+    let wanted = arena.has_path(alloc, &goal)?;
     let found = ask_literal(alloc, c, search, literal, meter);
-    Ok(is_path(&found, met))
+    Ok(is_path(&found, wanted))
 }
 
 // Whether it does so for each state, and for a literal after each.
@@ -118,16 +123,15 @@ fn agrees_on_all(
     alloc: Global,
     c: &Circuit,
     search: &mut Search,
-    d: &Drawn,
-    states: &[bool],
+    arena: Arena<'_>,
     meter: &mut Meter,
 ) -> Result<bool, AllocError>
     requires circuit { search.old.circuit ≡ c.now }
     requires on { GoesOnFrom search.old.view [] }
 {
-    for to in 0..states.len() {
-        if !agrees_on_state(alloc, c, search, d, states, to as u64, meter)?
-            || !agrees_on_literal(alloc, c, search, d, states, to as u64, meter)?
+    for to in 0..arena.space.count {
+        if !agrees_on_state(alloc, c, search, arena, to, meter)?
+            || !agrees_on_literal(alloc, c, search, arena, to, meter)?
         {
             return Ok(false);
         }
@@ -135,28 +139,26 @@ fn agrees_on_all(
     Ok(true)
 }
 
-// Whether a new search does, of which these states are reached.
-fn asks_on(
-    alloc: Global,
-    c: &Arc<Circuit>,
-    d: &Drawn,
-    states: &[bool],
-) -> Result<bool, AllocError> {
-    let mut search = Search::new(alloc, c, Start::Initial)?;
-    let mut meter = Meter::new(4_294_967_295, 4_294_967_295);
-    agrees_on_all(alloc, &**c, &mut search, d, states, &mut meter)
+fn is_path(reached: &Result<Reached, ReachEnd>, wanted: bool) -> bool {
+    match reached {
+        Ok(Reached::Path(_)) => wanted,
+        Ok(Reached::Closed { .. }) => !wanted,
+        Err(_) => false,
+    }
 }
 
 // Whether one search from the initial states does.
-fn asks(alloc: Global, c: &Arc<Circuit>, d: &Drawn) -> Result<bool, AllocError> {
-    let states = reached(alloc, d, None)?;
-    asks_on(alloc, c, d, states.as_slice())
-}
-
-fn asks_drawn(alloc: Global, number: u64) -> Result<bool, AllocError> {
-    let d = circuit_drawn(alloc, number)?;
-    let c = Arc::new(alloc, circuit_of(alloc, &d)?)?;
-    asks(alloc, &c, &d)
+fn asks_drawn(alloc: Global, number: u64) -> Result<bool, Stop> {
+    let parts = parts_of(alloc, number)?;
+    let mut search = Search::new(alloc, &parts.shared, Start::Initial)?;
+    let mut meter = Meter::new(NO_LIMIT, NO_LIMIT);
+    Ok(agrees_on_all(
+        alloc,
+        &*parts.shared,
+        &mut search,
+        arena_of(&parts, None),
+        &mut meter,
+    )?)
 }
 
 /// Whether one search from the initial states of the drawn circuit with a number answers for all states, one after the

@@ -1,13 +1,10 @@
 //! Searches asked for by texts. The main calls are `answer` and `answer_behind`. A state is written with a digit for each
 //! latch.
 
-ghost use Rattle.std.specs.Prelude.{◌≡◌, true, [], ◌∷◌, IfOk};
-ghost use Rattle.proof_semantics.specs.declared.literals.Lit.{Lit};
 ghost use Rattle.entry.specs.CheckedEntries.{viewed};
 ghost use Rattle.entry.specs.Laws.{IsGoodList};
-ghost use Rattle.ic3_questions.specs.Searching.{IsStart, IsGoal};
 
-use crate::searching::lessened;
+use crate::searching::searched;
 use circuit::{Circuit, Position};
 use cnf::{Cube, Lit};
 use edge::Meter;
@@ -17,11 +14,11 @@ use items::Items;
 use std::alloc::{AllocError, Global};
 use std::sync::Arc;
 
-/// Where a search goes to: a state, by digits or values; a literal; or a literal at a position whose state has 0 in the latch of a number.
+/// Where a search goes to: a state, by digits; a literal; or a literal at a position whose state has 0 in the latch of a
+/// number.
 #[derive(Clone, Copy)]
 pub(crate) enum To<'a> {
     State(&'a str),
-    Values(&'a [bool]),
     Literal(u64),
     LiteralAt(u64, u64),
 }
@@ -47,79 +44,7 @@ pub(crate) fn state_of(alloc: Global, text: &str) -> Result<Items<bool>, AllocEr
     Ok(state)
 }
 
-fn one_cube(alloc: Global, var: u64) -> Result<Cube, AllocError>
-    ensures { IfOk result (λ cube. cube ≡ record { var = var; positive = true } ∷ []) }
-{
-    let mut cube = Cube::new(alloc);
-    cube.push(Lit {
-        var,
-        positive: true,
-    })?;
-    Ok(cube)
-}
-
-// To the literal at a position whose state has 0 in latch `var`.
-fn to_literal_at(
-    alloc: Global,
-    c: &Circuit,
-    view: &[Arc<Checked>],
-    start: &Start,
-    literal: u64,
-    var: u64,
-    meter: &mut Meter,
-) -> Result<Reached, ReachEnd>
-    requires view { IsGoodList c.now (viewed view.now) }
-    requires start { IsStart c.now start.now }
-{
-    if literal / 2 > c.max() || var >= c.latches().len() as u64 {
-        return Err(ReachEnd::Memory);
-    }
-    let cubes = [one_cube(alloc, var)?];
-    let goal = Goal::Literal {
-        literal,
-        avoid: &cubes,
-    };
-    lessened(alloc, c, view, start, &goal, meter)
-}
-
-fn to_literal(
-    alloc: Global,
-    c: &Circuit,
-    view: &[Arc<Checked>],
-    start: &Start,
-    literal: u64,
-    meter: &mut Meter,
-) -> Result<Reached, ReachEnd>
-    requires view { IsGoodList c.now (viewed view.now) }
-    requires start { IsStart c.now start.now }
-{
-    if literal / 2 > c.max() {
-        return Err(ReachEnd::Memory);
-    }
-    let goal = Goal::Literal {
-        literal,
-        avoid: &[],
-    };
-    lessened(alloc, c, view, start, &goal, meter)
-}
-
-fn to_state(
-    alloc: Global,
-    c: &Circuit,
-    view: &[Arc<Checked>],
-    start: &Start,
-    to: &[bool],
-    meter: &mut Meter,
-) -> Result<Reached, ReachEnd>
-    requires view { IsGoodList c.now (viewed view.now) }
-    requires start { IsStart c.now start.now }
-{
-    if to.len() != c.latches().len() {
-        return Err(ReachEnd::Memory);
-    }
-    lessened(alloc, c, view, start, &Goal::State(to), meter)
-}
-
+// What a search behind a view answers. A closed set loses what it does not need.
 fn to_goal(
     alloc: Global,
     c: &Circuit,
@@ -129,46 +54,45 @@ fn to_goal(
     meter: &mut Meter,
 ) -> Result<Reached, ReachEnd>
     requires view { IsGoodList c.now (viewed view.now) }
-    requires start { IsStart c.now start.now }
 {
     match to {
         To::State(state) => {
             let values = state_of(alloc, state)?;
-            to_state(alloc, c, view, start, values.as_slice(), meter)
+            let goal = Goal::State(values.as_slice());
+            searched(alloc, c, view, start, &goal, true, meter)
         }
-        To::Values(values) => to_state(alloc, c, view, start, values, meter),
-        To::Literal(literal) => to_literal(alloc, c, view, start, literal, meter),
-        To::LiteralAt(literal, var) => { to_literal_at(alloc, c, view, start, literal, var, meter) }
+        To::Literal(literal) => {
+            let goal = Goal::Literal {
+                literal,
+                avoid: &[],
+            };
+            searched(alloc, c, view, start, &goal, true, meter)
+        }
+        To::LiteralAt(literal, var) => to_literal_at(alloc, c, view, start, (literal, var), meter),
     }
 }
 
-// What a search behind a view answers, from a state.
-fn from_state_behind(
+// To the literal at a position whose state has 0 in a latch.
+fn to_literal_at(
     alloc: Global,
     c: &Circuit,
     view: &[Arc<Checked>],
-    state: Items<bool>,
-    to: To<'_>,
+    start: &Start,
+    at: (u64, u64),
     meter: &mut Meter,
 ) -> Result<Reached, ReachEnd>
     requires view { IsGoodList c.now (viewed view.now) }
 {
-    if state.len() != c.latches().len() {
-        return Err(ReachEnd::Memory);
-    }
-    to_goal(alloc, c, view, &Start::State(state), to, meter)
-}
-
-/// What a search without entries answers, from a state.
-pub(crate) fn from_state(
-    alloc: Global,
-    c: &Circuit,
-    state: Items<bool>,
-    to: To<'_>,
-    meter: &mut Meter,
-) -> Result<Reached, ReachEnd> {
-    good_lists_grow(c);
-    from_state_behind(alloc, c, &[], state, to, meter)
+    let one = Lit {
+        var: at.1,
+        positive: true,
+    };
+    let cubes = [Cube::from_slice(alloc, &[one])?];
+    let goal = Goal::Literal {
+        literal: at.0,
+        avoid: &cubes,
+    };
+    searched(alloc, c, view, start, &goal, true, meter)
 }
 
 /// What a search behind a view answers, from a state, or from the initial states where none is written.
@@ -185,7 +109,8 @@ pub(crate) fn answer_behind(
     if from.is_empty() {
         return to_goal(alloc, c, view, &Start::Initial, to, meter);
     }
-    from_state_behind(alloc, c, view, state_of(alloc, from)?, to, meter)
+    let start = Start::State(state_of(alloc, from)?);
+    to_goal(alloc, c, view, &start, to, meter)
 }
 
 /// The same without entries.

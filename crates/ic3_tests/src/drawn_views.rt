@@ -6,11 +6,10 @@ ghost use Rattle.entry.specs.CheckedEntries.{viewed};
 ghost use Rattle.entry.specs.Laws.{IsGoodList};
 
 use crate::closing_sets::entry_drawn;
-use crate::drawing::circuit_of;
 use crate::states::{Known, Space, sets_of};
 use crate::stops::Stop;
 use circuit::Circuit;
-use drawn_circuits::{Drawn, circuit_drawn, draw};
+use drawn_circuits::{Drawn, circuit_drawn, draw, text_of};
 use entry::{Checked, Listed, good_lists_grow};
 use proved_entries::extended;
 use std::alloc::{AllocError, Global};
@@ -33,8 +32,11 @@ pub(crate) fn parts_of(alloc: Global, number: u64) -> Result<Parts, Stop> {
 }
 
 fn shared_of(alloc: Global, d: &Drawn) -> Result<Arc<Circuit>, Stop> {
-    let c = circuit_of(alloc, d)?;
-    Ok(Arc::new(alloc, c)?)
+    let text = text_of(alloc, d)?;
+    match aiger_ascii::read(alloc, text.as_slice()) {
+        Ok(model) => Ok(Arc::new(alloc, model.into_circuit())?),
+        Err(_) => Err(Stop),
+    }
 }
 
 // The view with one drawn entry more, three times of four.

@@ -77,8 +77,8 @@ fn is_taken(
     Ok(is_judged(alloc, c, view, &e))
 }
 
-// Whether a search answers as it is to.
-fn is_answered(
+/// Whether a search answers as it is to: a path is replayed, a closed set tested, certified and taken.
+pub(crate) fn is_answered(
     alloc: Global,
     shared: &Arc<Circuit>,
     view: &[Arc<Checked>],

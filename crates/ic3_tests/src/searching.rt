@@ -4,8 +4,8 @@ ghost use Rattle.std.specs.Prelude.{◌≡◌, ◌↔◌, true, length, IsTrue};
 ghost use Rattle.cnf_unroll.specs.Laws.{AreOver};
 ghost use Rattle.entry.specs.CheckedEntries.{viewed};
 ghost use Rattle.entry.specs.Laws.{IsGoodList};
-ghost use Rattle.ic3_questions.specs.Searching.{IsStart, IsGoal};
-ghost use Rattle.ic3_questions.specs.Stepping.{IsOver};
+ghost use Rattle.ic3_semantics.specs.Searching.{IsStart, IsGoal};
+ghost use Rattle.ic3_semantics.specs.Stepping.{IsOver};
 
 use circuit::Circuit;
 use cnf::{Cube, Lit};
@@ -50,8 +50,8 @@ fn is_goal(c: &Circuit, goal: &Goal<'_>) -> bool
     }
 }
 
-/// What a search behind the view answers. A closed set loses what it does not need.
-pub(crate) fn lessened(
+// What a search behind the view answers. A closed set loses what it does not need.
+fn lessened(
     alloc: Global,
     c: &Circuit,
     view: &[Arc<Checked>],

@@ -1,7 +1,7 @@
 //! Steps of small circuits, worked out by hand. A literal over latch numbers is written as twice its latch, and one
 //! more where it is negated.
 ghost use Rattle.std.specs.Prelude.{length};
-ghost use Rattle.ic3_questions.specs.Stepping.{IsOver};
+ghost use Rattle.ic3_semantics.specs.Stepping.{IsOver};
 
 use crate::searching::{are_over, is_over};
 use circuit::{Circuit, Position};
@@ -9,7 +9,7 @@ use cnf::{Clause, Cube, Lit};
 use edge::{Meter, SolveEnd};
 use entry::good_lists_grow;
 use ic3::{Start, Steps};
-use ic3_questions::Found;
+use ic3_semantics::Found;
 use std::alloc::{AllocError, Global};
 use std::test::Fail;
 

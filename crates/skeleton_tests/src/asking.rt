@@ -2,9 +2,8 @@
 
 ghost use Rattle.std.specs.Prelude.{◌≡◌, ◌<◌, ◌≤◌, length};
 ghost use Rattle.std.specs.Arc.{arc_value};
-ghost use Rattle.entry.specs.CheckedEntries.{viewed};
+ghost use Rattle.entry.specs.CheckedEntries.{viewed, GoesOnFrom};
 ghost use Rattle.entry.specs.Laws.{IsGoodList};
-ghost use Rattle.skeleton.specs.Finding.{GoesOnFrom};
 
 use circuit::Circuit;
 use edge::{Meter, SolveEnd};

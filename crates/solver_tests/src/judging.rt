@@ -2,7 +2,7 @@
 
 use crate::questions::{clauses, has_model, is_at, literal, note_numbers};
 use cdcl::{Answer, Asked, Assignment, Refuted};
-use cnf::{Db, Lit, ProofLine};
+use cnf::{Db, Lit, ProofLine, has_literal};
 use lrat::Checker;
 use std::alloc::{AllocError, Global};
 use text_grammar::next_field;
@@ -278,15 +278,6 @@ fn kept(alloc: Global, assumed: &[i64], core: &[Lit]) -> Result<Vec<i64>, AllocE
     Ok(made)
 }
 
-fn has_literal(core: &[Lit], wanted: Lit) -> bool {
-    for one in core {
-        if one.is(wanted) {
-            return true;
-        }
-    }
-    false
-}
-
 // Whether the last line adds the clause of the core's negations. Without a line, whether that is the last of the
 // clauses.
 fn adds_last(
@@ -386,8 +377,9 @@ fn judge_proof(
     proof: &[ProofLine],
 ) -> Result<Said, AllocError> {
     let mut checker = checker_of(alloc, asked)?;
-    let takes_all = takes_all(&mut checker, proof);
-    Ok(unsat_if(takes_all && (!is_refuted || checker.proved_empty())))
+    let is_right = takes_all(&mut checker, proof) && (!is_refuted || checker.proved_empty());
+    drop(checker);
+    Ok(unsat_if(is_right))
 }
 
 fn checker_of(alloc: Global, asked: &[i64]) -> Result<Checker, AllocError> {

@@ -19,7 +19,9 @@ impl Trial for OnSolver {
         kept: &[bool],
     ) -> Result<Option<usize>, AllocError> {
         let mut session = Session::new(alloc, Way::Solve, &[])?;
-        first_wrong_in(&mut session, steps, kept)
+        let place = first_wrong_in(&mut session, steps, kept);
+        drop(session);
+        place
     }
 }
 
@@ -145,7 +147,9 @@ fn drawn_sequences(rt: HostRuntime) -> Result<(), Fail> {
 fn count_refused(alloc: Global, seed: u64) -> Result<u64, AllocError> {
     let steps = draw_sequence(alloc, seed)?;
     let mut session = Session::new(alloc, Way::Solve, &[])?;
-    count_refused_in(&mut session, steps.as_slice())
+    let count = count_refused_in(&mut session, steps.as_slice());
+    drop(session);
+    count
 }
 
 fn count_refused_in(session: &mut Session, steps: &[Step]) -> Result<u64, AllocError> {

@@ -53,7 +53,7 @@ impl Session {
     /// A solver with these clauses, with a 0 behind each.
     pub(crate) fn new(alloc: Global, way: Way, numbers: &[i64]) -> Result<Session, AllocError> {
         let added = Vec::from_slice(alloc, numbers)?;
-        let solver = solver_of(alloc, numbers)?;
+        let solver = Solver::with_clauses(alloc, clauses(alloc, numbers)?)?;
         Ok(Session {
             alloc,
             way,
@@ -67,7 +67,7 @@ impl Session {
     /// Adds clauses behind those that are there.
     pub(crate) fn add(&mut self, numbers: &[i64]) -> Result<(), AllocError> {
         self.added.extend_from_slice(numbers)?;
-        add_all(self.alloc, &mut self.solver, numbers)
+        self.solver.add_all(clauses(self.alloc, numbers)?)
     }
 
     /// What the solver says under assumptions, after a look at it.
@@ -147,6 +147,13 @@ impl Session {
         has_model(self.alloc, self.added.as_slice(), assumed)
     }
 
+    /// Whether a clause of this one literal is refused, and then nothing was added.
+    pub(crate) fn refuses(&mut self, literal: Lit) -> Result<bool, AllocError> {
+        let before = self.solver.count_added();
+        let clause = Clause::from_slice(self.alloc, &[literal])?;
+        Ok(self.solver.add_sized(clause).is_err() && self.solver.count_added() == before)
+    }
+
     /// From now on questions go to this call.
     pub(crate) fn turn_to(&mut self, way: Way) {
         self.way = way;
@@ -161,27 +168,6 @@ impl Session {
     pub(crate) fn conflicts(&self) -> u64 {
         self.conflicts
     }
-}
-
-fn solver_of(alloc: Global, numbers: &[i64]) -> Result<Solver, AllocError> {
-    let mut solver = Solver::new(alloc)?;
-    add_all(alloc, &mut solver, numbers)?;
-    Ok(solver)
-}
-
-fn add_all(alloc: Global, solver: &mut Solver, numbers: &[i64]) -> Result<(), AllocError> {
-    for clause in clauses(alloc, numbers)? {
-        add_one(solver, clause)?;
-    }
-    Ok(())
-}
-
-// Adds a clause; one that may not be added is left out, and then the answers are wrong.
-fn add_one(solver: &mut Solver, clause: Clause) -> Result<(), AllocError> {
-    if !are_sized(clause.as_slice()) {
-        return Ok(());
-    }
-    solver.add(clause)
 }
 
 fn said_at(end: &SolveEnd) -> Said {

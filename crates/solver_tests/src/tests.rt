@@ -20,7 +20,9 @@ fn ask_parts(session: &mut Session, drawn: &Drawn) -> Result<[Said; 4], AllocErr
 fn ask_drawn(alloc: Global, way: Way, seed: u64) -> Result<[Said; 4], AllocError> {
     let drawn = draw_question(alloc, seed)?;
     let mut session = Session::new(alloc, way, drawn.first.as_slice())?;
-    ask_parts(&mut session, &drawn)
+    let said = ask_parts(&mut session, &drawn);
+    drop(session);
+    said
 }
 
 // Whether each answer to a drawn question is right.
@@ -107,7 +109,9 @@ fn ask_far(session: &mut Session) -> Result<[Said; 4], AllocError> {
 
 fn ask_far_by(alloc: Global, way: Way) -> Result<[Said; 4], AllocError> {
     let mut session = Session::new(alloc, way, &[1, FAR, 0])?;
-    ask_far(&mut session)
+    let said = ask_far(&mut session);
+    drop(session);
+    said
 }
 
 // What is said where there is a model is given: `solve` has to write it, the other calls do not.

@@ -2,6 +2,7 @@
 //! what must be said.
 use crate::judging::{Said, is_right};
 use crate::session::{NO_LIMIT, Session, WAYS, Way};
+use cnf::Lit;
 use std::alloc::{AllocError, Global};
 use std::test::*;
 
@@ -86,7 +87,13 @@ fn is_answered_again(session: &mut Session, question: &Question) -> Result<bool,
 
 fn is_answered_twice(alloc: Global, way: Way, question: &Question) -> Result<bool, AllocError> {
     let mut session = Session::new(alloc, way, question.0)?;
-    Ok(is_answered(&mut session, way, question)? && is_answered_again(&mut session, question)?)
+    let is_right = are_answers(&mut session, way, question);
+    drop(session);
+    is_right
+}
+
+fn are_answers(session: &mut Session, way: Way, question: &Question) -> Result<bool, AllocError> {
+    Ok(is_answered(session, way, question)? && is_answered_again(session, question)?)
 }
 
 #[test]
@@ -121,8 +128,18 @@ fn cores() -> &'static [Core] {
 fn has_core(alloc: Global, way: Way, row: &Core) -> Result<bool, AllocError> {
     let (numbers, assumed, wanted) = row;
     let mut session = Session::new(alloc, way, numbers)?;
+    let is_right = is_refused_by(&mut session, assumed, wanted);
+    drop(session);
+    is_right
+}
+
+fn is_refused_by(
+    session: &mut Session,
+    assumed: &[i64],
+    wanted: &[i64],
+) -> Result<bool, AllocError> {
     let said = session.ask(assumed, NO_LIMIT)?;
-    Ok(said == Said::Unsat && is_core(&session, wanted))
+    Ok(said == Said::Unsat && is_core(session, wanted))
 }
 
 #[test]
@@ -170,8 +187,14 @@ fn is_refuted_once(session: &mut Session) -> Result<bool, AllocError> {
 // Whether the square is refuted after one conflict when its clauses are added in an order.
 fn is_refuted_in(alloc: Global, way: Way, order: [usize; 4]) -> Result<bool, AllocError> {
     let mut session = Session::new(alloc, way, &[])?;
-    add_in_order(&mut session, order)?;
-    is_refuted_once(&mut session)
+    let is_right = is_refuted_after(&mut session, order);
+    drop(session);
+    is_right
+}
+
+fn is_refuted_after(session: &mut Session, order: [usize; 4]) -> Result<bool, AllocError> {
+    add_in_order(session, order)?;
+    is_refuted_once(session)
 }
 
 // The same of each call.
@@ -233,7 +256,13 @@ fn says(session: &mut Session, assumed: &[i64], wanted: Said) -> Result<bool, Al
 fn says_twice(alloc: Global, way: Way, row: &Row) -> Result<bool, AllocError> {
     let (numbers, assumed, wanted) = row;
     let mut session = Session::new(alloc, way, numbers)?;
-    Ok(says(&mut session, assumed, *wanted)? && says(&mut session, assumed, *wanted)?)
+    let is_right = says_again(&mut session, assumed, *wanted);
+    drop(session);
+    is_right
+}
+
+fn says_again(session: &mut Session, assumed: &[i64], wanted: Said) -> Result<bool, AllocError> {
+    Ok(says(session, assumed, wanted)? && says(session, assumed, wanted)?)
 }
 
 #[test]
@@ -316,6 +345,8 @@ fn steps() -> &'static [Step] {
     &[
         (WITH_3, &[-3], 0, Said::Spent, 0),
         (&[], &[-3], 1, Said::Unsat, 1),
+        // what was learned refutes it now without a conflict
+        (&[], &[-3], 0, Said::Unsat, 0),
         (&[], &[3, 1], 0, Said::Sat, 0),
         (&[], &[-1, 3], 0, Said::Sat, 0),
         (&[-3, 4, 0], &[3], 0, Said::Sat, 0),
@@ -346,13 +377,44 @@ fn right_steps(session: &mut Session) -> Result<u64, AllocError> {
 
 fn right_steps_by(alloc: Global, way: Way) -> Result<u64, AllocError> {
     let mut session = Session::new(alloc, way, &[])?;
-    right_steps(&mut session)
+    let count = right_steps(&mut session);
+    drop(session);
+    count
 }
 
 #[test]
 fn asked_again(rt: HostRuntime) -> Result<(), Fail> {
     for way in WAYS {
-        assert!(rt; right_steps_by(rt.alloc(), way)? == 8, "{}", way.name());
+        assert!(rt; right_steps_by(rt.alloc(), way)? == 9, "{}", way.name());
     }
+    Ok(())
+}
+
+fn positive(var: u64) -> Lit {
+    Lit {
+        var,
+        positive: true,
+    }
+}
+
+// Whether variables 0, 2^63 - 1 and 2^63 are refused.
+fn refusals_by(session: &mut Session) -> Result<[bool; 3], AllocError> {
+    Ok([
+        session.refuses(positive(0))?,
+        session.refuses(positive((1 << 63) - 1))?,
+        session.refuses(positive(1 << 63))?,
+    ])
+}
+
+fn refusals(alloc: Global) -> Result<[bool; 3], AllocError> {
+    let mut session = Session::new(alloc, Way::Solve, SQUARE)?;
+    let refused = refusals_by(&mut session);
+    drop(session);
+    refused
+}
+
+#[test]
+fn numbers_that_are_not_held(rt: HostRuntime) -> Result<(), Fail> {
+    assert!(rt; refusals(rt.alloc())? == [true, false, true]);
     Ok(())
 }

@@ -8,11 +8,11 @@ use certificate::{Accepted, check_answer};
 use circuit::{Circuit, Lasso, ModelEnd, Stimulus};
 use edge::{MemShelf, Spending};
 use entry::{Checked, Origin};
-use fair_workers::{Board, Ended, Report};
+use fair_workers::{Ended, Report};
 use items::Items;
 use std::alloc::{AllocError, Global};
 use std::sync::Arc;
-use wall_store::Outcome;
+use wall_store::{Board, Outcome};
 
 const NO_LIMIT: u64 = 4_294_967_295;
 
@@ -119,6 +119,37 @@ fn is_by_workers(board: &Board, workers: u32) -> bool {
     true
 }
 
+// The turn in which the worker found the entry, if it did.
+fn turn_of(entry: &Checked, worker: u32) -> Option<u32> {
+    match entry.origin() {
+        Origin::Worker(work) if work.author == worker => Some(work.turn),
+        _ => None,
+    }
+}
+
+// Whether the worker found its entries of the list in ascending turns.
+fn is_in_turn(entries: &[Arc<Checked>], worker: u32) -> bool {
+    let mut least = 0;
+    for entry in entries {
+        if let Some(turn) = turn_of(&**entry, worker) {
+            if turn < least {
+                return false;
+            }
+            least = turn.saturating_add(1);
+        }
+    }
+    true
+}
+
+fn all_in_turn(board: &Board, workers: u32) -> bool {
+    for worker in 0..workers {
+        if !is_in_turn(board.entries(), worker) {
+            return false;
+        }
+    }
+    true
+}
+
 fn serves_property_0(board: &Board) -> bool {
     let served = board.served();
     served.len() == 1 && served[0].property == 0
@@ -132,6 +163,7 @@ fn is_board(board: &Board, n: &Numbers) -> bool {
         && serves_property_0(board)
         && board.entries().len() <= n.skeletons as usize
         && is_by_workers(board, n.workers)
+        && all_in_turn(board, n.workers)
 }
 
 fn limit_of(number: u64) -> Option<u64> {
@@ -169,9 +201,23 @@ fn most_steps(c: &Circuit, skeletons: u32) -> u64 {
         .saturating_mul(path_steps(c.latches().len()))
 }
 
+fn is_within(count: u64, limit: Option<u64>) -> bool {
+    match limit {
+        Some(most) => count <= most,
+        None => true,
+    }
+}
+
+fn is_spending(spent: &Spending, n: &Numbers, most: u64) -> bool {
+    has_limits(spent, n)
+        && is_within(spent.conflicts(), spent.conflict_limit())
+        && is_within(spent.steps(), spent.step_limit())
+        && spent.steps() <= most
+}
+
 fn all_within(spendings: &[Spending], n: &Numbers, most: u64) -> bool {
     for spent in spendings {
-        if !has_limits(spent, n) || spent.steps() > most {
+        if !is_spending(spent, n, most) {
             return false;
         }
     }
@@ -187,10 +233,9 @@ fn all_spent(spendings: &[Spending]) -> bool {
     true
 }
 
-// Whether the counts of a report are right.
+// Whether the board and the counts of a report are right, with an outcome or without one.
 fn has_right_counts(c: &Circuit, n: &Numbers, report: &Report) -> bool {
     is_board(&report.board, n)
-        && report.board.outcome(0).is_none()
         && report.workers.len() == n.workers as usize
         && all_within(report.workers.as_slice(), n, most_steps(c, n.skeletons))
 }
@@ -213,14 +258,14 @@ fn is_stuck(
     )
 }
 
-// Whether a report is right: its counts, and what it says was spent.
+// Whether a report without an outcome is right: its counts, and what it says was spent.
 fn is_right_report(
     alloc: Global,
     searched: &SearchedCircuit,
     n: &Numbers,
     report: &Report,
 ) -> Result<bool, AllocError> {
-    if !has_right_counts(&*searched.circuit, n, report) {
+    if report.board.outcome(0).is_some() || !has_right_counts(&*searched.circuit, n, report) {
         return Ok(false);
     }
     if all_spent(report.workers.as_slice()) {
@@ -241,17 +286,17 @@ fn end_of_outcome(
     Ok(if is_right { End::Verdict } else { End::Wrong })
 }
 
-fn end_of_board(
+fn end_of_answer(
     alloc: Global,
     searched: &SearchedCircuit,
     n: &Numbers,
-    board: &Board,
+    report: &Report,
 ) -> Result<End, AllocError> {
-    if !is_board(board, n) {
+    if !has_right_counts(&*searched.circuit, n, report) {
         return Ok(End::Wrong);
     }
-    match board.outcome(0) {
-        Some(outcome) => end_of_outcome(alloc, searched, board, outcome),
+    match report.board.outcome(0) {
+        Some(outcome) => end_of_outcome(alloc, searched, &report.board, outcome),
         None => Ok(End::Wrong),
     }
 }
@@ -266,7 +311,7 @@ fn end_of_report(
     Ok(if is_right { End::Report } else { End::Wrong })
 }
 
-fn run_by(alloc: Global, c: &Arc<Circuit>, n: &Numbers, turns: &[u32]) -> Result<Board, Ended> {
+fn run_by(alloc: Global, c: &Arc<Circuit>, n: &Numbers, turns: &[u32]) -> Result<Report, Ended> {
     let c = Arc::try_clone(c)?;
     match with_property(c) {
         Some(c) => run(alloc, &c, limits(n), turns),
@@ -278,10 +323,10 @@ fn judged(
     alloc: Global,
     searched: &SearchedCircuit,
     n: &Numbers,
-    ended: Result<Board, Ended>,
+    ended: Result<Report, Ended>,
 ) -> Result<End, AllocError> {
     match ended {
-        Ok(board) => end_of_board(alloc, searched, n, &board),
+        Ok(report) => end_of_answer(alloc, searched, n, &report),
         Err(Ended::Spent(report)) => end_of_report(alloc, searched, n, &report),
         Err(Ended::Memory) => Ok(End::Wrong),
     }

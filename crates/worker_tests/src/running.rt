@@ -5,7 +5,7 @@ ghost use Rattle.std.specs.Arc.{arc_value};
 ghost use Rattle.fair_workers.specs.Runs.{AreLimits};
 
 use circuit::Circuit;
-use fair_workers::{Board, Ended, Limits, run_turns};
+use fair_workers::{Ended, Limits, Report, run_turns};
 use std::alloc::Global;
 use std::sync::Arc;
 use wall_store::sound_lists_grow;
@@ -63,7 +63,7 @@ pub fn run(
     c: &Arc<Circuit>,
     limits: Limits,
     schedule: &[u32],
-) -> Result<Board, Ended>
+) -> Result<Report, Ended>
     requires property { 0 < length (arc_value c.now).justice }
     requires limits { AreLimits limits }
 {

@@ -4,11 +4,11 @@ use crate::judging::{circuit_of, ends_within, is_decided};
 use crate::running::{Numbers, limits, run, with_property};
 use circuit::Circuit;
 use entry::{Checked, Origin};
-use fair_workers::{Board, Ended};
+use fair_workers::{Ended, Report};
 use std::alloc::{AllocError, Global};
 use std::sync::Arc;
 use std::test::*;
-use wall_store::Outcome;
+use wall_store::{Board, Outcome};
 
 // The latch changes at each step, and is asked to be 1 again and again.
 const TOGGLES: &str = "aag 1 0 1 0 0 0 0 1 0\n2 3\n1\n2\n";
@@ -56,9 +56,9 @@ fn end_of(board: &Board) -> End {
     }
 }
 
-fn answer_of(ended: Result<Board, Ended>) -> Answer {
+fn answer_of(ended: Result<Report, Ended>) -> Answer {
     match ended {
-        Ok(board) => answer_with(end_of(&board), &board),
+        Ok(report) => answer_with(end_of(&report.board), &report.board),
         Err(Ended::Spent(report)) => answer_with(End::Spent, &report.board),
         Err(Ended::Memory) => (End::Memory, 0, None),
     }

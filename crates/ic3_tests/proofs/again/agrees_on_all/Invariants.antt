@@ -1,5 +1,5 @@
 use Rattle.std.proofs.Common.{◌≡◌, []}
-use Rattle.ic3.specs.Searches.{GoesOnFrom}
+use Rattle.entry.specs.CheckedEntries.{GoesOnFrom}
 use Rattle.ic3_tests.proofs.again.agrees_on_all.Given as goal
 
 abbrev pub invariant-loop-to : goal.invariant-loop-to

@@ -1,5 +1,5 @@
 use Rattle.std.proofs.Common.{length, ap, sym, subst, ◌∙◌}
-use Rattle.ic3_questions.specs.Stepping.{IsOver, with_lemma}
+use Rattle.ic3_semantics.specs.Stepping.{IsOver, with_lemma}
 use Rattle.ic3_tests.proofs.stepping.predecessor_of.Goals as goal
 
 pub hold-requires : goal.hold-requires

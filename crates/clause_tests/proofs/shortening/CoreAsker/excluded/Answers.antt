@@ -6,4 +6,4 @@ use Rattle.clause_tests.proofs.shortening.CoreAsker.excluded.Goals as goal
 pub returns-then-subset-clause-passing : goal.returns-then-subset-clause-passing
 returns-then-subset-clause-passing c =
     let own = c.args.self.now.own in
-    subst (λ part. is_part own part ≡ true) (sym (c.in_ok-from_slice.ensures ∙ c.as_slice-then-subset.ensures)) (part_same own)
+    subst (λ part. is_part own part ≡ true) (sym (c.in_ok-from_slice.ensures.literals ∙ c.as_slice-then-subset.ensures)) (part_same own)
