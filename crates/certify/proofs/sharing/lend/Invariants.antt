@@ -1,8 +1,0 @@
-use Rattle.std.proofs.Common.{◌≡◌, take}
-use Rattle.fair_semantics.specs.Entries.{used_entries}
-use Rattle.cnf_unroll.specs.Lending.{lent_all}
-use Rattle.entry.specs.CheckedEntries.{viewed}
-use Rattle.certify.proofs.sharing.lend.Given as goal
-
-abbrev pub invariant-loop-u : goal.invariant-loop-u
-invariant-loop-u l = lent_all l.found ≡ used_entries (viewed l.view) (take l.u-index l.uses)

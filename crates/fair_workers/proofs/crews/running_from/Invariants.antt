@@ -1,6 +1,0 @@
-use Rattle.std.proofs.Common.{◌≡◌, ℕ, ◌<◌, ◌≤◌, false}
-use Rattle.fair_workers.specs.Crews.{runs_at}
-use Rattle.fair_workers.proofs.crews.running_from.Given as goal
-
-abbrev pub invariant-loop-k : goal.invariant-loop-k
-invariant-loop-k l = (i : ℕ) → l.from ≤ i → i < l.k → runs_at l.crew i ≡ false

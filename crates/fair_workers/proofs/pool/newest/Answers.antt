@@ -1,8 +1,0 @@
-use Rattle.std.proofs.Common.{◌-◌, arith}
-use Rattle.fair_workers.proofs.Pools.{place-size}
-use Rattle.fair_workers.proofs.pool.newest.Goals as goal
-
-pub tried-requires-clause-state : goal.tried-requires-clause-state
-tried-requires-clause-state c =
-    place-size c.args.c.now c.args.positions.now (c.places.at - 1) c.state_of-state.result.now
-    (omega (arith, c.places.invariant.within, c.places-test.true)) c.state_of-state.ensures c.requires.run

@@ -1,7 +1,0 @@
-use Rattle.std.proofs.lemmas.List.Elements.{All-pop}
-use Rattle.fair_workers.specs.Pools.{IsRun}
-use Rattle.fair_workers.proofs.pool.take_newest.Goals as goal
-
-pub returns-clause-runs : goal.returns-clause-runs
-returns-clause-runs c =
-    (All-pop (IsRun c.args._c.now) c.args.runs.now.items c.pop.new.self.items c.pop.result c.pop.ensures.items c.requires).0

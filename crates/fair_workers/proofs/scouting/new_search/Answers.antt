@@ -1,6 +1,0 @@
-use Rattle.std.specs.Arc.{arc_value}
-use Rattle.fair_workers.proofs.Kept.{new-fits}
-use Rattle.fair_workers.proofs.scouting.new_search.Goals as goal
-
-pub returns : goal.returns
-returns c = new-fits (arc_value c.args.c.now) c.new.result c.new.ensures.new c.new.ensures.left

@@ -1,7 +1,0 @@
-use Rattle.std.proofs.Common.{◌≡◌, ◌++◌, map, take}
-use Rattle.ic3.specs.Lifting.{next_literal}
-use Rattle.ic3.proofs.lifting.put_next.Given as goal
-
-abbrev pub invariant-loop-literal : goal.invariant-loop-literal
-invariant-loop-literal l =
-    l.keep.items ≡ l.initial.keep.items ++ map (next_literal l.c.latches) (take l.literal-index l.literal-items)

@@ -1,6 +1,0 @@
-use Rattle.std.proofs.Common.{◌≡◌, ◌++◌, drop}
-use Rattle.ic3.specs.Starting.{value_literals}
-use Rattle.ic3.proofs.starting.state_cube.Given as goal
-
-abbrev pub invariant-loop-n : goal.invariant-loop-n
-invariant-loop-n l = l.cube ++ value_literals l.n (drop l.n l.values) ≡ value_literals 0 l.values

@@ -1,6 +1,0 @@
-use Rattle.std.proofs.Common.{◌≡◌, take}
-use Rattle.ic3.specs.Strengthening.{with_literal}
-use Rattle.ic3.proofs.strengthening.with_literal.Given as goal
-
-abbrev pub invariant-loop-other : goal.invariant-loop-other
-invariant-loop-other l = l.longer ≡ with_literal (take l.other-index l.other-items) l.part l.literal

@@ -1,6 +1,0 @@
-use Rattle.std.proofs.Common.{◌≡◌, take}
-use Rattle.entry.specs.CheckedEntries.{viewed}
-use Rattle.skeleton.proofs.known.share.Given as goal
-
-abbrev pub invariant-loop-shared : goal.invariant-loop-shared
-invariant-loop-shared l = viewed l.copy ≡ viewed (take l.shared-index l.view)
