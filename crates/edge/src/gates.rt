@@ -24,3 +24,12 @@ pub struct FreeGate;
 impl Gate for FreeGate {
     fn pass(&self, _worker: u32, _at: Point) {}
 }
+
+/// The gate that is there, or else one that lets everyone pass at once.
+impl<G: Gate> Gate for Option<G> {
+    fn pass(&self, worker: u32, at: Point) {
+        if let Some(gate) = self {
+            gate.pass(worker, at);
+        }
+    }
+}

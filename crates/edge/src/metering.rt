@@ -7,8 +7,10 @@ ghost use Rattle.edge.specs.Faults.{one_more};
 ghost use Rattle.edge.specs.Units.{limit_of, IsWithin, SpentConflict, SpentLemma, SpentFrame};
 ghost use Rattle.edge.specs.declared.metering.Counted.TheVariants.{Conflicts, Steps};
 
+use crate::bells::Bell;
 use cnf::{Clause, Db, eval};
 use std::marker::Model;
+use std::sync::Arc;
 use thiserror::Error;
 
 /// What is counted.
@@ -112,10 +114,12 @@ impl Spending {
     }
 }
 
-/// Counts of conflicts and of steps, each with its limit. None of its calls takes memory.
+/// Counts of conflicts and of steps, each with its limit, and the bell that the search listens for, if there is one.
+/// Contracts see the counts and limits. None of its calls takes memory.
 #[derive(Drop)]
 pub struct Meter {
     spending: Spending,
+    bell: Option<Arc<Bell>>,
 }
 
 impl Model for Meter {
@@ -130,7 +134,7 @@ impl Model for Meter {
 const NO_LIMIT: u64 = 4_294_967_295;
 
 impl Meter {
-    /// A meter with these limits that has counted nothing. A limit of 4,294,967,295 or more is none.
+    /// A meter with these limits that has counted nothing, without a bell. A limit of 4,294,967,295 or more is none.
     pub fn new(conflicts: u64, steps: u64) -> Meter
         ensures { result ≡ record {
           conflicts = 0;
@@ -146,6 +150,25 @@ impl Meter {
                 steps: 0,
                 step_limit: real_limit(steps),
             },
+            bell: None,
+        }
+    }
+
+    /// The same meter with this bell, in place of its own.
+    pub fn with_bell(self, bell: Arc<Bell>) -> Meter
+        ensures { result ≡ self }
+    {
+        Meter {
+            spending: self.spending,
+            bell: Some(bell),
+        }
+    }
+
+    /// Whether it has a bell that is rung. No clause says so: a search that is called answers want of memory.
+    pub fn is_called(&self) -> bool {
+        match &self.bell {
+            Some(bell) => bell.is_rung(),
+            None => false,
         }
     }
 
