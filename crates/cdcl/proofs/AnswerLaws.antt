@@ -1,5 +1,5 @@
 -- Laws of answers, by what a search found.
-use Rattle.std.proofs.Common.{◌≡◌, ℕ, suc, ◌+◌, Bool, true, false, eqb, List, [], ◌∷◌, arith, map, Option, Some, None, refl, ap, sym, subst, ◌∙◌, inl, inr}
+use Rattle.std.proofs.Common.{◌≡◌, ℕ, Bool, true, false, eqb, List, [], ◌∷◌, ◌++◌, map, Option, Some, None, refl, ap, sym, subst, ◌∙◌, inl, inr}
 use Rattle.std.specs.Option.{unwrap_or, option_map}
 use Rattle.std.proofs.lemmas.Bool.{false≢true, cond-true, cond-false}
 use Rattle.proof_semantics.specs.Clauses.{bool_eq, negation, literal_value, clause_value, cube_value, clauses_value, values_of, is_part}
@@ -9,18 +9,22 @@ use Rattle.proof_semantics.proofs.Soundness.{hints_refute}
 use Rattle.cnf.specs.Clauses.{clause_numbered}
 use Rattle.cdcl_trail.specs.Trails.{Step, literals_of, step_of, value_of}
 use Rattle.cdcl_trail.specs.Propagation.{is_value, is_true}
-use Rattle.cdcl_trail.specs.AssignmentOf.{place_in, positive_at}
 use Rattle.cdcl_trail.proofs.TrailLaws.{either}
-use Rattle.std.specs.Prelude.{slice_get}
+use Rattle.proof_semantics.specs.Proofs.{Refutes}
 use Rattle.cdcl_trail.proofs.PrefixLaws.{all_from}
 use Rattle.cdcl_learn.specs.declared.learning.Learned.{Learned}
 use Rattle.cdcl.specs.Asking.{assigned, IsCore, IsAsked}
 use Rattle.cdcl.specs.declared.asking.Asked.{Asked}
-use Rattle.cdcl.specs.declared.asking.Asked.TheVariants.{Sat, Unsat}
+use Rattle.cdcl.specs.declared.asking.Asked.TheVariants as asked
+use Rattle.cdcl.specs.declared.asking.Refuted.{Refuted}
+use Rattle.cdcl.specs.declared.asking.Refuted.TheVariants as refuted
 use Rattle.cdcl.specs.declared.finding.Found.{Found}
 use Rattle.cdcl.specs.declared.finding.Found.TheVariants.{Satisfied, Refused}
 use Rattle.cdcl.specs.LoggedClauses.{LoggedClauses, added_of, IsLog}
-use Rattle.cdcl.specs.Finding.{Satisfies, Refuses, IsSearchResult, IsAskedFrom}
+use Rattle.cdcl.specs.Finding.{Satisfies, Refuses, IsSearchResult, IsAskedFrom, MayRefuse, IsRefutedFrom}
+use Rattle.cdcl.specs.Refuting.{IsRefuted}
+use Rattle.cdcl.specs.UnitClauses.{unit_clauses}
+use Rattle.cdcl.proofs.UnitLaws.{model_of_units}
 use Rattle.cdcl.specs.Searching.{AreTrue}
 use Rattle.cdcl.specs.Solving.{IsModel, HasNoModel}
 use Rattle.cdcl.proofs.LoggedLaws.{numbered_true}
@@ -85,34 +89,21 @@ core_from logged added assumptions core traced same log r is =
     }
 
 -- What is told of a search is true.
-pub asked_from : (logged : LoggedClauses) (added : List (List Lit)) (assumptions : List Lit) (steps : List Step) (found : Found) (asked : Asked) → added ≡ added_of logged → IsLog logged
-    → IsSearchResult logged.clauses assumptions steps found → IsAskedFrom steps found asked → IsAsked added assumptions asked
-asked_from logged added assumptions steps Satisfied (Sat assignment) same log is told =
-    subst (λ ls. IsModel added assumptions (assigned ls)) (sym told) (assigned_model logged added assumptions steps same is)
-asked_from logged added assumptions steps Satisfied (Unsat core) same log is told = absurd told
-asked_from logged added assumptions steps (Refused traced) (Sat assignment) same log is told = absurd told
-asked_from logged added assumptions steps (Refused traced) (Unsat core) same log is told = core_from logged added assumptions core.items traced same log is told
+pub asked_from : (logged : LoggedClauses) (added : List (List Lit)) (assumptions : List Lit) (steps : List Step) (found : Found) (answer : Asked) → added ≡ added_of logged → IsLog logged
+    → IsSearchResult logged.clauses assumptions steps found → IsAskedFrom found answer → IsAsked added assumptions (literals_of steps) answer
+asked_from logged added assumptions steps Satisfied asked.Sat same log is told = assigned_model logged added assumptions steps same is
+asked_from logged added assumptions steps Satisfied (asked.Unsat core) same log is told = absurd told
+asked_from logged added assumptions steps (Refused traced) asked.Sat same log is told = absurd told
+asked_from logged added assumptions steps (Refused traced) (asked.Unsat core) same log is told = core_from logged added assumptions core.items traced same log is told
 
--- The values at places.
+pub may_refuse : (clauses : List (List Lit)) (assumptions : List Lit) (steps : List Step) (found : Found) → IsSearchResult clauses assumptions steps found → MayRefuse clauses assumptions found
+may_refuse clauses assumptions steps Satisfied is = tt
+may_refuse clauses assumptions steps (Refused traced) is = is
 
-behind : (a : Lit) (lits : List Lit) (o : Option ℕ) → positive_at (a ∷ lits) (option_map (λ place. place + 1) o) ≡ positive_at lits o
-behind a lits None = refl
-behind a lits (Some p) = ap (λ n. option_map (λ (b : Lit). b.positive) (slice_get (a ∷ lits) n)) (one_more_is p)
-  where
-    one_more_is : (p : ℕ) → p + 1 ≡ suc p
-    one_more_is p = omega arith
-
--- the value at a variable's place is the assigned one
-pub assigned_at : (lits : List Lit) (v : ℕ) → unwrap_or (positive_at lits (place_in lits v)) false ≡ assigned lits v
-assigned_at [] v = refl
-assigned_at (a ∷ lits) v =
-    elim (either (eqb a.var v)) [
-      | inl here ↦
-          ap (λ o. unwrap_or (positive_at (a ∷ lits) o) false) (cond-true (eqb a.var v) (Some 0) (option_map (λ place. place + 1) (place_in lits v)) here)
-          ∙ sym (cond-true (eqb a.var v) a.positive (assigned lits v) here)
-      | inr differs ↦
-          ap (λ o. unwrap_or (positive_at (a ∷ lits) o) false) (cond-false (eqb a.var v) (Some 0) (option_map (λ place. place + 1) (place_in lits v)) differs)
-          ∙ ap (λ o. unwrap_or o false) (behind a lits (place_in lits v))
-          ∙ assigned_at lits v
-          ∙ sym (cond-false (eqb a.var v) a.positive (assigned lits v) differs)
-    ]
+pub refuted_from : (logged : LoggedClauses) (added : List (List Lit)) (units : List Lit) (steps : List Step) (found : Found) (answer : Refuted) → added ≡ added_of logged
+    → IsSearchResult logged.clauses units steps found → IsRefutedFrom (added_of logged ++ unit_clauses units) found answer → IsRefuted added units (literals_of steps) answer
+refuted_from logged added units steps Satisfied refuted.Sat same is told =
+    model_of_units (assigned (literals_of steps)) added units (assigned_model logged added units steps same is)
+refuted_from logged added units steps Satisfied (refuted.Unsat lines) same is told = absurd told
+refuted_from logged added units steps (Refused traced) refuted.Sat same is told = absurd told
+refuted_from logged added units steps (Refused traced) (refuted.Unsat lines) same is told = subst (λ cs. Refutes (cs ++ unit_clauses units) lines) (sym same) told

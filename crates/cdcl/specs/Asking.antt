@@ -19,7 +19,7 @@ pub record IsCore (added : List (List Lit)) (assumptions core : List Lit) : Type
   pub refused : HasNoModel added core
   pub no_model : HasNoModel added assumptions
 
--- what an answer says
-abbrev pub IsAsked : List (List Lit) → List Lit → Asked → Type 0
-IsAsked added assumptions (Sat assignment) = IsModel added assumptions (assigned assignment)
-IsAsked added assumptions (Unsat core) = IsCore added assumptions core.items
+-- what an answer says, beside the values that the solver tells
+abbrev pub IsAsked : List (List Lit) → List Lit → List Lit → Asked → Type 0
+IsAsked added assumptions values Sat = IsModel added assumptions (assigned values)
+IsAsked added assumptions values (Unsat core) = IsCore added assumptions core.items

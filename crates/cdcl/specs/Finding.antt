@@ -1,13 +1,16 @@
 -- Scaffolding of inner functions. What a search ends with, before an answer is made of it.
 use Rattle.std.specs.Prelude.{◌≡◌, true, List, map}
 use Rattle.proof_semantics.specs.Clauses.{negation, has_literal}
+use Rattle.proof_semantics.specs.Proofs.{Refutes}
 use Rattle.proof_semantics.specs.declared.literals.Lit.{Lit}
-use Rattle.cdcl_trail.specs.Trails.{Step, literals_of}
+use Rattle.cdcl_trail.specs.Trails.{Step}
 use Rattle.cdcl_trail.specs.Propagation.{is_true}
 use Rattle.cdcl_learn.specs.declared.learning.Learned.{Learned}
 use Rattle.cdcl.specs.Searching.{is_satisfied, IsHinted, NegatesOnly}
 use Rattle.cdcl.specs.declared.asking.Asked.{Asked}
-use Rattle.cdcl.specs.declared.asking.Asked.TheVariants.{Sat, Unsat}
+use Rattle.cdcl.specs.declared.asking.Asked.TheVariants as asked
+use Rattle.cdcl.specs.declared.asking.Refuted.{Refuted}
+use Rattle.cdcl.specs.declared.asking.Refuted.TheVariants as refuted
 use Rattle.cdcl.specs.declared.finding.Found.{Found}
 use Rattle.cdcl.specs.declared.finding.Found.TheVariants.{Satisfied, Refused}
 
@@ -25,9 +28,21 @@ abbrev pub IsSearchResult : List (List Lit) → List Lit → List Step → Found
 IsSearchResult clauses assumptions steps Satisfied = Satisfies clauses assumptions steps
 IsSearchResult clauses assumptions steps (Refused traced) = Refuses clauses assumptions traced
 
--- The answer has the literals of the trail, or the negations of the clause's.
-abbrev pub IsAskedFrom : List Step → Found → Asked → Type 0
-IsAskedFrom steps Satisfied (Sat assignment) = assignment ≡ literals_of steps
-IsAskedFrom steps Satisfied (Unsat core) = ⊥
-IsAskedFrom steps (Refused traced) (Sat assignment) = ⊥
-IsAskedFrom steps (Refused traced) (Unsat core) = core.items ≡ map negation traced.clause
+-- The answer is that there is a model, or has the negations of the clause's literals.
+abbrev pub IsAskedFrom : Found → Asked → Type 0
+IsAskedFrom Satisfied asked.Sat = Unit {0}
+IsAskedFrom Satisfied (asked.Unsat core) = ⊥
+IsAskedFrom (Refused traced) asked.Sat = ⊥
+IsAskedFrom (Refused traced) (asked.Unsat core) = core.items ≡ map negation traced.clause
+
+-- where the search refused, by its clause
+abbrev pub MayRefuse : List (List Lit) → List Lit → Found → Type 0
+MayRefuse clauses assumptions Satisfied = Unit {0}
+MayRefuse clauses assumptions (Refused traced) = Refuses clauses assumptions traced
+
+-- The answer is that there is a model, or a proof that refutes the clauses.
+abbrev pub IsRefutedFrom : List (List Lit) → Found → Refuted → Type 0
+IsRefutedFrom clauses Satisfied refuted.Sat = Unit {0}
+IsRefutedFrom clauses Satisfied (refuted.Unsat lines) = ⊥
+IsRefutedFrom clauses (Refused traced) refuted.Sat = ⊥
+IsRefutedFrom clauses (Refused traced) (refuted.Unsat lines) = Refutes clauses lines

@@ -8,7 +8,8 @@ use Rattle.cdcl.specs.UnitClauses.{unit_clauses}
 use Rattle.cdcl.specs.declared.asking.Refuted.{Refuted}
 use Rattle.cdcl.specs.declared.asking.Refuted.TheVariants.{Sat, Unsat}
 
--- The list is the added clauses, and behind them the units: the assignment makes it true, or the lines refute it.
-abbrev pub IsRefuted : List (List Lit) → List Lit → Refuted → Type 0
-IsRefuted added units (Sat assignment) = clauses_value (assigned assignment) (added ++ unit_clauses units) ≡ true
-IsRefuted added units (Unsat lines) = Refutes (added ++ unit_clauses units) lines
+-- The list is the added clauses, and behind them the units: the values that the solver tells make it true, or the lines
+-- refute it.
+abbrev pub IsRefuted : List (List Lit) → List Lit → List Lit → Refuted → Type 0
+IsRefuted added units values Sat = clauses_value (assigned values) (added ++ unit_clauses units) ≡ true
+IsRefuted added units values (Unsat lines) = Refutes (added ++ unit_clauses units) lines

@@ -12,10 +12,12 @@ use Rattle.cdcl.specs.Variables.{is_over, are_over}
 use Rattle.cdcl.specs.declared.solving.Answer.{Answer}
 use Rattle.cdcl.specs.declared.solving.Answer.TheVariants.{Sat, Unsat}
 
--- What contracts see of a solver: the clauses that were added, and those that it learned, in their order.
+-- What contracts see of a solver: the clauses that were added, and those that it learned, in their order, and the
+-- literals that were true behind the last question.
 pub record Solving : Type 0 where
   pub added : List (List Lit)
   pub learned : List (List Lit)
+  pub values : List Lit
 
 -- The assignment makes every clause and each assumption true.
 pub record IsModel (added : List (List Lit)) (assumptions : List Lit) (v : ℕ → Bool) : Type 0 where

@@ -2,6 +2,7 @@
 ghost use Rattle.std.specs.Prelude.{◌≡◌, IfOk, IfErr, false};
 ghost use Rattle.proof_semantics.specs.Clauses.{has_opposites};
 ghost use Rattle.proof_semantics.specs.Lines.{AreSized};
+ghost use Rattle.cdcl_trail.specs.Trails.{literals_of};
 ghost use Rattle.cdcl.specs.Asking.{IsAsked};
 ghost use Rattle.cdcl.specs.Resting.{IsLimitedAtRest, IsRested};
 ghost use Rattle.cdcl.specs.LoggedClauses.{IsLog, added_of};
@@ -11,7 +12,7 @@ ghost use Rattle.cdcl.specs.Searching.{IsHeld};
 ghost use Rattle.edge.specs.Ends.{IsEnd};
 ghost use Rattle.cdcl.specs.Solving.{IsAnswer};
 
-use crate::asking::{Asked, Assignment};
+use crate::asking::Asked;
 use crate::finding::Found;
 use crate::log::Log;
 use crate::order::Order;
@@ -49,7 +50,7 @@ pub(crate) fn search_answer(
     Ok(answer_of(alloc, log, trail, assumptions, &found)?)
 }
 
-/// Searches, and takes the values or writes the core.
+/// Searches, and leaves the values on the trail or writes the core.
 pub(crate) fn search_asked(
     alloc: Global,
     log: &mut Log,
@@ -64,14 +65,14 @@ pub(crate) fn search_asked(
     requires sizes { AreSized assumptions.now }
     ensures log { IsLog log.new }
     ensures trail { IsHeld log.new.clauses trail.new }
-    ensures answer { IfOk result (IsAsked (added_of log.old) assumptions.now) }
+    ensures answer { IfOk result (IsAsked (added_of log.old) assumptions.now (literals_of trail.new.steps)) }
     ensures end { IfErr result (IsEnd meter.new) }
     ensures searched { IsSearched assumptions.now log.old log.new meter.old meter.new }
     ensures rest { IsRested assumptions.now log.old log.new }
     ensures limited { IfErr result (IsLimitedAtRest assumptions.now log.old) }
 {
     let found = search(alloc, log, order, trail, assumptions, meter)?;
-    Ok(asked_of(alloc, trail, &found)?)
+    Ok(asked_of(alloc, &found)?)
 }
 
 // The values of the trail, or the core with its proof.
@@ -96,12 +97,12 @@ fn answer_of(
     }
 }
 
-// The values of the trail, each to be read for itself, or the core.
-fn asked_of(alloc: Global, trail: &Trail, found: &Found) -> Result<Asked, AllocError>
-    ensures { IfOk result (IsAskedFrom trail.now.steps found.now) }
+// That there is a model, or the core.
+fn asked_of(alloc: Global, found: &Found) -> Result<Asked, AllocError>
+    ensures { IfOk result (IsAskedFrom found.now) }
 {
     match found {
-        Found::Satisfied => Ok(Asked::Sat(Assignment::of_trail(alloc, trail)?)),
+        Found::Satisfied => Ok(Asked::Sat),
         Found::Refused(traced) => {
             let core = negations(alloc, traced.clause.as_slice())?;
             Ok(Asked::Unsat(core))

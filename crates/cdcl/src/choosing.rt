@@ -57,7 +57,7 @@ fn choose_open(order: &mut Order, trail: &Trail, clauses: &[Clause]) -> Option<L
 fn most_active(order: &mut Order, trail: &Trail, clauses: &[Clause]) -> Option<Lit>
     ensures { IfSome result (λ a. IsUndecided clauses.now trail.now.steps a) }
 {
-    for _turn in 0..order.count() {
+    for _turn in 0..order.most() {
         let candidate = order.take()?;
         if is_open(trail, clauses, candidate) {
             return Some(candidate.literal);

@@ -1,8 +1,11 @@
 //! Which variable is decided next, and with which value. After MiniSat (Eén, Sörensson, 2003): the
 //! most active variable, with the value that it had last. The main type is `Order`. No contract of a
 //! search rests on what it keeps: what it gives is tested where it is used.
-ghost use Rattle.std.specs.Prelude.{◌≡◌, [], length};
+ghost use Rattle.std.specs.Prelude.{◌≡◌, []};
 
+use crate::first_values::FirstValues;
+use crate::heap::{Entry, Heap, SHIFT};
+use crate::inactive::Inactive;
 use crate::log::Log;
 use cdcl_learn::Learned;
 use cdcl_trail::Table;
@@ -15,15 +18,6 @@ const FIRST_WEIGHT: u64 = 1 << 8;
 /// From this weight on weights and activities are made smaller.
 const GREAT_WEIGHT: u64 = 1 << 40;
 
-/// By how many bits.
-const SHIFT: u32 = 32;
-
-/// The place of a variable that is not in the heap.
-const NOWHERE: usize = usize::MAX;
-
-/// More steps than a heap is deep.
-const DEEP: u32 = 64;
-
 /// A variable that may be decided.
 #[derive(Clone, Copy)]
 pub(crate) struct Candidate {
@@ -33,49 +27,46 @@ pub(crate) struct Candidate {
     pub(crate) clause: usize,
 }
 
-// A variable, how active it is, the last conflict that it was met in, and its place in the heap.
+// How active a variable is, and the last conflict that it was met in, or 0.
 #[derive(Clone, Copy)]
 struct Rank {
-    candidate: Candidate,
     activity: u64,
     conflict: u64,
-    place: usize,
-}
-
-// A variable in the heap, with what it is compared by.
-#[derive(Clone, Copy)]
-struct Entry {
-    activity: u64,
-    var: Var,
-    number: usize,
 }
 
 /// The activities of variables, and the values that they had last. Each conflict adds its weight to
 /// the activities of the variables that it comes from, and weighs a twentieth more than the one
-/// before it. The variables are numbered as they come, and those that may be decided stand in a
-/// binary heap by their activities; of two that are as active the smaller variable comes first,
-/// which in a circuit's clauses is what the other one is computed from.
+/// before it. The variables are numbered as they come. Those that may be decided stand in a binary
+/// heap by their activities, or, where no conflict was met in them, in a list; of two that are as
+/// active the smaller variable comes first, which in a circuit's clauses is what the other one is
+/// computed from.
 #[derive(Drop)]
 pub(crate) struct Order {
+    alloc: Global,
     numbers: Table<usize>,
+    candidates: Vec<Candidate>,
     ranks: Vec<Rank>,
-    heap: Vec<Entry>,
-    first_value: bool,
+    heap: Heap,
+    inactive: Inactive,
+    first_values: FirstValues,
     met: usize,
     weight: u64,
     conflict: u64,
 }
 
 impl Order {
-    /// No variable; each one that comes is decided with this value at first. Takes no memory.
-    pub(crate) fn new(alloc: Global, first_value: bool) -> Order
-        ensures { result.heap.items ≡ [] }
+    /// No variable; each one that comes is decided with its value of these at first. Takes no memory.
+    pub(crate) fn new(alloc: Global, first_values: FirstValues) -> Order
+        ensures { result.candidates.items ≡ [] }
     {
         Order {
+            alloc,
             numbers: Table::new(alloc),
+            candidates: Vec::new(alloc),
             ranks: Vec::new(alloc),
-            heap: Vec::new(alloc),
-            first_value,
+            heap: Heap::new(alloc),
+            inactive: Inactive::new(alloc),
+            first_values,
             met: 0,
             weight: FIRST_WEIGHT,
             conflict: 1,
@@ -91,64 +82,89 @@ impl Order {
             }
         }
         self.met = clauses.len();
-        Ok(())
+        self.inactive.put_in_order(self.alloc)
     }
 
     // Meets the variables of the clause at a place.
     fn meet(&mut self, clause: &[Lit], place: usize) -> Result<(), AllocError> {
         for literal in clause {
-            if self.number(literal.var).is_some() {
-                continue;
+            if self.numbers.get(literal.var).is_none() {
+                self.meet_one(literal.var, place)?;
             }
-            let number = self.ranks.len();
-            self.ranks.push(Rank {
-                candidate: Candidate {
-                    literal: Lit {
-                        var: literal.var,
-                        positive: self.first_value,
-                    },
-                    clause: place,
-                },
-                activity: 0,
-                conflict: 0,
-                place: NOWHERE,
-            })?;
-            self.numbers.insert(literal.var, number)?;
-            self.insert(number)?;
         }
         Ok(())
     }
 
-    /// How many variables may be decided. Takes no memory.
-    pub(crate) fn count(&self) -> usize
-        ensures { result ≡ length self.now.heap.items }
-    {
-        self.heap.as_slice().len()
+    // Meets a variable that the clause at a place has.
+    fn meet_one(&mut self, var: Var, clause: usize) -> Result<(), AllocError> {
+        let number = self.candidates.len();
+        self.candidates.reserve(1)?;
+        self.ranks.reserve(1)?;
+        self.inactive.push(var, number)?;
+        self.numbers.insert(var, number)?;
+        let positive = self.first_values.of(var);
+        self.candidates.push_reserved(Candidate {
+            literal: Lit { var, positive },
+            clause,
+        });
+        self.ranks.push_reserved(Rank {
+            activity: 0,
+            conflict: 0,
+        });
+        Ok(())
+    }
+
+    /// No fewer than the variables that may be decided. Takes no memory.
+    pub(crate) fn most(&self) -> usize {
+        self.heap.len().saturating_add(self.inactive.most_waiting())
     }
 
     /// Takes the most active variable that may be decided. Takes no memory.
     pub(crate) fn take(&mut self) -> Option<Candidate> {
-        let first = self.at(0)?.number;
-        let last = self.heap.pop()?;
-        self.set_place(first, NOWHERE);
-        if !self.heap.is_empty() {
-            self.sink(last);
+        let number = match self.heap.first() {
+            Some(top) if self.is_before_inactive(&top) => self.heap.take()?.number,
+            _ => self.inactive.take()?.number,
+        };
+        self.candidates.as_slice().get(number).copied()
+    }
+
+    // Whether a variable of the heap is decided before those that no conflict was met in.
+    fn is_before_inactive(&mut self, top: &Entry) -> bool {
+        if top.activity > 0 {
+            return true;
         }
-        Some(self.rank(first)?.candidate)
+        match self.inactive.first() {
+            Some(other) => top.var < other.var,
+            None => true,
+        }
     }
 
     /// Keeps the values of literals that are taken back, and lets their variables be decided.
     pub(crate) fn keep(&mut self, literals: &[Lit]) -> Result<(), AllocError> {
         for literal in literals {
-            let Some(number) = self.number(literal.var) else {
+            let Some(number) = self.numbers.get(literal.var) else {
                 continue;
             };
-            if let Some(rank) = self.ranks.get_mut(number) {
-                rank.candidate.literal = *literal;
+            if let Some(candidate) = self.candidates.get_mut(number) {
+                candidate.literal = *literal;
             }
-            self.insert(number)?;
+            if !self.inactive.keep(number) {
+                self.insert(literal.var, number)?;
+            }
         }
         Ok(())
+    }
+
+    // Puts a variable into the heap, if it is not there.
+    fn insert(&mut self, var: Var, number: usize) -> Result<(), AllocError> {
+        let Some(rank) = self.ranks.as_slice().get(number).copied() else {
+            return Ok(());
+        };
+        self.heap.insert(Entry {
+            activity: rank.activity,
+            var,
+            number,
+        })
     }
 
     /// Makes the variables more active that a learned clause comes from: those of the clauses that
@@ -162,148 +178,49 @@ impl Order {
         self.conflict = self.conflict.saturating_add(1);
         self.weight = self.weight.saturating_add(self.weight / 20);
         if self.weight >= GREAT_WEIGHT {
-            self.weight >>= SHIFT;
-            for rank in self.ranks.iter_mut() {
-                rank.activity >>= SHIFT;
-            }
-            for entry in self.heap.iter_mut() {
-                entry.activity >>= SHIFT;
-            }
+            self.shrink();
         }
+    }
+
+    // Makes the weight and all activities smaller.
+    fn shrink(&mut self) {
+        self.weight >>= SHIFT;
+        for rank in self.ranks.iter_mut() {
+            rank.activity >>= SHIFT;
+        }
+        self.heap.shrink();
     }
 
     // Makes the variables of a clause more active that were not yet met in this conflict.
     fn bump_clause(&mut self, clause: &Clause) {
         for literal in clause.as_slice() {
-            if let Some(number) = self.number(literal.var) {
-                self.bump_one(number);
+            if let Some(number) = self.numbers.get(literal.var) {
+                self.bump_one(literal.var, number);
             }
         }
     }
 
-    // Makes a variable more active that was not yet met in this conflict.
-    fn bump_one(&mut self, number: usize) {
+    // Makes a variable more active that was not yet met in this conflict. Each has a value, so one
+    // that was met in none before comes into the heap when its value is taken back.
+    fn bump_one(&mut self, var: Var, number: usize) {
         let Some(rank) = self.ranks.get_mut(number) else {
             return;
         };
         if rank.conflict == self.conflict {
             return;
         }
+        let was_inactive = rank.conflict == 0;
         rank.conflict = self.conflict;
         rank.activity = rank.activity.saturating_add(self.weight);
-        let entry = entry_of(rank, number);
-        let place = rank.place;
-        if place < self.heap.len() {
-            self.rise(place, entry);
+        let activity = rank.activity;
+        if was_inactive {
+            self.inactive.take_out(number);
+        } else {
+            self.heap.raise(Entry {
+                activity,
+                var,
+                number,
+            });
         }
     }
-
-    // The number of a variable.
-    fn number(&self, var: Var) -> Option<usize> {
-        self.numbers.get(var)
-    }
-
-    // What is kept of the variable with a number.
-    fn rank(&self, number: usize) -> Option<Rank> {
-        self.ranks.as_slice().get(number).copied()
-    }
-
-    // Puts a variable into the heap, if it is not there.
-    fn insert(&mut self, number: usize) -> Result<(), AllocError> {
-        let Some(rank) = self.rank(number) else {
-            return Ok(());
-        };
-        if rank.place < NOWHERE {
-            return Ok(());
-        }
-        let place = self.heap.len();
-        let entry = entry_of(&rank, number);
-        self.heap.push(entry)?;
-        self.rise(place, entry);
-        Ok(())
-    }
-
-    // Puts a variable at a place of the heap, or above it where it belongs.
-    fn rise(&mut self, start: usize, entry: Entry) {
-        let mut place = start;
-        for _step in 0..DEEP {
-            if place == 0 {
-                break;
-            }
-            let above = (place - 1) / 2;
-            let Some(upper) = self.at(above) else {
-                break;
-            };
-            if !precedes(&entry, &upper) {
-                break;
-            }
-            self.put(place, upper);
-            place = above;
-        }
-        self.put(place, entry);
-    }
-
-    // Puts a variable at the top of the heap, or below it where it belongs.
-    fn sink(&mut self, entry: Entry) {
-        let mut place = 0;
-        for _step in 0..DEEP {
-            let Some((below, lower)) = self.first_below(place) else {
-                break;
-            };
-            if !precedes(&lower, &entry) {
-                break;
-            }
-            self.put(place, lower);
-            place = below;
-        }
-        self.put(place, entry);
-    }
-
-    // The one of the two variables below a place of the heap that is decided first, with its place.
-    fn first_below(&self, place: usize) -> Option<(usize, Entry)> {
-        let left = place.saturating_mul(2).saturating_add(1);
-        let right = left.saturating_add(1);
-        let one = self.at(left)?;
-        match self.at(right) {
-            Some(other) if precedes(&other, &one) => Some((right, other)),
-            _ => Some((left, one)),
-        }
-    }
-
-    // The variable at a place of the heap.
-    fn at(&self, place: usize) -> Option<Entry> {
-        self.heap.as_slice().get(place).copied()
-    }
-
-    // Writes the variable at a place of the heap.
-    fn put(&mut self, place: usize, entry: Entry) {
-        if let Some(kept) = self.heap.get_mut(place) {
-            *kept = entry;
-        }
-        self.set_place(entry.number, place);
-    }
-
-    // Writes the place of a variable.
-    fn set_place(&mut self, number: usize, place: usize) {
-        if let Some(rank) = self.ranks.get_mut(number) {
-            rank.place = place;
-        }
-    }
-}
-
-// What stands in the heap for a variable.
-fn entry_of(rank: &Rank, number: usize) -> Entry {
-    Entry {
-        activity: rank.activity,
-        var: rank.candidate.literal.var,
-        number,
-    }
-}
-
-// Whether one variable is decided before another.
-fn precedes(one: &Entry, other: &Entry) -> bool {
-    if one.activity == other.activity {
-        return one.var < other.var;
-    }
-    one.activity > other.activity
 }

@@ -3,13 +3,14 @@
 ghost use Rattle.std.specs.Prelude.{◌≡◌, ◌<◌, ◌^◌, ◌++◌, [], IfOk, IfErr, IfSome, IfNone, None, length, map, false, true};
 ghost use Rattle.proof_semantics.specs.Clauses.{negation, has_literal, has_opposites};
 ghost use Rattle.proof_semantics.specs.Lines.{AreSized};
+ghost use Rattle.cdcl_trail.specs.Trails.{literals_of};
 ghost use Rattle.proof_semantics.specs.Propagation.{hints_fault};
 ghost use Rattle.proof_semantics.specs.Proofs.{Refutes};
 ghost use Rattle.cnf.specs.Clauses.{clause_numbered};
 ghost use Rattle.cdcl.specs.Ascending.{is_ascending};
 ghost use Rattle.cdcl.specs.Resting.{IsLimitedAtRest, IsRested};
 ghost use Rattle.cdcl.specs.LoggedClauses.{IsLog, added_of};
-ghost use Rattle.cdcl.specs.Finding.{IsSearchResult, Refuses};
+ghost use Rattle.cdcl.specs.Finding.{MayRefuse, IsRefutedFrom, Refuses};
 ghost use Rattle.cdcl.specs.Progress.{IsSearched};
 ghost use Rattle.cdcl.specs.Refuting.{IsRefuted};
 ghost use Rattle.cdcl.specs.Searching.{IsHeld};
@@ -17,7 +18,7 @@ ghost use Rattle.edge.specs.Ends.{IsEnd};
 ghost use Rattle.cdcl.specs.UnitClauses.{unit_clauses};
 ghost use Rattle.cdcl.specs.WithUnits.{unit_number};
 
-use crate::asking::{Assignment, Refuted};
+use crate::asking::Refuted;
 use crate::finding::Found;
 use crate::log::Log;
 use crate::order::Order;
@@ -30,8 +31,8 @@ use cnf::{Lit, Proof, has_literal};
 use edge::{Meter, SolveEnd};
 use std::alloc::{AllocError, Global};
 
-/// Searches under the units, and takes the values or writes the proof. Where two units are opposites
-/// it is one line, and nothing is searched.
+/// Searches under the units, and leaves the values on the trail or writes the proof. Where two units
+/// are opposites it is one line, and nothing is searched.
 pub(crate) fn search_refuted(
     alloc: Global,
     log: &mut Log,
@@ -45,7 +46,7 @@ pub(crate) fn search_refuted(
     requires sizes { AreSized units.now }
     ensures log { IsLog log.new }
     ensures trail { IsHeld log.new.clauses trail.new }
-    ensures answer { IfOk result (IsRefuted (added_of log.old) units.now) }
+    ensures answer { IfOk result (IsRefuted (added_of log.old) units.now (literals_of trail.new.steps)) }
     ensures end { IfErr result (IsEnd meter.new) }
     ensures searched { IsSearched units.now log.old log.new meter.old meter.new }
     ensures rest { IsRested units.now log.old log.new }
@@ -56,25 +57,19 @@ pub(crate) fn search_refuted(
         return Ok(Refuted::Unsat(proof));
     }
     let found = search(alloc, log, order, trail, units, meter)?;
-    Ok(refuted_of(alloc, log, trail, units, &found)?)
+    Ok(refuted_of(alloc, log, units, &found)?)
 }
 
-// The values of the trail, or the proof of the core with the core's units.
-fn refuted_of(
-    alloc: Global,
-    log: &Log,
-    trail: &Trail,
-    units: &[Lit],
-    found: &Found,
-) -> Result<Refuted, AllocError>
+// That there is a model, or the proof of the core with the core's units.
+fn refuted_of(alloc: Global, log: &Log, units: &[Lit], found: &Found) -> Result<Refuted, AllocError>
     requires log { IsLog log.now }
     requires sizes { AreSized units.now }
     requires apart { has_opposites units.now ≡ false }
-    requires found { IsSearchResult log.now.clauses units.now trail.now.steps found.now }
-    ensures { IfOk result (IsRefuted (added_of log.now) units.now) }
+    requires refuses { MayRefuse log.now.clauses units.now found.now }
+    ensures { IfOk result (IsRefutedFrom (added_of log.now ++ unit_clauses units.now) found.now) }
 {
     match found {
-        Found::Satisfied => Ok(Refuted::Sat(Assignment::of_trail(alloc, trail)?)),
+        Found::Satisfied => Ok(Refuted::Sat),
         Found::Refused(traced) => Ok(Refuted::Unsat(core_refuted(alloc, log, units, traced)?)),
     }
 }

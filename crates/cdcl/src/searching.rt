@@ -25,7 +25,7 @@ use std::alloc::{AllocError, Global};
 
 /// Goes back to level 0 and propagates there what is new; assumes the assumptions; and then
 /// propagates and decides until there is a model, or a conflict that the assumptions alone bring.
-/// Learns from every other conflict, and goes back.
+/// Learns from every other conflict, and goes back. Where the meter's bell is rung, it ends as for want of memory.
 pub(crate) fn search(
     alloc: Global,
     log: &mut Log,
@@ -46,6 +46,9 @@ pub(crate) fn search(
     ensures rest { IsRested assumptions.now log.old log.new }
     ensures limited { IfErr result (IsLimitedAtRest assumptions.now log.old) }
 {
+    if meter.is_called() {
+        return Err(SolveEnd::Memory);
+    }
     if let Some(conflict) = settle_base(log, order, trail)? {
         let traced = trace(alloc, log.clauses(), trail, conflict)?;
         return Ok(Found::Refused(traced));
@@ -114,6 +117,9 @@ fn decide(
     let base = trail.level();
     let mut restarts = Restarts::new();
     'decisions: loop {
+        if meter.is_called() {
+            return Err(SolveEnd::Memory);
+        }
         let Some(conflict) = trail.propagate(log.clauses())? else {
             let Some(literal) = choose(order, trail, log) else {
                 return Ok(Found::Satisfied);

@@ -3,7 +3,7 @@ ghost use Rattle.std.specs.Prelude.{◌≡◌, ◌<◌, ◌-◌, ◌^◌, [], �
 ghost use Rattle.proof_semantics.specs.Lines.{AreSized};
 ghost use Rattle.edge.specs.Ends.{CountsConflicts, IsEnd};
 ghost use Rattle.cdcl.specs.Adding.{AddsFirst};
-ghost use Rattle.cdcl.specs.Asking.{IsAsked};
+ghost use Rattle.cdcl.specs.Asking.{IsAsked, assigned};
 ghost use Rattle.cdcl.specs.Counting.{IsNoLimit, IsRefutedAtOnce};
 ghost use Rattle.cdcl.specs.Refuting.{IsRefuted};
 ghost use Rattle.cdcl.specs.UnitClauses.{unit_clauses};
@@ -13,19 +13,20 @@ ghost use Rattle.proof_semantics.specs.Clauses.{has_opposites};
 use crate::answering::{search_answer, search_asked};
 use crate::asking::{Asked, Refuted};
 use crate::conditions::are_sized;
+use crate::first_values::FirstValues;
 use crate::log::Log;
 use crate::order::Order;
 use crate::refuting::search_refuted;
 use crate::solving::Answer;
 use cdcl_trail::Trail;
-use cnf::{Clause, Lit};
+use cnf::{Clause, Lit, Var};
 use edge::{Meter, SolveEnd};
 use std::alloc::{AllocError, Global};
 use std::marker::Model;
 
-/// A solver. Contracts see the clauses that were added and those that it learned, in their order.
-/// It never forgets a clause, and keeps its trail from question to question: what is true without
-/// assumptions is propagated once.
+/// A solver. Contracts see the clauses that were added and those that it learned, in their order,
+/// and the literals that were true behind the last question. It never forgets a clause, and keeps
+/// its trail from question to question: what is true without assumptions is propagated once.
 #[derive(Drop)]
 pub struct Solver {
     log: Log,
@@ -38,10 +39,15 @@ impl Model for Solver {
     ghost use Rattle.cdcl.specs.Solving.{Solving};
     ghost use Rattle.cdcl.specs.LoggedClauses.{added_of, learned_of};
     ghost use Rattle.cdcl.specs.Progress.{IsStanding};
+    ghost use Rattle.cdcl_trail.specs.Trails.{literals_of};
 
     ghost Value = { Solving };
 
-    ghost view = { λ s. record { added = added_of s.log; learned = learned_of s.log } };
+    ghost view = { λ s. record {
+      added = added_of s.log;
+      learned = learned_of s.log;
+      values = literals_of s.trail.steps;
+    } };
 
     ghost invariant = { λ s. IsStanding s.log s.trail };
 }
@@ -53,17 +59,17 @@ impl Solver {
         ensures added { IfOk result (λ solver. solver.added ≡ []) }
         ensures learned { IfOk result (λ solver. solver.learned ≡ []) }
     {
-        Solver::deciding(alloc, false)
+        Solver::deciding(alloc, FirstValues::AllFalse)
     }
 
-    /// The same, with this value where it had none.
-    pub fn deciding(alloc: Global, value: bool) -> Result<Solver, AllocError>
+    /// The same, with its value of these where it had none. No clause speaks of them.
+    pub fn deciding(alloc: Global, first: FirstValues) -> Result<Solver, AllocError>
         ensures added { IfOk result (λ solver. solver.added ≡ []) }
         ensures learned { IfOk result (λ solver. solver.learned ≡ []) }
     {
         Ok(Solver {
             log: Log::new(alloc),
-            order: Order::new(alloc, value),
+            order: Order::new(alloc, first),
             trail: Trail::new(alloc),
             alloc,
         })
@@ -84,23 +90,25 @@ impl Solver {
         }
     }
 
-    /// Adds a clause, whose variables are from 1 to 2^63 - 1. The error is want of memory, and
-    /// changes nothing.
+    /// Adds a clause, whose variables are from 1 to 2^63 - 1; values stay. The error is want of
+    /// memory, and changes nothing.
     pub fn add(&mut self, clause: Clause) -> Result<(), AllocError>
         requires { AreSized clause }
         ensures added { OnOk result (self.new.added ≡ self.old.added ++ clause ∷ []) }
         ensures learned { self.new.learned ≡ self.old.learned }
+        ensures values { self.new.values ≡ self.old.values }
         ensures err { OnErr result (self.new ≡ self.old) }
     {
         self.log.add(clause)
     }
 
-    /// Adds a clause. Where one of its variables is 0, or is from 2^63 on, the error is that of
-    /// memory. An error changes nothing.
+    /// Adds a clause; values stay. Where one of its variables is 0, or is from 2^63 on, the error is
+    /// that of memory. An error changes nothing.
     pub fn add_sized(&mut self, clause: Clause) -> Result<(), AllocError>
         ensures added { OnOk result (self.new.added ≡ self.old.added ++ clause ∷ []) }
         ensures sized { OnOk result (AreSized clause) }
         ensures learned { self.new.learned ≡ self.old.learned }
+        ensures values { self.new.values ≡ self.old.values }
         ensures err { OnErr result (self.new ≡ self.old) }
     {
         if !are_sized(clause.as_slice()) {
@@ -115,6 +123,7 @@ impl Solver {
         ensures added { OnOk result (self.new.added ≡ self.old.added ++ clauses.items) }
         ensures first { AddsFirst clauses.items self.old.added self.new.added }
         ensures learned { self.new.learned ≡ self.old.learned }
+        ensures values { self.new.values ≡ self.old.values }
     {
         for clause in clauses {
             self.add_sized(clause)?;
@@ -158,7 +167,8 @@ impl Solver {
         )
     }
 
-    /// The same question, without values or a proof being written.
+    /// The same question, without a proof; where there is a model, `value` tells it until the next
+    /// question.
     pub fn ask(
         &mut self,
         alloc: Global,
@@ -167,7 +177,7 @@ impl Solver {
     ) -> Result<Asked, SolveEnd>
         requires apart { has_opposites assumptions.now ≡ false }
         requires sizes { AreSized assumptions.now }
-        ensures answer { IfOk result (IsAsked self.old.added assumptions.now) }
+        ensures answer { IfOk result (IsAsked self.old.added assumptions.now self.new.values) }
         ensures end { IfErr result (IsEnd meter.new) }
         ensures added { self.new.added ≡ self.old.added }
         ensures learned { Learns self.old.added self.old.learned self.new.learned }
@@ -188,9 +198,9 @@ impl Solver {
         )
     }
 
-    /// Whether the added clauses, and behind them these literals as unit clauses, have a model; and
-    /// where they have none, a proof that refutes just that list. Two units may be opposites, and
-    /// then the proof is one line.
+    /// Whether the added clauses, and behind them these literals as unit clauses, have a model, which
+    /// `value` tells until the next question; and where they have none, a proof that refutes just
+    /// that list. Two units may be opposites, and then the proof is one line.
     pub fn refute(
         &mut self,
         alloc: Global,
@@ -198,7 +208,7 @@ impl Solver {
         meter: &mut Meter,
     ) -> Result<Refuted, SolveEnd>
         requires sizes { AreSized units.now }
-        ensures answer { IfOk result (IsRefuted self.old.added units.now) }
+        ensures answer { IfOk result (IsRefuted self.old.added units.now self.new.values) }
         ensures end { IfErr result (IsEnd meter.new) }
         ensures added { self.new.added ≡ self.old.added }
         ensures learned { Learns self.old.added self.old.learned self.new.learned }
@@ -217,6 +227,14 @@ impl Solver {
             units,
             meter,
         )
+    }
+
+    /// The value of a variable where the last question, to `ask` or `refute`, found a model. Any
+    /// clauses may have been added since. Takes no memory.
+    pub fn value(&self, var: Var) -> bool
+        ensures { result ≡ assigned self.now.values var }
+    {
+        self.trail.value(var).unwrap_or(false)
     }
 }
 

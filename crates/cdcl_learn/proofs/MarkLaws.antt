@@ -13,7 +13,7 @@ use Rattle.proof_semantics.proofs.LiteralLaws.{lit_eq-true, lit_eq-same, negatio
 use Rattle.cdcl_trail.specs.AssignmentOf.{place_in}
 use Rattle.cdcl_trail.specs.Trails.{Step, literals_of, value_of, once}
 use Rattle.cdcl_trail.specs.Propagation.{is_false, is_falsified, is_unit_for}
-use Rattle.cdcl_trail.proofs.TrailLaws.{either, or_both, or_neither, not-true, not-false, once_pop, place_push}
+use Rattle.cdcl_trail.proofs.TrailLaws.{either, or_neither, not-true, not-false}
 use Rattle.cdcl_trail.proofs.ScanLaws.{all_has, any_has, any_gives, untrue, no_value, unit_others}
 use Rattle.cdcl_trail.proofs.PassLaws.{unit_unvalued}
 use Rattle.cdcl_trail.proofs.PrefixLaws.{false_more}
@@ -261,35 +261,6 @@ pub marked_past : (marks seen : List Bool) (lits clause : List Lit) (start end :
     → found ≡ list_any (λ m. m) seen → found ≡ false → clause ≡ marked (take start marks) (take start lits) → clause ≡ marked (take end marks) (take end lits)
 marked_past marks seen lits clause start end found before at told lacks is =
     is ∙ sym (blank_more start (end - start) end marks lits (omega (arith, before)) (ap (list_any (λ m. m)) (sym at) ∙ sym told ∙ lacks))
-
--- The places of variables among literals.
-
-any_take : (f : Lit → Bool) (lits : List Lit) (i : ℕ) → list_any f lits ≡ false → list_any f (take i lits) ≡ false
-any_take f [] zero e = refl
-any_take f [] (suc i) e = refl
-any_take f (x ∷ lits) zero e = refl
-any_take f (x ∷ lits) (suc i) e = let parts = or_neither _ _ e in or_both _ _ parts.0 (any_take f lits i parts.1)
-
-once_take : (lits : List Lit) (i : ℕ) → once lits ≡ true → once (take i lits) ≡ true
-once_take [] zero e = refl
-once_take [] (suc i) e = refl
-once_take (x ∷ lits) zero e = refl
-once_take (x ∷ lits) (suc i) e =
-    let parts = and_parts _ _ e in
-    and_from _ _ (not-false _ (any_take (λ b. eqb b.var x.var) lits i (not-true _ parts.0))) (once_take lits i parts.1)
-
-pub places_more : (lits : List Lit) (i : ℕ) (d : Lit) (old new : ℕ → Option ℕ) → once lits ≡ true → i < length lits
-    → ((v : ℕ) → new v ≡ cond (eqb (get_or lits i d).var v) (Some i) (old v)) → ((v : ℕ) → old v ≡ place_in (take i lits) v)
-    → (v : ℕ) → new v ≡ place_in (take (i + 1) lits) v
-places_more lits i d old new apart below told so_far v =
-    let a = get_or lits i d in
-    let more : take (i + 1) lits ≡ take i lits ++ a ∷ [] = take_more lits i d below in
-    let none = (once_pop (take i lits) a (ap once (sym more) ∙ once_take lits (i + 1) apart)).1 in
-    told v
-    ∙ ap (λ n. cond (eqb a.var v) (Some n) (old v)) (sym (length-take-le i lits (omega (arith, below))))
-    ∙ ap (cond (eqb a.var v) (Some (length (take i lits)))) (so_far v)
-    ∙ sym (place_push (take i lits) a v none)
-    ∙ ap (λ ls. place_in ls v) (sym more)
 
 -- More marks.
 

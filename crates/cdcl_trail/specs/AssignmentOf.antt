@@ -1,5 +1,5 @@
 -- Scaffolding of inner functions. The steps of a trail, by what an assignment keeps.
-use Rattle.std.specs.Prelude.{◌≡◌, ℕ, ◌+◌, Bool, true, List, [], ◌∷◌, length, Option, None, Some, if◌then◌else◌, ◌==◌, slice_get}
+use Rattle.std.specs.Prelude.{◌≡◌, ℕ, ◌+◌, true, List, [], ◌∷◌, length, Option, None, Some, if◌then◌else◌, ◌==◌, slice_get}
 use Rattle.std.specs.Option.{option_map, option_flatten}
 use Rattle.proof_semantics.specs.declared.literals.Lit.{Lit}
 use Rattle.packed_literals.specs.Tables.{told}
@@ -19,11 +19,6 @@ place_in (a ∷ lits) var = if a.var == var then Some 0 else option_map (λ plac
 
 abbrev pub state_of : Inside → Steps
 state_of t = record { steps = steps_from t.literals.items t.reasons.items }
-
--- the value that the literal at a place gives its variable
-abbrev pub positive_at : List Lit → Option ℕ → Option Bool
-positive_at lits None = None
-positive_at lits (Some place) = option_map (λ a. a.positive) (slice_get lits place)
 
 -- the reason at a place
 abbrev pub reason_at : List (Option ℕ) → Option ℕ → Option ℕ

@@ -50,6 +50,6 @@ pub(crate) fn refutation_of(
 {
     match solver.refute(alloc, literals, meter)? {
         Refuted::Unsat(proof) => Ok(proof),
-        Refuted::Sat(_) => unreachable!(),
+        Refuted::Sat => unreachable!(),
     }
 }

@@ -255,7 +255,7 @@ fn ask_one(
 
 fn count_answer(answer: &Asked, tally: &mut Tally) {
     match answer {
-        Asked::Sat(_) => tally.sat = tally.sat.saturating_add(1),
+        Asked::Sat => tally.sat = tally.sat.saturating_add(1),
         Asked::Unsat(_) => tally.unsat = tally.unsat.saturating_add(1),
     }
 }

@@ -18,7 +18,7 @@ pub(crate) fn ask(
     meter: &mut Meter,
 ) -> Result<Asked, SolveEnd>
     requires { has_opposites assumptions.now ≡ false }
-    ensures answer { IfOk result (IsAsked solver.old.added assumptions.now) }
+    ensures answer { IfOk result (IsAsked solver.old.added assumptions.now solver.new.values) }
     ensures added { solver.new.added ≡ solver.old.added }
     ensures end { IfErr result (IsEnd meter.new) }
     ensures counted { CountsConflicts meter.old meter.new }
@@ -43,7 +43,7 @@ pub(crate) fn is_refused(
     ensures counted { CountsConflicts meter.old meter.new }
 {
     match ask(alloc, solver, assumptions, meter)? {
-        Asked::Sat(_) => Ok(false),
+        Asked::Sat => Ok(false),
         Asked::Unsat(_) => Ok(true),
     }
 }

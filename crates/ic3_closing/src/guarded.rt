@@ -325,7 +325,7 @@ pub(crate) fn mark_core(
     let guards = question(alloc, g, literals, avoids, marks.as_slice())?;
     let first = g.first;
     match ask_guarded(alloc, &mut g.solver, guards.as_slice(), meter)? {
-        Asked::Sat(_) => {}
+        Asked::Sat => {}
         Asked::Unsat(core) => mark_guarded(marks.as_mut_slice(), first, core.as_slice()),
     }
     Ok(())

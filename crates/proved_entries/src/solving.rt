@@ -77,7 +77,7 @@ fn clause_proof(
     let mut meter = Meter::new(NO_LIMIT, 0);
     match solver.refute(alloc, literals.as_slice(), &mut meter)? {
         Refuted::Unsat(proof) => Ok(proof),
-        Refuted::Sat(_) => Err(ProvingEnd::Refused),
+        Refuted::Sat => Err(ProvingEnd::Refused),
     }
 }
 

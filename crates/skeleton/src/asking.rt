@@ -44,19 +44,20 @@ fn found_of(
     alloc: Global,
     c: &Circuit,
     j: u32,
+    solver: &Solver,
     view: &[Arc<Checked>],
     answer: Refuted,
 ) -> Result<Found, AllocError>
     requires property { j < length c.now.justice }
     requires good { IsGoodList c.now (viewed view.now) }
     requires few { length view.now < 2 ^ 32 }
-    requires answer { IsRefuted (skeleton_clauses c.now j (numbered (viewed view.now))) [] answer }
+    requires answer { IsRefuted (skeleton_clauses c.now j (numbered (viewed view.now))) [] solver.now.values answer }
     ensures { IfOk result (IsFound c.now j (viewed view.now)) }
 {
     let _checked = c.max();
     one_valuation(c);
     match answer {
-        Refuted::Sat(values) => Ok(Found::Skeleton(skeleton_in(alloc, c, j, &values)?)),
+        Refuted::Sat => Ok(Found::Skeleton(skeleton_in(alloc, c, j, solver)?)),
         Refuted::Unsat(proof) => Ok(Found::Refuted(Refutation {
             uses: uses_of(alloc, view)?,
             proof,
@@ -107,7 +108,7 @@ pub(crate) fn find(
     ensures counted { CountsConflicts meter.old meter.new }
 {
     let answer = solver.refute(alloc, &[], meter)?;
-    let found = found_of(alloc, c, j, view, answer)?;
+    let found = found_of(alloc, c, j, solver, view, answer)?;
     Ok(with_fewer_uses(alloc, c, j, view, ends, found, meter))
 }
 
@@ -115,6 +116,7 @@ fn first_of(
     alloc: Global,
     c: &Circuit,
     j: u32,
+    solver: &Solver,
     view: &[Arc<Checked>],
     state: &[bool],
     assumptions: &[Lit],
@@ -124,13 +126,13 @@ fn first_of(
     requires good { IsGoodList c.now (viewed view.now) }
     requires state { length state.now ≡ length c.now.latches }
     requires assumptions { assumptions.now ≡ state_literals (state_place c.now 0) state.now }
-    requires answer { IsAsked (skeleton_clauses c.now j (numbered (viewed view.now))) assumptions.now answer }
+    requires answer { IsAsked (skeleton_clauses c.now j (numbered (viewed view.now))) assumptions.now solver.now.values answer }
     ensures { IfOk result (IsFirst c.now j (viewed view.now) state.now) }
 {
     let _checked = c.max();
     one_valuation(c);
     match answer {
-        Asked::Sat(values) => Ok(First::Skeleton(skeleton_in(alloc, c, j, &values)?)),
+        Asked::Sat => Ok(First::Skeleton(skeleton_in(alloc, c, j, solver)?)),
         Asked::Unsat(core) => Ok(First::Never(core_cube(alloc, assumptions, core.as_slice())?)),
     }
 }
@@ -156,5 +158,14 @@ pub(crate) fn find_first(
 {
     let assumptions = state_literals(alloc, c, state)?;
     let answer = solver.ask(alloc, assumptions.as_slice(), meter)?;
-    Ok(first_of(alloc, c, j, view, state, assumptions.as_slice(), answer)?)
+    Ok(first_of(
+        alloc,
+        c,
+        j,
+        solver,
+        view,
+        state,
+        assumptions.as_slice(),
+        answer,
+    )?)
 }

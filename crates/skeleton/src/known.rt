@@ -5,7 +5,7 @@ ghost use Rattle.cnf_unroll.specs.Obligations.{skeleton_clauses};
 ghost use Rattle.entry.specs.CheckedEntries.{viewed, GoesOnFrom};
 ghost use Rattle.skeleton.specs.Keeping.{IsFront, IsBuilt, IsBegun};
 
-use cdcl::Solver;
+use cdcl::{FirstValues, Solver};
 use circuit::Circuit;
 use cnf::Clause;
 use cnf_unroll::{Unrolled, unrolled_skeleton};
@@ -35,15 +35,15 @@ fn add_rest(solver: &mut Solver, mut clauses: Vec<Clause>) -> Result<(), AllocEr
     solver.add_all(rest)
 }
 
-/// Nothing was seen, and the solver, which has no clause, begins with this value of each variable. The error is want of
+/// Nothing was seen, and the solver, which has no clause, decides variables with these values first. The error is want of
 /// memory.
-pub(crate) fn nothing_known(alloc: Global, value: bool) -> Result<Known, AllocError>
+pub(crate) fn nothing_known(alloc: Global, first: FirstValues) -> Result<Known, AllocError>
     ensures added { IfOk result (λ known. known.solver.added ≡ []) }
     ensures seen { IfOk result (λ known. known.seen ≡ []) }
     ensures whole { IfOk result (λ known. known.whole ≡ false) }
 {
     Ok(Known {
-        solver: Solver::deciding(alloc, value)?,
+        solver: Solver::deciding(alloc, first)?,
         seen: Items::new(alloc),
         ends: Items::new(alloc),
         whole: false,

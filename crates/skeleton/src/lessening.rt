@@ -58,7 +58,7 @@ fn proof_over(
 {
     let clauses = clauses_over(alloc, c, j, list, uses.as_slice())?;
     match refuted(alloc, clauses, meter)? {
-        Refuted::Sat(_) => Ok(None),
+        Refuted::Sat => Ok(None),
         Refuted::Unsat(proof) => Ok(Some(Refutation { uses, proof })),
     }
 }

@@ -10,6 +10,7 @@ ghost use Rattle.skeleton.specs.Keeping.{IsBegun};
 use crate::asking::{find, find_first};
 use crate::finding::{First, Found};
 use crate::known::{Known, catch_up, nothing_known};
+use cdcl::FirstValues;
 use circuit::Circuit;
 use edge::{Meter, SolveEnd};
 use entry::Checked;
@@ -99,6 +100,15 @@ fn next_first(
     find_first(alloc, c, j, &mut known.solver, view, state, meter)
 }
 
+// The values that a worker's solver decides variables with first: another skeleton for each.
+fn first_values(worker: u32) -> FirstValues {
+    match worker {
+        0 => FirstValues::AllFalse,
+        3 => FirstValues::AllTrue,
+        _ => FirstValues::Seeded(u64::from(worker)),
+    }
+}
+
 impl Query {
     /// A query for skeletons of the property with the number `j`, counted from 0. `worker` is the number of whoever
     /// asks; it changes which skeleton is looked for first, of which no clause says anything. The error is want of
@@ -108,7 +118,7 @@ impl Query {
         ensures { IfOk result (λ query. query ≡ record { circuit = arc_value c.now; property = j; seen = [] }) }
     {
         let circuit = Arc::try_clone(c)?;
-        let known = nothing_known(alloc, worker / 3 % 2 == 1)?;
+        let known = nothing_known(alloc, first_values(worker))?;
         Ok(Query {
             circuit,
             property: j,

@@ -1,7 +1,7 @@
 //! An own look at an answer. The main call is `judge`.
 
 use crate::questions::{clauses, has_model, is_at, literal, note_numbers};
-use cdcl::{Answer, Asked, Assignment, Refuted};
+use cdcl::{Answer, Asked, Refuted, Solver};
 use cnf::{Db, Lit, ProofLine, has_literal};
 use lrat::Checker;
 use std::alloc::{AllocError, Global};
@@ -58,11 +58,12 @@ pub(crate) fn judge_asked(
     alloc: Global,
     asked: &[i64],
     assumed: &[i64],
+    solver: &Solver,
     answer: &Asked,
     noted: &mut Vec<i64>,
 ) -> Result<Said, AllocError> {
     match answer {
-        Asked::Sat(assignment) => judge_assignment(alloc, asked, assumed, assignment),
+        Asked::Sat => judge_told(alloc, asked, assumed, solver),
         Asked::Unsat(core) => {
             note_numbers(core.as_slice(), noted)?;
             judge_core(alloc, asked, assumed, core.as_slice())
@@ -75,10 +76,11 @@ pub(crate) fn judge_refuted(
     alloc: Global,
     asked: &[i64],
     units: &[i64],
+    solver: &Solver,
     answer: &Refuted,
 ) -> Result<Said, AllocError> {
     match answer {
-        Refuted::Sat(assignment) => judge_assignment(alloc, asked, units, assignment),
+        Refuted::Sat => judge_told(alloc, asked, units, solver),
         Refuted::Unsat(proof) => judge_refutation(alloc, asked, units, proof.as_slice()),
     }
 }
@@ -94,14 +96,14 @@ fn judge_values(
     judge_truths(alloc, asked, assumed, truths.as_slice(), holds)
 }
 
-fn judge_assignment(
+fn judge_told(
     alloc: Global,
     asked: &[i64],
     assumed: &[i64],
-    assignment: &Assignment,
+    solver: &Solver,
 ) -> Result<Said, AllocError> {
-    let truths = truths_under(alloc, assignment, asked)?;
-    let holds = all_true_under(assignment, assumed);
+    let truths = truths_told(alloc, solver, asked)?;
+    let holds = are_told_true(solver, assumed);
     judge_truths(alloc, asked, assumed, truths.as_slice(), holds)
 }
 
@@ -128,30 +130,26 @@ fn is_true_in(values: &[bool], number: i64) -> bool {
     is_at(values, number.unsigned_abs() as usize) == (number > 0)
 }
 
-// Which of the literals are true under an assignment.
-fn truths_under(
-    alloc: Global,
-    assignment: &Assignment,
-    numbers: &[i64],
-) -> Result<Vec<bool>, AllocError> {
+// Which of the literals are true by the values that a solver tells.
+fn truths_told(alloc: Global, solver: &Solver, numbers: &[i64]) -> Result<Vec<bool>, AllocError> {
     let mut truths = Vec::new(alloc);
     for number in numbers {
-        truths.push(is_true_under(assignment, *number))?;
+        truths.push(is_told_true(solver, *number))?;
     }
     Ok(truths)
 }
 
-fn all_true_under(assignment: &Assignment, numbers: &[i64]) -> bool {
+fn are_told_true(solver: &Solver, numbers: &[i64]) -> bool {
     for number in numbers {
-        if !is_true_under(assignment, *number) {
+        if !is_told_true(solver, *number) {
             return false;
         }
     }
     true
 }
 
-fn is_true_under(assignment: &Assignment, number: i64) -> bool {
-    assignment.value(number.unsigned_abs()) == (number > 0)
+fn is_told_true(solver: &Solver, number: i64) -> bool {
+    solver.value(number.unsigned_abs()) == (number > 0)
 }
 
 // There is a model, each clause has a true literal, and each assumption holds.

@@ -79,7 +79,12 @@ impl Session {
         Ok(said)
     }
 
-    fn ask_on(&mut self, assumed: &[i64], meter: &mut Meter) -> Result<Said, AllocError> {
+    /// The same, counted on this meter.
+    pub(crate) fn ask_on(
+        &mut self,
+        assumed: &[i64],
+        meter: &mut Meter,
+    ) -> Result<Said, AllocError> {
         let literals = literals(self.alloc, assumed)?;
         match self.way {
             Way::Solve => self.solve_one(assumed, literals.as_slice(), meter),
@@ -120,7 +125,14 @@ impl Session {
         match self.solver.ask(self.alloc, assumptions, meter) {
             Ok(found) => {
                 let added = self.added.as_slice();
-                judge_asked(self.alloc, added, assumed, &found, &mut self.core)
+                judge_asked(
+                    self.alloc,
+                    added,
+                    assumed,
+                    &self.solver,
+                    &found,
+                    &mut self.core,
+                )
             }
             Err(end) => Ok(said_at(&end)),
         }
@@ -137,7 +149,13 @@ impl Session {
             return Err(AllocError);
         }
         match self.solver.refute(self.alloc, literals, meter) {
-            Ok(found) => judge_refuted(self.alloc, self.added.as_slice(), units, &found),
+            Ok(found) => judge_refuted(
+                self.alloc,
+                self.added.as_slice(),
+                units,
+                &self.solver,
+                &found,
+            ),
             Err(end) => Ok(said_at(&end)),
         }
     }

@@ -12,8 +12,8 @@ use Rattle.skeleton.proofs.asking.found_of.Goals as goal
 pub returns-in_ok-skeleton_in-in-Sat : goal.returns-in_ok-skeleton_in-in-Sat
 returns-in_ok-skeleton_in-in-Sat c =
     let clauses = skeleton_clauses c.args.c.now c.args.j (numbered (viewed c.args.view.now)) in
-    let v = assigned c.in-Sat.values in
-    let holds = subst (λ answer. IsRefuted clauses [] answer) c.in-Sat.is c.requires.answer in
+    let v = assigned c.args.solver.now.values in
+    let holds = subst (λ answer. IsRefuted clauses [] c.args.solver.now.values answer) c.in-Sat.is c.requires.answer in
     model_allowed c.args.c.now c.max-checked.ensures.checked c.one_valuation.ensures c.args.j c.requires.property (viewed c.args.view.now) c.requires.good
     v c.in_ok-skeleton_in-in-Sat.field-0
     (subst (λ all. clauses_value v all ≡ true) (without_units clauses) holds)
@@ -22,7 +22,7 @@ returns-in_ok-skeleton_in-in-Sat c =
 pub returns-in_ok-uses_of-in-Unsat : goal.returns-in_ok-uses_of-in-Unsat
 returns-in_ok-uses_of-in-Unsat c =
     let clauses = skeleton_clauses c.args.c.now c.args.j (numbered (viewed c.args.view.now)) in
-    let answer = subst (λ answer. IsRefuted clauses [] answer) c.in-Unsat.is c.requires.answer in
+    let answer = subst (λ answer. IsRefuted clauses [] c.args.solver.now.values answer) c.in-Unsat.is c.requires.answer in
     let refutes : Refutes clauses c.in-Unsat.proof = subst (λ all. Refutes all c.in-Unsat.proof) (without_units clauses) answer in (
       refutation_good c.args.c.now c.max-checked.ensures.checked c.one_valuation.ensures c.args.j c.requires.property (viewed c.args.view.now) c.requires.good
           c.in_ok-uses_of-in-Unsat.field-0 c.in-Unsat.proof c.in_ok-uses_of-in-Unsat.ensures refutes,

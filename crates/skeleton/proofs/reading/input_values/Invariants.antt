@@ -4,4 +4,4 @@ use Rattle.cnf_unroll.specs.Numbers.{number}
 use Rattle.skeleton.proofs.reading.input_values.Given as goal
 
 abbrev pub invariant-loop-input : goal.invariant-loop-input
-invariant-loop-input l = l.bits ≡ map (λ i. assigned l.values (number l.base i)) (take l.input-index l.inputs)
+invariant-loop-input l = l.bits ≡ map (λ i. assigned l.solver.values (number l.base i)) (take l.input-index l.inputs)

@@ -3,4 +3,4 @@ use Rattle.cdcl.specs.Asking.{assigned}
 use Rattle.skeleton.proofs.reading.latch_values.Given as goal
 
 abbrev pub invariant-loop-latch : goal.invariant-loop-latch
-invariant-loop-latch l = l.bits ≡ map (assigned l.values) (map (λ latch. l.start + latch.var) (take l.latch-index l.latches))
+invariant-loop-latch l = l.bits ≡ map (assigned l.solver.values) (map (λ latch. l.start + latch.var) (take l.latch-index l.latches))

@@ -23,7 +23,7 @@ latch_values-requires-2-clause-vars c =
 
 pub returns : goal.returns
 returns c =
-    let v = assigned c.args.values.now in
+    let v = assigned c.args.solver.now.values in
     situation_made c.args.c.now v c.args.base c.in_ok-latches.latches c.in_ok-inputs.inputs c.in_ok-successor.successor
     (c.in_ok-latches.ensures ∙ ap (λ latches. map v (map (λ latch. c.args.base + 1 + latch.var) latches)) c.latches.ensures)
     (c.in_ok-inputs.ensures ∙ ap (λ inputs. map (λ i. v (number c.args.base i)) inputs) c.inputs.ensures)

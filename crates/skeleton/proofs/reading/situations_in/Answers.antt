@@ -8,7 +8,7 @@ use Rattle.skeleton.proofs.reading.situations_in.Goals as goal
 
 pub loop-block-preserved : goal.loop-block-preserved
 loop-block-preserved c =
-    let v = assigned c.args.values.now in
+    let v = assigned c.args.solver.now.values in
     let left : c.args.count - c.loop-block._block ≡ suc (c.args.count - (c.loop-block._block + 1)) = omega arith in
     let size : 2 * c.max.result + 2 ≡ 2 * c.args.c.now.max + 2 = ap (λ x. 2 * x + 2) c.max.ensures.value in
     let here = ap (λ x. c.loop-block.base + x) (sym size) in

@@ -14,4 +14,5 @@ loop-clause-preserved c =
       first = adds_more c.args.clauses.items c.args.self.now.added c.loop-clause.self.added c.add_sized.new.self.added c.in-Some.clause
           c.next.new.self.rest.items c.loop-clause.invariant.first c.in_ok-add_sized.ensures.added all;
       learned = c.add_sized.ensures.learned ∙ c.loop-clause.invariant.learned;
+      values = c.add_sized.ensures.values ∙ c.loop-clause.invariant.values;
     }

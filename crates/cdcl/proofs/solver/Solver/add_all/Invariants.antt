@@ -7,4 +7,5 @@ invariant-loop-clause l = record {
   all : l.self.added ++ l.clause-iterator.rest.items ≡ l.initial.self.added ++ l.fn.clauses.items;
   first : AddsFirst l.fn.clauses.items l.initial.self.added l.self.added;
   learned : l.self.learned ≡ l.initial.self.learned;
+  values : l.self.values ≡ l.initial.self.values;
 }
