@@ -1,4 +1,4 @@
-//! Frames of lemmas, with values worked out by hand. A lemma is the clause of one variable.
+//! Frames of lemmas, with values worked out by hand. A lemma is the clause of one variable, or of both.
 use cnf::{Clause, Lit};
 use edge::{Held, Meter};
 use ic3_frames::Frames;
@@ -10,18 +10,23 @@ enum Act {
     Open,
     /// Adds the lemma of a variable to a level.
     Add(u64, u64),
+    /// Adds the lemma of variables 1 and 2 to a level.
+    Both(u64),
     /// Pushes the lemma at a place of a level.
     Push(u64, u64),
 }
 
-use Act::{Add, Open, Push};
+use Act::{Add, Both, Open, Push};
 
-fn lemma_of(alloc: Global, var: u64) -> Result<Clause, AllocError> {
-    let literal = Lit {
-        var,
-        positive: true,
-    };
-    Clause::from_slice(alloc, &[literal])
+fn lemma_of(alloc: Global, vars: &[u64]) -> Result<Clause, AllocError> {
+    let mut lemma = Clause::new(alloc);
+    for var in vars {
+        lemma.push(Lit {
+            var: *var,
+            positive: true,
+        })?;
+    }
+    Ok(lemma)
 }
 
 fn push_on(frames: &mut Frames, level: u64, place: u64) -> Result<(), AllocError> {
@@ -32,9 +37,14 @@ fn push_on(frames: &mut Frames, level: u64, place: u64) -> Result<(), AllocError
     Ok(())
 }
 
-fn add_lemma(alloc: Global, frames: &mut Frames, level: u64, var: u64) -> Result<(), AllocError> {
+fn add_lemma(
+    alloc: Global,
+    frames: &mut Frames,
+    level: u64,
+    vars: &[u64],
+) -> Result<(), AllocError> {
     if level < frames.len() {
-        frames.add(level, lemma_of(alloc, var)?)?;
+        frames.add(level, lemma_of(alloc, vars)?)?;
     }
     Ok(())
 }
@@ -42,7 +52,8 @@ fn add_lemma(alloc: Global, frames: &mut Frames, level: u64, var: u64) -> Result
 fn perform(alloc: Global, frames: &mut Frames, act: &Act) -> Result<(), AllocError> {
     match act {
         Open => frames.add_frame(),
-        Add(level, var) => add_lemma(alloc, frames, *level, *var),
+        Add(level, var) => add_lemma(alloc, frames, *level, &[*var]),
+        Both(level) => add_lemma(alloc, frames, *level, &[1, 2]),
         Push(level, place) => push_on(frames, *level, *place),
     }
 }
@@ -61,6 +72,9 @@ fn after(alloc: Global, acts: &[Act]) -> Result<Frames, AllocError> {
 }
 
 fn push_lemma(lemma: &Clause, text: &mut String) -> Result<(), AllocError> {
+    if lemma.len() > 1 {
+        return text.push_str("B");
+    }
     for literal in lemma.as_slice() {
         text.push_str(if literal.var == 1 { "1" } else { "2" })?;
     }
@@ -68,7 +82,7 @@ fn push_lemma(lemma: &Clause, text: &mut String) -> Result<(), AllocError> {
 }
 
 fn push_level(frames: &Frames, level: u64, text: &mut String) -> Result<(), AllocError> {
-    for place in 0..8_u64 {
+    for place in 0..frames.count(level) {
         if let Some(lemma) = frames.lemma(level, place) {
             push_lemma(lemma, text)?;
         }
@@ -83,7 +97,7 @@ fn push_levels(frames: &Frames, text: &mut String) -> Result<(), AllocError> {
     Ok(())
 }
 
-/// The variables of each level's lemmas, and `/` behind each level.
+/// The variables of each level's lemmas, or `B` for both, and `/` behind each level.
 fn spelled(alloc: Global, frames: &Frames) -> Result<String, AllocError> {
     let mut text = String::new(alloc);
     push_levels(frames, &mut text)?;
@@ -91,7 +105,7 @@ fn spelled(alloc: Global, frames: &Frames) -> Result<String, AllocError> {
 }
 
 // The frames of these acts, and how they are spelled.
-const SPELLED: [(&[Act], &str); 7] = [
+const SPELLED: [(&[Act], &str); 13] = [
     (&[], ""),
     (&[Add(0, 1)], ""),
     (&[Open, Add(0, 2), Add(0, 1), Add(0, 2)], "21/"),
@@ -113,6 +127,12 @@ const SPELLED: [(&[Act], &str); 7] = [
         ],
         "//1/",
     ),
+    (&[Open, Open, Both(1), Add(1, 1)], "/1/"),
+    (&[Open, Open, Open, Both(1), Add(2, 1)], "//1/"),
+    (&[Open, Open, Open, Both(2), Add(1, 1)], "/1/B/"),
+    (&[Open, Open, Both(0), Add(1, 1)], "B/1/"),
+    (&[Open, Open, Open, Add(1, 1), Both(2)], "/1/B/"),
+    (&[Open, Open, Open, Add(1, 1), Both(2), Push(1, 0)], "//1/"),
 ];
 
 fn push_allowed(frames: &Frames, text: &mut String) -> Result<(), AllocError> {

@@ -1,11 +1,12 @@
 //! Cubes shortened under tests that are lists of cubes. A literal is written as twice its variable, and one more where
 //! it is negated.
-ghost use Rattle.std.specs.Prelude.{List, ◌≡◌, ◌↔◌, true, refl, IfSome};
+ghost use Rattle.std.specs.Prelude.{List, ◌≡◌, ◌↔◌, true, refl, IfOk, IfSome};
 ghost use Rattle.std.specs.List.{list_any};
 ghost use Rattle.std.proofs.Common.{◌∙◌};
 ghost use Rattle.proof_semantics.specs.declared.literals.Lit.{Lit};
 ghost use Rattle.proof_semantics.specs.Clauses.{is_part};
 ghost use Rattle.edge.specs.Ends.{IsEnd};
+ghost use Rattle.ic3_generalise.specs.Generalising.{EachIsNeeded};
 
 use cnf::{Clause, Cube, Lit, subset};
 use edge::{Counted, Meter, SolveEnd, Spent};
@@ -141,6 +142,20 @@ fn has_codes(cube: &Cube, codes: &[u64]) -> bool {
             .all(|(literal, code)| code_of(literal) == *code)
 }
 
+/// What is left of a cube that the asker passes: each literal of the order that is left is needed.
+fn rest_of<A: Asker>(
+    alloc: Global,
+    cube: Cube,
+    order: &[Lit],
+    asker: &mut A,
+    meter: &mut Meter,
+) -> Result<Cube, SolveEnd>
+    requires { A.passes asker.old cube }
+    ensures { IfOk result (EachIsNeeded (A.passes asker.old) cube order.now) }
+{
+    generalise(alloc, cube, order, asker, meter)
+}
+
 /// Whether these literals are left of a cube that the asker passes, where its literals are dropped in an order.
 fn leaves<A: Asker>(
     alloc: Global,
@@ -153,7 +168,7 @@ fn leaves<A: Asker>(
     requires { A.passes asker.old cube }
 {
     let order = literals_of(alloc, order)?;
-    let left = generalise(alloc, cube, order.as_slice(), asker, meter)?;
+    let left = rest_of(alloc, cube, order.as_slice(), asker, meter)?;
     Ok(has_codes(&left, wanted))
 }
 

@@ -1,11 +1,11 @@
 -- What a frame means, before and after a lemma is put into it.
-use Rattle.std.proofs.Common.{◌≡◌, ℕ, zero, suc, ◌<◌, ◌≤◌, Bool, true, false, ◌&&◌, ◌||◌, List, [], ◌∷◌, ◌++◌, length, refl, sym, ap, ◌∙◌, subst, inl, inr, add-one, arith}
-use Rattle.std.proofs.lemmas.Bool.{cases_Bool, false≢true}
+use Rattle.std.proofs.Common.{◌≡◌, ℕ, zero, suc, ◌<◌, ◌≤◌, Bool, true, false, not, ◌&&◌, ◌||◌, List, [], ◌∷◌, ◌++◌, length, filter, refl, sym, ap, ◌∙◌, subst, inl, inr, add-one, arith}
+use Rattle.std.proofs.lemmas.Bool.{cases_Bool, false≢true, and_parts}
 use Rattle.std.proofs.lemmas.List.Folds.{list_all-append, list_any-append}
-use Rattle.indexmap.specs.IndexSet.{remove_key}
 use Rattle.proof_semantics.specs.declared.literals.Lit.{Lit}
-use Rattle.proof_semantics.specs.Clauses.{clause_value, clauses_value}
-use Rattle.ic3_frames.specs.Frames.{same_clause, has_clause, frame_at, put_at, with_lemma}
+use Rattle.proof_semantics.specs.Clauses.{literal_value, clause_value, clauses_value, has_literal, is_part}
+use Rattle.proof_semantics.proofs.LiteralLaws.{clause_value-has, not-not}
+use Rattle.ic3_frames.specs.Frames.{same_clause, has_clause, frame_at, stays, put_from, put_at, with_lemma}
 use Rattle.ic3_frames.specs.Meaning.{FramesGrow, LemmasRestrict, AboveStay, NumberStays, OpenedStay}
 use Rattle.ic3_frames.proofs.Times.{same-is}
 
@@ -41,28 +41,44 @@ has-adds-nothing v (x ∷ xs) c there =
           ap (λ b. clause_value v x && b) later ∙ sym (and-assoc (clause_value v x) (clauses_value v xs) (clause_value v c))
     ]
 
--- what is taken out is said once more
-removed-said : (v : ℕ → Bool) (xs : List (List Lit)) (c : List Lit)
-    → (clauses_value v (remove_key (same_clause c) xs) && clause_value v c) ≡ (clauses_value v xs && clause_value v c)
-removed-said v [] c = refl
-removed-said v (x ∷ xs) c =
-    elim (cases_Bool (same_clause c x)) [
-      | inl here ↦
-          rw here
-          (subst (λ y. (clauses_value v xs && clause_value v c) ≡ ((clause_value v y && clauses_value v xs) && clause_value v c)) (same-is c x here)
-          (said (clause_value v c) (clauses_value v xs)))
-      | inr apart ↦
-          rw apart
-          (and-assoc (clause_value v x) (clauses_value v (remove_key (same_clause c) xs)) (clause_value v c)
-          ∙ ap (λ b. clause_value v x && b) (removed-said v xs c)
+-- what does not stay beside a lemma follows from it
+part-implies : (v : ℕ → Bool) (c d : List Lit) → is_part c d ≡ true → clause_value v c ≡ true → clause_value v d ≡ true
+part-implies v [] d part holds = absurd (false≢true holds)
+part-implies v (a ∷ c) d part holds =
+    let parts = and_parts (has_literal d a) (is_part c d) part in
+    elim (cases_Bool (literal_value v a)) [
+      | inl here ↦ clause_value-has v d a here parts.0
+      | inr out ↦ part-implies v c d parts.1 (rw out at holds)
+    ]
+
+was-true : (b : Bool) → not b ≡ false → b ≡ true
+was-true b e = sym (not-not b) ∙ ap not e
+
+gone-implied : (v : ℕ → Bool) (n : ℕ) (c d : List Lit) → stays n c d ≡ false → clause_value v c ≡ true → clause_value v d ≡ true
+gone-implied v zero c d gone holds = ap (clause_value v) (sym (same-is c d (was-true (same_clause c d) gone))) ∙ holds
+gone-implied v (suc n) c d gone holds = part-implies v c d (was-true (is_part c d) gone) holds
+
+-- beside the lemma, what stays says what all said
+stays-said : (v : ℕ → Bool) (n : ℕ) (xs : List (List Lit)) (c : List Lit)
+    → (clauses_value v (filter (stays n c) xs) && clause_value v c) ≡ (clauses_value v xs && clause_value v c)
+stays-said v n [] c = refl
+stays-said v n (x ∷ xs) c =
+    elim (cases_Bool (stays n c x)) [
+      | inl kept ↦
+          rw kept
+          (and-assoc (clause_value v x) (clauses_value v (filter (stays n c) xs)) (clause_value v c)
+          ∙ ap (λ b. clause_value v x && b) (stays-said v n xs c)
           ∙ sym (and-assoc (clause_value v x) (clauses_value v xs) (clause_value v c)))
+      | inr gone ↦
+          rw gone
+          (stays-said v n xs c ∙ said (clause_value v c) (clauses_value v xs) (clause_value v x) (gone-implied v n c x gone))
     ]
   where
-    said : (a b : Bool) → (b && a) ≡ ((a && b) && a)
-    said true true = refl
-    said true false = refl
-    said false true = refl
-    said false false = refl
+    said : (c rest x : Bool) → (c ≡ true → x ≡ true) → (rest && c) ≡ ((x && rest) && c)
+    said c rest true h = refl
+    said true rest false h = absurd (false≢true (h refl))
+    said false true false h = refl
+    said false false false h = refl
 
 swap : (a b c : Bool) → ((a && b) && c) ≡ ((a && c) && b)
 swap true b c = and-comm b c
@@ -72,36 +88,41 @@ regroup : (a b c : Bool) → ((a && c) && b) ≡ (a && (b && c))
 regroup true b c = and-comm c b
 regroup false b c = refl
 
-pub put-within : (v : ℕ → Bool) (levels : Levels) (n : ℕ) (c : List Lit) (k : ℕ) → n < length levels → k ≤ n
-    → clauses_value v (frame_at (put_at levels n c) k) ≡ (clauses_value v (frame_at levels k) && clause_value v c)
-put-within v [] n c k inside within = absurd (omega arith)
-put-within v (own ∷ levels) zero c (suc k) inside within = absurd (omega arith)
-put-within v (own ∷ levels) zero c zero inside within =
+pub from-within : (v : ℕ → Bool) (m : ℕ) (levels : Levels) (n : ℕ) (c : List Lit) (k : ℕ) → n < length levels → k ≤ n
+    → clauses_value v (frame_at (put_from m levels n c) k) ≡ (clauses_value v (frame_at levels k) && clause_value v c)
+from-within v m [] n c k inside within = absurd (omega arith)
+from-within v m (own ∷ levels) zero c (suc k) inside within = absurd (omega arith)
+from-within v m (own ∷ levels) zero c zero inside within =
     let rest : List (List Lit) = frame_at levels 0 in
+    let kept : List (List Lit) = filter (stays m c) own in
     let value : List (List Lit) → Bool = clauses_value v in
-    list_all-append (clause_value v) (own ++ c ∷ []) rest
-    ∙ ap (λ b. b && value rest) (list_all-append (clause_value v) own (c ∷ []))
-    ∙ last (value own) (clause_value v c) (value rest)
+    list_all-append (clause_value v) (kept ++ c ∷ []) rest
+    ∙ ap (λ b. b && value rest) (list_all-append (clause_value v) kept (c ∷ []))
+    ∙ last (value kept) (clause_value v c) (value rest)
+    ∙ ap (λ b. b && value rest) (stays-said v m own c)
+    ∙ swap (value own) (clause_value v c) (value rest)
     ∙ ap (λ b. b && clause_value v c) (sym (list_all-append (clause_value v) own rest))
   where
-    last : (a c b : Bool) → ((a && (c && true)) && b) ≡ ((a && b) && c)
-    last true true true = refl
-    last true true false = refl
-    last true false true = refl
-    last true false false = refl
+    last : (a c b : Bool) → ((a && (c && true)) && b) ≡ ((a && c) && b)
+    last true true b = refl
+    last true false b = refl
     last false c b = refl
-put-within v (own ∷ levels) (suc n) c (suc k) inside within = put-within v levels n c k (omega arith) (omega arith)
-put-within v (own ∷ levels) (suc n) c zero inside within =
-    let removed : List (List Lit) = remove_key (same_clause c) own in
+from-within v m (own ∷ levels) (suc n) c (suc k) inside within = from-within v (suc m) levels n c k (omega arith) (omega arith)
+from-within v m (own ∷ levels) (suc n) c zero inside within =
+    let kept : List (List Lit) = filter (stays m c) own in
     let value : List (List Lit) → Bool = clauses_value v in
     let rest : Bool = value (frame_at levels 0) in
     let said : Bool = clause_value v c in
-    list_all-append (clause_value v) removed (frame_at (put_at levels n c) 0)
-    ∙ ap (λ b. value removed && b) (put-within v levels n c 0 (omega arith) (omega arith))
-    ∙ sym (regroup (value removed) rest said)
-    ∙ ap (λ b. b && rest) (removed-said v own c)
+    list_all-append (clause_value v) kept (frame_at (put_from (suc m) levels n c) 0)
+    ∙ ap (λ b. value kept && b) (from-within v (suc m) levels n c 0 (omega arith) (omega arith))
+    ∙ sym (regroup (value kept) rest said)
+    ∙ ap (λ b. b && rest) (stays-said v m own c)
     ∙ swap (value own) said rest
     ∙ ap (λ b. b && said) (sym (list_all-append (clause_value v) own (frame_at levels 0)))
+
+pub put-within : (v : ℕ → Bool) (levels : Levels) (n : ℕ) (c : List Lit) (k : ℕ) → n < length levels → k ≤ n
+    → clauses_value v (frame_at (put_at levels n c) k) ≡ (clauses_value v (frame_at levels k) && clause_value v c)
+put-within v levels n c k inside within = from-within v 0 levels n c k inside within
 
 or-right : (a b : Bool) → b ≡ true → (a || b) ≡ true
 or-right true b e = refl
@@ -125,18 +146,18 @@ with-within v levels n c k inside within =
       | inr absent ↦ rw absent (put-within v levels n c k inside within)
     ]
 
-put-above : (levels : Levels) (n : ℕ) (c : List Lit) (k : ℕ) → n < k → frame_at (put_at levels n c) k ≡ frame_at levels k
-put-above [] n c k above = refl
-put-above (own ∷ levels) zero c zero above = absurd (omega arith)
-put-above (own ∷ levels) zero c (suc k) above = refl
-put-above (own ∷ levels) (suc n) c zero above = absurd (omega arith)
-put-above (own ∷ levels) (suc n) c (suc k) above = put-above levels n c k (omega arith)
+from-above : (m : ℕ) (levels : Levels) (n : ℕ) (c : List Lit) (k : ℕ) → n < k → frame_at (put_from m levels n c) k ≡ frame_at levels k
+from-above m [] n c k above = refl
+from-above m (own ∷ levels) zero c zero above = absurd (omega arith)
+from-above m (own ∷ levels) zero c (suc k) above = refl
+from-above m (own ∷ levels) (suc n) c zero above = absurd (omega arith)
+from-above m (own ∷ levels) (suc n) c (suc k) above = from-above (suc m) levels n c k (omega arith)
 
 pub with-above : (levels : Levels) (n : ℕ) (c : List Lit) (k : ℕ) → n < k → frame_at (with_lemma levels n c) k ≡ frame_at levels k
 with-above levels n c k above =
     elim (cases_Bool (has_clause (frame_at levels n) c)) [
       | inl there ↦ rw there refl
-      | inr absent ↦ rw absent (put-above levels n c k above)
+      | inr absent ↦ rw absent (from-above 0 levels n c k above)
     ]
 
 and-second : (a b : Bool) → (a && b) ≡ true → b ≡ true
@@ -160,10 +181,13 @@ lemmas-restrict levels n lemma k v inside within = with-within v levels n lemma 
 pub above-stay : AboveStay
 above-stay levels n lemma k above = with-above levels n lemma k above
 
+pub length-from : (m : ℕ) (levels : Levels) (k : ℕ) (c : List Lit) → length (put_from m levels k c) ≡ length levels
+length-from m [] k c = refl
+length-from m (own ∷ levels) zero c = refl
+length-from m (own ∷ levels) (suc k) c = ap suc (length-from (suc m) levels k c)
+
 pub length-put : (levels : Levels) (k : ℕ) (c : List Lit) → length (put_at levels k c) ≡ length levels
-length-put [] k c = refl
-length-put (own ∷ levels) zero c = refl
-length-put (own ∷ levels) (suc k) c = ap suc (length-put levels k c)
+length-put levels k c = length-from 0 levels k c
 
 pub number-stays : NumberStays
 number-stays levels n c =

@@ -1,52 +1,51 @@
 -- A lemma is put into a level: no lemma stands twice, and the levels that are written one by one.
-use Rattle.std.proofs.Common.{◌≡◌, ◌≢◌, ℕ, zero, suc, ◌+◌, ◌<◌, ◌≤◌, true, false, List, [], ◌∷◌, ◌++◌, length, set, get_or, refl, sym, ap, ◌∙◌, subst, inl, inr, add-one, arith}
-use Rattle.std.specs.List.{remove}
+use Rattle.std.proofs.Common.{◌≡◌, ◌≢◌, ℕ, zero, suc, ◌+◌, ◌<◌, ◌≤◌, true, false, List, [], ◌∷◌, ◌++◌, length, filter, set, get_or, refl, sym, ap, ◌∙◌, subst, inl, inr, add-one, arith}
 use Rattle.std.proofs.lemmas.Bool.{cases_Bool, false≢true}
-use Rattle.indexmap.specs.IndexSet.{remove_key}
 use Rattle.proof_semantics.specs.declared.literals.Lit.{Lit}
-use Rattle.ic3_frames.specs.Frames.{same_clause, has_clause, own_lemmas, frame_at, put_at, with_lemma, moved, HasOwn}
+use Rattle.ic3_frames.specs.Frames.{same_clause, has_clause, own_lemmas, frame_at, stays, put_from, put_at, with_lemma, HasOwn}
 use Rattle.ic3_frames.specs.Kept.{times, StandOnce, taken_out}
-use Rattle.ic3_frames.proofs.Times.{same-same, same-is, times-append, times-none, has-none, times-removed-same, times-removed-other}
+use Rattle.ic3_frames.proofs.Times.{same-same, same-is, times-append, times-none, has-none, times-filtered, times-stays}
 
 abbrev Levels : Type 0
 Levels = List (List (List Lit))
 
-times-put-same : (c : List Lit) (levels : Levels) (k : ℕ) → times c (frame_at levels 0) ≤ 1 → has_clause (frame_at levels k) c ≡ false
-    → times c (frame_at (put_at levels k c) 0) ≤ 1
-times-put-same c [] k h none = h
-times-put-same c (own ∷ levels) zero h none =
+times-put-same : (m : ℕ) (c : List Lit) (levels : Levels) (k : ℕ) → times c (frame_at levels 0) ≤ 1
+    → has_clause (frame_at levels k) c ≡ false → times c (frame_at (put_from m levels k c) 0) ≤ 1
+times-put-same m c [] k h none = h
+times-put-same m c (own ∷ levels) zero h none =
     let rest : List (List Lit) = frame_at levels 0 in
+    let kept : List (List Lit) = filter (stays m c) own in
     let nothing : times c (own ++ rest) ≡ 0 = times-none c (own ++ rest) none in
     let e = times-append c own rest in
-    let f = times-append c (own ++ c ∷ []) rest in
-    let g = times-append c own (c ∷ []) in
+    let f = times-append c (kept ++ c ∷ []) rest in
+    let g = times-append c kept (c ∷ []) in
+    let out = times-stays m c own in
     let one : times c (c ∷ []) ≡ 1 = rw (same-same c) refl in
     omega arith
-times-put-same c (own ∷ levels) (suc k) h none =
-    let removed : List (List Lit) = remove_key (same_clause c) own in
-    let rest : List (List Lit) = frame_at levels 0 in
-    let e = times-append c own rest in
-    let f = times-append c removed (frame_at (put_at levels k c) 0) in
-    let out = times-removed-same c own (omega arith) in
-    let later = times-put-same c levels k (omega arith) none in
+times-put-same m c (own ∷ levels) (suc k) h none =
+    let e = times-append c own (frame_at levels 0) in
+    let f = times-append c (filter (stays m c) own) (frame_at (put_from (suc m) levels k c) 0) in
+    let out = times-stays m c own in
+    let later = times-put-same (suc m) c levels k (omega arith) none in
     omega arith
 
-times-put-other : (c d : List Lit) (levels : Levels) (k : ℕ) → same_clause d c ≡ false
-    → times d (frame_at (put_at levels k c) 0) ≡ times d (frame_at levels 0)
-times-put-other c d [] k other = refl
-times-put-other c d (own ∷ levels) zero other =
+times-put-other : (m : ℕ) (c d : List Lit) (levels : Levels) (k : ℕ) → same_clause d c ≡ false
+    → times d (frame_at (put_from m levels k c) 0) ≤ times d (frame_at levels 0)
+times-put-other m c d [] k other = omega arith
+times-put-other m c d (own ∷ levels) zero other =
     let rest : List (List Lit) = frame_at levels 0 in
+    let kept : List (List Lit) = filter (stays m c) own in
     let e = times-append d own rest in
-    let f = times-append d (own ++ c ∷ []) rest in
-    let g = times-append d own (c ∷ []) in
+    let f = times-append d (kept ++ c ∷ []) rest in
+    let g = times-append d kept (c ∷ []) in
+    let fewer = times-filtered (stays m c) d own in
     let none : times d (c ∷ []) ≡ 0 = rw other refl in
     omega arith
-times-put-other c d (own ∷ levels) (suc k) other =
-    let removed : List (List Lit) = remove_key (same_clause c) own in
+times-put-other m c d (own ∷ levels) (suc k) other =
     let e = times-append d own (frame_at levels 0) in
-    let f = times-append d removed (frame_at (put_at levels k c) 0) in
-    let out = times-removed-other c d own other in
-    let later = times-put-other c d levels k other in
+    let f = times-append d (filter (stays m c) own) (frame_at (put_from (suc m) levels k c) 0) in
+    let fewer = times-filtered (stays m c) d own in
+    let later = times-put-other (suc m) c d levels k other in
     omega arith
 
 pub once-with : (levels : Levels) (k : ℕ) (c : List Lit) → StandOnce levels → StandOnce (with_lemma levels k c)
@@ -61,34 +60,39 @@ once-with levels k c once d =
         elim (cases_Bool (same_clause d c)) [
           | inl same ↦
               let is : c ≡ d = sym (same-is d c same) in
-              subst (λ x. times x (frame_at (put_at levels k c) 0) ≤ 1) is (times-put-same c levels k (once c) absent)
-          | inr other ↦ let e = times-put-other c d levels k other in let h = once d in omega arith
+              subst (λ x. times x (frame_at (put_at levels k c) 0) ≤ 1) is (times-put-same 0 c levels k (once c) absent)
+          | inr other ↦ let e = times-put-other 0 c d levels k other in let h = once d in omega arith
         ]
 
 -- ---- the levels that are written one by one
 
-pub put-taken : (levels : Levels) (k : ℕ) (c : List Lit) → k < length levels
-    → set (taken_out levels k c) k (own_lemmas levels k ++ c ∷ []) ≡ put_at levels k c
-put-taken [] k c below = absurd (omega arith)
-put-taken (own ∷ levels) zero c below = refl
-put-taken (own ∷ levels) (suc k) c below = ap (λ later. remove_key (same_clause c) own ∷ later) (put-taken levels k c (omega arith))
+pub put-taken : (n : ℕ) (levels : Levels) (k m : ℕ) (c : List Lit) → n + k ≡ m → k < length levels
+    → set (taken_out n levels k c) k (filter (stays m c) (own_lemmas levels k) ++ c ∷ []) ≡ put_from n levels k c
+put-taken n [] k m c is below = absurd (omega arith)
+put-taken n (own ∷ levels) zero m c is below =
+    let same : m ≡ n = omega arith in
+    ap (λ i. (filter (stays i c) own ++ c ∷ []) ∷ levels) same
+put-taken n (own ∷ levels) (suc k) m c is below =
+    ap (λ later. filter (stays n c) own ∷ later) (put-taken (suc n) levels k m c (omega arith) (omega arith))
 
-pub taken-more : (levels : Levels) (k : ℕ) (c : List Lit) → k < length levels
-    → taken_out levels (k + 1) c ≡ set (taken_out levels k c) k (remove_key (same_clause c) (own_lemmas levels k))
-taken-more [] k c below = absurd (omega arith)
-taken-more (own ∷ levels) zero c below = refl
-taken-more (own ∷ levels) (suc k) c below =
-    let next : taken_out (own ∷ levels) (suc k + 1) c ≡ taken_out (own ∷ levels) (suc (k + 1)) c =
-    ap (λ n. taken_out (own ∷ levels) n c) (let e : suc k + 1 ≡ suc (k + 1) = omega arith in e)
+pub taken-more : (n : ℕ) (levels : Levels) (k m : ℕ) (c : List Lit) → n + k ≡ m → k < length levels
+    → taken_out n levels (k + 1) c ≡ set (taken_out n levels k c) k (filter (stays m c) (own_lemmas levels k))
+taken-more n [] k m c is below = absurd (omega arith)
+taken-more n (own ∷ levels) zero m c is below =
+    let same : n ≡ m = omega arith in
+    ap (λ i. filter (stays i c) own ∷ levels) same
+taken-more n (own ∷ levels) (suc k) m c is below =
+    let next : taken_out n (own ∷ levels) (suc k + 1) c ≡ taken_out n (own ∷ levels) (suc (k + 1)) c =
+    ap (λ i. taken_out n (own ∷ levels) i c) (let e : suc k + 1 ≡ suc (k + 1) = omega arith in e)
     in
-    next ∙ ap (λ later. remove_key (same_clause c) own ∷ later) (taken-more levels k c (omega arith))
+    next ∙ ap (λ later. filter (stays n c) own ∷ later) (taken-more (suc n) levels k m c (omega arith) (omega arith))
 
 -- the level itself, and those above, stay
-pub taken-above : (levels : Levels) (k i : ℕ) (c : List Lit) → k ≤ i → own_lemmas (taken_out levels k c) i ≡ own_lemmas levels i
-taken-above levels zero i c above = refl
-taken-above [] (suc k) i c above = refl
-taken-above (own ∷ levels) (suc k) zero c above = absurd (omega arith)
-taken-above (own ∷ levels) (suc k) (suc i) c above = taken-above levels k i c (omega arith)
+pub taken-above : (n : ℕ) (levels : Levels) (k i : ℕ) (c : List Lit) → k ≤ i → own_lemmas (taken_out n levels k c) i ≡ own_lemmas levels i
+taken-above n levels zero i c above = refl
+taken-above n [] (suc k) i c above = refl
+taken-above n (own ∷ levels) (suc k) zero c above = absurd (omega arith)
+taken-above n (own ∷ levels) (suc k) (suc i) c above = taken-above (suc n) levels k i c (omega arith)
 
 -- ---- frames that differ
 
@@ -134,7 +138,7 @@ pub some-own : (levels : Levels) (k : ℕ) → k < length levels → HasOwn leve
 some-own levels k below (c, (here, absent)) none =
     false≢true (sym absent ∙ ap (λ xs. has_clause xs c) (sym (same-frames levels k below none)) ∙ here)
 
--- ---- a lemma is pushed to the next level
+-- ---- a lemma that a level has, the next has not
 
 -- the clause at a place stands in the list
 times-at : (own : List (List Lit)) (place : ℕ) → place < length own → 1 ≤ times (get_or own place []) own
@@ -143,32 +147,6 @@ times-at (c ∷ own) zero inside =
     let one : times c (c ∷ own) ≡ 1 + times c own = rw (same-same c) refl in
     omega arith
 times-at (c ∷ own) (suc place) inside = let later = times-at own place (omega arith) in omega arith
-
--- where it stands once, it is the one that is taken out
-removed-at : (own : List (List Lit)) (place : ℕ) → place < length own → times (get_or own place []) own ≤ 1
-    → remove_key (same_clause (get_or own place [])) own ≡ remove own place
-removed-at [] place inside once = absurd (omega arith)
-removed-at (c ∷ own) zero inside once = rw (same-same c) refl
-removed-at (d ∷ own) (suc place) inside once =
-    let c : List Lit = get_or own place [] in
-    elim (cases_Bool (same_clause c d)) [
-      | inl same ↦
-          let twice = rw same at once in
-          let some = times-at own place (omega arith) in
-          absurd (omega arith)
-      | inr other ↦
-          let alone = rw other at once in
-          let rest : times c own ≤ 1 = omega arith in
-          rw other (ap (λ later. d ∷ later) (removed-at own place (omega arith) rest))
-    ]
-
-removed-none : (c : List Lit) (own : List (List Lit)) → has_clause own c ≡ false → remove_key (same_clause c) own ≡ own
-removed-none c [] none = refl
-removed-none c (d ∷ own) none =
-    elim (cases_Bool (same_clause c d)) [
-      | inl here ↦ absurd (false≢true (sym (rw here at none)))
-      | inr other ↦ rw other (ap (λ later. d ∷ later) (removed-none c own (rw other at none)))
-    ]
 
 -- how often a lemma of a level stands in the frame, without the levels above
 times-own : (c : List Lit) (levels : Levels) (k : ℕ) → k < length levels
@@ -180,37 +158,13 @@ times-own c (own ∷ levels) (suc k) below =
     let e = times-append c own (frame_at levels 0) in
     omega arith
 
-put-moved : (c : List Lit) (levels : Levels) (k place : ℕ) → suc k < length levels → times c (frame_at levels 0) ≤ 1
-    → place < length (own_lemmas levels k) → c ≡ get_or (own_lemmas levels k) place []
-    → put_at levels (suc k) c ≡ set (set levels k (remove (own_lemmas levels k) place)) (suc k) (own_lemmas levels (suc k) ++ c ∷ [])
-put-moved c [] k place below once inside is = absurd (omega arith)
-put-moved c (own ∷ []) zero place below once inside is = absurd (omega arith)
-put-moved c (own ∷ next ∷ levels) zero place below once inside is =
-    let e = times-append c own (frame_at (next ∷ levels) 0) in
-    let most : times c own ≤ 1 = omega arith in
-    let gone : remove_key (same_clause c) own ≡ remove own place =
-    ap (λ d. remove_key (same_clause d) own) is ∙ removed-at own place inside (subst (λ d. times d own ≤ 1) is most)
-    in
-    ap (λ rest. rest ∷ (next ++ c ∷ []) ∷ levels) gone
-put-moved c (own ∷ levels) (suc k) place below once inside is =
-    let e = times-append c own (frame_at levels 0) in
-    let some : 1 ≤ times c (own_lemmas levels k) = subst (λ d. 1 ≤ times d (own_lemmas levels k)) (sym is) (times-at (own_lemmas levels k) place inside) in
-    let there = times-own c levels k (omega arith) in
-    let none : has_clause own c ≡ false = has-none c own (omega arith) in
-    let later = put-moved c levels k place (omega arith) (omega arith) inside is in
-    ap (λ rest. rest ∷ put_at levels (suc k) c) (removed-none c own none) ∙ ap (λ rest. own ∷ rest) later
-
-pub with-moved : (levels : Levels) (k place : ℕ) → k + 1 < length levels → StandOnce levels → place < length (own_lemmas levels k)
-    → with_lemma levels (k + 1) (get_or (own_lemmas levels k) place []) ≡ moved levels k place
-with-moved levels k place below once inside =
+pub with-moved : (levels : Levels) (k place : ℕ) → StandOnce levels → k < length levels → place < length (own_lemmas levels k)
+    → with_lemma levels (k + 1) (get_or (own_lemmas levels k) place []) ≡ put_at levels (k + 1) (get_or (own_lemmas levels k) place [])
+with-moved levels k place once below inside =
     let c : List Lit = get_or (own_lemmas levels k) place [] in
     let some = times-at (own_lemmas levels k) place inside in
-    let there = times-own c levels k (omega arith) in
+    let there = times-own c levels k below in
     let most = once c in
     let absent : has_clause (frame_at levels (suc k)) c ≡ false = has-none c (frame_at levels (suc k)) (omega arith) in
-    let put : put_at levels (suc k) c ≡ with_lemma levels (suc k) c = rw absent refl in
-    let here : with_lemma levels (suc k) c ≡ set (set levels k (remove (own_lemmas levels k) place)) (suc k) (own_lemmas levels (suc k) ++ c ∷ []) =
-    sym put ∙ put-moved c levels k place (omega arith) most inside refl
-    in
-    ap (λ n. with_lemma levels n c) (add-one k) ∙ here
-    ∙ ap (λ n. set (set levels k (remove (own_lemmas levels k) place)) n (own_lemmas levels n ++ c ∷ [])) (sym (add-one k))
+    let next : has_clause (frame_at levels (k + 1)) c ≡ false = ap (λ n. has_clause (frame_at levels n) c) (add-one k) ∙ absent in
+    rw next refl

@@ -4,10 +4,10 @@ use Rattle.std.proofs.Math.Nat.{pow-suc, lt_of_not-le}
 use Rattle.std.proofs.lemmas.Bool.{cases_Bool, false≢true}
 use Rattle.proof_semantics.specs.declared.literals.Lit.{Lit}
 use Rattle.proof_semantics.specs.Clauses.{clause_value, values_of}
-use Rattle.ic3_frames.specs.Frames.{has_clause, frame_at, put_at}
+use Rattle.ic3_frames.specs.Frames.{has_clause, frame_at, put_from, put_at}
 use Rattle.ic3_frames.specs.Room.{count_states, allowed_by, total, room, LemmasTakeRoom, LemmasMakeNoRoom, FramesTakeRoom, NeighboursDiffer, DifferingAreFew, FirstRoom}
 use Rattle.ic3_frames.proofs.Counting.{count-within, count-less, count-all, count-same}
-use Rattle.ic3_frames.proofs.Meaning.{frames-grow, put-within, has-adds-nothing, length-put, opened-stay}
+use Rattle.ic3_frames.proofs.Meaning.{frames-grow, from-within, has-adds-nothing, length-put, opened-stay}
 
 abbrev Levels : Type 0
 Levels = List (List (List Lit))
@@ -22,43 +22,43 @@ and-false : (a b : Bool) → b ≡ false → (a && b) ≡ false
 and-false true b e = e
 and-false false b e = refl
 
-fewer : (levels : Levels) (k : ℕ) (c : List Lit) (s : List Bool) → k < length levels
-    → allowed_by (frame_at (put_at levels k c) 0) s ≡ true → allowed_by (frame_at levels 0) s ≡ true
-fewer levels k c s inside h =
+fewer : (m : ℕ) (levels : Levels) (k : ℕ) (c : List Lit) (s : List Bool) → k < length levels
+    → allowed_by (frame_at (put_from m levels k c) 0) s ≡ true → allowed_by (frame_at levels 0) s ≡ true
+fewer m levels k c s inside h =
     and-first (allowed_by (frame_at levels 0) s) (clause_value (values_of s) c)
-    (sym (put-within (values_of s) levels k c 0 inside (omega arith)) ∙ h)
+    (sym (from-within (values_of s) m levels k c 0 inside (omega arith)) ∙ h)
 
-total-within : (n : ℕ) (levels : Levels) (k : ℕ) (c : List Lit) → k < length levels → total n (put_at levels k c) ≤ total n levels
-total-within n [] k c inside = absurd (omega arith)
-total-within n (own ∷ levels) zero c inside =
-    let here = count-within n (allowed_by (frame_at (put_at (own ∷ levels) zero c) 0)) (allowed_by (frame_at (own ∷ levels) 0))
-    (λ s. fewer (own ∷ levels) zero c s inside)
+total-within : (m n : ℕ) (levels : Levels) (k : ℕ) (c : List Lit) → k < length levels → total n (put_from m levels k c) ≤ total n levels
+total-within m n [] k c inside = absurd (omega arith)
+total-within m n (own ∷ levels) zero c inside =
+    let here = count-within n (allowed_by (frame_at (put_from m (own ∷ levels) zero c) 0)) (allowed_by (frame_at (own ∷ levels) 0))
+    (λ s. fewer m (own ∷ levels) zero c s inside)
     in
     omega arith
-total-within n (own ∷ levels) (suc k) c inside =
-    let here = count-within n (allowed_by (frame_at (put_at (own ∷ levels) (suc k) c) 0)) (allowed_by (frame_at (own ∷ levels) 0))
-    (λ s. fewer (own ∷ levels) (suc k) c s inside)
+total-within m n (own ∷ levels) (suc k) c inside =
+    let here = count-within n (allowed_by (frame_at (put_from m (own ∷ levels) (suc k) c) 0)) (allowed_by (frame_at (own ∷ levels) 0))
+    (λ s. fewer m (own ∷ levels) (suc k) c s inside)
     in
-    let above = total-within n levels k c (omega arith) in
+    let above = total-within (suc m) n levels k c (omega arith) in
     omega arith
 
-total-less : (n : ℕ) (levels : Levels) (k : ℕ) (c : List Lit) (s : List Bool) → k < length levels → length s ≡ n
-    → allowed_by (frame_at levels k) s ≡ true → clause_value (values_of s) c ≡ false → total n (put_at levels k c) + 1 ≤ total n levels
-total-less n [] k c s inside size allowed out = absurd (omega arith)
-total-less n (own ∷ levels) zero c s inside size allowed out =
-    let gone : allowed_by (frame_at (put_at (own ∷ levels) zero c) 0) s ≡ false =
-    put-within (values_of s) (own ∷ levels) zero c 0 inside (omega arith)
+total-less : (m n : ℕ) (levels : Levels) (k : ℕ) (c : List Lit) (s : List Bool) → k < length levels → length s ≡ n
+    → allowed_by (frame_at levels k) s ≡ true → clause_value (values_of s) c ≡ false → total n (put_from m levels k c) + 1 ≤ total n levels
+total-less m n [] k c s inside size allowed out = absurd (omega arith)
+total-less m n (own ∷ levels) zero c s inside size allowed out =
+    let gone : allowed_by (frame_at (put_from m (own ∷ levels) zero c) 0) s ≡ false =
+    from-within (values_of s) m (own ∷ levels) zero c 0 inside (omega arith)
     ∙ and-false (allowed_by (frame_at (own ∷ levels) 0) s) (clause_value (values_of s) c) out
     in
-    let here = count-less n (allowed_by (frame_at (put_at (own ∷ levels) zero c) 0)) (allowed_by (frame_at (own ∷ levels) 0))
-    (λ s. fewer (own ∷ levels) zero c s inside) s size gone allowed
+    let here = count-less n (allowed_by (frame_at (put_from m (own ∷ levels) zero c) 0)) (allowed_by (frame_at (own ∷ levels) 0))
+    (λ s. fewer m (own ∷ levels) zero c s inside) s size gone allowed
     in
     omega arith
-total-less n (own ∷ levels) (suc k) c s inside size allowed out =
-    let here = count-within n (allowed_by (frame_at (put_at (own ∷ levels) (suc k) c) 0)) (allowed_by (frame_at (own ∷ levels) 0))
-    (λ s. fewer (own ∷ levels) (suc k) c s inside)
+total-less m n (own ∷ levels) (suc k) c s inside size allowed out =
+    let here = count-within n (allowed_by (frame_at (put_from m (own ∷ levels) (suc k) c) 0)) (allowed_by (frame_at (own ∷ levels) 0))
+    (λ s. fewer m (own ∷ levels) (suc k) c s inside)
     in
-    let above = total-less n levels k c s (omega arith) size allowed out in
+    let above = total-less (suc m) n levels k c s (omega arith) size allowed out in
     omega arith
 
 room-put : (n : ℕ) (levels : Levels) (k : ℕ) (c : List Lit)
@@ -81,7 +81,7 @@ lemmas-make-none n levels k c inside =
     put_less n levels k c inside =
         let e = room-put n levels k c in
         let f = room-is n levels in
-        let h = total-within n levels k c inside in
+        let h = total-within 0 n levels k c inside in
         omega arith
 
 pub lemmas-take : LemmasTakeRoom
@@ -99,7 +99,7 @@ lemmas-take n levels k c s inside size allowed out =
     put_less n levels k c s inside size allowed out =
         let e = room-put n levels k c in
         let f = room-is n levels in
-        let h = total-less n levels k c s inside size allowed out in
+        let h = total-less 0 n levels k c s inside size allowed out in
         omega arith
 
 -- ---- a frame is opened

@@ -1,17 +1,17 @@
 -- Steps of the code over sets of lemmas.
-use Rattle.std.proofs.Common.{◌≡◌, ◌≢◌, ℕ, ◌+◌, ◌-◌, ◌<◌, ◌≤◌, Bool, true, false, ◌||◌, Result, Ok, Err, List, [], ◌∷◌, ◌++◌, length, length-drop, take, drop, set, get_or, Option, Some, None, refl, sym, ap, ◌∙◌, subst, inl, inr, arith, below_more, add-zero, get_or-set_other, get_or-set_same}
+use Rattle.std.proofs.Common.{◌≡◌, ◌≢◌, ℕ, ◌+◌, ◌-◌, ◌<◌, ◌≤◌, Bool, true, false, Result, Ok, Err, List, [], ◌∷◌, ◌++◌, length, filter, length-drop, take, drop, set, get_or, Option, Some, None, refl, sym, ap, ◌∙◌, subst, inl, inr, arith, below_more, add-zero, get_or-set_other, get_or-set_same}
 use Rattle.std.specs.Prelude.{IfNone, IfSome}
 use Rattle.std.specs.HashSet.{HashSet}
 use Rattle.std.proofs.lemmas.Bool.{cases_lt}
 use Rattle.std.proofs.lemmas.List.{take_all, drop-map, drop-drop, drop-set-lt, map-set, length-map, get_or-map, get_or-take, get_or_default, length-take-le, get_or-drop, drop-set}
-use Rattle.std.proofs.lemmas.List.Folds.{list_any-append}
 use Rattle.std.proofs.Math.Seq.{map-set_same}
 use Rattle.std.specs.Result.{OnOk, OnErr}
-use Rattle.indexmap.specs.IndexSet.{remove_key}
+use Rattle.indexmap.specs.IndexSet.{insert_key}
 use Rattle.proof_semantics.specs.declared.literals.Lit.{Lit}
 use Rattle.edge.specs.Units.{SpentFrame}
-use Rattle.ic3_frames.specs.Frames.{same_clause, has_clause, own_lemmas, frame_at, put_at, with_lemma, moved, AllDiffer}
+use Rattle.ic3_frames.specs.Frames.{same_clause, has_clause, own_lemmas, frame_at, stays, put_at, with_lemma, AllDiffer}
 use Rattle.ic3_frames.specs.Kept.{keys_of, taken_out, StandOnce}
+use Rattle.ic3_frames.proofs.Times.{has-none, times-stays}
 use Rattle.ic3_frames.proofs.Putting.{taken-above, taken-more, put-taken, once-with, with-moved, frame-own, same-frames, has-own, some-own}
 
 abbrev Levels : Type 0
@@ -31,18 +31,18 @@ frame-slice sets k =
 -- ---- the lemma is taken out of one more level
 
 pub taken-keys : {S : Type 0} (first sets : List (HashSet (List Lit) S)) (k : ℕ) (s new : HashSet (List Lit) S) (lemma : List Lit)
-    → s ≡ get_or sets k s → k < length sets → length sets ≡ length first → keys_of sets ≡ taken_out (keys_of first) k lemma
-    → new.keys ≡ remove_key (same_clause lemma) s.keys → keys_of (set sets k new) ≡ taken_out (keys_of first) (k + 1) lemma
+    → s ≡ get_or sets k s → k < length sets → length sets ≡ length first → keys_of sets ≡ taken_out 0 (keys_of first) k lemma
+    → new.keys ≡ filter (stays k lemma) s.keys → keys_of (set sets k new) ≡ taken_out 0 (keys_of first) (k + 1) lemma
 taken-keys first sets k s new lemma at below size so_far removed =
     let levels : Levels = keys_of first in
     let before : s.keys ≡ own_lemmas levels k =
-    sym (keys-at sets k s at below) ∙ ap (λ levels. own_lemmas levels k) so_far ∙ taken-above levels k k lemma (omega arith)
+    sym (keys-at sets k s at below) ∙ ap (λ levels. own_lemmas levels k) so_far ∙ taken-above 0 levels k k lemma (omega arith)
     in
     let inside : k < length levels = omega (arith, length-map first (λ s. s.keys)) in
     map-set (λ s. s.keys) sets k new
     ∙ ap (λ levels. set levels k new.keys) so_far
-    ∙ ap (λ own. set (taken_out levels k lemma) k own) (removed ∙ ap (remove_key (same_clause lemma)) before)
-    ∙ sym (taken-more levels k lemma inside)
+    ∙ ap (λ own. set (taken_out 0 levels k lemma) k own) (removed ∙ ap (filter (stays k lemma)) before)
+    ∙ sym (taken-more 0 levels k k lemma (omega arith) inside)
 
 pub rest-kept : {X : Type 0} (first xs : List X) (k : ℕ) (x : X) → drop k xs ≡ drop k first → drop (k + 1) (set xs k x) ≡ drop (k + 1) first
 rest-kept first xs k x rest =
@@ -117,10 +117,6 @@ pub made-keys : {S : Type 0} (first : List (HashSet (List Lit) S)) (k : ℕ) (s 
     → made.keys ≡ (get_or first k s).keys → keys_of (set first k made) ≡ keys_of first
 made-keys first k s made same = map-set_same (λ s. s.keys) first k made s same
 
-or-left : (a b : Bool) → (a || b) ≡ false → a ≡ false
-or-left true b e = e
-or-left false b e = refl
-
 stays-there : {S : Type 0} (first sets : List (HashSet (List Lit) S)) (k : ℕ) (s t made : HashSet (List Lit) S) → k < length first
     → drop k sets ≡ drop k (set first k made) → made.keys ≡ (get_or first k s).keys → (get_or sets k t).keys ≡ own_lemmas (keys_of first) k
 stays-there first sets k s t made below rest same =
@@ -130,33 +126,31 @@ stays-there first sets k s t made below rest same =
     in
     ap (λ s. s.keys) there ∙ same ∙ sym (get_or-map (λ s. s.keys) first k s [] below)
 
-pub absent-there : {S : Type 0} (first sets : List (HashSet (List Lit) S)) (k : ℕ) (s t made : HashSet (List Lit) S) (lemma : List Lit) → k < length first
-    → drop k sets ≡ drop k (set first k made) → made.keys ≡ (get_or first k s).keys → has_clause (frame_at (keys_of first) k) lemma ≡ false
-    → has_clause (get_or sets k t).keys lemma ≡ false
-absent-there first sets k s t made lemma below rest same absent =
-    let levels : Levels = keys_of first in
-    let inside : k < length levels = omega (arith, length-map first (λ s. s.keys)) in
-    let own : List (List Lit) = own_lemmas levels k in
-    let above : List (List Lit) = frame_at levels (k + 1) in
-    let parts : (has_clause own lemma || has_clause above lemma) ≡ false =
-    sym (list_any-append (same_clause lemma) own above) ∙ ap (λ xs. has_clause xs lemma) (sym (frame-own levels k inside)) ∙ absent
+pub put-behind : (n : ℕ) (c : List Lit) (own kept last : List (List Lit)) → kept ≡ filter (stays n c) own
+    → last ≡ insert_key same_clause kept c → last ≡ filter (stays n c) own ++ c ∷ []
+put-behind n c own kept last is put =
+    let absent : has_clause kept c ≡ false =
+    ap (λ xs. has_clause xs c) is ∙ has-none c (filter (stays n c) own) (times-stays n c own)
     in
-    ap (λ xs. has_clause xs lemma) (stays-there first sets k s t made below rest same) ∙ or-left (has_clause own lemma) (has_clause above lemma) parts
+    put ∙ behind absent ∙ ap (λ xs. xs ++ c ∷ []) is
+  where
+    behind : has_clause kept c ≡ false → insert_key same_clause kept c ≡ kept ++ c ∷ []
+    behind absent = rw absent refl
 
 pub put-done : {S : Type 0} (first sets : List (HashSet (List Lit) S)) (k : ℕ) (s t made last : HashSet (List Lit) S) (lemma : List Lit) → k < length first
     → drop k sets ≡ drop k (set first k made) → made.keys ≡ (get_or first k s).keys → has_clause (frame_at (keys_of first) k) lemma ≡ false
-    → keys_of sets ≡ taken_out (keys_of (set first k made)) k lemma → last.keys ≡ (get_or sets k t).keys ++ lemma ∷ []
+    → keys_of sets ≡ taken_out 0 (keys_of (set first k made)) k lemma → last.keys ≡ filter (stays k lemma) (get_or sets k t).keys ++ lemma ∷ []
     → keys_of (set sets k last) ≡ with_lemma (keys_of first) k lemma
 put-done first sets k s t made last lemma below rest same absent taken added =
     let levels : Levels = keys_of first in
     let inside : k < length levels = omega (arith, length-map first (λ s. s.keys)) in
-    let out : keys_of sets ≡ taken_out levels k lemma = taken ∙ ap (λ levels. taken_out levels k lemma) (made-keys first k s made same) in
-    let own : last.keys ≡ own_lemmas levels k ++ lemma ∷ [] =
-    added ∙ ap (λ own. own ++ lemma ∷ []) (stays-there first sets k s t made below rest same)
+    let out : keys_of sets ≡ taken_out 0 levels k lemma = taken ∙ ap (λ levels. taken_out 0 levels k lemma) (made-keys first k s made same) in
+    let own : last.keys ≡ filter (stays k lemma) (own_lemmas levels k) ++ lemma ∷ [] =
+    added ∙ ap (λ own. filter (stays k lemma) own ++ lemma ∷ []) (stays-there first sets k s t made below rest same)
     in
     let put : put_at levels k lemma ≡ with_lemma levels k lemma = rw absent refl in
-    map-set (λ s. s.keys) sets k last ∙ ap (λ levels. set levels k last.keys) out ∙ ap (set (taken_out levels k lemma) k) own
-    ∙ put-taken levels k lemma inside ∙ put
+    map-set (λ s. s.keys) sets k last ∙ ap (λ levels. set levels k last.keys) out ∙ ap (set (taken_out 0 levels k lemma) k) own
+    ∙ put-taken 0 levels k k lemma (omega arith) inside ∙ put
 
 -- ---- what a call leaves
 
@@ -173,9 +167,9 @@ pub kept-once : {T E : Type 0} (r : Result T E) (old new : Levels) (k : ℕ) (le
 kept-once (Ok x) old new k lemma ok err once = subst StandOnce (sym ok) (once-with old k lemma once)
 kept-once (Err e) old new k lemma ok err once = subst StandOnce (sym err) once
 
-pub pushed-lists : {T E : Type 0} (r : Result T E) (levels new : Levels) (k place : ℕ) (lemma : List Lit) → k + 1 < length levels → StandOnce levels
+pub pushed-moved : {T E : Type 0} (r : Result T E) (levels new : Levels) (k place : ℕ) (lemma : List Lit) → k < length levels → StandOnce levels
     → place < length (own_lemmas levels k) → lemma ≡ get_or (own_lemmas levels k) place [] → OnOk r (new ≡ with_lemma levels (k + 1) lemma)
-    → OnOk r (new ≡ moved levels k place)
-pushed-lists r levels new k place lemma below once inside is ok =
-    on-ok r (new ≡ with_lemma levels (k + 1) lemma) (new ≡ moved levels k place)
-    (λ put. put ∙ ap (with_lemma levels (k + 1)) is ∙ with-moved levels k place below once inside) ok
+    → OnOk r (new ≡ put_at levels (k + 1) (get_or (own_lemmas levels k) place []))
+pushed-moved r levels new k place lemma below once inside is ok =
+    on-ok r (new ≡ with_lemma levels (k + 1) lemma) (new ≡ put_at levels (k + 1) (get_or (own_lemmas levels k) place []))
+    (λ put. put ∙ ap (with_lemma levels (k + 1)) is ∙ with-moved levels k place once below inside) ok

@@ -1,11 +1,10 @@
 -- How often a clause stands in lists.
-use Rattle.std.proofs.Common.{◌≡◌, ◌+◌, ◌≤◌, true, false, List, [], ◌∷◌, ◌++◌, refl, sym, ap, ◌∙◌, inl, inr, if◌then◌else◌, arith, zero-add}
-use Rattle.std.proofs.lemmas.Bool.{cases_Bool, false≢true}
-use Rattle.indexmap.specs.IndexSet.{remove_key}
+use Rattle.std.proofs.Common.{◌≡◌, ℕ, zero, suc, ◌+◌, ◌≤◌, Bool, true, false, not, ◌||◌, List, [], ◌∷◌, ◌++◌, filter, refl, sym, ap, ◌∙◌, inl, inr, if◌then◌else◌, arith, zero-add}
+use Rattle.std.proofs.lemmas.Bool.{cases_Bool, false≢true, and_from}
 use Rattle.proof_semantics.specs.declared.literals.Lit.{Lit}
-use Rattle.proof_semantics.specs.Clauses.{lit_eq}
+use Rattle.proof_semantics.specs.Clauses.{lit_eq, has_literal, is_part}
 use Rattle.proof_semantics.proofs.LiteralLaws.{lit_eq-true, lit_eq-same}
-use Rattle.ic3_frames.specs.Frames.{same_clause, has_clause}
+use Rattle.ic3_frames.specs.Frames.{same_clause, has_clause, stays}
 use Rattle.ic3_frames.specs.Kept.{times}
 
 pub same-same : (c : List Lit) → same_clause c c ≡ true
@@ -47,23 +46,44 @@ has-none c (x ∷ xs) e =
       | inr apart ↦ rw apart (has-none c xs (let h = rw apart at e in omega arith))
     ]
 
-pub times-removed-same : (c : List Lit) (xs : List (List Lit)) → times c xs ≤ 1 → times c (remove_key (same_clause c) xs) ≡ 0
-times-removed-same c [] h = refl
-times-removed-same c (x ∷ xs) h =
-    elim (cases_Bool (same_clause c x)) [
-      | inl here ↦ rw here (let g = rw here at h in omega arith)
-      | inr apart ↦
-          let g = rw apart at h in
-          let rest = times-removed-same c xs (omega arith) in
-          rw (apart, apart) (omega arith)
+-- ---- what stays beside a lemma
+
+or-right : (a b : Bool) → b ≡ true → (a || b) ≡ true
+or-right true b e = refl
+or-right false b e = e
+
+part-of : (c d : List Lit) → ((a : Lit) → has_literal c a ≡ true → has_literal d a ≡ true) → is_part c d ≡ true
+part-of [] d among = refl
+part-of (a ∷ c) d among =
+    and_from _ _ (among a (ap (λ b. b || has_literal c a) (lit_eq-same a)))
+    (part-of c d (λ b there. among b (or-right (lit_eq b a) (has_literal c b) there)))
+
+-- the lemma itself does not
+pub stays-not : (n : ℕ) (c : List Lit) → stays n c c ≡ false
+stays-not zero c = ap not (same-same c)
+stays-not (suc n) c = ap not (part-of c c (λ a there. there))
+
+pub times-filtered : (test : List Lit → Bool) (d : List Lit) (xs : List (List Lit)) → times d (filter test xs) ≤ times d xs
+times-filtered test d [] = omega arith
+times-filtered test d (x ∷ xs) =
+    let rest = times-filtered test d xs in
+    elim (cases_Bool (test x)) [
+      | inl kept ↦ rw kept (omega arith)
+      | inr gone ↦ rw gone (omega arith)
     ]
 
-pub times-removed-other : (c d : List Lit) (xs : List (List Lit)) → same_clause d c ≡ false → times d (remove_key (same_clause c) xs) ≡ times d xs
-times-removed-other c d [] other = refl
-times-removed-other c d (x ∷ xs) other =
-    elim (cases_Bool (same_clause c x)) [
-      | inl here ↦
-          let apart : same_clause d x ≡ false = ap (same_clause d) (sym (same-is c x here)) ∙ other in
-          rw (here, apart) (omega arith)
-      | inr apart ↦ rw apart (ap (λ n. (if same_clause d x then 1 else 0) + n) (times-removed-other c d xs other))
+stays-other : (n : ℕ) (c d : List Lit) → stays n c d ≡ true → same_clause c d ≡ false
+stays-other n c d kept =
+    elim (cases_Bool (same_clause c d)) [
+      | inl same ↦ absurd (false≢true (sym (stays-not n c) ∙ ap (stays n c) (same-is c d same) ∙ kept))
+      | inr other ↦ other
+    ]
+
+pub times-stays : (n : ℕ) (c : List Lit) (xs : List (List Lit)) → times c (filter (stays n c) xs) ≡ 0
+times-stays n c [] = refl
+times-stays n c (x ∷ xs) =
+    let rest = times-stays n c xs in
+    elim (cases_Bool (stays n c x)) [
+      | inl kept ↦ rw (kept, stays-other n c x kept) (omega arith)
+      | inr gone ↦ rw gone rest
     ]

@@ -1,10 +1,9 @@
 -- Frames of IC3 (Bradley, 2011), kept as lists of lemmas: for each level those that the next one has not.
-use Rattle.std.specs.Prelude.{◌≡◌, ℕ, zero, suc, ◌+◌, ◌<◌, Bool, true, false, List, [], ◌∷◌, ◌++◌, length, drop, slice_index_or, slice_set, if◌then◌else◌}
-use Rattle.std.specs.List.{list_any, flat_map, remove}
+use Rattle.std.specs.Prelude.{◌≡◌, ℕ, zero, suc, ◌+◌, ◌<◌, Bool, true, false, not, List, [], ◌∷◌, ◌++◌, length, drop, filter, slice_index_or, if◌then◌else◌}
+use Rattle.std.specs.List.{list_any, flat_map}
 use Rattle.std.specs.Cmp.Lexicographic.{pointwise}
-use Rattle.indexmap.specs.IndexSet.{remove_key}
 use Rattle.proof_semantics.specs.declared.literals.Lit.{Lit}
-use Rattle.proof_semantics.specs.Clauses.{lit_eq}
+use Rattle.proof_semantics.specs.Clauses.{lit_eq, is_part}
 
 -- the same literals in the same order
 abbrev pub same_clause : List Lit → List Lit → Bool
@@ -22,21 +21,25 @@ own_lemmas levels k = slice_index_or levels k []
 abbrev pub frame_at : List (List (List Lit)) → ℕ → List (List Lit)
 frame_at levels k = flat_map (λ own. own) (drop k levels)
 
--- The lemma goes to the end of its level and leaves the levels below.
+-- Which lemmas of level n stay where c comes to this level or to one above it: at level 0 all but c itself, at a higher one
+-- those of which c is no part; the others c implies.
+abbrev pub stays : ℕ → List Lit → List Lit → Bool
+stays zero c lemma = not (same_clause c lemma)
+stays (suc n) c lemma = not (is_part c lemma)
+
+-- The lemma goes to the end of level k, and from this level and those below goes what does not stay. The first level here
+-- is level n.
+abbrev pub put_from : ℕ → List (List (List Lit)) → ℕ → List Lit → List (List (List Lit))
+put_from n [] k lemma = []
+put_from n (own ∷ levels) zero lemma = (filter (stays n lemma) own ++ lemma ∷ []) ∷ levels
+put_from n (own ∷ levels) (suc k) lemma = filter (stays n lemma) own ∷ put_from (suc n) levels k lemma
+
 abbrev pub put_at : List (List (List Lit)) → ℕ → List Lit → List (List (List Lit))
-put_at [] k lemma = []
-put_at (own ∷ levels) zero lemma = (own ++ lemma ∷ []) ∷ levels
-put_at (own ∷ levels) (suc k) lemma = remove_key (same_clause lemma) own ∷ put_at levels k lemma
+put_at levels k lemma = put_from 0 levels k lemma
 
 -- the same, unless the frame of that level has it
 abbrev pub with_lemma : List (List (List Lit)) → ℕ → List Lit → List (List (List Lit))
 with_lemma levels k lemma = if has_clause (frame_at levels k) lemma then levels else put_at levels k lemma
-
--- the lemma at a place of level k goes to the end of the next level
-abbrev pub moved : List (List (List Lit)) → ℕ → ℕ → List (List (List Lit))
-moved levels k place =
-    slice_set (slice_set levels k (remove (own_lemmas levels k) place)) (k + 1)
-    (own_lemmas levels (k + 1) ++ slice_index_or (own_lemmas levels k) place [] ∷ [])
 
 -- frame k has a lemma that the next has not
 abbrev pub HasOwn : List (List (List Lit)) → ℕ → Type 0

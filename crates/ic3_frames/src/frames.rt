@@ -3,10 +3,10 @@ ghost use Rattle.std.specs.Prelude.{◌≡◌, ℕ, ◌+◌, ◌≤◌, ◌<◌,
 ghost use Rattle.proof_semantics.specs.Clauses.{clause_value, clauses_value, values_of};
 ghost use Rattle.edge.specs.Faults.{one_more};
 ghost use Rattle.edge.specs.declared.metering.Counted.TheVariants.{Steps};
-ghost use Rattle.ic3_frames.specs.Frames.{own_lemmas, frame_at, with_lemma, moved, AllDiffer};
+ghost use Rattle.ic3_frames.specs.Frames.{own_lemmas, frame_at, put_at, with_lemma, AllDiffer};
 ghost use Rattle.ic3_frames.specs.Lent.{clauses_of};
 
-use crate::levels::{add_level, allow, copy_at, count, first_empty, lemma_at, put};
+use crate::levels::{add_level, allow, copy_at, count, count_at, first_empty, lemma_at, put};
 use cnf::Clause;
 use edge::{Held, Meter, Spent};
 use indexmap::IndexSet;
@@ -59,8 +59,9 @@ impl Frames {
         add_level(&mut self.levels, &mut self.counts)
     }
 
-    /// Puts a lemma into the frame of a level and those below, unless that frame has it. The frames above stay. The
-    /// error is want of memory, and changes nothing.
+    /// Puts a lemma into the frame of a level and those below, unless that frame has it. Those lemmas of this level and of
+    /// lower ones, from level 1 on, go of which the new one is a part: it implies them. The frames above stay. The error
+    /// is want of memory, and changes nothing.
     pub fn add(&mut self, level: u64, lemma: Clause) -> Result<(), AllocError>
         requires { level < length self.old }
         ensures ok { OnOk result (self.new ≡ with_lemma self.old level lemma) }
@@ -72,17 +73,26 @@ impl Frames {
         put(&mut self.levels, level as usize, lemma)
     }
 
-    /// Puts the lemma at a place of a level into the next frame too. The error is want of memory, and changes nothing.
+    /// Puts the lemma at a place of a level into the next frame too, as `add` does: it leaves its level. The error is want
+    /// of memory, and changes nothing.
     pub fn push_on(&mut self, level: u64, place: u64) -> Result<(), AllocError>
         requires next { level + 1 < length self.old }
         requires place { place < length (own_lemmas self.old level) }
         ensures ok { OnOk result (self.new
             ≡ with_lemma self.old (level + 1) (slice_index_or (own_lemmas self.old level) place [])) }
-        ensures lists { OnOk result (self.new ≡ moved self.old level place) }
+        ensures moved { OnOk result (self.new
+            ≡ put_at self.old (level + 1) (slice_index_or (own_lemmas self.old level) place [])) }
         ensures err { OnErr result (self.new ≡ self.old) }
     {
         let lemma = copy_at(&self.levels, level as usize, place as usize)?;
         put(&mut self.levels, level as usize + 1, lemma)
+    }
+
+    /// How many lemmas a level has that the next has not. Takes no memory.
+    pub fn count(&self, level: u64) -> u64
+        ensures { result ≡ length (own_lemmas self.now level) }
+    {
+        count_at(&self.levels, level as usize)
     }
 
     /// The lemma at a place of those that a level has and the next has not. Takes no memory.

@@ -1,13 +1,14 @@
-//! A set of lemmas for each level. The main call is `put`, which keeps each lemma in one level.
-ghost use Rattle.std.specs.Prelude.{◌≡◌, ◌≢◌, ℕ, ◌+◌, ◌≤◌, ◌<◌, ◌++◌, ◌∷◌, ◌↔◌, [], Some, false, length, drop, slice_get, slice_index_or, option_copied, OnOk, OnErr, IfOk, IfErr, IsErr, IfSome, IfNone};
+//! A set of lemmas for each level. The main call is `put`, which keeps each lemma in one level, and none that it implies
+//! beside it or below.
+ghost use Rattle.std.specs.Prelude.{◌≡◌, ◌≢◌, ℕ, ◌+◌, ◌≤◌, ◌<◌, ◌++◌, ◌∷◌, ◌↔◌, [], Some, length, drop, filter, slice_get, slice_index_or, option_copied, OnOk, OnErr, IfOk, IfErr, IsErr, IfSome, IfNone};
 ghost use Rattle.proof_semantics.specs.Clauses.{clauses_value, values_of};
 ghost use Rattle.edge.specs.Faults.{one_more};
 ghost use Rattle.edge.specs.declared.metering.Counted.TheVariants.{Steps};
-ghost use Rattle.ic3_frames.specs.Frames.{same_clause, has_clause, own_lemmas, frame_at, with_lemma, AllDiffer};
+ghost use Rattle.ic3_frames.specs.Frames.{has_clause, own_lemmas, frame_at, stays, with_lemma, AllDiffer};
 ghost use Rattle.ic3_frames.specs.Kept.{keys_of, taken_out};
-ghost use Rattle.indexmap.specs.IndexSet.{remove_key, spare};
+ghost use Rattle.indexmap.specs.IndexSet.{spare};
 
-use cnf::{Clause, holds};
+use cnf::{Clause, holds, subset};
 use edge::{Meter, Spent};
 use indexmap::IndexSet;
 use std::alloc::AllocError;
@@ -32,20 +33,33 @@ fn is_from(levels: &[IndexSet<Clause>], level: usize, lemma: &Clause) -> bool
     is_in(&levels[level..], lemma)
 }
 
-fn take_from(own: &mut IndexSet<Clause>, lemma: &Clause)
-    ensures { own.new.keys ≡ remove_key (same_clause lemma.now) own.old.keys }
+// Whether a lemma of a level stays where `lemma` comes to this level or to one above it.
+fn stays(level: usize, lemma: &Clause, other: &Clause) -> bool
+    ensures { result ≡ stays level lemma.now other.now }
 {
-    let _ = own.shift_remove(lemma);
+    if level == 0 {
+        lemma != other
+    } else {
+        !subset(lemma, other)
+    }
 }
 
-// Takes the lemma out of the first `below` levels.
+// Takes out of a level what does not stay beside the lemma.
+fn take_from(own: &mut IndexSet<Clause>, level: usize, lemma: &Clause)
+    ensures keys { own.new.keys ≡ filter (stays level lemma.now) own.old.keys }
+    ensures room { spare own.old ≤ spare own.new }
+{
+    own.retain(|other| stays(level, lemma, other));
+}
+
+// The same of the first `below` levels.
 fn take_out(levels: &mut [IndexSet<Clause>], below: usize, lemma: &Clause)
     requires { below ≤ length levels.old }
-    ensures keys { keys_of levels.new ≡ taken_out (keys_of levels.old) below lemma.now }
+    ensures keys { keys_of levels.new ≡ taken_out 0 (keys_of levels.old) below lemma.now }
     ensures rest { drop below levels.new ≡ drop below levels.old }
 {
     for k in 0..below {
-        take_from(&mut levels[k], lemma);
+        take_from(&mut levels[k], k, lemma);
     }
 }
 
@@ -57,20 +71,20 @@ fn make_room(own: &mut IndexSet<Clause>) -> Result<(), AllocError>
     own.reserve(1)
 }
 
-// Puts a new lemma at the end, where there is room.
-fn push_last(own: &mut IndexSet<Clause>, lemma: Clause)
-    requires absent { has_clause own.old.keys lemma ≡ false }
-    requires room { 1 ≤ spare own.old }
-    ensures { own.new.keys ≡ own.old.keys ++ lemma ∷ [] }
+// Puts the lemma at the end of a level, where there is room, in place of what does not stay beside it.
+fn put_last(own: &mut IndexSet<Clause>, level: usize, lemma: Clause)
+    requires { 1 ≤ spare own.old }
+    ensures { own.new.keys ≡ filter (stays level lemma) own.old.keys ++ lemma ∷ [] }
 {
+    take_from(own, level, &lemma);
     match own.insert(lemma) {
         Ok(_) => {}
         Err(_) => unreachable!(),
     }
 }
 
-/// Puts the lemma at the end of a level and takes it out of the levels below, unless it stands in this level or above.
-/// The error is want of memory, and leaves each level as it was.
+/// Puts the lemma at the end of a level, and takes out of it and of those below what does not stay beside it, unless the
+/// lemma stands in this level or above. The error is want of memory, and leaves each level as it was.
 pub(crate) fn put(
     levels: &mut Vec<IndexSet<Clause>>,
     level: usize,
@@ -95,7 +109,7 @@ fn put_at(levels: &mut [IndexSet<Clause>], level: usize, lemma: Clause) -> Resul
     }
     make_room(&mut levels[level])?;
     take_out(levels, level, &lemma);
-    push_last(&mut levels[level], lemma);
+    put_last(&mut levels[level], level, lemma);
     Ok(())
 }
 
@@ -158,6 +172,17 @@ pub(crate) fn count(
 {
     write_counts(levels, counts);
     meter.frame(&counts[..levels.len() - 1])
+}
+
+/// How many lemmas a level has.
+pub(crate) fn count_at(levels: &[IndexSet<Clause>], level: usize) -> u64
+    ensures { result ≡ length (own_lemmas (keys_of levels.now) level) }
+{
+    if level < levels.len() {
+        levels[level].len() as u64
+    } else {
+        0
+    }
 }
 
 /// The lemma at a place of a level.

@@ -1,4 +1,5 @@
-//! The frames of IC3: for each level a set of lemmas, each lemma in the highest level in which it stands.
+//! The frames of IC3: for each level a set of lemmas, each lemma in the highest level in which it stands. A lemma that
+//! comes drops those that it implies, beside it and below.
 //!
 //! | Call | Does |
 //! |---|---|
@@ -7,6 +8,7 @@
 //! | `add_frame` | opens a frame without lemmas above the others |
 //! | `add` | puts a lemma into a frame and those below |
 //! | `push_on` | puts a lemma of a level into the next frame too |
+//! | `count` | how many lemmas a level has that the next has not |
 //! | `lemma` | lends a lemma of a level that the next level has not |
 //! | `at` | a frame as a list of clauses, for the meter of a search |
 //! | `equal_pair` | a level whose frame has the same lemmas as the next |

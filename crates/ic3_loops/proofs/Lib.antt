@@ -15,3 +15,5 @@ pub mod Ways
 pub mod Lifted
 pub mod Singles
 pub mod Kept
+pub mod Narrower
+pub mod Witnessing

@@ -1,15 +1,14 @@
 -- The lemmas of level 0, the literals of the starts: what is stuck there stays so, since the lowest frame allows the
 -- starts alone, and no lemma comes to level 0.
-use Rattle.std.proofs.Common.{◌≡◌, ℕ, zero, suc, ◌<◌, Bool, true, if◌then◌else◌, List, [], ◌∷◌, ◌++◌, length, get_or, sym, ap, subst, inl, inr, arith, ◌∙◌}
+use Rattle.std.proofs.Common.{◌≡◌, ℕ, zero, suc, ◌<◌, Bool, true, if◌then◌else◌, List, [], ◌∷◌, ◌++◌, length, filter, get_or, sym, ap, subst, inl, inr, arith, ◌∙◌}
 use Rattle.std.specs.List.{All}
 use Rattle.std.proofs.lemmas.Bool.{cases_Bool}
-use Rattle.std.proofs.lemmas.List.Elements.{All-contains, All-weaker}
+use Rattle.std.proofs.lemmas.List.Elements.{All-contains, All-weaker, All-filter}
 use Rattle.std.proofs.lemmas.List.Folds.{list_any_at}
-use Rattle.std.proofs.lemmas.Map.Views.{All-remove_key, Contains-from_any}
-use Rattle.std.specs.Set.{remove_key}
+use Rattle.std.proofs.lemmas.Map.Views.{Contains-from_any}
 use Rattle.proof_semantics.specs.declared.literals.Lit.{Lit}
 use Rattle.proof_semantics.specs.Clauses.{values_of}
-use Rattle.ic3_frames.specs.Frames.{same_clause, has_clause, own_lemmas, frame_at, put_at, with_lemma}
+use Rattle.ic3_frames.specs.Frames.{same_clause, has_clause, own_lemmas, frame_at, stays, put_at, with_lemma}
 use Rattle.ic3_frames.specs.Room.{allowed_by}
 use Rattle.ic3_frames.proofs.Times.{same-same, same-is}
 use Rattle.ic3_frames.proofs.Meaning.{opened-stay}
@@ -34,11 +33,11 @@ all_among : (P : List Lit → Type 0) (xs ys : List (List Lit)) → ((c : List L
     → All P xs → All P ys
 all_among P xs ys among each k d below = has_holds P xs (get_or ys k d) each (among (get_or ys k d) (has_at ys k d below))
 
-has_removed : (test : List Lit → Bool) (own : List (List Lit)) (c : List Lit) → has_clause (remove_key test own) c ≡ true
+has_filtered : (test : List Lit → Bool) (own : List (List Lit)) (c : List Lit) → has_clause (filter test own) c ≡ true
     → has_clause own c ≡ true
-has_removed test own c there =
+has_filtered test own c there =
     let P : List Lit → Type 0 = λ x. has_clause own x ≡ true in
-    has_holds P (remove_key test own) c (All-remove_key test P own (λ k d below. has_at own k d below)) there
+    has_holds P (filter test own) c (All-filter test P own (λ k d below. has_at own k d below)) there
 
 -- ---- a lemma that goes higher
 
@@ -46,7 +45,7 @@ put_lowest : (levels : Levels) (n : ℕ) (c lemma : List Lit) → 0 < n → has_
     → has_clause (own_lemmas levels 0) lemma ≡ true
 put_lowest [] n c lemma some there = there
 put_lowest (own ∷ levels) zero c lemma some there = absurd (omega (arith, some))
-put_lowest (own ∷ levels) (suc n) c lemma some there = has_removed (same_clause c) own lemma there
+put_lowest (own ∷ levels) (suc n) c lemma some there = has_filtered (stays 0 c) own lemma there
 
 pub with_lowest : (levels new : Levels) (n : ℕ) (c : List Lit) → 0 < n → new ≡ with_lemma levels n c → KeepsLowest levels new
 with_lowest levels new n c some is lemma there =

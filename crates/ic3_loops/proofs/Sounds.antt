@@ -1,16 +1,14 @@
 -- Sound frames stay sound where a lemma is put into one, and a solver with the same lemma goes on to agree with them.
-use Rattle.std.proofs.Common.{◌≡◌, ℕ, zero, suc, ◌+◌, ◌<◌, ◌≤◌, Bool, true, false, ◌&&◌, ◌||◌, nat_lt, List, [], ◌∷◌, ◌++◌, length, refl, sym, ap, subst, ◌∙◌, inl, inr, add-one, arith}
+use Rattle.std.proofs.Common.{◌≡◌, ℕ, zero, suc, ◌+◌, ◌<◌, ◌≤◌, Bool, true, false, ◌&&◌, ◌||◌, nat_lt, List, [], ◌∷◌, ◌++◌, length, filter, refl, sym, ap, subst, ◌∙◌, inl, inr, add-one, arith}
 use Rattle.std.specs.List.{All}
 use Rattle.std.proofs.lemmas.Bool.{cases_Bool, cases_lt, and_parts, and_from, lt-ltb, le-ltb}
-use Rattle.std.proofs.lemmas.List.Elements.{All-head, All-tail, All-cons, All-append, All-push, All-nil}
+use Rattle.std.proofs.lemmas.List.Elements.{All-head, All-tail, All-cons, All-append, All-push, All-nil, All-filter}
 use Rattle.std.proofs.lemmas.List.Folds.{list_all-append}
-use Rattle.std.proofs.lemmas.Map.Views.{All-remove_key}
-use Rattle.std.specs.Set.{remove_key}
 use Rattle.aig_semantics.specs.declared.traces.Position.{Position}
 use Rattle.aig_semantics.specs.Runs.{successor}
 use Rattle.proof_semantics.specs.declared.literals.Lit.{Lit}
 use Rattle.proof_semantics.specs.Clauses.{clause_value, values_of}
-use Rattle.ic3_frames.specs.Frames.{same_clause, has_clause, frame_at, put_at, with_lemma}
+use Rattle.ic3_frames.specs.Frames.{has_clause, frame_at, stays, put_from, put_at, with_lemma}
 use Rattle.ic3_frames.specs.Room.{allowed_by}
 use Rattle.ic3_frames.proofs.Meaning.{with-within, with-above, frames-grow, number-stays}
 use Rattle.ic3_semantics.specs.declared.lemmas.Lemma.{Lemma}
@@ -68,23 +66,24 @@ all_parts P (x ∷ xs) ys h =
     (All-cons P x xs (All-head P x (xs ++ ys) h) rest.0, rest.1)
 
 -- Each lemma of the frames, and the one that is put in.
-all-put : (P : List Lit → Type 0) (levels : Levels) (n : ℕ) (c : List Lit) → All P (frame_at levels 0) → P c
-    → All P (frame_at (put_at levels n c) 0)
-all-put P [] n c h p = h
-all-put P (own ∷ levels) zero c h p =
+all-put : (P : List Lit → Type 0) (m : ℕ) (levels : Levels) (n : ℕ) (c : List Lit) → All P (frame_at levels 0) → P c
+    → All P (frame_at (put_from m levels n c) 0)
+all-put P m [] n c h p = h
+all-put P m (own ∷ levels) zero c h p =
     let parts = all_parts P own (frame_at levels 0) h in
-    All-append P (own ++ c ∷ []) (frame_at levels 0) (All-push P own c parts.0 p) parts.1
-all-put P (own ∷ levels) (suc n) c h p =
+    All-append P (filter (stays m c) own ++ c ∷ []) (frame_at levels 0)
+    (All-push P (filter (stays m c) own) c (All-filter (stays m c) P own parts.0) p) parts.1
+all-put P m (own ∷ levels) (suc n) c h p =
     let parts = all_parts P own (frame_at levels 0) h in
-    All-append P (remove_key (same_clause c) own) (frame_at (put_at levels n c) 0)
-    (All-remove_key (same_clause c) P own parts.0) (all-put P levels n c parts.1 p)
+    All-append P (filter (stays m c) own) (frame_at (put_from (suc m) levels n c) 0)
+    (All-filter (stays m c) P own parts.0) (all-put P (suc m) levels n c parts.1 p)
 
 pub all-with : (P : List Lit → Type 0) (levels : Levels) (n : ℕ) (c : List Lit) → All P (frame_at levels 0) → P c
     → All P (frame_at (with_lemma levels n c) 0)
 all-with P levels n c h p =
     elim (cases_Bool (has_clause (frame_at levels n) c)) [
       | inl there ↦ rw there h
-      | inr absent ↦ rw absent (all-put P levels n c h p)
+      | inr absent ↦ rw absent (all-put P 0 levels n c h p)
     ]
 
 -- Each frame steps into the next, behind a lemma too.

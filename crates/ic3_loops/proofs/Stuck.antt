@@ -1,24 +1,24 @@
 -- Lemmas that are pushed, and lemmas that are stuck.
-use Rattle.std.proofs.Common.{◌≡◌, ◌≢◌, ℕ, zero, suc, ◌+◌, ◌-◌, ◌<◌, ◌≤◌, Bool, true, false, ◌&&◌, not, List, [], ◌∷◌, ◌++◌, map, length, take, set, get_or, refl, sym, ap, subst, ◌∙◌, inl, inr, arith, get_or-set_other, get_or-set_same}
-use Rattle.std.specs.List.{All, remove}
+use Rattle.std.proofs.Common.{◌≡◌, ◌≢◌, ℕ, zero, suc, ◌+◌, ◌-◌, ◌<◌, ◌≤◌, Bool, true, false, ◌&&◌, not, List, [], ◌∷◌, ◌++◌, map, length, drop, filter, cond, get_or, refl, sym, ap, subst, ◌∙◌, inl, inr, arith}
+use Rattle.std.specs.List.{All}
 use Rattle.std.proofs.lemmas.Bool.{cases_Bool, cases_lt, false≢true, and_parts}
-use Rattle.std.proofs.lemmas.List.{take_all, length-map}
-use Rattle.std.proofs.lemmas.List.Edits.{length-remove}
-use Rattle.std.proofs.lemmas.List.Elements.{All-nil, All-map, All-more, All-weaker}
+use Rattle.std.proofs.lemmas.List.{length-map}
+use Rattle.std.proofs.lemmas.List.Elements.{All-nil, All-cons, All-tail, All-map, All-filter, All-weaker}
 use Rattle.std.proofs.lemmas.List.Folds.{list_all-append, list_all_at}
 use Rattle.aig_semantics.specs.declared.traces.Position.{Position}
 use Rattle.aig_semantics.specs.Runs.{successor}
 use Rattle.proof_semantics.specs.declared.literals.Lit.{Lit}
 use Rattle.proof_semantics.specs.Clauses.{negation, clause_value, clauses_value, cube_value, values_of}
 use Rattle.proof_semantics.proofs.LiteralLaws.{cube_value-negations, not-not}
-use Rattle.ic3_frames.specs.Frames.{frame_at, own_lemmas, with_lemma, moved, AllDiffer}
+use Rattle.ic3_frames.specs.Frames.{frame_at, own_lemmas, stays, put_from, with_lemma, AllDiffer}
 use Rattle.ic3_frames.specs.Room.{allowed_by, NeighboursDiffer}
 use Rattle.ic3_frames.proofs.Meaning.{with-within}
 use Rattle.ic3_frames.proofs.Putting.{frame-own, some-own}
+use Rattle.ic3_frames.proofs.Times.{stays-not}
 use Rattle.ic3_semantics.specs.Stepping.{Stepping, IsPredecessor, IsMissing, IsOver}
 use Rattle.ic3_semantics.specs.Searching.{Question}
 use Rattle.ic3_loops.specs.Sound.{IsSound, IsRelative, Agree, IsStuck, AreStuck}
-use Rattle.ic3_loops.specs.Propagating.{AllowBelow, IsPushed, IsTried, Narrows, StayStuck, AllStuck, place_after}
+use Rattle.ic3_loops.specs.Propagating.{AllowBelow, IsPushed, StuckFrom, IsTried, Narrows, StayStuck, AllStuck}
 use Rattle.ic3_loops.proofs.Sounds.{grow_on, all_parts, Levels}
 
 -- What all lemmas are, those of a level are.
@@ -74,17 +74,23 @@ missing_relative st levels level cube part lemma is missing agree k p next arena
           }))
     ]
 
+-- The state of a lemma's cube breaks it.
+pub found_breaks : (st : Stepping) (cube lemma : List Lit) (p : Position) → cube ≡ map negation lemma
+    → cube_value (values_of (successor st.question.circuit p)) cube ≡ true
+    → clause_value (values_of (successor st.question.circuit p)) lemma ≡ false
+found_breaks st cube lemma p is inside =
+    let v : ℕ → Bool = values_of (successor st.question.circuit p) in
+    sym (not-not (clause_value v lemma)) ∙ ap not (sym (cube_value-negations v lemma) ∙ ap (cube_value v) (sym is) ∙ inside)
+
 -- A lemma whose cube a step enters from its frame is stuck.
 pub found_stuck : (st : Stepping) (levels : Levels) (level : ℕ) (cube lemma : List Lit) (p : Position) → cube ≡ map negation lemma
     → IsPredecessor st level cube p → Agree st.lemmas levels → IsStuck st.question levels level lemma
 found_stuck st levels level cube lemma p is found agree =
-    let v : ℕ → Bool = values_of (successor st.question.circuit p) in
     record {
       step = p;
       arena = found.step;
       from = sym (agree level p.latches) ∙ found.frame;
-      breaks =
-          sym (not-not (clause_value v lemma)) ∙ ap not (sym (cube_value-negations v lemma) ∙ ap (cube_value v) (sym is) ∙ found.inside);
+      breaks = found_breaks st cube lemma p is found.inside;
     }
 
 -- What a lemma of a level that is put into the next level leaves as it was.
@@ -109,48 +115,80 @@ stuck_on q old new level k lemma below within stuck = record {
   breaks = stuck.breaks;
 }
 
-moved_other : (levels : Levels) (level place k : ℕ) → k < level → own_lemmas (moved levels level place) k ≡ own_lemmas levels k
-moved_other levels level place k below =
-    let apart : k ≢ level = omega arith in
-    let above : k ≢ level + 1 = omega arith in
-    let lemma : List Lit = get_or (own_lemmas levels level) place [] in
-    get_or-set_other (set levels level (remove (own_lemmas levels level) place)) (level + 1) k (own_lemmas levels (level + 1) ++ lemma ∷ []) [] above
-    ∙ get_or-set_other levels level k (remove (own_lemmas levels level) place) [] apart
+-- What the levels below that of a lemma have, behind it.
+own_put : (m : ℕ) (levels : Levels) (n k i : ℕ) (c : List Lit) → k < n → m + k ≡ i
+    → own_lemmas (put_from m levels n c) k ≡ filter (stays i c) (own_lemmas levels k)
+own_put m [] n zero i c below is = refl
+own_put m [] n (suc k) i c below is = refl
+own_put m (own ∷ levels) zero k i c below is = absurd (omega arith)
+own_put m (own ∷ levels) (suc n) zero i c below is = let same : m ≡ i = omega arith in ap (λ j. filter (stays j c) own) same
+own_put m (own ∷ levels) (suc n) (suc k) i c below is = own_put (suc m) levels n k i c (omega arith) (omega arith)
 
-pub moved_here : (levels : Levels) (level place : ℕ) → level < length levels
-    → own_lemmas (moved levels level place) level ≡ remove (own_lemmas levels level) place
-moved_here levels level place below =
-    let above : level ≢ level + 1 = omega arith in
-    let lemma : List Lit = get_or (own_lemmas levels level) place [] in
-    get_or-set_other (set levels level (remove (own_lemmas levels level) place)) (level + 1) level (own_lemmas levels (level + 1) ++ lemma ∷ []) [] above
-    ∙ get_or-set_same levels level (remove (own_lemmas levels level) place) [] below
+own_pushed : (old new : Levels) (level place k : ℕ) → IsPushed old new level place → k ≤ level
+    → own_lemmas new k ≡ filter (stays k (get_or (own_lemmas old level) place [])) (own_lemmas old k)
+own_pushed old new level place k pushed within =
+    ap (λ levels. own_lemmas levels k) pushed.lists
+    ∙ own_put 0 old (level + 1) k k (get_or (own_lemmas old level) place []) (omega arith) (omega arith)
 
 pub pushed_stay : (q : Question) (old new : Levels) (level place : ℕ) → IsPushed old new level place → StayStuck q old new level
 pushed_stay q old new level place pushed k below stuck =
-    subst (All (IsStuck q new k)) (sym (ap (λ levels. own_lemmas levels k) pushed.lists ∙ moved_other old level place k below))
-    (All-weaker (IsStuck q old k) (IsStuck q new k) (λ lemma. stuck_on q old new level k lemma pushed.below (omega arith)) (own_lemmas old k) stuck)
+    let c : List Lit = get_or (own_lemmas old level) place [] in
+    subst (All (IsStuck q new k)) (sym (own_pushed old new level place k pushed (omega arith)))
+    (All-filter (stays k c) (IsStuck q new k) (own_lemmas old k)
+    (All-weaker (IsStuck q old k) (IsStuck q new k) (λ lemma. stuck_on q old new level k lemma pushed.below (omega arith)) (own_lemmas old k) stuck))
 
-take-remove : (xs : List (List Lit)) (i : ℕ) → i < length xs → take i (remove xs i) ≡ take i xs
-take-remove [] i below = absurd (omega arith)
-take-remove (x ∷ xs) zero below = refl
-take-remove (x ∷ xs) (suc i) below = ap (λ rest. x ∷ rest) (take-remove xs i (omega arith))
+-- ---- the lemmas of a level from a place on
 
-pub pushed_front : (q : Question) (old new : Levels) (level place : ℕ) → level < length old → place < length (own_lemmas old level)
-    → IsPushed old new level place → All (IsStuck q old level) (take place (own_lemmas old level))
-    → All (IsStuck q new level) (take place (own_lemmas new level))
-pushed_front q old new level place below inside pushed stuck =
+fewer : (P : List Lit → Type 0) (xs : List (List Lit)) (i : ℕ) → All P (drop i xs) → All P (drop (suc i) xs)
+fewer P [] i each = All-nil P
+fewer P (x ∷ xs) zero each = All-tail P x xs each
+fewer P (x ∷ xs) (suc i) each = fewer P xs i each
+
+next_drop : (P : List Lit → Type 0) (x : List Lit) (xs : List (List Lit)) (i : ℕ) → All P (drop (suc i + 1) (x ∷ xs)) → All P (drop (i + 1) xs)
+next_drop P x xs i each = let next : suc i + 1 ≡ suc (i + 1) = omega arith in subst (λ n. All P (drop n (x ∷ xs))) next each
+
+-- where the one at the place goes, those from there on are some of those behind it
+gone_behind : (P : List Lit → Type 0) (test : List Lit → Bool) (xs : List (List Lit)) (i : ℕ) → i < length xs
+    → test (get_or xs i []) ≡ false → All P (drop (i + 1) xs) → All P (drop i (filter test xs))
+gone_behind P test [] i below gone each = absurd (omega arith)
+gone_behind P test (x ∷ xs) zero below gone each =
+    subst (λ b. All P (cond b (x ∷ filter test xs) (filter test xs))) (sym gone) (All-filter test P xs each)
+gone_behind P test (x ∷ xs) (suc i) below gone each =
+    let rest : All P (drop i (filter test xs)) = gone_behind P test xs i (omega arith) gone (next_drop P x xs i each) in
+    elim (cases_Bool (test x)) [
+      | inl kept ↦ subst (λ b. All P (drop (suc i) (cond b (x ∷ filter test xs) (filter test xs)))) (sym kept) rest
+      | inr out ↦ subst (λ b. All P (drop (suc i) (cond b (x ∷ filter test xs) (filter test xs)))) (sym out) (fewer P (filter test xs) i rest)
+    ]
+
+with_place : (P : List Lit → Type 0) (xs : List (List Lit)) (i : ℕ) → i < length xs → P (get_or xs i []) → All P (drop (i + 1) xs)
+    → All P (drop i xs)
+with_place P [] i below here each = absurd (omega arith)
+with_place P (x ∷ xs) zero below here each = All-cons P x xs here each
+with_place P (x ∷ xs) (suc i) below here each = with_place P xs i (omega arith) here (next_drop P x xs i each)
+
+none_behind : (P : List Lit → Type 0) (xs : List (List Lit)) (i : ℕ) → (i < length xs → ⊥) → All P (drop i xs)
+none_behind P [] zero past = All-nil P
+none_behind P [] (suc i) past = All-nil P
+none_behind P (x ∷ xs) zero past = absurd (past (omega arith))
+none_behind P (x ∷ xs) (suc i) past = none_behind P xs i (λ below. past (omega arith))
+
+pub none_tried : (q : Question) (levels : Levels) (level place : ℕ) → (place < length (own_lemmas levels level) → ⊥)
+    → StuckFrom q levels level place
+none_tried q levels level place past = none_behind (IsStuck q levels level) (own_lemmas levels level) place past
+
+pub stuck_tried : (q : Question) (levels : Levels) (level place : ℕ) → place < length (own_lemmas levels level)
+    → IsStuck q levels level (get_or (own_lemmas levels level) place []) → IsTried q levels levels level place
+stuck_tried q levels level place inside here behind = with_place (IsStuck q levels level) (own_lemmas levels level) place inside here behind
+
+pub pushed_tried : (q : Question) (old new : Levels) (level place : ℕ) → place < length (own_lemmas old level)
+    → IsPushed old new level place → IsTried q old new level place
+pushed_tried q old new level place inside pushed behind =
     let own : List (List Lit) = own_lemmas old level in
-    let is : own_lemmas new level ≡ remove own place = ap (λ levels. own_lemmas levels level) pushed.lists ∙ moved_here old level place below in
-    let same : take place (own_lemmas new level) ≡ take place own = ap (take place) is ∙ take-remove own place inside in
-    subst (All (IsStuck q new level)) (sym same)
-    (All-weaker (IsStuck q old level) (IsStuck q new level) (λ lemma. stuck_on q old new level level lemma pushed.below (omega arith)) (take place own) stuck)
-
-pub pushed_fewer : (old new : Levels) (level place : ℕ) → level < length old → place < length (own_lemmas old level)
-    → IsPushed old new level place → length (own_lemmas new level) + 1 ≡ length (own_lemmas old level)
-pushed_fewer old new level place below inside pushed =
-    let is = ap (λ levels. own_lemmas levels level) pushed.lists ∙ moved_here old level place below in
-    let fewer = length-remove (own_lemmas old level) place inside in
-    ap (λ own. length own + 1) is ∙ fewer
+    let c : List Lit = get_or own place [] in
+    subst (λ those. All (IsStuck q new level) (drop place those)) (sym (own_pushed old new level place level pushed (omega arith)))
+    (gone_behind (IsStuck q new level) (stays level c) own place inside (stays-not level c)
+    (All-weaker (IsStuck q old level) (IsStuck q new level) (λ lemma. stuck_on q old new level level lemma pushed.below (omega arith))
+    (drop (place + 1) own) behind))
 
 -- Neighbouring frames differ where each has lemmas of its own, and these are stuck.
 pub stuck_differ : (q : Question) (cube : List Lit) (levels : Levels) → IsSound q cube levels → AllStuck q levels → AllDiffer levels
@@ -169,43 +207,11 @@ stuck_differ q cube levels sound stuck differ k below same =
         let holds = own_holds levels k 0 k t inside (omega arith) (same t size ∙ next) in
         false≢true (sym first.breaks ∙ ap (λ clauses. clause_value (values_of t) (get_or clauses 0 [])) (sym is) ∙ holds)
 
--- A lemma was tried: what is known of the front of the level, and of the levels below.
-pub tried_front : (q : Question) (old new : Levels) (level place next : ℕ) (pushed : Bool) → place < length (own_lemmas old level)
-    → next ≡ place_after pushed place → IsTried q old new level place pushed → All (IsStuck q old level) (take place (own_lemmas old level))
-    → All (IsStuck q new level) (take next (own_lemmas new level))
-tried_front q old new level place next true inside is tried stuck =
-    subst (λ n. All (IsStuck q new level) (take n (own_lemmas new level))) (sym is)
-    (pushed_front q old new level place (inside_levels old level place inside) inside tried stuck)
-tried_front q old new level place next false inside is tried stuck =
-    subst (λ n. All (IsStuck q new level) (take n (own_lemmas new level))) (sym is)
-    (subst (λ levels. All (IsStuck q levels level) (take (place + 1) (own_lemmas levels level))) (sym tried.0)
-    (All-more (IsStuck q old level) (own_lemmas old level) place [] inside stuck tried.1))
-
-pub tried_stay : (q : Question) (old new : Levels) (level place : ℕ) (pushed : Bool) → IsTried q old new level place pushed
-    → StayStuck q old new level
-tried_stay q old new level place true tried = pushed_stay q old new level place tried
-tried_stay q old new level place false tried = λ k below stuck. subst (λ levels. AreStuck q levels k) (sym tried.0) stuck
-
-pub tried_fewer : (q : Question) (old new : Levels) (level place next : ℕ) (pushed : Bool) → place < length (own_lemmas old level)
-    → next ≡ place_after pushed place → IsTried q old new level place pushed
-    → length (own_lemmas new level) - next < length (own_lemmas old level) - place
-tried_fewer q old new level place next true inside is tried =
-    let fewer = pushed_fewer old new level place (inside_levels old level place inside) inside tried in
-    omega (arith, is, fewer)
-tried_fewer q old new level place next false inside is tried =
-    let same : length (own_lemmas new level) ≡ length (own_lemmas old level) = ap (λ levels. length (own_lemmas levels level)) tried.0 in
-    omega (arith, is, same)
-
 pub stay_on : (q : Question) (a b c : Levels) (level : ℕ) → StayStuck q a b level → StayStuck q b c level → StayStuck q a c level
 stay_on q a b c level first second k below stuck = second k below (first k below stuck)
 
-pub all_stuck_here : (q : Question) (levels : Levels) (level place : ℕ) → (place < length (own_lemmas levels level) → ⊥)
-    → All (IsStuck q levels level) (take place (own_lemmas levels level)) → AreStuck q levels level
-all_stuck_here q levels level place past stuck =
-    elim (cases_lt place (length (own_lemmas levels level))) [
-      | inl below ↦ absurd (past below)
-      | inr behind ↦ subst (All (IsStuck q levels level)) (take_all place (own_lemmas levels level) behind) stuck
-    ]
+pub all_stuck_here : (q : Question) (levels : Levels) (level place : ℕ) → place ≡ 0 → StuckFrom q levels level place → AreStuck q levels level
+all_stuck_here q levels level place is stuck = subst (StuckFrom q levels level) is stuck
 
 -- Where the lemmas of level 0 are not tried, they are stuck.
 pub stuck_first : (q : Question) (levels : Levels) (anew : Bool) (first : ℕ) → first ≤ 2 → (1 < first → anew ≡ false)

@@ -1,10 +1,11 @@
 -- Whether a lemma holds after each step from a frame (scaffolding).
-use Rattle.std.specs.Prelude.{ℕ, ◌+◌, Bool, true, false, List}
+use Rattle.std.specs.Prelude.{ℕ, List, map, Option, Some, None}
 use Rattle.proof_semantics.specs.declared.literals.Lit.{Lit}
-use Rattle.ic3_semantics.specs.Searching.{Question}
-use Rattle.ic3_loops.specs.Sound.{IsRelative, IsStuck}
+use Rattle.proof_semantics.specs.Clauses.{negation}
+use Rattle.ic3_semantics.specs.Stepping.{Stepping, IsMissing}
+use Rattle.ic3_loops.specs.Sound.{IsStuck}
 
--- it does, or it is stuck
-abbrev pub TellsOn : Question → List (List (List Lit)) → ℕ → List Lit → Bool → Type 0
-TellsOn q levels level lemma true = IsRelative q levels (level + 1) lemma
-TellsOn q levels level lemma false = IsStuck q levels level lemma
+-- it does, and a part of its cube is told that no such step leads into; or it is stuck
+abbrev pub TellsOn : Stepping → List (List (List Lit)) → ℕ → List Lit → Option (List Lit) → Type 0
+TellsOn st levels level lemma (Some part) = IsMissing st level (map negation lemma) part
+TellsOn st levels level lemma None = IsStuck st.question levels level lemma

@@ -9,3 +9,4 @@ pub mod Iterating
 pub mod Resuming
 pub mod Single
 pub mod Keeping
+pub mod Witnessing

@@ -1,11 +1,13 @@
 -- What propagating does to frames (scaffolding but for `Narrows`): a lemma that holds after each step from its frame goes into the next one
 -- (IC3: Bradley, 2011).
-use Rattle.std.specs.Prelude.{◌≡◌, ℕ, ◌+◌, ◌<◌, ◌≤◌, Bool, true, false, List, [], length, slice_index_or}
+use Rattle.std.specs.Prelude.{◌≡◌, ℕ, ◌+◌, ◌<◌, ◌≤◌, Bool, true, List, [], length, drop, slice_index_or}
+use Rattle.std.specs.List.{All}
 use Rattle.proof_semantics.specs.declared.literals.Lit.{Lit}
-use Rattle.ic3_frames.specs.Frames.{has_clause, frame_at, own_lemmas, moved}
-use Rattle.ic3_frames.specs.Room.{allowed_by}
+use Rattle.ic3_frames.specs.Frames.{has_clause, frame_at, own_lemmas, put_at}
+use Rattle.ic3_frames.specs.Room.{room, allowed_by}
 use Rattle.ic3_semantics.specs.Searching.{Question}
-use Rattle.ic3_loops.specs.Sound.{IsStuck, AreStuck}
+use Rattle.ic3_semantics.specs.Stepping.{Stepping}
+use Rattle.ic3_loops.specs.Sound.{IsSearch, KeepsQuestion, IsStuck, AreStuck}
 
 -- the frames up to level k allow the states that they allowed
 abbrev pub AllowBelow : List (List (List Lit)) → List (List (List Lit)) → ℕ → Type 0
@@ -13,18 +15,16 @@ AllowBelow old new k = (i : ℕ) (s : List Bool) → i ≤ k → allowed_by (fra
 
 -- The lemma at a place of a level went to the next level.
 pub record IsPushed (old new : List (List (List Lit))) (level place : ℕ) : Type 0 where
-  pub lists : new ≡ moved old level place
+  pub lists : new ≡ put_at old (level + 1) (slice_index_or (own_lemmas old level) place [])
   pub below : AllowBelow old new level
 
--- that, or it is stuck
-abbrev pub IsTried : Question → List (List (List Lit)) → List (List (List Lit)) → ℕ → ℕ → Bool → Type 0
-IsTried q old new level place true = IsPushed old new level place
-IsTried q old new level place false = (new ≡ old) × IsStuck q old level (slice_index_or (own_lemmas old level) place [])
+-- the lemmas of a level from a place on are stuck
+abbrev pub StuckFrom : Question → List (List (List Lit)) → ℕ → ℕ → Type 0
+StuckFrom q levels level place = All (IsStuck q levels level) (drop place (own_lemmas levels level))
 
--- where the next lemma is looked for: a lemma that was pushed leaves its place to the one behind it
-abbrev pub place_after : Bool → ℕ → ℕ
-place_after true place = place
-place_after false place = place + 1
+-- The lemma at a place was tried: it is stuck, or gone, and those behind it are stuck still.
+abbrev pub IsTried : Question → List (List (List Lit)) → List (List (List Lit)) → ℕ → ℕ → Type 0
+IsTried q old new level place = StuckFrom q old level (place + 1) → StuckFrom q new level place
 
 -- what the new frames allow, the old ones allowed
 abbrev pub Narrows : List (List (List Lit)) → List (List (List Lit)) → Type 0
@@ -42,3 +42,11 @@ StayStuck q old new level = (k : ℕ) → k < level → AreStuck q old k → Are
 -- the lemmas of each level below the last are stuck
 abbrev pub AllStuck : Question → List (List (List Lit)) → Type 0
 AllStuck q levels = (k : ℕ) → k + 1 < length levels → AreStuck q levels k
+
+-- The search goes on over as many frames, which allow no more and have no more room.
+pub record IsNarrower (starts : List Lit) (old new : Stepping) (before after : List (List (List Lit))) : Type 0 where
+  pub search : IsSearch starts new after
+  pub question : KeepsQuestion old new
+  pub number : length after ≡ length before
+  pub narrows : Narrows before after
+  pub room : room (length old.question.circuit.latches) after ≤ room (length old.question.circuit.latches) before

@@ -9,10 +9,12 @@ ghost use Rattle.ic3_loops.specs.Sound.{IsSearch, IsGoalOf, KeepsQuestion, AreSt
 ghost use Rattle.ic3_semantics.specs.Searching.{CountsUpTo};
 ghost use Rattle.ic3_loops.specs.Propagating.{Narrows, AllStuck};
 ghost use Rattle.ic3_loops.specs.Iterating.{IsIterated, TakesRoom, HasEnded};
+ghost use Rattle.ic3_loops.specs.Witnessing.{AreWitnesses};
 
 use crate::blocking::strengthen;
 use crate::propagating::propagate;
 use crate::step_solver::StepSolver;
+use crate::witnesses::{Witnesses, no_witnesses};
 use circuit::Position;
 use cnf::Cube;
 use edge::Meter;
@@ -56,21 +58,24 @@ pub fn iterate<S: StepSolver>(
     ensures counted { CountsUpTo (room (length (S.seen steps.old).question.circuit.latches) frames.old) meter.old meter.new }
     ensures end { IfErr result (IsReachEnd meter.new) }
 {
+    let mut known = no_witnesses(alloc);
     let mut anew = true;
     'iterations: loop {
-        match iteration(alloc, starts, goal, anew, steps, frames, meter)? {
+        match iteration(alloc, starts, goal, anew, &mut known, steps, frames, meter)? {
             Iterated::More => anew = false,
             ended => return Ok(ended),
         }
     }
 }
 
-// One iteration. Whether it is the first of the question is `anew`.
+// One iteration. Whether it is the first of the question is `anew`; `known` has steps of the question that showed lemmas
+// stuck.
 fn iteration<S: StepSolver>(
     alloc: Global,
     starts: &Cube,
     goal: &Goal<'_>,
     anew: bool,
+    known: &mut Witnesses,
     steps: &mut S,
     frames: &mut Frames,
     meter: &mut Meter,
@@ -79,11 +84,13 @@ fn iteration<S: StepSolver>(
     requires two { 2 ≤ length frames.old }
     requires goal { IsGoalOf (S.seen steps.old) goal.now }
     requires lowest { anew ≡ false → AreStuck (S.seen steps.old).question frames.old 0 }
+    requires known { AreWitnesses (S.seen steps.old).question known.old }
     ensures search { OnOk result (IsSearch starts.now (S.seen steps.new) frames.new) }
     ensures two { OnOk result (2 ≤ length frames.new) }
     ensures more { OnOk result (length frames.old ≤ length frames.new) }
     ensures narrows { OnOk result (Narrows frames.old frames.new) }
     ensures outcome { IfOk result (IsIterated (S.seen steps.old).question goal.now frames.new) }
+    ensures known { OnOk result (AreWitnesses (S.seen steps.old).question known.new) }
     ensures smaller { let n = length (S.seen steps.old).question.circuit.latches in
         IfOk result (TakesRoom (room n frames.old) (room n frames.new)) }
     ensures room { let n = length (S.seen steps.old).question.circuit.latches in
@@ -94,7 +101,7 @@ fn iteration<S: StepSolver>(
 {
     match strengthen(alloc, starts, goal, steps, frames, meter)? {
         Some(positions) => Ok(Iterated::Path(positions)),
-        None => propagate_and_open(alloc, starts, goal, anew, steps, frames, meter),
+        None => propagate_and_open(alloc, starts, goal, anew, known, steps, frames, meter),
     }
 }
 
@@ -105,6 +112,7 @@ fn propagate_and_open<S: StepSolver>(
     starts: &Cube,
     _goal: &Goal<'_>,
     anew: bool,
+    known: &mut Witnesses,
     steps: &mut S,
     frames: &mut Frames,
     meter: &mut Meter,
@@ -113,11 +121,13 @@ fn propagate_and_open<S: StepSolver>(
     requires two { 2 ≤ length frames.old }
     requires misses { MissesLast (S.seen steps.old).question _goal.now frames.old }
     requires lowest { anew ≡ false → AreStuck (S.seen steps.old).question frames.old 0 }
+    requires known { AreWitnesses (S.seen steps.old).question known.old }
     ensures search { OnOk result (IsSearch starts.now (S.seen steps.new) frames.new) }
     ensures two { OnOk result (2 ≤ length frames.new) }
     ensures more { OnOk result (length frames.old ≤ length frames.new) }
     ensures narrows { OnOk result (Narrows frames.old frames.new) }
     ensures outcome { IfOk result (IsIterated (S.seen steps.old).question _goal.now frames.new) }
+    ensures known { OnOk result (AreWitnesses (S.seen steps.old).question known.new) }
     ensures smaller { let n = length (S.seen steps.old).question.circuit.latches in
         IfOk result (TakesRoom (room n frames.old) (room n frames.new)) }
     ensures room { let n = length (S.seen steps.old).question.circuit.latches in
@@ -126,7 +136,7 @@ fn propagate_and_open<S: StepSolver>(
     ensures counted { CountsUpTo (room (length (S.seen steps.old).question.circuit.latches) frames.old) meter.old meter.new }
     ensures end { IfErr result (IsReachEnd meter.new) }
 {
-    propagate(alloc, starts, anew, steps, frames, meter)?;
+    propagate(alloc, starts, anew, known, steps, frames, meter)?;
     match frames.equal_pair() {
         Some(level) => Ok(Iterated::Closed(level)),
         None => {

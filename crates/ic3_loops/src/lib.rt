@@ -42,8 +42,11 @@
 //!     count a step, and put the cube's negation as lemma into the level above      lemmas
 //!
 //! propagate:                                                                       propagating
+//!     from level 1 up, for each lemma that the next level has not:                 pushing
+//!         if it holds after each step from the frame of its level, put the part that the solver answers into the next level
 //!     from the lowest level up, for each lemma that the next level has not:
 //!         if it holds after each step from the frame of its level, put it into the next level
+//!     (a step that showed that a lemma stays shows it still while it begins in the frame)      witnesses
 //! ```
 //!
 //! Each step that is counted takes room, of which there is no more than (2^n + 2)^2 over n latches. `specs/` is
@@ -63,10 +66,12 @@ mod one_literal;
 mod opening;
 mod ordering;
 mod propagating;
+mod pushing;
 mod replaying;
 mod resuming;
 mod shortening;
 mod step_solver;
+mod witnesses;
 
 pub use closing::lemmas_from;
 pub use cubes::holds_in;

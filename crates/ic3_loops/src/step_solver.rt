@@ -67,6 +67,21 @@ pub trait StepSolver {
         ensures end { IfErr result (IsEnd meter.new) }
         ensures counted { CountsConflicts meter.old meter.new };
 
+    /// The same, for a cube of which the frame of this level should have no state, as that of a lemma: it is asked for
+    /// steps from the frame, so that no clause comes to be asked for states outside the cube.
+    fn predecessor_of_excluded(
+        &mut self,
+        alloc: Global,
+        level: u64,
+        cube: &Cube,
+        meter: &mut Meter,
+    ) -> Result<Found, SolveEnd>
+        requires { IsOver (length (seen self.old).question.circuit.latches) cube.now }
+        ensures found { IfOk result (IsFound (seen self.old) level cube.now) }
+        ensures same { seen self.new ≡ seen self.old }
+        ensures end { IfErr result (IsEnd meter.new) }
+        ensures counted { CountsConflicts meter.old meter.new };
+
     /// A position at which the AIGER literal is met as goal, from a state that meets the lemmas of this level and of
     /// those above it; `None` exactly where there is none. `Spent` comes where the meter's count of conflicts is at its
     /// limit.

@@ -1,5 +1,5 @@
 use Rattle.std.proofs.Common.{sym, ◌∙◌}
-use Rattle.ic3_frames.proofs.Steps.{made-keys, absent-there, put-done, on-err}
+use Rattle.ic3_frames.proofs.Steps.{made-keys, put-done, on-err}
 use Rattle.ic3_frames.proofs.levels.put_at.Goals as goal
 
 pub returns-in_err-make_room-clause-err : goal.returns-in_err-make_room-clause-err
@@ -7,13 +7,8 @@ returns-in_err-make_room-clause-err c =
     on-err c.from_residual.result _
     (made-keys c.args.levels.now c.args.level c.index-levels-level.result c.make_room.new.own c.make_room.ensures.keys)
 
-pub push_last-requires-clause-absent : goal.push_last-requires-clause-absent
-push_last-requires-clause-absent c =
-    absent-there c.args.levels.now c.take_out.new.levels c.args.level c.index-levels-level.result c.index-levels-level-2.result c.make_room.new.own c.args.lemma
-    c.requires c.take_out.ensures.rest c.make_room.ensures.keys (sym c.is_from.ensures ∙ c.if-is_from.false)
-
 pub returns-clause-ok : goal.returns-clause-ok
 returns-clause-ok c =
     put-done c.args.levels.now c.take_out.new.levels c.args.level c.index-levels-level.result c.index-levels-level-2.result c.make_room.new.own
-    c.push_last.new.own c.args.lemma c.requires c.take_out.ensures.rest c.make_room.ensures.keys
-    (sym c.is_from.ensures ∙ c.if-is_from.false) c.take_out.ensures.keys c.push_last.ensures
+    c.put_last.new.own c.args.lemma c.requires c.take_out.ensures.rest c.make_room.ensures.keys
+    (sym c.is_from.ensures ∙ c.if-is_from.false) c.take_out.ensures.keys c.put_last.ensures

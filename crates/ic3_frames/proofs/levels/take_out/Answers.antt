@@ -1,6 +1,5 @@
-use Rattle.std.proofs.Common.{sym, ap, ◌∙◌, arith}
-use Rattle.indexmap.specs.IndexSet.{remove_key}
-use Rattle.ic3_frames.specs.Frames.{same_clause}
+use Rattle.std.proofs.Common.{filter, sym, ap, ◌∙◌, arith}
+use Rattle.ic3_frames.specs.Frames.{stays}
 use Rattle.ic3_frames.proofs.Steps.{taken-keys, rest-kept}
 use Rattle.ic3_frames.proofs.levels.take_out.Goals as goal
 
@@ -9,6 +8,6 @@ loop-k-preserved c = record {
   keys =
       taken-keys c.args.levels.now c.loop-k.levels c.loop-k.k c.index-levels-k.result c.take_from.new.own c.args.lemma.now
       c.index-levels-k.is (omega arith) (omega arith) c.loop-k.invariant.keys
-      (c.take_from.ensures ∙ ap (λ s. remove_key (same_clause c.args.lemma.now) s.keys) (sym c.index-levels-k.is));
+      (c.take_from.ensures.keys ∙ ap (λ s. filter (stays c.loop-k.k c.args.lemma.now) s.keys) (sym c.index-levels-k.is));
   rest = rest-kept c.args.levels.now c.loop-k.levels c.loop-k.k c.take_from.new.own c.loop-k.invariant.rest;
 }

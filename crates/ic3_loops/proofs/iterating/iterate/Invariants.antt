@@ -3,6 +3,7 @@ use Rattle.ic3_frames.specs.Room.{room}
 use Rattle.ic3_loops.specs.Sound.{IsSearch, AreStuck, KeepsQuestion}
 use Rattle.ic3_semantics.specs.Searching.{CountsUpTo}
 use Rattle.ic3_loops.specs.Propagating.{Narrows}
+use Rattle.ic3_loops.specs.Witnessing.{AreWitnesses}
 use Rattle.ic3_loops.proofs.iterating.iterate.Given as goal
 
 abbrev pub invariant-iterations : goal.invariant-iterations
@@ -12,6 +13,7 @@ invariant-iterations g l = record {
   more : length l.initial.frames ≤ length l.frames;
   narrows : Narrows l.initial.frames l.frames;
   lowest : l.anew ≡ false → AreStuck (g.S.StepSolver.seen l.initial.steps).question l.frames 0;
+  known : AreWitnesses (g.S.StepSolver.seen l.initial.steps).question l.known;
   question : KeepsQuestion (g.S.StepSolver.seen l.initial.steps) (g.S.StepSolver.seen l.steps);
   paid : l.meter.steps + room (length (g.S.StepSolver.seen l.initial.steps).question.circuit.latches) l.frames
       ≤ l.initial.meter.steps + room (length (g.S.StepSolver.seen l.initial.steps).question.circuit.latches) l.initial.frames;

@@ -10,16 +10,16 @@ returns-in-Some-clause-outcome g c = record {
   same = c.in-Some.ensures.equal;
   misses =
       narrower_misses (g.S.StepSolver.seen c.args.steps.now).question c.args._goal.now c.args.frames.now c.propagate.new.frames (c.in-Some.level + 1)
-      c.in_ok-propagate.ensures.number c.in-Some.ensures.found c.in_ok-propagate.ensures.narrows c.requires.misses;
+      c.in_ok-propagate.ensures.narrower.number c.in-Some.ensures.found c.in_ok-propagate.ensures.narrower.narrows c.requires.misses;
 }
 
 pub returns-in_ok-open_frame-in-None-clause-outcome : goal.returns-in_ok-open_frame-in-None-clause-outcome
 returns-in_ok-open_frame-in-None-clause-outcome g c =
     let pushed = c.in_ok-propagate.ensures in
-    opened_stuck (g.S.StepSolver.seen c.args.steps.now).question c.propagate.new.frames c.open_frame.new.frames (omega (arith, c.requires.two, pushed.number))
-    c.in_ok-open_frame-in-None.ensures.frames (pushed.stuck 0 (omega (arith, c.requires.two, pushed.number)))
+    opened_stuck (g.S.StepSolver.seen c.args.steps.now).question c.propagate.new.frames c.open_frame.new.frames (omega (arith, c.requires.two, pushed.narrower.number))
+    c.in_ok-open_frame-in-None.ensures.frames (pushed.stuck 0 (omega (arith, c.requires.two, pushed.narrower.number)))
 
 pub returns-in_ok-open_frame-in-None-clause-narrows : goal.returns-in_ok-open_frame-in-None-clause-narrows
 returns-in_ok-open_frame-in-None-clause-narrows g c =
-    narrow_on c.args.frames.now c.propagate.new.frames c.open_frame.new.frames c.in_ok-propagate.ensures.narrows
+    narrow_on c.args.frames.now c.propagate.new.frames c.open_frame.new.frames c.in_ok-propagate.ensures.narrower.narrows
     c.in_ok-open_frame-in-None.ensures.narrows

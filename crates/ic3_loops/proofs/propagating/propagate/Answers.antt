@@ -1,42 +1,43 @@
-use Rattle.std.proofs.Common.{◌-◌, ◌≤◌, length, refl, subst, ◌∙◌, arith}
-use Rattle.ic3_frames.specs.Room.{room}
-use Rattle.ic3_loops.specs.Sound.{AreStuck}
-use Rattle.ic3_loops.specs.Propagating.{StayStuck}
-use Rattle.ic3_loops.proofs.Stuck.{stuck_first, stuck_more, narrow_on}
-use Rattle.ic3_loops.proofs.Ended.{counts_none, counts_on, keeps_on}
+use Rattle.std.proofs.Common.{sym, subst}
+use Rattle.std.specs.Result.{OnOk}
+use Rattle.ic3_loops.specs.Sound.{IsSound, AreStuck}
+use Rattle.ic3_loops.specs.Propagating.{AllStuck}
+use Rattle.ic3_loops.specs.Witnessing.{AreWitnesses}
+use Rattle.ic3_loops.proofs.Ended.{on_ok}
+use Rattle.ic3_loops.proofs.Lowest.{lowest_stuck}
+use Rattle.ic3_loops.proofs.Narrower.{narrower_on}
 use Rattle.ic3_loops.proofs.propagating.propagate.Goals as goal
 
-pub loop-level-init : goal.loop-level-init
-loop-level-init g c = record {
-  search = c.requires.search;
-  number = refl;
-  narrows = λ k s allowed. allowed;
-  stuck =
-      stuck_first (g.S.StepSolver.seen c.args.steps.now).question c.args.frames.now c.args.anew c.first_due-first.result c.first_due-first.ensures.next
-      c.first_due-first.ensures.lowest c.requires.lowest;
-  room = omega arith;
-  question = record { question = refl; avoid = refl };
-  counted = counts_none c.args.meter.now;
-}
+pub push_parts-requires-clause-known : goal.push_parts-requires-clause-known
+push_parts-requires-clause-known g c = c.forget_unused.ensures (g.S.StepSolver.seen c.args.steps.now).question c.requires.known
 
-pub loop-level-preserved : goal.loop-level-preserved
-loop-level-preserved g c =
+pub push_lemmas-requires-clause-lowest : goal.push_lemmas-requires-clause-lowest
+push_lemmas-requires-clause-lowest g c = λ later.
     let q = (g.S.StepSolver.seen c.args.steps.now).question in
-    let before = c.loop-level.invariant in
-    let says = c.in_ok-propagate_level.ensures in
-    let is = before.question.question in
-    let less =
-    subst (λ x. room (length x.circuit.latches) c.propagate_level.new.frames ≤ room (length x.circuit.latches) c.loop-level.frames) is says.room
-    in
-    record {
-      search = says.search;
-      number = says.number ∙ before.number;
-      narrows = narrow_on c.args.frames.now c.loop-level.frames c.propagate_level.new.frames before.narrows says.narrows;
-      stuck =
-          stuck_more q c.loop-level.frames c.propagate_level.new.frames c.loop-level.level (omega (arith, c.first_due-first.ensures.some)) before.stuck
-          (subst (λ x. StayStuck x c.loop-level.frames c.propagate_level.new.frames (c.loop-level.level - 1)) is says.stay)
-          (subst (λ x. AreStuck x c.propagate_level.new.frames (c.loop-level.level - 1)) is says.stuck);
-      room = omega (arith, less, before.room);
-      question = keeps_on (g.S.StepSolver.seen c.args.steps.now) (g.S.StepSolver.seen c.loop-level.steps) (g.S.StepSolver.seen c.propagate_level.new.steps) before.question says.question;
-      counted = counts_on c.args.meter.now c.loop-level.meter c.propagate_level.new.meter before.counted says.counted;
-    }
+    let says = c.in_ok-push_parts.ensures in
+    let is = says.question.question in
+    subst (λ x. AreStuck x c.push_parts.new.frames 0) (sym is)
+    (lowest_stuck q c.args.starts.now c.args.frames.now c.push_parts.new.frames c.requires.search.starts c.requires.search.sound
+    (subst (λ x. IsSound x c.args.starts.now c.push_parts.new.frames) is says.narrower.search.sound) says.lowest (c.requires.lowest later))
+
+pub push_lemmas-requires-clause-known : goal.push_lemmas-requires-clause-known
+push_lemmas-requires-clause-known g c =
+    subst (λ x. AreWitnesses x c.push_parts.new.known) (sym c.in_ok-push_parts.ensures.question.question) c.in_ok-push_parts.ensures.known
+
+pub returns-clause-narrower : goal.returns-clause-narrower
+returns-clause-narrower g c =
+    on_ok c.push_lemmas.result _ _
+    (narrower_on c.args.starts.now (g.S.StepSolver.seen c.args.steps.now) (g.S.StepSolver.seen c.push_parts.new.steps)
+    (g.S.StepSolver.seen c.push_lemmas.new.steps) c.args.frames.now c.push_parts.new.frames c.push_lemmas.new.frames
+    c.in_ok-push_parts.ensures.narrower)
+    c.push_lemmas.ensures.narrower
+
+pub returns-clause-stuck : goal.returns-clause-stuck
+returns-clause-stuck g c =
+    subst (λ x. OnOk c.push_lemmas.result (AllStuck x c.push_lemmas.new.frames)) c.in_ok-push_parts.ensures.question.question
+    c.push_lemmas.ensures.stuck
+
+pub returns-clause-known : goal.returns-clause-known
+returns-clause-known g c =
+    subst (λ x. OnOk c.push_lemmas.result (AreWitnesses x c.push_lemmas.new.known)) c.in_ok-push_parts.ensures.question.question
+    c.push_lemmas.ensures.known

@@ -1,13 +1,12 @@
-use Rattle.std.proofs.Common.{◌≡◌, ◌+◌, ◌≤◌, true, List, [], length, get_or, sym, ap₂, subst, ◌∙◌}
+use Rattle.std.proofs.Common.{◌≡◌, ◌+◌, true, List, [], length, get_or, sym, ap, ap₂, subst, ◌∙◌}
 use Rattle.proof_semantics.specs.declared.literals.Lit.{Lit}
 use Rattle.ic3_frames.specs.Frames.{own_lemmas}
-use Rattle.ic3_frames.specs.Room.{room}
-use Rattle.ic3_frames.proofs.Rooms.{lemmas-make-none}
 use Rattle.ic3_semantics.specs.Stepping.{Stepping, IsOver, with_lemma as st_with}
 use Rattle.ic3_loops.specs.Sound.{IsSearch, IsRelative, has_one_of}
-use Rattle.ic3_loops.specs.Propagating.{AllowBelow, Narrows}
-use Rattle.ic3_loops.proofs.Sounds.{search-with, allowed_before}
+use Rattle.ic3_loops.specs.Propagating.{AllowBelow}
+use Rattle.ic3_loops.proofs.Sounds.{search-with}
 use Rattle.ic3_loops.proofs.Stuck.{all_own, pushed_below}
+use Rattle.ic3_loops.proofs.Narrower.{narrower_with}
 use Rattle.ic3_loops.proofs.Ended.{on_ok, on_both}
 use Rattle.ic3_loops.proofs.propagating.push_one.Goals as goal
 
@@ -17,19 +16,24 @@ hold-requires g c =
     subst (IsOver n) (sym c.requires.lemma)
     (all_own (IsOver n) c.args.frames.now c.args.level c.requires.search.sound.over c.args.place [] c.requires.place)
 
-pub returns-clause-search : goal.returns-clause-search
-returns-clause-search g c =
+pub returns-clause-narrower : goal.returns-clause-narrower
+returns-clause-narrower g c =
     let st : Stepping = (g.S.StepSolver.seen c.args.steps.now) in
+    let new : Stepping = (g.S.StepSolver.seen c.hold.new.self) in
     let cube : List Lit = c.args._starts.now in
     let levels : List (List (List Lit)) = c.args.frames.now in
     let lemma : List Lit = get_or (own_lemmas levels c.args.level) c.args.place [] in
     let held = c.in_ok-hold.ensures.ok ∙ ap₂ (st_with st) c.in_ok-next.ensures c.requires.lemma in
     on_ok c.push_on.result _ _
-    (λ is. subst (IsSearch cube (g.S.StepSolver.seen c.hold.new.self)) (sym is)
-    (search-with cube st (g.S.StepSolver.seen c.hold.new.self) levels (c.args.level + 1) lemma c.requires.search c.requires.next
+    (λ is.
+    narrower_with cube st new levels c.push_on.new.self (c.args.level + 1) lemma
+    (subst (IsSearch cube new) (sym is)
+    (search-with cube st new levels (c.args.level + 1) lemma c.requires.search c.requires.next
     (all_own (IsOver (length st.question.circuit.latches)) levels c.args.level c.requires.search.sound.over c.args.place [] c.requires.place)
     (all_own (λ clause. has_one_of cube clause ≡ true) levels c.args.level c.requires.search.sound.based c.args.place [] c.requires.place)
     (subst (IsRelative st.question levels (c.args.level + 1)) c.requires.lemma c.requires.relative) held))
+    (record { question = ap (λ (s : Stepping). s.question) held; avoid = ap (λ (s : Stepping). s.avoid) held })
+    c.requires.next is)
     c.push_on.ensures.ok
 
 pub returns-clause-pushed : goal.returns-clause-pushed
@@ -40,21 +44,4 @@ returns-clause-pushed g c =
       lists = lists;
       below = subst (λ new. AllowBelow levels new c.args.level) (sym is) (pushed_below levels c.args.level c.args.place c.requires.next c.requires.place);
     })
-    c.push_on.ensures.ok c.push_on.ensures.lists
-
-pub returns-clause-room : goal.returns-clause-room
-returns-clause-room g c =
-    let n = length (g.S.StepSolver.seen c.args.steps.now).question.circuit.latches in
-    let levels : List (List (List Lit)) = c.args.frames.now in
-    on_ok c.push_on.result _ _
-    (λ is. subst (λ new. room n new ≤ room n levels) (sym is)
-    (lemmas-make-none n levels (c.args.level + 1) (get_or (own_lemmas levels c.args.level) c.args.place []) c.requires.next))
-    c.push_on.ensures.ok
-
-pub returns-clause-narrows : goal.returns-clause-narrows
-returns-clause-narrows g c =
-    let levels : List (List (List Lit)) = c.args.frames.now in
-    let lemma : List Lit = get_or (own_lemmas levels c.args.level) c.args.place [] in
-    on_ok c.push_on.result _ _
-    (λ is. subst (Narrows levels) (sym is) (λ k s. allowed_before levels (c.args.level + 1) lemma k s c.requires.next))
-    c.push_on.ensures.ok
+    c.push_on.ensures.ok c.push_on.ensures.moved

@@ -1,24 +1,43 @@
-use Rattle.std.proofs.Common.{◌+◌, [], length, refl, sym, subst}
+use Rattle.std.proofs.Common.{◌+◌, [], length, map, refl, sym, subst, ◌∙◌}
+use Rattle.std.proofs.lemmas.Bool.{false≢true}
+use Rattle.proof_semantics.specs.Clauses.{negation}
 use Rattle.ic3_semantics.specs.Stepping.{Stepping, IsOver}
-use Rattle.ic3_loops.specs.Sound.{IsRelative, IsStuck}
+use Rattle.ic3_loops.specs.Sound.{IsSearch, IsRelative, IsStuck}
 use Rattle.ic3_loops.specs.Holding.{TellsOn}
-use Rattle.ic3_loops.proofs.Stuck.{all_own}
+use Rattle.ic3_loops.proofs.Stuck.{all_own, missing_relative, none_tried, pushed_tried, pushed_stay}
+use Rattle.ic3_loops.proofs.Narrower.{narrower_none, narrower_same}
 use Rattle.ic3_loops.proofs.propagating.try_push.Goals as goal
 
-pub holds_on-requires-clause-over : goal.holds_on-requires-clause-over
-holds_on-requires-clause-over g c =
+pub returns-then-not-has_lemma-clause-tried : goal.returns-then-not-has_lemma-clause-tried
+returns-then-not-has_lemma-clause-tried g c = λ behind.
+    none_tried (g.S.StepSolver.seen c.args.steps.now).question c.args.frames.now c.args.level c.args.place
+    (λ below. false≢true (sym c.if-not-has_lemma.true ∙ c.has_lemma.ensures.1 below))
+
+pub returns-then-not-has_lemma-clause-narrower : goal.returns-then-not-has_lemma-clause-narrower
+returns-then-not-has_lemma-clause-narrower g c =
+    narrower_none c.args.starts.now (g.S.StepSolver.seen c.args.steps.now) c.args.frames.now c.requires.search
+
+pub tried-requires-clause-over : goal.tried-requires-clause-over
+tried-requires-clause-over g c =
     let n = length (g.S.StepSolver.seen c.args.steps.now).question.circuit.latches in
     subst (IsOver n) (sym c.in_ok-lemma.ensures)
-    (all_own (IsOver n) c.args.frames.now c.args.level c.requires.search.sound.over c.args.place [] c.requires.place)
+    (all_own (IsOver n) c.args.frames.now c.args.level c.requires.search.sound.over c.args.place []
+    (c.has_lemma.ensures.0 c.if-not-has_lemma.false))
 
 pub push_one-requires-clause-relative : goal.push_one-requires-clause-relative
 push_one-requires-clause-relative g c =
-    subst (λ (s : Stepping). IsRelative s.question c.args.frames.now (c.args.level + 1) c.in_ok-lemma.lemma) (sym c.in_ok-holds.ensures.same)
-    (subst (TellsOn (g.S.StepSolver.seen c.args.steps.now).question c.args.frames.now c.args.level c.in_ok-lemma.lemma) c.if-not-holds.false c.in_ok-holds.ensures.told)
+    let st : Stepping = (g.S.StepSolver.seen c.args.steps.now) in
+    let lemma = c.in_ok-lemma.lemma in
+    subst (λ (s : Stepping). IsRelative s.question c.args.frames.now (c.args.level + 1) lemma) (sym c.in_ok-tried.ensures.same)
+    (missing_relative st c.args.frames.now c.args.level (map negation lemma) c.in-Some.field-0 lemma refl
+    (subst (TellsOn st c.args.frames.now c.args.level lemma) c.in-Some.is c.in_ok-tried.ensures.told) c.requires.search.agree)
 
-pub returns-then-not-holds-clause-tried : goal.returns-then-not-holds-clause-tried
-returns-then-not-holds-clause-tried g c = (
-  refl,
-  subst (IsStuck (g.S.StepSolver.seen c.args.steps.now).question c.args.frames.now c.args.level) c.in_ok-lemma.ensures
-      (subst (TellsOn (g.S.StepSolver.seen c.args.steps.now).question c.args.frames.now c.args.level c.in_ok-lemma.lemma) c.if-not-holds.true c.in_ok-holds.ensures.told),
-)
+pub returns-in-Some-clause-tried : goal.returns-in-Some-clause-tried
+returns-in-Some-clause-tried g c =
+    pushed_tried (g.S.StepSolver.seen c.args.steps.now).question c.args.frames.now c.push_one.new.frames c.args.level c.args.place
+    (c.has_lemma.ensures.0 c.if-not-has_lemma.false) c.in_ok-push_one-in-Some.ensures.pushed
+
+pub returns-in-Some-clause-stay : goal.returns-in-Some-clause-stay
+returns-in-Some-clause-stay g c =
+    pushed_stay (g.S.StepSolver.seen c.args.steps.now).question c.args.frames.now c.push_one.new.frames c.args.level c.args.place
+    c.in_ok-push_one-in-Some.ensures.pushed

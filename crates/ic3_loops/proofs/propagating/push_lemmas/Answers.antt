@@ -1,0 +1,42 @@
+use Rattle.std.proofs.Common.{◌-◌, refl, sym, subst, arith}
+use Rattle.ic3_loops.specs.Sound.{AreStuck}
+use Rattle.ic3_loops.specs.Propagating.{StayStuck}
+use Rattle.ic3_loops.specs.Witnessing.{AreWitnesses}
+use Rattle.ic3_loops.proofs.Stuck.{stuck_first, stuck_more}
+use Rattle.ic3_loops.proofs.Narrower.{narrower_none, narrower_on}
+use Rattle.ic3_loops.proofs.Ended.{counts_none, counts_on, keeps_on}
+use Rattle.ic3_loops.proofs.propagating.push_lemmas.Goals as goal
+
+pub loop-level-init : goal.loop-level-init
+loop-level-init g c = record {
+  narrower = narrower_none c.args.starts.now (g.S.StepSolver.seen c.args.steps.now) c.args.frames.now c.requires.search;
+  stuck =
+      stuck_first (g.S.StepSolver.seen c.args.steps.now).question c.args.frames.now c.args.anew c.first_due-first.result c.first_due-first.ensures.next
+      c.first_due-first.ensures.lowest c.requires.lowest;
+  known = c.requires.known;
+  question = record { question = refl; avoid = refl };
+  counted = counts_none c.args.meter.now;
+}
+
+pub push_level-requires-clause-known : goal.push_level-requires-clause-known
+push_level-requires-clause-known g c =
+    subst (λ q. AreWitnesses q c.loop-level.known) (sym c.loop-level.invariant.question.question) c.loop-level.invariant.known
+
+pub loop-level-preserved : goal.loop-level-preserved
+loop-level-preserved g c =
+    let first = (g.S.StepSolver.seen c.args.steps.now) in
+    let before = c.loop-level.invariant in
+    let says = c.in_ok-push_level.ensures in
+    let is = before.question.question in
+    record {
+      narrower =
+          narrower_on c.args.starts.now first (g.S.StepSolver.seen c.loop-level.steps) (g.S.StepSolver.seen c.push_level.new.steps) c.args.frames.now
+          c.loop-level.frames c.push_level.new.frames before.narrower says.narrower;
+      stuck =
+          stuck_more first.question c.loop-level.frames c.push_level.new.frames c.loop-level.level (omega (arith, c.first_due-first.ensures.some))
+          before.stuck (subst (λ q. StayStuck q c.loop-level.frames c.push_level.new.frames (c.loop-level.level - 1)) is says.stay)
+          (subst (λ q. AreStuck q c.push_level.new.frames (c.loop-level.level - 1)) is says.stuck);
+      known = subst (λ q. AreWitnesses q c.push_level.new.known) is says.known;
+      question = keeps_on first (g.S.StepSolver.seen c.loop-level.steps) (g.S.StepSolver.seen c.push_level.new.steps) before.question says.question;
+      counted = counts_on c.args.meter.now c.loop-level.meter c.push_level.new.meter before.counted says.counted;
+    }

@@ -1,0 +1,19 @@
+use Rattle.std.proofs.Common.{◌+◌, ◌<◌, ℕ}
+use Rattle.edge.specs.Ends.{CountsConflicts}
+use Rattle.ic3_loops.specs.Sound.{AreStuck, KeepsQuestion}
+use Rattle.ic3_loops.specs.Propagating.{IsNarrower, StuckFrom, StayStuck}
+use Rattle.ic3_loops.specs.Witnessing.{AreWitnesses}
+use Rattle.ic3_loops.proofs.propagating.push_level.Given as goal
+
+abbrev pub invariant-places : goal.invariant-places
+invariant-places g l = record {
+  narrower : IsNarrower l.starts (g.S.StepSolver.seen l.initial.steps) (g.S.StepSolver.seen l.steps) l.initial.frames l.frames;
+  stuck : StuckFrom (g.S.StepSolver.seen l.initial.steps).question l.frames l.level l.place;
+  stay : StayStuck (g.S.StepSolver.seen l.initial.steps).question l.initial.frames l.frames l.level;
+  known : AreWitnesses (g.S.StepSolver.seen l.initial.steps).question l.known;
+  question : KeepsQuestion (g.S.StepSolver.seen l.initial.steps) (g.S.StepSolver.seen l.steps);
+  counted : CountsConflicts l.initial.meter l.meter;
+}
+
+abbrev pub decreases-places : goal.decreases-places
+decreases-places g l = l.place
