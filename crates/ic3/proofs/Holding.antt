@@ -148,7 +148,7 @@ held_more st free level clause =
     ap (λ xs. front ++ xs) (map_push place free st.lemmas lemma)
     ∙ sym (append_assoc front (map (lemma_clause (state_place st.question.circuit 0) free) st.lemmas) (lemma_clause place free lemma ∷ []))
 
-more_held : (st : Stepping) (old new : Questions) (level : ℕ) (clause : List Lit) → IsHeldBy st old
+pub more_held : (st : Stepping) (old new : Questions) (level : ℕ) (clause : List Lit) → IsHeldBy st old
     → IsOver (length st.question.circuit.latches) clause → Holds level clause old new → IsHeldBy (with_lemma st level clause) new
 more_held st old new level clause by over h =
     let lemma : Lemma = record { level = level; clause = clause } in

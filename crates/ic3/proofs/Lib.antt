@@ -9,3 +9,4 @@ pub mod GoingOn
 pub mod Growing
 pub mod TriedLaws
 pub mod Singles
+pub mod Anew

@@ -100,9 +100,10 @@ pub record CoreInto (s : Questions) (level : ℕ) (cube part : List Lit) : Type 
   pub assumed : AreAssumed s.free level s.levels (s.asked + 1) (clause_at_place s.next cube) assumptions
   pub core : IsCore (s.solver.added ++ question_clause s cube ∷ []) assumptions part
 
-abbrev pub AnswersInto : Questions → ℕ → List Lit → Asked → Type 0
-AnswersInto s level cube (Sat values) = ModelInto s level cube (assigned values)
-AnswersInto s level cube (Unsat core) = CoreInto s level cube core.items
+-- what the solver answers of it, beside the values that it tells
+abbrev pub AnswersInto : Questions → ℕ → List Lit → List Lit → Asked → Type 0
+AnswersInto s level cube values Sat = ModelInto s level cube (assigned values)
+AnswersInto s level cube values (Unsat core) = CoreInto s level cube core.items
 
 -- what is told of it: a position that was read off a model, or a part of the cube by a core
 abbrev pub TellsInto : Questions → Circuit → ℕ → List Lit → Found → Type 0
@@ -123,9 +124,10 @@ pub record NoModelGoal (s : Questions) (level : ℕ) (literals : List Lit) : Typ
   pub assumed : AreAssumed s.free level s.levels 0 literals assumptions
   pub none : HasNoModel s.solver.added assumptions
 
-abbrev pub AnswersGoal : Questions → ℕ → List Lit → Asked → Type 0
-AnswersGoal s level literals (Sat values) = ModelGoal s level literals (assigned values)
-AnswersGoal s level literals (Unsat core) = NoModelGoal s level literals
+-- what the solver answers of it, beside the values that it tells
+abbrev pub AnswersGoal : Questions → ℕ → List Lit → List Lit → Asked → Type 0
+AnswersGoal s level literals values Sat = ModelGoal s level literals (assigned values)
+AnswersGoal s level literals values (Unsat core) = NoModelGoal s level literals
 
 -- what is told of it
 abbrev pub TellsGoal : Questions → Circuit → ℕ → List Lit → Option Position → Type 0

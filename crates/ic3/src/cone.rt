@@ -20,6 +20,8 @@ pub(crate) struct Cone {
     held: Vec<bool>,
     // Which latches have the clauses of their next value there.
     nexts: Vec<bool>,
+    // How many gates have their clauses there.
+    gates: u64,
 }
 
 impl Cone {
@@ -31,7 +33,13 @@ impl Cone {
             read: vec![in alloc; false; count]?,
             held: vec![in alloc; false; count]?,
             nexts: vec![in alloc; false; c.latches().len()]?,
+            gates: 0,
         })
+    }
+
+    /// How many gates have their clauses in the solver.
+    pub(crate) fn gates(&self) -> u64 {
+        self.gates
     }
 }
 
@@ -86,6 +94,7 @@ fn put_gate(base: &Db, cone: &mut Cone, solver: &mut Solver, gate: &Gate) -> Res
         return Ok(());
     }
     mark(&mut cone.held, v);
+    cone.gates = cone.gates.saturating_add(1);
     mark_variable(&mut cone.read, gate.rhs0);
     mark_variable(&mut cone.read, gate.rhs1);
     let first = cone.firsts.get(v).copied().unwrap_or(0);

@@ -10,7 +10,7 @@ ghost use Rattle.ic3.specs.SteppingInside.{KeepsNumbers, Begins, Rests, Keeps, A
 ghost use Rattle.ic3.specs.SteppingInside.{AnswersGoal, TellsGoal, TellsLiteral, Holds};
 ghost use Rattle.ic3_questions.specs.ReadVariables.{is_read};
 
-use cdcl::{Asked, Assignment, Solver, are_sized, has_opposites};
+use cdcl::{Asked, Solver, are_sized, has_opposites};
 use circuit::{Circuit, Position};
 use cnf::{Cube, Lit, has_literal};
 use edge::{Meter, SolveEnd};
@@ -132,7 +132,7 @@ pub(crate) fn ask(
     assumptions: &[Lit],
     meter: &mut Meter,
 ) -> Result<Asked, SolveEnd>
-    ensures answer { IfOk result (IsAsked solver.old.added assumptions.now) }
+    ensures answer { IfOk result (IsAsked solver.old.added assumptions.now solver.new.values) }
     ensures added { solver.new.added ≡ solver.old.added }
     ensures end { IfErr result (IsEnd meter.new) }
     ensures counted { CountsConflicts meter.old meter.new }
@@ -146,28 +146,28 @@ pub(crate) fn ask(
     solver.ask(alloc, assumptions, meter)
 }
 
-fn values_at(alloc: Global, a: &Assignment, place: &[u64]) -> Result<Items<bool>, AllocError>
-    ensures { IfOk result (λ values. values ≡ map (assigned a.now) place.now) }
+fn values_at(alloc: Global, solver: &Solver, place: &[u64]) -> Result<Items<bool>, AllocError>
+    ensures { IfOk result (λ values. values ≡ map (assigned solver.now.values) place.now) }
 {
     let mut values = Items::new(alloc);
     for number in place {
-        values.push(a.value(*number))?;
+        values.push(solver.value(*number))?;
     }
     Ok(values)
 }
 
-/// The position that an assignment gives to the block.
+/// The position that the solver's values give to the block.
 pub(crate) fn position_of(
     alloc: Global,
     c: &Circuit,
     here: &[u64],
-    a: &Assignment,
+    solver: &Solver,
 ) -> Result<Position, AllocError>
     requires { here.now ≡ state_place c.now 0 }
-    ensures { IfOk result (λ p. p ≡ (situation_in c.now 0 (assigned a.now)).position) }
+    ensures { IfOk result (λ p. p ≡ (situation_in c.now 0 (assigned solver.now.values)).position) }
 {
-    let latches = values_at(alloc, a, here)?;
-    let inputs = values_at(alloc, a, input_place(alloc, c)?.as_slice())?;
+    let latches = values_at(alloc, solver, here)?;
+    let inputs = values_at(alloc, solver, input_place(alloc, c)?.as_slice())?;
     Ok(Position { latches, inputs })
 }
 
@@ -229,7 +229,7 @@ pub(crate) fn ask_into(
     cube: &[Lit],
     meter: &mut Meter,
 ) -> Result<Asked, SolveEnd>
-    ensures answer { IfOk result (AnswersInto s.old level cube.now) }
+    ensures answer { IfOk result (AnswersInto s.old level cube.now s.new.solver.values) }
     ensures kept { Keeps s.old s.new }
     ensures end { IfErr result (IsEnd meter.new) }
     ensures counted { CountsConflicts meter.old meter.new }
@@ -268,7 +268,10 @@ fn found_into(
     ensures counted { CountsConflicts meter.old meter.new }
 {
     match ask_into(alloc, s, level, cube.as_slice(), meter)? {
-        Asked::Sat(a) => Ok(Found::Step(position_of(alloc, c, s.here.as_slice(), &a)?)),
+        Asked::Sat => {
+            let p = position_of(alloc, c, s.here.as_slice(), &s.solver)?;
+            Ok(Found::Step(p))
+        }
         Asked::Unsat(core) => Ok(Found::Missing(part_at(
             alloc,
             s.next.as_slice(),
@@ -322,7 +325,7 @@ pub(crate) fn ask_goal(
     literals: &[Lit],
     meter: &mut Meter,
 ) -> Result<Asked, SolveEnd>
-    ensures answer { IfOk result (AnswersGoal s.old level literals.now) }
+    ensures answer { IfOk result (AnswersGoal s.old level literals.now s.new.solver.values) }
     ensures kept { Keeps s.old s.new }
     ensures end { IfErr result (IsEnd meter.new) }
     ensures counted { CountsConflicts meter.old meter.new }
@@ -348,7 +351,7 @@ fn goal(
     ensures counted { CountsConflicts meter.old meter.new }
 {
     match ask_goal(alloc, s, level, literals, meter)? {
-        Asked::Sat(a) => Ok(Some(position_of(alloc, c, s.here.as_slice(), &a)?)),
+        Asked::Sat => Ok(Some(position_of(alloc, c, s.here.as_slice(), &s.solver)?)),
         Asked::Unsat(_) => Ok(None),
     }
 }

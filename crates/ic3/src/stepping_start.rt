@@ -93,17 +93,18 @@ pub(crate) fn questions_of(
     view: &[Arc<Checked>],
     start: &Start,
     avoid: &[Cube],
-    begun: &Begun,
+    base: &Db,
+    free: u64,
     cone: &mut Cone,
 ) -> Result<Questions, AllocError>
     requires view { IsGoodList c.now (viewed view.now) }
     requires avoid { AreOver (length c.now.latches) avoid.now }
-    requires base { begun.now.clauses.clauses ≡ base_clauses (record {
+    requires base { base.now.clauses ≡ base_clauses (record {
       circuit = c.now;
       view = viewed view.now;
       start = start.now;
     }) }
-    requires free { begun.now.free ≡ first_guard (record {
+    requires free { free ≡ first_guard (record {
       circuit = c.now;
       view = viewed view.now;
       start = start.now;
@@ -119,11 +120,11 @@ pub(crate) fn questions_of(
     let here = state_place(alloc, c)?;
     let next = successor_place(alloc, c)?;
     let used = used(alloc, view, start)?;
-    let guard = question_guard(begun.free, 0)?;
+    let guard = question_guard(free, 0)?;
     let solver = filled(
         alloc,
         c,
-        &begun.clauses,
+        base,
         cone,
         used.as_slice(),
         guard,
@@ -134,7 +135,7 @@ pub(crate) fn questions_of(
         solver,
         here,
         next,
-        free: begun.free,
+        free,
         levels: 0,
         asked: 0,
         count: 0,

@@ -10,6 +10,7 @@ ghost use Rattle.ic3_semantics.specs.Searching.{IsStart};
 ghost use Rattle.ic3_semantics.specs.Stepping.{IsOver, IsFound, IsGoalFound, no_lemmas, with_lemma};
 
 use crate::cone::{Cone, meet, meet_nexts};
+use crate::renewing::{is_old, renewed};
 use crate::stepping_clauses::add_all;
 use crate::stepping_lemmas::hold_lemma;
 use crate::stepping_questions::{Questions, goal_at, predecessor};
@@ -24,6 +25,7 @@ use ic3_questions::is_read;
 use ic3_semantics::{Found, Lemma, Start};
 use std::alloc::{AllocError, Global};
 use std::marker::Model;
+use std::mem;
 use std::sync::Arc;
 
 /// The solver of the search from one start. Contracts see its question, the cubes that a goal avoids, and its lemmas in
@@ -83,7 +85,16 @@ impl<'a> Steps<'a> {
     {
         let begun = base(alloc, c, view, start)?;
         let mut cone = Cone::new(alloc, c)?;
-        let questions = questions_of(alloc, c, view, start, avoid, &begun, &mut cone)?;
+        let questions = questions_of(
+            alloc,
+            c,
+            view,
+            start,
+            avoid,
+            &begun.clauses,
+            begun.free,
+            &mut cone,
+        )?;
         Ok(Steps {
             c,
             view,
@@ -155,6 +166,38 @@ impl<'a> Steps<'a> {
         )
     }
 
+    // Makes the solver anew where it is old. The error is want of memory, and leaves the solver as it was.
+    fn renew_where_old(&mut self) -> Result<(), AllocError>
+        ensures { self.new ≡ self.old }
+    {
+        if is_old(&self.questions, &self.cone, self.lemmas.len()) {
+            self.renew()
+        } else {
+            Ok(())
+        }
+    }
+
+    // Makes the solver anew, with all lemmas. The error is want of memory, and leaves the solver as it was.
+    fn renew(&mut self) -> Result<(), AllocError>
+        ensures { self.new ≡ self.old }
+    {
+        let mut cone = Cone::new(self.alloc, self.c)?;
+        let made = renewed(
+            self.alloc,
+            self.c,
+            self.view,
+            self.start,
+            self.avoid,
+            &self.lemmas,
+            &self.base,
+            &self.questions,
+            &mut cone,
+        )?;
+        drop(mem::replace(&mut self.questions, made));
+        self.cone = cone;
+        Ok(())
+    }
+
     /// A step of the arena into the cube, from a state outside it that meets the lemmas of this level and of those
     /// above it; or, exactly where there is none, a part of the cube that no such step leads into. `Spent` comes where
     /// the meter's count of conflicts is at its limit.
@@ -171,6 +214,7 @@ impl<'a> Steps<'a> {
         ensures end { IfErr result (IsEnd meter.new) }
         ensures counted { CountsConflicts meter.old meter.new }
     {
+        self.renew_where_old()?;
         match self.try_predecessor(alloc, level, cube, meter)? {
             Some(found) => Ok(found),
             None => self.predecessor_in_all(alloc, level, cube, meter),
@@ -243,6 +287,7 @@ impl<'a> Steps<'a> {
         ensures end { IfErr result (IsEnd meter.new) }
         ensures counted { CountsConflicts meter.old meter.new }
     {
+        self.renew_where_old()?;
         match self.try_goal(alloc, level, literal, meter)? {
             Some(found) => Ok(found),
             None => self.goal_in_all(alloc, level, literal, meter),
@@ -331,6 +376,16 @@ impl<'a> StepSolver for Steps<'a> {
     }
 
     fn predecessor(
+        &mut self,
+        alloc: Global,
+        level: u64,
+        cube: &Cube,
+        meter: &mut Meter,
+    ) -> Result<Found, SolveEnd> {
+        Steps::predecessor(self, alloc, level, cube, meter)
+    }
+
+    fn predecessor_of_excluded(
         &mut self,
         alloc: Global,
         level: u64,

@@ -10,7 +10,7 @@ ghost use Rattle.ic3_semantics.specs.Stepping.{meets_from};
 ghost use Rattle.ic3.specs.SteppingInside.{Keeps, TriedInto, TellsTried, TriedGoal, TellsTriedGoal};
 
 use crate::stepping_questions::{Questions, ask_goal, ask_into, part_at, position_of, retire};
-use cdcl::{Asked, Assignment};
+use cdcl::{Asked, Solver};
 use circuit::{Circuit, Position, eval_into, literal_value};
 use cnf::{Cube, Db, eval, holds};
 use edge::{Meter, SolveEnd};
@@ -20,17 +20,17 @@ use ic3_semantics::{Found, Lemma};
 use items::Items;
 use std::alloc::{AllocError, Global};
 
-// The circuit's values at the position that an assignment gives.
+// The circuit's values at the position that the solver's values give.
 fn valuation(
     alloc: Global,
     c: &Circuit,
     here: &[u64],
-    a: &Assignment,
+    solver: &Solver,
 ) -> Result<Vec<bool>, AllocError>
     requires { here.now ≡ state_place c.now 0 }
     ensures { IfOk result (λ values. length values.items ≡ c.now.max + 1) }
 {
-    let p = position_of(alloc, c, here, a)?;
+    let p = position_of(alloc, c, here, solver)?;
     let mut values = vec![in alloc; false; c.max() as usize + 1]?;
     eval_into(c, p.latches.as_slice(), p.inputs.as_slice(), &mut values);
     Ok(values)
@@ -47,25 +47,19 @@ fn next_values(alloc: Global, c: &Circuit, values: &[bool]) -> Result<Vec<bool>,
     Ok(next)
 }
 
-// A value for each number below `free`: those of the block as the circuit has them, the others as they are assigned. It is
-// tried, so no contract rests on it.
-fn completed(
-    alloc: Global,
-    c: &Circuit,
-    here: &[u64],
-    free: u64,
-    a: &Assignment,
-) -> Result<Vec<bool>, AllocError>
-    requires { here.now ≡ state_place c.now 0 }
+// A value for each number below the first guard: those of the block as the circuit has them, the others as the solver
+// tells them. It is tried, so no contract rests on it.
+fn completed(alloc: Global, c: &Circuit, s: &Questions) -> Result<Vec<bool>, AllocError>
+    requires { s.now.here ≡ state_place c.now 0 }
 {
-    let values = valuation(alloc, c, here, a)?;
+    let values = valuation(alloc, c, s.here.as_slice(), &s.solver)?;
     let next = next_values(alloc, c, &values)?;
     let mut out = Vec::new(alloc);
     out.push(false)?;
     out.extend_from_slice(&values)?;
     out.extend_from_slice(&next)?;
-    for number in out.len() as u64..free {
-        out.push(a.value(number))?;
+    for number in out.len() as u64..s.free {
+        out.push(s.solver.value(number))?;
     }
     Ok(out)
 }
@@ -115,7 +109,7 @@ fn avoids(avoid: &[Cube], state: &[bool]) -> bool
     avoid.iter().all(|cube| !holds_in(cube, state))
 }
 
-// The position of an assignment, where it is a step from outside the cube into it.
+// The position of the solver's values, where it is a step from outside the cube into it.
 fn step_in(
     alloc: Global,
     c: &Circuit,
@@ -124,13 +118,12 @@ fn step_in(
     lemmas: &[Lemma],
     level: u64,
     cube: &Cube,
-    a: &Assignment,
 ) -> Result<Option<Position>, AllocError>
     requires here { s.now.here ≡ state_place c.now 0 }
     requires next { s.now.next ≡ successor_place c.now 0 }
     ensures { IfOk result (λ found. IfSome found (TriedInto base.now.clauses c.now lemmas.now level cube.now)) }
 {
-    let values = completed(alloc, c, s.here.as_slice(), s.free, a)?;
+    let values = completed(alloc, c, s)?;
     let p = position_in(alloc, c, s.here.as_slice(), &values)?;
     let next = values_in(alloc, &values, s.next.as_slice())?;
     if eval(base, &values)
@@ -144,7 +137,7 @@ fn step_in(
     }
 }
 
-// The position of an assignment, where it meets the literal as goal, in none of the cubes.
+// The position of the solver's values, where it meets the literal as goal, in none of the cubes.
 fn goal_in(
     alloc: Global,
     c: &Circuit,
@@ -154,12 +147,11 @@ fn goal_in(
     level: u64,
     avoid: &[Cube],
     literal: u64,
-    a: &Assignment,
 ) -> Result<Option<Position>, AllocError>
     requires { s.now.here ≡ state_place c.now 0 }
     ensures { IfOk result (λ found. IfSome found (TriedGoal base.now.clauses c.now lemmas.now avoid.now level literal)) }
 {
-    let values = completed(alloc, c, s.here.as_slice(), s.free, a)?;
+    let values = completed(alloc, c, s)?;
     let p = position_in(alloc, c, s.here.as_slice(), &values)?;
     if eval(base, &values)
         && meets_from(lemmas, level, p.latches.as_slice())
@@ -191,7 +183,7 @@ fn found_in(
     ensures counted { CountsConflicts meter.old meter.new }
 {
     match ask_into(alloc, s, level, cube.as_slice(), meter)? {
-        Asked::Sat(a) => match step_in(alloc, c, s, base, lemmas, level, cube, &a)? {
+        Asked::Sat => match step_in(alloc, c, s, base, lemmas, level, cube)? {
             Some(p) => Ok(Some(Found::Step(p))),
             None => Ok(None),
         },
@@ -248,7 +240,7 @@ pub(crate) fn try_goal(
     ensures counted { CountsConflicts meter.old meter.new }
 {
     match ask_goal(alloc, s, level, &[literal_in_block(literal)], meter)? {
-        Asked::Sat(a) => match goal_in(alloc, c, s, base, lemmas, level, avoid, literal, &a)? {
+        Asked::Sat => match goal_in(alloc, c, s, base, lemmas, level, avoid, literal)? {
             Some(p) => Ok(Some(Some(p))),
             None => Ok(None),
         },

@@ -6,7 +6,7 @@ use Rattle.ic3.proofs.stepping_questions.position_of.Goals as goal
 
 pub returns : goal.returns
 returns c =
-    let v : ℕ → Bool = assigned c.args.a.now in
+    let v : ℕ → Bool = assigned c.args.solver.now.values in
     let latches : c.in_ok-latches.latches ≡ map v (state_place c.args.c.now 0) = c.in_ok-latches.ensures ∙ ap (map v) c.requires in
     let inputs : c.in_ok-inputs.inputs ≡ map (λ i. v (number 0 i)) c.args.c.now.inputs =
     c.in_ok-inputs.ensures
