@@ -1,10 +1,12 @@
 -- A good answer is true.
-use Rattle.std.proofs.Common.{◌≡◌, suc, Bool, ◌++◌, List, [], ◌∷◌, length, take, subst, sym, ap, ◌∙◌, refl}
+use Rattle.std.proofs.Common.{◌≡◌, ℕ, suc, Bool, ◌++◌, List, [], ◌∷◌, length, take, subst, sym, ap, ◌∙◌, refl}
 use Rattle.std.proofs.lemmas.List.{length-take-le}
 use Rattle.aig_semantics.specs.Circuits.{Circuit}
-use Rattle.aig_semantics.specs.Runs.{position_of, successor}
+use Rattle.aig_semantics.specs.declared.traces.Position.{Position}
+use Rattle.aig_semantics.specs.Runs.{position_of, successor, IsFairLasso}
 use Rattle.aig_semantics.specs.Stimuli.{simulated}
 use Rattle.fair_semantics.specs.Entries.{Entry}
+use Rattle.fair_semantics.specs.Laws.{NoLassoMeansFewRounds}
 use Rattle.entry.specs.Laws.{IsGoodList, GoodListsGrow, RefutedHasNoLasso}
 use Rattle.certificate.specs.declared.ends.Accepted.TheVariants.{Lasso, Holds}
 use Rattle.certificate.specs.Certificates.{Written, entry_with, AreProvedBehind}
@@ -22,16 +24,18 @@ unfolding simulated
 length-simulated c latches [] = refl
 length-simulated c latches (now ∷ later) = ap suc (length-simulated c (successor c (position_of latches now)) later)
 
-pub good_is_true : (c : Circuit) → GoodListsGrow c → RefutedHasNoLasso c → GoodIsTrue c
-good_is_true c grow none text (Lasso n positions from) (_, _, s, _, stands) = (
+pub good_is_true : (c : Circuit) → GoodListsGrow c → RefutedHasNoLasso c → NoLassoMeansFewRounds → GoodIsTrue c
+good_is_true c grow none few text (Lasso n positions from) (_, _, s, _, stands) = (
   simulated c s.latches (take positions s.inputs),
   length-simulated c s.latches (take positions s.inputs) ∙ length-take-le positions s.inputs stands.has.inside,
   stands.has.lasso,
 )
-good_is_true c grow none text (Holds n entries) (below, _, certificate, _, good, _) =
-    none good.entries n certificate.uses certificate.proof (proved_list c grow [] certificate.entries good.entries grow.none good.proved) below good.refuted
+good_is_true c grow none few text (Holds n entries) (below, _, certificate, _, good, _) =
+    let no_lasso : (run : List Position) (from : ℕ) → IsFairLasso c n run from → ⊥ =
+    none good.entries n certificate.uses certificate.proof (proved_list c grow [] certificate.entries good.entries grow.none good.proved) below good.refuted in
+    (no_lasso, few c n below no_lasso)
 
 pub verdicts_agree : (c : Circuit) → GoodIsTrue c → VerdictsAgree c
 verdicts_agree c true_one text other n positions from entries lasso holds =
     let shown = true_one text (Lasso n positions from) lasso in
-    true_one other (Holds n entries) holds shown.0 from shown.2
+    (true_one other (Holds n entries) holds).0 shown.0 from shown.2

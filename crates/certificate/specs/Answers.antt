@@ -6,6 +6,7 @@ use Rattle.aig_semantics.specs.declared.traces.Stimulus.{Stimulus}
 use Rattle.aig_semantics.specs.Circuits.{Circuit}
 use Rattle.aig_semantics.specs.Runs.{IsFairLasso}
 use Rattle.aig_semantics.specs.Stimuli.{StandsFor}
+use Rattle.fair_semantics.specs.Rounds.{HasFewRounds}
 use Rattle.answer_lines.specs.Left.{most_bytes}
 use Rattle.stimulus.specs.Texts.{row_values, present}
 use Rattle.certificate.specs.declared.ends.Accepted.{Accepted}
@@ -44,7 +45,8 @@ IsGood c text (Holds n entries) =
     (n < length c.justice) × (length text ≤ most_bytes)
     × (certificate : Certificate) × HasCertificate n certificate text × IsGoodCertificate c n certificate × (entries ≡ length certificate.entries)
 
--- What an accepted answer shows of the circuit: a fair lasso of the property, or that no initial run and place form one.
+-- What an accepted answer shows of the circuit: a fair lasso of the property; or that no initial run and place form one, and
+-- so that no initial run of any length has more rounds of the property than there are states of the latches.
 abbrev pub Shows : Circuit → Accepted → Type 0
 Shows c (Lasso n positions from) = (run : List Position) × (length run ≡ positions) × IsFairLasso c n run from
-Shows c (Holds n entries) = (run : List Position) (from : ℕ) → IsFairLasso c n run from → ⊥
+Shows c (Holds n entries) = ((run : List Position) (from : ℕ) → IsFairLasso c n run from → ⊥) × HasFewRounds c n

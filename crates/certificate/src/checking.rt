@@ -44,7 +44,8 @@ pub fn check_answer<H: Shelf>(
     // and what is so is answered, unless memory is refused or a read fails.
     ensures exactly { (text : List ℕ) (verdict : Result Accepted AnswerEnd) → H.held shelf.old name.now ≡ Some text
         → DecidesEnd circuit.now text verdict → EndsWith result verdict }
-    // What is accepted is true: there is such a fair lasso, or there is none, whatever the shelf tells.
+    // What is accepted is true, whatever the shelf tells: there is such a fair lasso; or there is none, and no initial run
+    // has more rounds of the property than there are states.
     ensures shown { IfOk result (Shows circuit.now) }
     ensures read { result ≡ Err AnswerEnd.ReadFault → Rose (H.faults shelf.old name.now) (H.faults shelf.new name.now) }
     ensures reads { Reads H.reads name.now (has_unread result) shelf.old shelf.new }
@@ -70,7 +71,8 @@ pub fn check_with_lasso<H: Shelf>(
     // and what is so is answered, unless memory is refused or a read fails.
     ensures exactly { (text : List ℕ) (verdict : Result Accepted AnswerEnd) → H.held shelf.old name.now ≡ Some text
         → DecidesEnd circuit.now text verdict → EndsWith result verdict }
-    // What is accepted is true: there is such a fair lasso, or there is none, whatever the shelf tells.
+    // What is accepted is true, whatever the shelf tells: there is such a fair lasso; or there is none, and no initial run
+    // has more rounds of the property than there are states.
     ensures shown { IfOk result (Shows circuit.now) }
     ensures read { result ≡ Err AnswerEnd.ReadFault → Rose (H.faults shelf.old name.now) (H.faults shelf.new name.now) }
     ensures reads { Reads H.reads name.now (has_unread result) shelf.old shelf.new }

@@ -7,11 +7,12 @@ use answer_lines::LinesEnd;
 use entry::EntryFault;
 use proof_semantics::LratFault;
 use std::alloc::{AllocError, AllocFailed};
+use std::fmt;
 use stimulus::ReplayFault;
 use thiserror::Error;
 
 /// What an accepted answer shows of a property, counted from 0.
-#[derive(Clone, Copy, Debug, PartialEq, Eq)]
+#[derive(Clone, Copy, PartialEq, Eq)]
 pub enum Accepted {
     /// Its stimulus stands for a fair lasso: the number of positions, and the place, counted from 0, that the last
     /// position steps back to.
@@ -29,8 +30,7 @@ pub enum Accepted {
 
 /// Why an answer is refused: its first failing item. Lines are counted from 1, skipped ones too; entries, clauses and
 /// the lines of a proof from 0, skipped lines of a proof not counted.
-#[derive(Clone, Copy, Debug, PartialEq, Eq, Error)]
-#[error("the answer is not good")]
+#[derive(Clone, Copy, PartialEq, Eq, Error)]
 pub enum AnswerFault {
     /// The line with this number is not what is wanted there; where the text ends too early, it is the number behind
     /// the last line.
@@ -54,9 +54,20 @@ pub enum AnswerFault {
     UnknownStatus,
 }
 
+impl fmt::Display for AnswerFault {
+    fn fmt<W: fmt::Write>(&self, f: &mut fmt::Formatter<W>) -> fmt::Result {
+        f.write_str("the answer is not good")
+    }
+}
+
+impl fmt::Debug for AnswerFault {
+    fn fmt<W: fmt::Write>(&self, f: &mut fmt::Formatter<W>) -> fmt::Result {
+        fmt::Display::fmt(self, f)
+    }
+}
+
 /// Why an answer is not accepted.
-#[derive(Clone, Copy, Debug, PartialEq, Eq, Error)]
-#[error("the answer is not accepted")]
+#[derive(Clone, Copy, PartialEq, Eq, Error)]
 pub enum AnswerEnd {
     /// It is not a good answer.
     Refused(AnswerFault),
@@ -64,6 +75,18 @@ pub enum AnswerEnd {
     ReadFault,
     /// Memory was refused.
     Memory,
+}
+
+impl fmt::Display for AnswerEnd {
+    fn fmt<W: fmt::Write>(&self, f: &mut fmt::Formatter<W>) -> fmt::Result {
+        f.write_str("the answer is not accepted")
+    }
+}
+
+impl fmt::Debug for AnswerEnd {
+    fn fmt<W: fmt::Write>(&self, f: &mut fmt::Formatter<W>) -> fmt::Result {
+        fmt::Display::fmt(self, f)
+    }
 }
 
 /// The line with this number is not what is wanted there.

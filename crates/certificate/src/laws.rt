@@ -4,18 +4,21 @@ ghost use Rattle.certificate.specs.Laws.{ReadsGood, GoodIsTrue, VerdictsAgree, E
 
 use circuit::Circuit;
 use entry::{good_lists_grow, refutations_leave_no_lasso};
+use fair_semantics::no_lasso_means_few_rounds;
 
 /// A text is read as a good answer, line by line, exactly where it is one.
 pub fn answers_are_read_as_good(c: &Circuit)
     ensures { ReadsGood c.now }
 {}
 
-/// A good answer is true: there is such a fair lasso of the property, or none at all.
+/// A good answer is true: there is such a fair lasso of the property; or none at all, and no initial run has more rounds
+/// of the property than 2 to the number of latches.
 pub fn good_answers_are_true(c: &Circuit)
     ensures { GoodIsTrue c.now }
 {
     good_lists_grow(c);
     refutations_leave_no_lasso(c);
+    no_lasso_means_few_rounds();
 }
 
 /// No property has both a good stimulus and a good certificate: whatever decided it, two good answers agree.

@@ -5,4 +5,5 @@ pub mod Lists
 pub mod Runs
 pub mod Certified
 pub mod Initial
+pub mod Rounds
 pub mod Examples

@@ -17,6 +17,7 @@ use Rattle.fair_semantics.specs.Entries.{Entry, numbered, used_entries, entry_at
 use Rattle.fair_semantics.specs.Allowing.{allows_by, all_allow, allow}
 use Rattle.fair_semantics.specs.Skeletons.{IsSkeleton, places}
 use Rattle.fair_semantics.specs.Validity.{set_behind, IsValid, AreValid}
+use Rattle.fair_semantics.specs.Rounds.{HasFewRounds}
 
 -- A reach entry allows a step exactly where both ends lie in its set, a wall exactly where the step does not cross it.
 abbrev pub AllowsSteps : Type 0
@@ -126,3 +127,11 @@ UsesCertifyNoLasso =
     → AreValid c entries → AreClosed entries uses
     → ((skeleton : Skeleton) → IsSkeleton c j skeleton → allow (used_entries entries uses) (places skeleton) ≡ false)
     → (run : List Position) (from : ℕ) → IsFairLasso c j run from → ⊥
+
+-- Where no initial run and place form a fair lasso of a property, no initial run has more rounds of it than there are
+-- states: of more rounds two would begin in the same state, and what lies between would be a lasso.
+abbrev pub NoLassoMeansFewRounds : Type 0
+NoLassoMeansFewRounds =
+    (c : Circuit) (j : ℕ)
+    → j < length c.justice
+    → ((run : List Position) (from : ℕ) → IsFairLasso c j run from → ⊥) → HasFewRounds c j

@@ -1,5 +1,5 @@
 //! The laws of the definitions. Each call does nothing; its contract is the law.
-ghost use Rattle.fair_semantics.specs.Laws.{AllowsSteps, InitialIsInCube, HoldsInitialStates, SetsStandBehind, UsesStandAlone, UsesAllow, StaysValid, FrontAllows, ReachHoldsRuns, LoopsKeepSides, CertifiesNoLasso, UsesCertifyNoLasso};
+ghost use Rattle.fair_semantics.specs.Laws.{AllowsSteps, InitialIsInCube, HoldsInitialStates, SetsStandBehind, UsesStandAlone, UsesAllow, StaysValid, FrontAllows, ReachHoldsRuns, LoopsKeepSides, CertifiesNoLasso, UsesCertifyNoLasso, NoLassoMeansFewRounds};
 
 /// What allowing a step means, which states are initial, and which clauses hold in all of these.
 pub fn steps_and_initial_states()
@@ -34,4 +34,10 @@ pub fn loops_keep_sides()
 pub fn certificates_leave_no_lasso()
     ensures list { CertifiesNoLasso }
     ensures uses { UsesCertifyNoLasso }
+{}
+
+/// Where there is no fair lasso of a property, no initial run has more rounds of it than there are states: 2 to the
+/// number of latches. Each round is a segment of the run in which the property's literals and those of fairness are true.
+pub fn no_lasso_means_few_rounds()
+    ensures { NoLassoMeansFewRounds }
 {}

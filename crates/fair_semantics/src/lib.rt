@@ -6,7 +6,8 @@
 //! - `sets_over_uses`: an entry's set and validity depend on the entries that its closed uses name;
 //! - `reach_holds_runs`: reach entries hold every initial run;
 //! - `loops_keep_sides`: the loop of a fair lasso lies on one side of each wall;
-//! - `certificates_leave_no_lasso`: where no skeleton is allowed there is no fair lasso.
+//! - `certificates_leave_no_lasso`: where no skeleton is allowed there is no fair lasso;
+//! - `no_lasso_means_few_rounds`: where there is no fair lasso no run meets the property more often than there are states.
 #![tactic(auto)]
 
 mod entries;
@@ -16,7 +17,7 @@ pub mod worked_rows;
 
 pub use entries::{Kind, Side, Use};
 pub use laws::{
-    certificates_leave_no_lasso, loops_keep_sides, reach_holds_runs, sets_over_uses,
-    steps_and_initial_states,
+    certificates_leave_no_lasso, loops_keep_sides, no_lasso_means_few_rounds, reach_holds_runs,
+    sets_over_uses, steps_and_initial_states,
 };
 pub use skeletons::{Situation, Skeleton};
