@@ -1,0 +1,9 @@
+use Rattle.std.proofs.Common.{◌∙◌, ◌+◌, ◌*◌, ap, ap₂}
+use Rattle.live_to_safe.specs.Watching.{copy_latch, zero_latch}
+use Rattle.live_to_safe.proofs.Numbering.{numbered_push}
+use Rattle.live_to_safe.proofs.latches.push_copies.Goals as goal
+
+pub loop-i-preserved : goal.loop-i-preserved
+loop-i-preserved c =
+    numbered_push (copy_latch c.args.z) c.loop-i.i _ c.loop-i.all c.push.new.self c.zero_latch.result c.in_ok-push.ensures.ok c.loop-i.invariant
+    (c.zero_latch.ensures ∙ ap₂ zero_latch c.copy.ensures (c.negative.ensures ∙ ap (λ g. 2 * (g + 2) + 1) c.latch_gate.ensures))

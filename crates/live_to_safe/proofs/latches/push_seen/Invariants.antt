@@ -1,0 +1,6 @@
+use Rattle.std.proofs.Common.{◌≡◌, ◌++◌}
+use Rattle.live_to_safe.specs.Watching.{numbered, seen_latch}
+use Rattle.live_to_safe.proofs.latches.push_seen.Given as goal
+
+abbrev pub invariant-loop-m : goal.invariant-loop-m
+invariant-loop-m l = l.all ≡ l.initial.all ++ numbered (seen_latch l.z) 0 l.m
