@@ -68,7 +68,7 @@ shown-seen n b inside = get_or-set_same b.seen n (length b.entries) 0 inside
 
 -- ---- outcomes
 
-some-not-none : {X : Type 0} (x : X) → Some x ≡ None → ⊥
+pub some-not-none : {X : Type 0} (x : X) → Some x ≡ None → ⊥
 some-not-none x e = cc
 
 properties-kept : (served : List Served) (j : ℕ) (o : Outcome) → properties_of (with_outcome served j o) ≡ properties_of served
@@ -97,7 +97,7 @@ outcomes-kept (s ∷ served) j i o h =
           ]) h
     ]
 
-same-number : (n m : ℕ) → n ≡ m → (n == m) ≡ true
+pub same-number : (n m : ℕ) → n ≡ m → (n == m) ≡ true
 same-number n m e = grind (arith)
 
 set-here : (s : Served) (served : List Served) (j : ℕ) (o : Outcome) (b : Bool) → (s.property == j) ≡ b
@@ -107,7 +107,7 @@ set-here s served j o true e rest = subst (λ m. cond m (Some o) (outcome_of ser
 set-here s served j o false e rest =
     subst (λ m. cond m s.outcome (outcome_of (with_outcome served j o) j) ≢ None) (sym e) (rest refl)
 
-contains-later : (i : ℕ) (properties : List ℕ) (j : ℕ) → (i == j) ≡ false → Contains (i ∷ properties) j → Contains properties j
+pub contains-later : (i : ℕ) (properties : List ℕ) (j : ℕ) → (i == j) ≡ false → Contains (i ∷ properties) j → Contains properties j
 contains-later i properties j other (zero, inside, at) = absurd (false≢true (sym other ∙ same-number i j at))
 contains-later i properties j other (suc k, inside, at) = (k, omega (arith, inside), at)
 
@@ -177,7 +177,7 @@ empty-list (x ∷ xs) e = absurd (omega arith)
 grown-by : (seen n own size plain_size : ℕ) → own ≡ seen → (n < seen → ⊥) → plain_size ≡ size → n < plain_size → own < size
 grown-by seen n own size plain_size e behind same inside = grind (arith)
 
-stands-behind : (entries : List CheckedEntry) (seen n : ℕ) (skeleton : Skeleton) → seen ≤ length entries → Allow (take seen entries) skeleton
+pub stands-behind : (entries : List CheckedEntry) (seen n : ℕ) (skeleton : Skeleton) → seen ≤ length entries → Allow (take seen entries) skeleton
     → excludes (plain entries) n skeleton ≡ true → (n < seen → ⊥)
 stands-behind entries seen n skeleton within allowed excluded below =
     let front : List Entry = plain (take seen entries) in
@@ -457,7 +457,7 @@ good-view b n h =
 
 -- ---- outcomes that are handed in
 
-true-of : (c : Circuit) (entries : List CheckedEntry) (j : ℕ) (o : Outcome) → IsTrueBehind c (plain entries) j o → IsTrueOf c entries j o
+pub true-of : (c : Circuit) (entries : List CheckedEntry) (j : ℕ) (o : Outcome) → IsTrueBehind c (plain entries) j o → IsTrueOf c entries j o
 true-of c entries j (outcomes.Lasso lasso) h = h
 true-of c entries j (outcomes.Holds r) h = h
 

@@ -30,7 +30,10 @@ use Rattle.fair_workers.specs.declared.lending.LentBoard.{LentBoard}
 use Rattle.fair_workers.specs.Runs.{Task, IsFoundWithin, IsBoardOf, IsWithLimits, IsInBudget, AreSpentOn, IsFull, IsAnswer, IsReport, most_situations, most_steps, most_turns}
 use Rattle.fair_workers.specs.Knowing.{Known}
 use Rattle.fair_workers.specs.Working.{rank, is_running, is_refused, left, left_at_first, searches_left, searches_ahead, search_steps, steps_through, IsIn, IsStuck, IsWorker, Turns, KeepsLimits}
-use Rattle.fair_workers.specs.BoardWorkers.{known_at, known_of, any_refused, left_by, left_of, searches_left_by, KeepsWithin, runs_at, turns_at, IsOfTurn, GoesOnBy, StaysLent, IsBoardWorker, TakesTurn, Follows, AreWorkers, ServeTask, HaveEnded, task_of}
+use Rattle.fair_workers.specs.BoardWorkers.{known_at, known_of, left_by, left_of, searches_left_by, KeepsWithin, runs_at, turns_at, IsOfTurn, GoesOnBy, StaysLent, IsBoardWorker, TakesTurn, Follows, AreWorkers, ServeTask, HaveEnded, task_of}
+use Rattle.fair_workers.specs.Ends.{IsStuckOn, Tells, IsDone, AreDone}
+use Rattle.fair_workers.specs.declared.ending.WorkerEnd.{WorkerEnd}
+use Rattle.fair_workers.proofs.Causes.{steps-least}
 use Rattle.fair_workers.proofs.Turned.{turn-within, is-running}
 use Rattle.fair_workers.proofs.LentBoards.{is-not-none, some-is, seen-size, seen-within}
 use Rattle.fair_round.proofs.Counting.{steps-first, steps-kept, steps-over, steps-last}
@@ -405,25 +408,6 @@ workers-on task j b c workers later is on are size = record {
 
 -- ---- the end
 
-open-one : (served : List Served) (j : ℕ) → properties_of served ≡ j ∷ [] → Contains (properties_of served) j
-open-one served j e =
-    let inside : 0 < length (properties_of served) = subst (λ (xs : List ℕ). 0 < length xs) (sym e) (omega arith) in
-    let at : get_or (properties_of served) 0 j ≡ j = subst (λ (xs : List ℕ). get_or xs 0 j ≡ j) (sym e) refl in
-    (0, inside, at)
-
-only-in : (xs : List ℕ) (i j : ℕ) → xs ≡ j ∷ [] → Contains xs i → i ≡ j
-only-in xs i j e (k, inside, at) =
-    let below : k < length (j ∷ []) = subst (λ (ys : List ℕ). k < length ys) e inside in
-    let first : k ≡ 0 = omega arith in
-    sym at ∙ ap (λ ys. get_or ys k i) e ∙ ap (λ m. get_or (j ∷ []) m i) first
-
-pub settled-by : (served : List Served) (j : ℕ) → properties_of served ≡ j ∷ [] → outcome_of served j ≢ None → IsSettled served
-settled-by served j e has i is_open = has (ap (outcome_of served) (sym (only-in (properties_of served) i j e is_open.0)) ∙ is_open.1)
-
--- The list of the board is full, and allows a skeleton of property j.
-abbrev IsStuckOn : ℕ → BoardState → Type 0
-IsStuckOn j b = (length b.entries ≡ b.limit) × ((s : Skeleton) × IsAllowed b.circuit j (plain b.entries) s)
-
 -- a worker that has seen as many entries as there may be has seen all
 seen-whole : (b : BoardState) (n : ℕ) → IsBoard b → n < b.workers → length (list_of b n) ≡ b.limit → list_of b n ≡ b.entries
 seen-whole b n is below full =
@@ -436,107 +420,54 @@ stuck-on j b n turns is below h =
       (h.1.0, subst (λ (xs : List CheckedEntry). IsAllowed b.circuit j (plain xs) h.1.0) whole h.1.1),
     )
 
--- what a worker that has ended without an outcome tells
-told : (j : ℕ) (b : BoardState) (n turns : ℕ) (meter : Spendings) (p : Phase) → IsBoard b → n < b.workers → outcome_of b.served j ≡ None
-    → is_running p ≡ false → is_refused p ≡ false → IsIn j (known_at b n turns) meter p → IsStuckOn j b ⊎ IsSpent meter
-told j b n turns meter phases.Asks is below none ended kept h = absurd (false≢true (sym ended))
-told j b n turns meter phases.Looks is below none ended kept h = absurd (false≢true (sym ended))
-told j b n turns meter phases.Searches is below none ended kept h = absurd (false≢true (sym ended))
-told j b n turns meter phases.AsksLast is below none ended kept h = absurd (false≢true (sym ended))
-told j b n turns meter phases.LooksLast is below none ended kept h = absurd (false≢true (sym ended))
-told j b n turns meter phases.SearchesLast is below none ended kept h = absurd (false≢true (sym ended))
-told j b n turns meter phases.Closed is below none ended kept h = absurd (is-not-none (outcome_of b.served j) h none)
-told j b n turns meter phases.Full is below none ended kept h = inl (stuck-on j b n turns is below h)
-told j b n turns meter phases.Spent is below none ended kept h = inr h
-told j b n turns meter phases.Refused is below none ended kept h = absurd (false≢true (sym kept))
+-- what a worker that has ended tells of its board
+told : (j : ℕ) (b : BoardState) (n turns : ℕ) (meter : Spendings) (p : Phase) → IsBoard b → n < b.workers → is_running p ≡ false
+    → IsIn j (known_at b n turns) meter p → Tells j b meter p
+told j b n turns meter phases.Asks is below ended h = absurd (false≢true (sym ended))
+told j b n turns meter phases.Looks is below ended h = absurd (false≢true (sym ended))
+told j b n turns meter phases.Searches is below ended h = absurd (false≢true (sym ended))
+told j b n turns meter phases.AsksLast is below ended h = absurd (false≢true (sym ended))
+told j b n turns meter phases.LooksLast is below ended h = absurd (false≢true (sym ended))
+told j b n turns meter phases.SearchesLast is below ended h = absurd (false≢true (sym ended))
+told j b n turns meter phases.Closed is below ended h = is-not-none (outcome_of b.served j) h
+told j b n turns meter phases.Full is below ended h = stuck-on j b n turns is below h
+told j b n turns meter phases.Spent is below ended h = h
+told j b n turns meter phases.Refused is below ended h = tt
 
-or-false : (a b : Bool) → (a || b) ≡ false → (a ≡ false) × (b ≡ false)
-or-false true b h = absurd (false≢true (sym h))
-or-false false b h = (refl, h)
+abbrev end_of : BoardWorker → WorkerEnd
+end_of m = record { spent = m.worker.meter; phase = m.worker.phase }
 
-cause-of : (j : ℕ) (b : BoardState) (workers : List BoardWorker) → IsBoard b → outcome_of b.served j ≡ None → All (λ w. is_running w.worker.phase ≡ false) workers
-    → any_refused workers ≡ false → All (IsBoardWorker j b) workers → IsStuckOn j b ⊎ All (λ w. IsSpent w.worker.meter) workers
-cause-of j b [] is none over kept each = inr (All-nil (λ w. IsSpent w.worker.meter))
-cause-of j b (w ∷ workers) is none over kept each =
-    let kepts = or-false (is_refused w.worker.phase) (any_refused workers) kept in
-    let mine : IsBoardWorker j b w = All-head (IsBoardWorker j b) w workers each in
-    elim (told j b w.number w.turns w.worker.meter w.worker.phase is mine.number none (All-head (λ (u : BoardWorker). is_running u.worker.phase ≡ false) w workers over) kepts.0 mine.worker.phase) [
-      | inl stuck ↦ inl stuck
-      | inr spent ↦
-          elim (cause-of j b workers is none (All-tail (λ (u : BoardWorker). is_running u.worker.phase ≡ false) w workers over) kepts.1 (All-tail (IsBoardWorker j b) w workers each)) [
-            | inl stuck ↦ inl stuck
-            | inr rest ↦ inr (All-cons (λ u. IsSpent u.worker.meter) w workers spent rest)
-          ]
-    ]
-
-full-of : (j : ℕ) (b : BoardState) → properties_of b.served ≡ j ∷ [] → IsStuckOn j b → IsFull b
-full-of j b e stuck = record {
-  full = stuck.0;
-  allows = λ i is_open.
-      let same : i ≡ j = only-in (properties_of b.served) i j e is_open.0 in
-      (stuck.1.0, subst (λ (m : ℕ). IsAllowed b.circuit m (plain b.entries) stuck.1.0) (sym same) stuck.1.1);
-}
-
-over-all : (workers : List BoardWorker) → HaveEnded workers → All (λ w. is_running w.worker.phase ≡ false) workers
-over-all workers over = λ k d below. runs-here workers k d below ∙ over k below
-
-max-none : (n : ℕ) → max n 0 ≡ n
-max-none n = grind (arith)
-
--- a worker's steps, in the words of its task
-steps-least : (task : Task) (j : ℕ) (b : BoardState) (w : BoardWorker) → b.circuit ≡ task.circuit → task.properties ≡ j ∷ []
-    → KeepsWithin task.limits j b.limit b.circuit w → w.worker.meter.steps ≤ most_steps task
-steps-least task j b w circuit properties h =
-    let here : KeepsWithin task.limits j b.limit task.circuit w = subst (λ (d : Circuit). KeepsWithin task.limits j b.limit d w) circuit h in
-    let cost : ℕ = search_steps task.circuit j in
-    let few : w.worker.meter.steps ≤ (task.limits.skeletons + 1) * cost =
-    steps-last w.worker.meter.steps (searches_left_by b.limit w) cost ((task.limits.skeletons + 1) * cost) here
-    in
-    let situations : ℕ = max 1 (length (fair_literals task.circuit j)) in
-    let paths : ℕ = path_steps (length task.circuit.latches) in
-    subst (λ (properties : List ℕ). w.worker.meter.steps
-    ≤ (task.limits.skeletons + length properties) * ((most_situations task.circuit properties + 1) * path_steps (length task.circuit.latches))) (sym properties)
-    (subst (λ (n : ℕ). w.worker.meter.steps ≤ (task.limits.skeletons + 1) * ((n + 1) * paths)) (sym (max-none situations)) few)
-
-cause-told : (j : ℕ) (b : BoardState) (workers : List BoardWorker) (spent : List Spendings) → properties_of b.served ≡ j ∷ []
-    → spent ≡ map (λ w. w.worker.meter) workers → IsStuckOn j b ⊎ All (λ w. IsSpent w.worker.meter) workers → IsFull b ⊎ All IsSpent spent
-cause-told j b workers spent e same (inl stuck) = inl (full-of j b e stuck)
-cause-told j b workers spent e same (inr all) = inr (subst (All IsSpent) (sym same) (All-map IsSpent (λ (w : BoardWorker). w.worker.meter) workers all))
-
-spent-of : (task : Task) (j : ℕ) (b : BoardState) (workers : List BoardWorker) (spent : List Spendings) → ServeTask task j b workers
-    → spent ≡ map (λ w. w.worker.meter) workers → All IsInBudget spent → AreSpentOn task spent
-spent-of task j b workers spent is same within =
-    let meters : List Spendings = map (λ (w : BoardWorker). w.worker.meter) workers in
-    let limits : All (IsWithLimits task.limits) spent = subst (All (IsWithLimits task.limits)) (sym same)
-    (All-map (IsWithLimits task.limits) (λ (w : BoardWorker). w.worker.meter) workers is.workers.within)
-    in
-    let few : All (λ (w : BoardWorker). w.worker.meter.steps ≤ most_steps task) workers = λ k d below.
-    steps-least task j b (get_or workers k d) is.board.circuit is.properties (is.workers.steps k d below)
-    in
-    let most : All (λ (s : Spendings). s.steps ≤ most_steps task) spent = subst (All (λ (s : Spendings). s.steps ≤ most_steps task)) (sym same)
-    (All-map (λ (s : Spendings). s.steps ≤ most_steps task) (λ (w : BoardWorker). w.worker.meter) workers few)
-    in
+done-with : (task : Task) (j : ℕ) (b : BoardState) (workers : List BoardWorker) (k : ℕ) (d : BoardWorker) → ServeTask task j b workers
+    → HaveEnded workers → k < length workers → IsInBudget (get_or workers k d).worker.meter → IsDone task j b (end_of (get_or workers k d))
+done-with task j b workers k d is over below within =
+    let m : BoardWorker = get_or workers k d in
+    let mine : IsBoardWorker j b m = is.workers.each k d below in
+    let cost : ℕ = search_steps b.circuit j in
     record {
-      count = ap length same ∙ length-map workers (λ (w : BoardWorker). w.worker.meter) ∙ is.count;
-      each = λ k d below. record { limits = limits k d below; within = within k d below; most = most k d below };
+      spent = record {
+        limits = is.workers.within k d below;
+        within = within;
+        most = steps-least task j b.circuit m.worker.meter.steps is.board.circuit is.properties
+            (steps-last m.worker.meter.steps (searches_left_by b.limit m) cost ((task.limits.skeletons + 1) * cost) (is.workers.steps k d below));
+      };
+      tells = told j b m.number m.turns m.worker.meter m.worker.phase is.board.board mine.number (runs-here workers k d below ∙ over k below) mine.worker.phase;
     }
 
-pub answer-of : (task : Task) (j : ℕ) (r : Report) (workers : List BoardWorker) → ServeTask task j r.board workers → outcome_of r.board.served j ≢ None
-    → r.workers ≡ map (λ w. w.worker.meter) workers → All IsInBudget r.workers → IsAnswer task r
-answer-of task j r workers is has same within = record {
-  answered = record { board = is.board; settled = settled-by r.board.served j (is.board.properties ∙ is.properties) has };
-  spent = spent-of task j r.board workers r.workers is same within;
-}
-
-pub report-of : (task : Task) (j : ℕ) (r : Report) (workers : List BoardWorker) → ServeTask task j r.board workers → HaveEnded workers → any_refused workers ≡ false
-    → outcome_of r.board.served j ≡ None → r.workers ≡ map (λ w. w.worker.meter) workers → All IsInBudget r.workers → IsReport task r
-report-of task j r workers is over kept none same within =
-    let served : properties_of r.board.served ≡ j ∷ [] = is.board.properties ∙ is.properties in
+-- workers that have all ended are done with their board
+pub done-all : (task : Task) (j : ℕ) (b : BoardState) (workers : List BoardWorker) (ends : List WorkerEnd) → ServeTask task j b workers
+    → HaveEnded workers → ends ≡ map (λ m. record { spent = m.worker.meter; phase = m.worker.phase }) workers → All (λ e. IsInBudget e.spent) ends
+    → AreDone task j b ends
+done-all task j b workers ends is over same within =
+    let all : All (λ (e : WorkerEnd). IsInBudget e.spent) (map end_of workers) = subst (All (λ (e : WorkerEnd). IsInBudget e.spent)) same within in
+    let budget : (k : ℕ) (d : BoardWorker) → k < length workers → IsInBudget (get_or workers k d).worker.meter = λ k d below.
+    subst (λ (e : WorkerEnd). IsInBudget e.spent) (get_or-map end_of workers k d (end_of d) below) (all k (end_of d) (omega (arith, below, length-map workers end_of)))
+    in
     record {
       board = is.board;
-      unanswered = (j, (open-one r.board.served j served, none));
-      spent = spent-of task j r.board workers r.workers is same within;
-      cause = cause-told j r.board workers r.workers served same (cause-of j r.board workers is.board.board none (over-all workers over) kept is.workers.each);
+      properties = is.properties;
+      count = ap length same ∙ length-map workers end_of ∙ is.count;
+      each = subst (All (IsDone task j b)) (sym same)
+          (All-map (IsDone task j b) end_of workers (λ k d below. done-with task j b workers k d is over below (budget k d below)));
     }
 
 -- ---- the first board

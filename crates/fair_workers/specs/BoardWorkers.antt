@@ -1,6 +1,6 @@
 -- Scaffolding of inner functions. The workers that take turns over one board, and what a turn leaves of the board.
 use Rattle.std.specs.Prelude.{◌≡◌, ◌≢◌, ℕ, ◌+◌, ◌*◌, ◌<◌, ◌≤◌, Bool, false, List, ◌∷◌, [], ◌++◌, map, length, drop, slice_index_or, is_some, None}
-use Rattle.std.specs.List.{All, list_any, sum_by}
+use Rattle.std.specs.List.{All, sum_by}
 use Rattle.std.specs.Arc.{arc_value}
 use Rattle.aig_semantics.specs.Circuits.{Circuit}
 use Rattle.entry.specs.CheckedEntries.{CheckedEntry}
@@ -13,7 +13,7 @@ use Rattle.fair_workers.specs.declared.limits.Limits.{Limits}
 use Rattle.fair_workers.specs.declared.board_workers.RunTask.{RunTask}
 use Rattle.fair_workers.specs.Runs.{Task, IsFoundWithin, IsBoardOf, IsWithLimits}
 use Rattle.fair_workers.specs.Knowing.{Known}
-use Rattle.fair_workers.specs.Working.{is_running, is_refused, left, left_at_first, searches_left, search_steps, steps_through, IsWorker, KeepsLimits}
+use Rattle.fair_workers.specs.Working.{is_running, left, left_at_first, searches_left, search_steps, steps_through, IsWorker, KeepsLimits}
 
 -- what worker n of a board knows of it, after so many turns
 abbrev pub known_at : BoardState → ℕ → ℕ → Known
@@ -141,10 +141,6 @@ runs_at workers k = is_running (slice_index_or (map (λ m. m.worker.phase) worke
 -- how much is left to do for all
 abbrev pub left_of : ℕ → List BoardWorker → ℕ
 left_of limit workers = sum_by (left_by limit) workers
-
--- one of them was refused memory
-abbrev pub any_refused : List BoardWorker → Bool
-any_refused workers = list_any (λ m. is_refused m.worker.phase) workers
 
 -- all have ended
 abbrev pub HaveEnded : List BoardWorker → Type 0

@@ -7,16 +7,16 @@ ghost use Rattle.wall_store.specs.Boards.{properties_of};
 ghost use Rattle.wall_store.specs.Events.{seen_by};
 ghost use Rattle.fair_workers.specs.Runs.{IsInBudget};
 ghost use Rattle.fair_workers.specs.Working.{is_running};
-ghost use Rattle.fair_workers.specs.BoardWorkers.{IsBoardWorker, TakesTurn, Follows, AreWorkers, HaveEnded, any_refused, runs_at, left_of};
+ghost use Rattle.fair_workers.specs.BoardWorkers.{IsBoardWorker, TakesTurn, Follows, AreWorkers, HaveEnded, runs_at, left_of};
 
+use crate::ending::{WorkerEnd, end_of};
 use crate::lending::LentBoard;
 use crate::limits::Limits;
 use crate::working::{Phase, Worker, take_turn};
 use circuit::Circuit;
-use edge::{Meter, Spending};
+use edge::Meter;
 use entry::Checked;
 use fair_round::Rounds;
-use items::Items;
 use std::alloc::{AllocError, Global};
 use std::sync::Arc;
 use wall_store::Board;
@@ -241,34 +241,16 @@ pub(crate) fn next_running(workers: &[BoardWorker], from: usize) -> usize
     running_from(workers, 0)
 }
 
-/// Whether a worker was refused memory.
-pub(crate) fn any_refused(workers: &[BoardWorker]) -> bool
-    ensures { result ≡ any_refused workers.now }
-{
-    workers.iter().any(|own| own.worker.phase.is_refused())
-}
-
-// What a worker has spent, which is within its limits.
-fn spending_of(meter: &Meter) -> Spending
-    ensures spent { result ≡ meter.now }
-    ensures within { IsInBudget result }
-{
-    let spent = meter.spending();
-    let _conflicts = spent.conflicts();
-    let _steps = spent.steps();
-    spent
-}
-
-/// What each worker has spent, from worker 0 on. Takes no memory: there is room.
-pub(crate) fn spendings(workers: &[BoardWorker], room: Vec<Spending>) -> Items<Spending>
+/// How each worker ended, from worker 0 on. Takes no memory: there is room.
+pub(crate) fn ends_of(workers: &[BoardWorker], room: Vec<WorkerEnd>) -> Vec<WorkerEnd>
     requires empty { room.items ≡ [] }
     requires room { length workers.now ≤ vec_capacity room }
-    ensures spent { result ≡ map (λ m. m.worker.meter) workers.now }
-    ensures within { All IsInBudget result }
+    ensures ends { result.items ≡ map (λ m. record { spent = m.worker.meter; phase = m.worker.phase }) workers.now }
+    ensures within { All (λ e. IsInBudget e.spent) result.items }
 {
-    let mut spent = room;
+    let mut ends = room;
     for k in 0..workers.len() {
-        spent.push_reserved(spending_of(&workers[k].worker.meter));
+        ends.push_reserved(end_of(&workers[k].worker));
     }
-    Items::from_vec(spent)
+    ends
 }

@@ -17,7 +17,7 @@ pub(crate) struct LentBoard {
     pub(crate) turns: u32,
 }
 
-/// No call takes memory.
+/// A post is refused where a handle of the entry is; no other call takes memory.
 impl SharedList for LentBoard {
     ghost known = { known_of };
 
@@ -50,9 +50,10 @@ impl SharedList for LentBoard {
         Ok(())
     }
 
-    fn post(&mut self, entry: Arc<Checked>) -> Result<Posted, AllocError> {
+    fn post(&mut self, entry: &Arc<Checked>) -> Result<Posted, AllocError> {
+        let own = Arc::try_clone(entry)?;
         self.board.seen_uses_stand();
-        let posted = self.board.post(self.number, entry);
+        let posted = self.board.post(self.number, own);
         self.seen = self.board.entries().len();
         self.turns += 1;
         self.board.holds();

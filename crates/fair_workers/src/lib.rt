@@ -4,6 +4,7 @@
 //! | Call | Gives |
 //! |---|---|
 //! | `run_turns` | the board with an outcome or without one, and what was spent, by workers that take turns on one thread |
+//! | `run_all` | the same, by workers on threads over one ledger |
 //! | `no_report_without_limits` | nothing: the law of when there is no report |
 //!
 //! | Word | Means |
@@ -12,19 +13,27 @@
 //! | shared list (`SharedList`) | the list of entries with the outcomes, as one worker has it in a turn, whatever it is kept in |
 //! | worker of a board (`BoardWorker`) | a worker with its number, how many entries of the board it has seen, and its turns |
 //! | lent board (`LentBoard`) | the board as the shared list of one of its workers, for one turn |
+//! | held pass (`Held`) | a ledger as the shared list of the worker that has one of its passes |
+//! | runner (`Runner`) | a worker that goes to a thread with its pass, and comes back with its end |
+//! | end (`WorkerEnd`) | what a worker had spent when it ended, and why it did |
 //!
 //! The definitions stand in `specs/`. Workers and properties are counted from 0.
 #![tactic(auto)]
 
 mod board_workers;
+mod ending;
+mod held;
 mod laws;
 mod lending;
 mod limits;
+mod runners;
 mod shared_list;
+mod threads;
 mod turns;
 mod working;
 
 pub use laws::no_report_without_limits;
 pub use limits::{Ended, Limits, Report};
+pub use threads::run_all;
 pub use turns::run_turns;
 pub use wall_store::{Board, Outcome};

@@ -54,10 +54,10 @@ pub(crate) trait SharedList {
         ensures on { goes_on self.old self.new };
 
     /// Posts an entry of the worker, which then sees the whole list. The answers are those of `Board::post`.
-    fn post(&mut self, entry: Arc<Checked>) -> Result<Posted, AllocError>
+    fn post(&mut self, entry: &Arc<Checked>) -> Result<Posted, AllocError>
         requires kept { is_kept self.old }
         requires turns { (known self.old).turns + 1 < 2 ^ 32 }
-        requires may { MayPostFrom (known self.old) (arc_value entry) }
+        requires may { MayPostFrom (known self.old) (arc_value entry.now) }
         ensures ok { IfOk result (λ posted. HasPosted (known self.old) posted (known self.new)) }
         ensures err { OnErr result (KeepsList (known self.old) (known self.new)) }
         ensures on { goes_on self.old self.new };
@@ -71,7 +71,8 @@ pub(crate) trait SharedList {
         ensures finished { HasFinished property (known self.old) (known self.new) }
         ensures on { goes_on self.old self.new };
 
-    /// Asks for a property without an outcome, from this number on and then from 0 on: `None` exactly where each has one.
+    /// Asks for a property without an outcome, from this number on and then from 0 on: one that is served and open, or
+    /// `None` where each has an outcome.
     /// Takes no memory.
     fn next_open(&mut self, from: u32) -> Option<u32>
         requires kept { is_kept self.old }

@@ -1,17 +1,16 @@
 //! Workers that take turns on one thread. The main call is `run_turns`.
 
-ghost use Rattle.std.specs.Prelude.{◌≡◌, ◌≢◌, ◌<◌, ◌≤◌, [], ◌∷◌, true, false, None, Ok, Err, All, map, length, vec_capacity, IfOk, IfErr};
+ghost use Rattle.std.specs.Prelude.{◌≡◌, ◌<◌, ◌≤◌, [], ◌∷◌, map, length, vec_capacity, IfOk, IfErr};
 ghost use Rattle.std.specs.Arc.{arc_value};
-ghost use Rattle.wall_store.specs.Boards.{IsSoundList, outcome_of, most_entries};
-ghost use Rattle.fair_workers.specs.Runs.{AreLimits, IsInBudget, IsAnswer, IsEnded};
-ghost use Rattle.fair_workers.specs.BoardWorkers.{ServeTask, HaveEnded, any_refused, task_in};
+ghost use Rattle.wall_store.specs.Boards.{IsSoundList, most_entries};
+ghost use Rattle.fair_workers.specs.Runs.{AreLimits, IsAnswer, IsEnded};
+ghost use Rattle.fair_workers.specs.BoardWorkers.{ServeTask, HaveEnded, task_in};
+ghost use Rattle.fair_workers.specs.Ends.{AreDone};
 
-use crate::board_workers::{
-    BoardWorker, RunTask, any_refused, due, next_running, spendings, turn_of, workers_on,
-};
+use crate::board_workers::{BoardWorker, RunTask, due, ends_of, next_running, turn_of, workers_on};
+use crate::ending::{WorkerEnd, ended};
 use crate::limits::{Ended, Limits, Report};
 use circuit::Circuit;
-use edge::Spending;
 use entry::Checked;
 use std::alloc::Global;
 use std::sync::Arc;
@@ -57,62 +56,24 @@ fn round_robin(
     board
 }
 
-// Whether the property has an outcome.
-fn has_outcome(board: &Board, j: u32) -> bool
-    ensures yes { result ≡ true → outcome_of board.now.served j ≢ None }
-    ensures no { result ≡ false → outcome_of board.now.served j ≡ None }
-{
-    match board.outcome(j) {
-        Some(_) => true,
-        None => false,
-    }
-}
-
-// The report of workers that have ended: with an outcome; else want of memory, where a worker was refused some; else
-// without an outcome.
-fn ended(task: &RunTask<'_>, workers: &[BoardWorker], report: Report) -> Result<Report, Ended>
-    requires workers { ServeTask (task_in task.now) task.now.property report.board workers.now }
-    requires over { HaveEnded workers.now }
-    requires spent { report.workers ≡ map (λ m. m.worker.meter) workers.now }
-    requires within { All IsInBudget report.workers }
-    ensures answer { IfOk result (IsAnswer (task_in task.now)) }
-    ensures ended { IfErr result (IsEnded (task_in task.now)) }
-    ensures first { outcome_of report.board.served task.now.property ≢ None → result ≡ Ok report }
-    ensures refused { outcome_of report.board.served task.now.property ≡ None → any_refused workers.now ≡ true
-        → result ≡ Err Ended.Memory }
-{
-    if has_outcome(&report.board, task.property) {
-        return Ok(report);
-    }
-    if any_refused(workers) {
-        return Err(Ended::Memory);
-    }
-    Err(Ended::Spent(report))
-}
-
-// All turns of the workers, and what they then leave.
+// All turns of the workers, and what they then leave. Takes no memory beside their turns: there is room.
 fn all_turns(
     alloc: Global,
     task: &RunTask<'_>,
     schedule: &[u32],
     workers: &mut [BoardWorker],
     board: Board,
-    room: Vec<Spending>,
-) -> Result<Report, Ended>
+    room: Vec<WorkerEnd>,
+) -> (Board, Vec<WorkerEnd>)
     requires workers { ServeTask (task_in task.now) task.now.property board workers.old }
     requires empty { room.items ≡ [] }
     requires room { task.now.limits.workers ≤ vec_capacity room }
-    ensures answer { IfOk result (IsAnswer (task_in task.now)) }
-    ensures ended { IfErr result (IsEnded (task_in task.now)) }
+    ensures { AreDone (task_in task.now) task.now.property result.0 result.1.items }
 {
     let board = by_schedule(alloc, task, schedule, workers, board);
     let board = round_robin(alloc, task, workers, board);
-    let spent = spendings(workers, room);
-    let report = Report {
-        board,
-        workers: spent,
-    };
-    ended(task, workers, report)
+    let ends = ends_of(workers, room);
+    (board, ends)
 }
 
 // What the workers of a task leave.
@@ -126,6 +87,7 @@ fn run_task(alloc: Global, task: &RunTask<'_>, schedule: &[u32]) -> Result<Repor
 {
     let limits = task.limits;
     let room = Vec::with_capacity(alloc, limits.workers as usize)?;
+    let spent = Vec::with_capacity(alloc, limits.workers as usize)?;
     let board = Board::new(
         alloc,
         task.circuit,
@@ -136,7 +98,8 @@ fn run_task(alloc: Global, task: &RunTask<'_>, schedule: &[u32]) -> Result<Repor
     )?;
     board.holds();
     let mut workers = workers_on(alloc, task, &board)?;
-    all_turns(alloc, task, schedule, &mut workers, board, room)
+    let (board, ends) = all_turns(alloc, task, schedule, &mut workers, board, room);
+    ended(task, board, &ends, spent)
 }
 
 /// What workers leave that search over one list for a fair lasso of property `j`, or for a refutation, until there is

@@ -176,7 +176,7 @@ fn post<L: SharedList>(_j: u32, worker: &mut Worker, entry: Arc<Checked>, shared
     ensures on { L.goes_on shared.old shared.new }
     ensures turns { Turns _j (searches_ahead worker.old.phase) (L.known shared.old) worker.old (L.known shared.new) worker.new }
 {
-    worker.phase = match shared.post(entry) {
+    worker.phase = match shared.post(&entry) {
         Ok(posted) => after_post(posted),
         Err(_) => Phase::Refused,
     };
@@ -306,6 +306,11 @@ impl Phase {
             Phase::Asks | Phase::Looks | Phase::Searches => true,
             Phase::AsksLast | Phase::LooksLast | Phase::SearchesLast => true,
         }
+    }
+
+    /// Whether the worker searches next.
+    pub(crate) fn searches(self) -> bool {
+        matches!(self, Phase::Searches | Phase::SearchesLast)
     }
 
     /// Whether the worker ended, since memory was refused.

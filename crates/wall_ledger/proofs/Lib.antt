@@ -11,6 +11,6 @@ pub mod Posting
 pub mod Seating
 pub mod NewPasses
 pub mod Closing
-mod Crossing
+pub mod Crossing
 pub mod MetPasses
 pub mod Homes

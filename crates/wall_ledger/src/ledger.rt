@@ -29,6 +29,7 @@ use wall_store::{Board, Finished, Outcome, Posted};
 /// A board behind a lock. Threads share it; each uses it by a pass of its own.
 #[derive(Drop)]
 pub struct Ledger {
+    circuit: Arc<Circuit>,
     gate: Gate,
 }
 
@@ -114,6 +115,7 @@ impl Ledger {
         requires origins { All (λ e. e.origin ≡ Given) (map arc_value given.now) }
         ensures { IfOk result (λ r. IsBegun (arc_value circuit.now) properties.now workers limit (map arc_value given.now) r.0 r.1.items) }
     {
+        let kept = Arc::try_clone(circuit)?;
         let board = Board::new(alloc, circuit, properties, workers, limit, given)?;
         board.holds();
         let most = board.limit();
@@ -122,7 +124,10 @@ impl Ledger {
         let passes = seat_all(
             alloc, &gate, place, &first, workers, most, properties, given,
         )?;
-        let ledger = Ledger { gate };
+        let ledger = Ledger {
+            circuit: kept,
+            gate,
+        };
         Ok((ledger, passes))
     }
 
@@ -188,6 +193,13 @@ impl Ledger {
 }
 
 impl Ledger {
+    /// The circuit.
+    pub fn circuit(&self) -> &Arc<Circuit>
+        ensures { arc_value result.now ≡ self.now.circuit }
+    {
+        &self.circuit
+    }
+
     /// Both passes get the list and the stamp of the one whose stamp is greater. Takes no turn. The error is want of
     /// memory for the handles that the other lacks; then both keep what they had.
     pub fn meet(&self, one: &mut Pass, other: &mut Pass) -> Result<(), AllocError>
@@ -220,7 +232,7 @@ impl Ledger {
         requires own { AreOf self passes.items }
         ensures { IsClosed self passes.items result }
     {
-        let Ledger { gate } = self;
+        let Ledger { gate, .. } = self;
         let mut rest = passes;
         let first = rest.remove(0);
         let mut place = first.into_seat();

@@ -10,6 +10,7 @@
 //! | `next_open` | takes a turn: a property that has no outcome yet |
 //! | `meet` | two passes share the list of the one that has seen more; takes no turn |
 //! | `close` | takes all passes and gives the board |
+//! | `Ledger::circuit` | lends the circuit |
 //! | `Pass::view`, `number`, `turns`, `stamp`, `mark` | lend what a pass knows |
 //! | `Pass::holds`, `own_turns` | nothing: the laws of the list of a pass, and of the turns in which it found its entries |
 //! | `threads_share_ledger`, `threads_hand_on_passes` | nothing: what threads may do with ledgers and passes |

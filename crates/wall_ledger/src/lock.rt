@@ -12,6 +12,7 @@ use atomic_table::{Seat, Table, TableRule};
 use std::alloc::{AllocError, Global};
 use std::marker::PhantomData;
 use std::sync::Wait;
+use std::thread;
 
 mod plays;
 
@@ -155,7 +156,8 @@ impl<T: Drop, V, K, P: Rule<T, V, K>> Lock<T, V, K, P> {
         self.table.shared.load::<Watch<M>>(place, 1) == ticket
     }
 
-    /// Takes a turn, and with it the value and the number of the ticket. May wait.
+    /// Takes a turn, and with it the value and the number of the ticket. May wait; between two looks it yields the
+    /// processor.
     pub fn enter<M: Lesson<T, V>, R: Wait>(&self, rt: &R, place: &mut Place<T, V>) -> (u64, T)
         requires own { place.old.table_id ≡ self.now.table.shared.table_id }
         requires idle { IsIdle place.old }
@@ -172,6 +174,7 @@ impl<T: Drop, V, K, P: Rule<T, V, K>> Lock<T, V, K, P> {
             if self.watch::<M>(place, ticket) {
                 return (ticket, self.take(place));
             }
+            thread::yield_now();
         }
         unreachable!()
     }

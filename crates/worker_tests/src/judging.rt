@@ -2,16 +2,17 @@
 //! `ends_within`.
 
 use crate::drawing::{model_text, schedule};
-use crate::running::{Numbers, limits, run, with_property};
+use crate::running::{Numbers, limits, run, run_threaded, with_property};
 use crate::searching::{Step, has_fair_lasso, leaves_a_skeleton, literal_count, steps_of};
 use certificate::{Accepted, check_answer};
 use circuit::{Circuit, Lasso, ModelEnd, Stimulus};
-use edge::{MemShelf, Spending};
+use edge::{FreeGate, Gate, MemShelf, Spending};
 use entry::{Checked, Origin};
 use fair_workers::{Ended, Report};
 use items::Items;
 use std::alloc::{AllocError, Global};
-use std::sync::Arc;
+use std::sync::{Arc, Wait};
+use std::thread::Threads;
 use wall_store::{Board, Outcome};
 
 const NO_LIMIT: u64 = 4_294_967_295;
@@ -420,6 +421,67 @@ pub(crate) fn is_decided(alloc: Global, number: u64) -> Result<bool, AllocError>
         None => Ok(false),
     }
 }
+
+// ---- workers on threads
+
+/// How workers on threads end on a circuit with these limits, at this gate.
+pub(crate) fn run_on_threads<R: Threads + Wait + Sync, G: Gate>(
+    rt: &R,
+    alloc: Global,
+    c: &Arc<Circuit>,
+    n: &Numbers,
+    gate: &G,
+) -> Result<Report, Ended> {
+    let c = Arc::try_clone(c)?;
+    match with_property(c) {
+        Some(c) => run_threaded(rt, alloc, &c, limits(n), gate),
+        None => Err(Ended::Memory),
+    }
+}
+
+fn is_decided_on<R: Threads + Wait + Sync>(
+    rt: &R,
+    alloc: Global,
+    searched: &SearchedCircuit,
+    workers: u32,
+) -> Result<bool, AllocError> {
+    let n = Numbers {
+        workers,
+        conflicts: NO_LIMIT,
+        steps: NO_LIMIT,
+        skeletons: 65_536,
+    };
+    let ended = run_on_threads(rt, alloc, &searched.circuit, &n, &FreeGate);
+    Ok(judged(alloc, searched, &n, ended)? == End::Verdict)
+}
+
+fn is_circuit_decided_on<R: Threads + Wait + Sync>(
+    rt: &R,
+    alloc: Global,
+    circuit: Arc<Circuit>,
+) -> Result<bool, AllocError> {
+    let searched = searched(alloc, circuit)?;
+    for workers in [1, 2, 4] {
+        if !is_decided_on(rt, alloc, &searched, workers)? {
+            return Ok(false);
+        }
+    }
+    Ok(true)
+}
+
+/// Whether the drawn model with a number is decided rightly by 1, 2 and 4 workers on threads.
+pub(crate) fn is_decided_on_threads<R: Threads + Wait + Sync>(
+    rt: &R,
+    alloc: Global,
+    number: u64,
+) -> Result<bool, AllocError> {
+    match circuit_drawn(alloc, number)? {
+        Some(circuit) => is_circuit_decided_on(rt, alloc, circuit),
+        None => Ok(false),
+    }
+}
+
+// ---- limits
 
 // The limit, where the kind is this one or that of all three.
 fn limit_where(kind: u32, own: u32, limit: u32) -> u64 {

@@ -1,4 +1,4 @@
-//! Tests of workers that take turns, on small models and on drawn ones.
+//! Tests of workers that take turns, and of workers on threads, on small models and on drawn ones.
 #![tactic(auto)]
 
 #[cfg(test)]
@@ -6,8 +6,12 @@ mod drawing;
 #[cfg(test)]
 mod judging;
 #[cfg(test)]
+mod meeting;
+#[cfg(test)]
 mod running;
 #[cfg(test)]
 mod searching;
 #[cfg(test)]
 mod tests;
+#[cfg(test)]
+mod translated;

@@ -5,9 +5,11 @@ ghost use Rattle.std.specs.Arc.{arc_value};
 ghost use Rattle.fair_workers.specs.Runs.{AreLimits};
 
 use circuit::Circuit;
-use fair_workers::{Ended, Limits, Report, run_turns};
+use edge::Gate;
+use fair_workers::{Ended, Limits, Report, run_all, run_turns};
 use std::alloc::Global;
-use std::sync::Arc;
+use std::sync::{Arc, Wait};
+use std::thread::Threads;
 use wall_store::sound_lists_grow;
 
 /// The circuit, where it has property 0.
@@ -69,4 +71,19 @@ pub fn run(
 {
     sound_lists_grow(&**c);
     run_turns(alloc, c, 0, limits, schedule, &[])
+}
+
+/// Workers on threads that search for an outcome of property 0, with no entry given.
+pub fn run_threaded<R: Threads + Wait + Sync, G: Gate>(
+    rt: &R,
+    alloc: Global,
+    c: &Arc<Circuit>,
+    limits: Limits,
+    gate: &G,
+) -> Result<Report, Ended>
+    requires property { 0 < length (arc_value c.now).justice }
+    requires limits { AreLimits limits }
+{
+    sound_lists_grow(&**c);
+    run_all(rt, alloc, c, 0, limits, &[], gate)
 }

@@ -15,17 +15,13 @@ pub(crate) struct Step {
     marks: Vec<bool>,
 }
 
-// A power of two, of an exponent up to six.
-fn power(exponent: usize) -> usize {
-    match exponent {
-        0 => 1,
-        1 => 2,
-        2 => 4,
-        3 => 8,
-        4 => 16,
-        5 => 32,
-        _ => 64,
+/// A power of two, of an exponent up to 20.
+pub(crate) fn power(exponent: usize) -> usize {
+    let mut value: usize = 1;
+    for _turn in 0..exponent.min(20) {
+        value = value.saturating_add(value);
     }
+    value
 }
 
 fn bit(number: usize, i: usize) -> bool {
@@ -53,13 +49,14 @@ fn put(values: &mut [bool], var: u64, value: bool) {
     }
 }
 
-fn is_true(values: &[bool], literal: u64) -> bool {
+/// The value of a literal, by those of all variables.
+pub(crate) fn is_true(values: &[bool], literal: u64) -> bool {
     let plain = values.get((literal / 2) as usize).copied().unwrap_or(false);
     plain != (literal % 2 == 1)
 }
 
-// The values of all variables. Each gate stands behind those that it reads.
-fn valuation(
+/// The values of all variables. Each gate stands behind those that it reads.
+pub(crate) fn valuation(
     alloc: Global,
     c: &Circuit,
     state: usize,
@@ -79,7 +76,8 @@ fn valuation(
     Ok(values)
 }
 
-fn meets_constraints(c: &Circuit, values: &[bool]) -> bool {
+/// Whether each constraint is true.
+pub(crate) fn meets_constraints(c: &Circuit, values: &[bool]) -> bool {
     for literal in c.constraints() {
         if !is_true(values, *literal) {
             return false;
@@ -88,7 +86,8 @@ fn meets_constraints(c: &Circuit, values: &[bool]) -> bool {
     true
 }
 
-fn successor(c: &Circuit, values: &[bool]) -> usize {
+/// The state that follows a position with these values.
+pub(crate) fn successor(c: &Circuit, values: &[bool]) -> usize {
     let mut next: usize = 0;
     for (i, latch) in c.latches().iter().enumerate() {
         if is_true(values, latch.next) {
@@ -218,7 +217,8 @@ fn all_ways(alloc: Global, states: usize, steps: &[Step]) -> Result<Ways, AllocE
     Ok(ways)
 }
 
-fn may_begin(c: &Circuit, state: usize) -> bool {
+/// Whether the state is initial.
+pub(crate) fn may_begin(c: &Circuit, state: usize) -> bool {
     for (i, latch) in c.latches().iter().enumerate() {
         let agrees = match latch.reset {
             Reset::Zero => !bit(state, i),

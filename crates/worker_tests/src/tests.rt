@@ -1,13 +1,15 @@
 //! What workers come to on small models, for several schedules and limits.
 
-use crate::judging::{circuit_of, ends_within, is_decided};
+use crate::judging::{circuit_of, ends_within, is_decided, is_decided_on_threads, run_on_threads};
+use crate::meeting::Meeting;
 use crate::running::{Numbers, limits, run, with_property};
 use circuit::Circuit;
 use entry::{Checked, Origin};
 use fair_workers::{Ended, Report};
 use std::alloc::{AllocError, Global};
-use std::sync::Arc;
+use std::sync::{Arc, Wait};
 use std::test::*;
+use std::thread::Threads;
 use wall_store::{Board, Outcome};
 
 // The latch changes at each step, and is asked to be 1 again and again.
@@ -155,5 +157,48 @@ fn first_wrong_end(alloc: Global) -> Result<Option<u64>, AllocError> {
 #[test]
 fn drawn_models_under_limits(rt: HostRuntime) -> Result<(), Fail> {
     assert_eq!(rt; first_wrong_end(rt.alloc())?, None);
+    Ok(())
+}
+
+// ---- workers on threads
+
+// How many of two workers on threads met the other at their start.
+fn met_of_two<R: Threads + Wait + Sync>(rt: &R, alloc: Global) -> Result<u64, AllocError> {
+    let n = Numbers {
+        workers: 2,
+        conflicts: ENOUGH,
+        steps: ENOUGH,
+        skeletons: 9,
+    };
+    let meeting = Meeting::new();
+    if let Some(c) = circuit_of(alloc, STUCK.as_bytes())? {
+        let _ended = run_on_threads(rt, alloc, &c, &n, &meeting);
+    }
+    Ok(meeting.met())
+}
+
+/// Two workers run at the same time.
+#[test]
+fn two_workers_meet(rt: HostRuntime) -> Result<(), Fail> {
+    assert_eq!(rt; met_of_two(&rt, rt.alloc())?, 2);
+    Ok(())
+}
+
+// The number of the first drawn model that is not decided rightly on threads.
+fn first_undecided_on_threads<R: Threads + Wait + Sync>(
+    rt: &R,
+    alloc: Global,
+) -> Result<Option<u64>, AllocError> {
+    for number in 0..60 {
+        if !is_decided_on_threads(rt, alloc, number)? {
+            return Ok(Some(number));
+        }
+    }
+    Ok(None)
+}
+
+#[test]
+fn drawn_models_are_decided_on_threads(rt: HostRuntime) -> Result<(), Fail> {
+    assert_eq!(rt; first_undecided_on_threads(&rt, rt.alloc())?, None);
     Ok(())
 }

@@ -14,7 +14,7 @@ use Rattle.wall_ledger.proofs.ledger.Ledger.close.Goals as goal
 
 pub remove-first-requires : goal.remove-first-requires
 remove-first-requires c =
-    let staffed : 1 ≤ c.args.self.workers = subst (λ (l : LedgerState). 1 ≤ l.workers) c.self.view_is c.self.invariant in
+    let staffed : 1 ≤ c.args.self.workers = subst (λ (l : LedgerState). 1 ≤ l.workers) c.self.view_is c.self.invariant.workers in
     let some : 0 < length c.args.passes.items = some_pass c.args.self c.args.passes.items staffed c.requires.all in
     omega (arith, c.args.passes.ok.0)
 
@@ -23,7 +23,7 @@ close-board-requires-clause-alone c =
     let lock : TableId = c.self.inside.gate.table.shared.table_id in
     let key : BoardState = c.self.inside.gate.table.shared.key.value in
     let ps : List PassState = c.args.passes.items in
-    let staffed : 1 ≤ c.args.self.workers = subst (λ (l : LedgerState). 1 ≤ l.workers) c.self.view_is c.self.invariant in
+    let staffed : 1 ≤ c.args.self.workers = subst (λ (l : LedgerState). 1 ≤ l.workers) c.self.view_is c.self.invariant.workers in
     let some : 0 < length ps = some_pass c.args.self ps staffed c.requires.all in
     let all : AreAll (ledger_of lock key) ps = subst (λ (l : LedgerState). AreAll l ps) (sym c.self.view_is) c.requires.all in
     let whole : view_of c.gather.new.place ≡ faces_of ps =
@@ -38,7 +38,7 @@ returns c =
     let lock : TableId = c.self.inside.gate.table.shared.table_id in
     let key : BoardState = c.self.inside.gate.table.shared.key.value in
     let ps : List PassState = c.args.passes.items in
-    let staffed : 1 ≤ c.args.self.workers = subst (λ (l : LedgerState). 1 ≤ l.workers) c.self.view_is c.self.invariant in
+    let staffed : 1 ≤ c.args.self.workers = subst (λ (l : LedgerState). 1 ≤ l.workers) c.self.view_is c.self.invariant.workers in
     let some : 0 < length ps = some_pass c.args.self ps staffed c.requires.all in
     let all : AreAll (ledger_of lock key) ps = subst (λ (l : LedgerState). AreAll l ps) (sym c.self.view_is) c.requires.all in
     let whole : view_of c.gather.new.place ≡ faces_of ps =

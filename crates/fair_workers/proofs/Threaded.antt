@@ -1,0 +1,474 @@
+-- Workers on threads: what each of them begins with and comes to, and what the board of their ledger is then.
+use Rattle.std.proofs.Common.{◌≡◌, ℕ, zero, suc, ◌+◌, ◌-◌, ◌*◌, ◌<◌, ◌≤◌, min, Bool, true, false, cond, List, [], ◌∷◌, ◌++◌, map, Some, None, inl, inr, length, get_or, drop, refl, sym, ap, ◌∙◌, subst, arith}
+use Rattle.std.specs.Prelude.{Option, Contains, ◌==◌}
+use Rattle.std.specs.List.{All, Any, AllPairs, remove}
+use Rattle.std.proofs.lemmas.Bool.{false≢true, cases_lt, eq-eqb, ne_eqb}
+use Rattle.std.proofs.lemmas.List.{get_or-map, get_or_default, length-map, length-append, append-nil, append_assoc, map-append, drop-append-le, drop_all}
+use Rattle.std.proofs.lemmas.List.Elements.{All-nil, All-cons, filter-append}
+use Rattle.wall_ledger.proofs.Events.{some_same}
+use Rattle.aig_semantics.specs.Circuits.{Circuit}
+use Rattle.edge.specs.Units.{Spendings}
+use Rattle.entry.specs.declared.origins.Origin.{Origin}
+use Rattle.entry.specs.declared.origins.Origin.TheVariants.{Given, Worker as FoundBy}
+use Rattle.entry.specs.CheckedEntries.{CheckedEntry}
+use Rattle.skeleton.specs.Finding.{IsAllowed}
+use Rattle.wall_store.specs.Boards.{BoardState, FromWorker, AscendBy, Ascend, IsFind, is_by, found_by, turn_of, most_entries, plain, first_board, properties_of}
+use Rattle.wall_store.proofs.Ascending.{none_found, ascend_empty, ascend_later, found_others}
+use Rattle.wall_ledger.specs.Passes.{Marked, PassState, LedgerState, GoesOn, OwnTurns, blank, new_pass, new_passes}
+use Rattle.wall_ledger.specs.Turns.{IsBegun, IsClosed, AreAll, AreOf}
+use Rattle.fair_workers.specs.declared.ending.WorkerEnd.{WorkerEnd}
+use Rattle.fair_workers.specs.declared.limits.Limits.{Limits}
+use Rattle.fair_workers.specs.declared.runners.Runner.{Runner}
+use Rattle.fair_workers.specs.declared.working.Phase.{Phase}
+use Rattle.fair_workers.specs.declared.working.Phase.TheVariants as phases
+use Rattle.fair_workers.specs.declared.working.Worker.{Worker}
+use Rattle.fair_workers.specs.Runs.{Task, AreLimits, IsFoundWithin, IsBoardOf, IsInBudget, IsWithLimits, most_turns}
+use Rattle.fair_workers.specs.Knowing.{Known}
+use Rattle.fair_workers.specs.Working.{rank, left, left_to, left_at_first, searches_left_to, searches_ahead, search_steps, steps_through, is_running, IsIn, IsStuck, IsWorker, Turns, KeepsLimits}
+use Rattle.fair_workers.specs.Ends.{IsStuckOn, Tells, IsDone, AreDone}
+use Rattle.fair_workers.specs.Holding.{known_by, fresh_meter, Goes, StaysHeld, IsPassOf, IsReady, IsThrough, MayRun, HasRun, HaveRun, HasEnded, IsBegunFor}
+use Rattle.fair_workers.proofs.Causes.{steps-least}
+use Rattle.fair_workers.proofs.Together.{within-on}
+use Rattle.fair_workers.proofs.HeldPasses.{marks-tell}
+use Rattle.fair_round.proofs.Counting.{steps-first, steps-kept, steps-over, steps-last}
+
+-- ---- one worker
+
+-- with a pass that is ready a worker begins
+ready-worker : (limits : Limits) (j : ℕ) (l : LedgerState) (p : PassState) (w : Worker) → IsReady limits j l p
+    → w.rounds.circuit ≡ l.circuit → w.rounds.property ≡ j → w.rounds.seen ≡ [] → w.phase ≡ phases.Asks → IsWorker j (known_by l p) w
+ready-worker limits j l p w is circuit property seen phase = record {
+  served = is.served;
+  circuit = circuit;
+  property = property;
+  on = (plain p.list, sym (ap (λ xs. xs ++ plain p.list) seen));
+  phase = subst (IsIn j (known_by l p) w.meter) (sym phase) tt;
+  short = is.pass.limit;
+  turns = subst (λ q. p.turns + left l.limit (length p.list) q ≤ left_at_first l.limit (length l.given)) (sym phase)
+      (begins p.turns l.limit (length p.list) (length l.given) is.turns (ap length is.list));
+}
+  where
+    begins : (turns limit seen given : ℕ) → turns ≡ 0 → seen ≡ given → turns + ((limit - seen) * 3 + 6) ≤ (limit - given) * 3 + 6
+    begins turns limit seen given none same = omega (arith, none, same)
+
+-- the steps that its searches may take
+ready-steps : (limits : Limits) (j : ℕ) (l : LedgerState) (p : PassState) (w : Worker) → IsReady limits j l p → w.phase ≡ phases.Asks
+    → w.meter ≡ fresh_meter limits
+    → steps_through w (searches_left_to (known_by l p) w) (search_steps l.circuit j) ≤ (limits.skeletons + 1) * search_steps l.circuit j
+ready-steps limits j l p w is phase meter =
+    let ahead : searches_ahead w.phase ≡ 1 = ap searches_ahead phase in
+    steps-first w.meter.steps (searches_left_to (known_by l p) w) limits.skeletons (search_steps l.circuit j) (ap (λ (s : Spendings). s.steps) meter)
+    (few l.limit (length p.list) (length l.given) limits.skeletons (searches_ahead w.phase) (ap length is.list) is.grows ahead)
+  where
+    few : (limit seen given more ahead : ℕ) → seen ≡ given → limit ≤ given + more → ahead ≡ 1 → (limit - seen) + ahead ≤ more + 1
+    few limit seen given more ahead same grows one = omega (arith, same, grows, one)
+
+pub goes-first : (limits : Limits) (j : ℕ) (l : LedgerState) (p : PassState) (w : Worker) → IsReady limits j l p
+    → w.rounds.circuit ≡ l.circuit → w.rounds.property ≡ j → w.rounds.seen ≡ [] → w.meter ≡ fresh_meter limits → w.phase ≡ phases.Asks → Goes limits j l p w
+goes-first limits j l p w is circuit property seen meter phase = record {
+  pass = is.pass;
+  worker = ready-worker limits j l p w is circuit property seen phase;
+  counted = record { conflicts = ap (λ (s : Spendings). s.conflict_limit) meter; steps = ap (λ (s : Spendings). s.step_limit) meter };
+  steps = ready-steps limits j l p w is phase meter;
+}
+
+-- a turn keeps the bound on steps
+turn-steps : (j : ℕ) (k l : Known) (w v : Worker) (most : ℕ) → Turns j 0 k w l v → steps_through w (searches_left_to k w) (search_steps k.circuit j) ≤ most
+    → steps_through v (searches_left_to l v) (search_steps k.circuit j) ≤ most
+turn-steps j k l w v most turn before =
+    steps-kept v.meter.steps w.meter.steps (searches_left_to l v) (searches_left_to k w) (search_steps k.circuit j) most
+    (steps-over v.meter.steps (searches_left_to l v) (search_steps k.circuit j) (steps_through w (searches_left_to k w) (search_steps k.circuit j)) turn.steps)
+    before
+
+pub goes-on : (limits : Limits) (j : ℕ) (l m : LedgerState) (p q : PassState) (w v : Worker) → Goes limits j l p w → StaysHeld l p m q
+    → Turns j 0 (known_by l p) w (known_by m q) v → Goes limits j m q v
+goes-on limits j l m p q w v g stays turn = record {
+  pass = stays.pass;
+  worker = turn.worker;
+  counted = within-on limits w.meter v.meter turn.limits g.counted;
+  steps =
+      subst (λ (n : LedgerState). steps_through v (searches_left_to (known_by m q) v) (search_steps n.circuit j) ≤ (limits.skeletons + 1) * search_steps n.circuit j)
+      (sym stays.ledger)
+      (turn-steps j (known_by l p) (known_by m q) w v ((limits.skeletons + 1) * search_steps l.circuit j) turn g.steps);
+}
+
+few-turns : (turns ahead most : ℕ) → turns + ahead ≤ most → turns ≤ most
+few-turns turns ahead most h = omega (arith, h)
+
+-- a worker that has taken its turns
+pub goes-through : (limits : Limits) (j : ℕ) (l m : LedgerState) (q : PassState) (v : Worker) (spent : Spendings) → m ≡ l → Goes limits j m q v
+    → is_running v.phase ≡ false → spent ≡ v.meter → IsInBudget spent → IsThrough limits j l q (record { spent = spent; phase = v.phase })
+goes-through limits j l m q v spent ledger g over same within =
+    subst (λ (n : LedgerState). IsThrough limits j n q (record { spent = spent; phase = v.phase })) ledger
+    (subst (λ (s : Spendings). IsThrough limits j m q (record { spent = s; phase = v.phase })) (sym same) (record {
+      pass = g.pass;
+      turns = few-turns q.turns (left_to (known_by m q) v) (left_at_first m.limit (length m.given)) g.worker.turns;
+      over = over;
+      tells = g.worker.phase;
+      counted = g.counted;
+      within = subst IsInBudget same within;
+      steps = steps-last v.meter.steps (searches_left_to (known_by m q) v) (search_steps m.circuit j) ((limits.skeletons + 1) * search_steps m.circuit j) g.steps;
+    }))
+
+-- a worker that was refused memory at its start
+pub through-refused : (limits : Limits) (j : ℕ) (l : LedgerState) (p : PassState) (spent : Spendings) → IsReady limits j l p
+    → spent ≡ fresh_meter limits → IsInBudget spent → IsThrough limits j l p (record { spent = spent; phase = phases.Refused })
+through-refused limits j l p spent is same within = record {
+  pass = is.pass;
+  turns = none p.turns (left_at_first l.limit (length l.given)) is.turns;
+  over = refl;
+  tells = tt;
+  counted = record { conflicts = ap (λ (s : Spendings). s.conflict_limit) same; steps = ap (λ (s : Spendings). s.step_limit) same };
+  within = within;
+  steps = none spent.steps ((limits.skeletons + 1) * search_steps l.circuit j) (ap (λ (s : Spendings). s.steps) same);
+}
+  where
+    none : (a b : ℕ) → a ≡ 0 → a ≤ b
+    none a b e = omega (arith, e)
+
+-- ---- new passes
+
+new-size : (l : LedgerState) (n w : ℕ) → length (new_passes l n w) ≡ w
+new-size l n zero = refl
+new-size l n (suc w) = ap suc (new-size l (n + 1) w)
+
+new-at : (l : LedgerState) (n w k : ℕ) (d : PassState) → k < w → get_or (new_passes l n w) k d ≡ new_pass l (n + k)
+new-at l n zero k d below = absurd (omega arith)
+new-at l n (suc w) zero d below = ap (new_pass l) (let e : n ≡ n + 0 = omega arith in e)
+new-at l n (suc w) (suc k) d below = new-at l (n + 1) w k d (omega arith) ∙ ap (new_pass l) (let e : (n + 1) + k ≡ n + suc k = omega arith in e)
+
+pub begun-size : (task : Task) (l : LedgerState) (ps : List PassState)
+    → IsBegun task.circuit task.properties task.limits.workers task.limits.skeletons task.given l ps → length ps ≡ task.limits.workers
+begun-size task l ps is = ap length is.passes ∙ new-size l 0 task.limits.workers
+
+marked-new : (js : List ℕ) → map (λ (m : Marked). m.property) (map (λ (j : ℕ). record { property = j; mark = blank }) js) ≡ js
+marked-new [] = refl
+marked-new (j ∷ js) = ap (λ (is : List ℕ). j ∷ is) (marked-new js)
+
+ready-new : (task : Task) (j : ℕ) (l : LedgerState) (ps : List PassState) (n : ℕ) → task.properties ≡ j ∷ [] → j < length task.circuit.justice
+    → IsBegun task.circuit task.properties task.limits.workers task.limits.skeletons task.given l ps → IsReady task.limits j l (new_pass l n)
+ready-new task j l ps n properties inside is = record {
+  pass = record {
+    home = refl;
+    circuit = ap (λ (b : BoardState). b.circuit) is.first ∙ sym is.circuit;
+    marks = marked-new l.properties;
+    limit = short l.limit (length task.given + task.limits.skeletons) is.limit;
+  };
+  served = is.properties ∙ properties;
+  property = subst (λ (c : Circuit). j < length c.justice) (sym is.circuit) inside;
+  list = refl;
+  turns = refl;
+  grows = grown l.limit (length l.given) (length task.given) task.limits.skeletons is.limit (ap length is.given);
+}
+  where
+    short : (limit most : ℕ) → limit ≡ min most most_entries → limit ≤ most_entries
+    short limit most e = grind (arith)
+
+    grown : (limit given first more : ℕ) → limit ≡ min (first + more) most_entries → given ≡ first → limit ≤ given + more
+    grown limit given first more e same = grind (arith)
+
+-- ---- runners
+
+passes-at : (runners : List Runner) (ps : List PassState) (k : ℕ) (d : Runner) (p : PassState) → map (λ r. r.pass) runners ≡ map Some ps → k < length runners
+    → (get_or runners k d).pass ≡ Some (get_or ps k p)
+passes-at runners ps k d p e below =
+    let size : length runners ≡ length ps = sym (length-map runners (λ (r : Runner). r.pass)) ∙ ap length e ∙ length-map ps (λ (q : PassState). Some q) in
+    sym (get_or-map (λ (r : Runner). r.pass) runners k d (Some p) below) ∙ ap (λ xs. get_or xs k (Some p)) e
+    ∙ get_or-map (λ (q : PassState). Some q) ps k p (Some p) (omega (arith, below, size))
+
+ends-at : (runners : List Runner) (es : List WorkerEnd) (k : ℕ) (d : Runner) (e : WorkerEnd) → map Some es ≡ map (λ r. r.end) runners → k < length runners
+    → (get_or runners k d).end ≡ Some (get_or es k e)
+ends-at runners es k d e same below =
+    let size : length runners ≡ length es = sym (length-map runners (λ (r : Runner). r.end)) ∙ sym (ap length same) ∙ length-map es (λ (q : WorkerEnd). Some q) in
+    sym (get_or-map (λ (r : Runner). r.end) runners k d (Some e) below) ∙ ap (λ xs. get_or xs k (Some e)) (sym same)
+    ∙ get_or-map (λ (q : WorkerEnd). Some q) es k e (Some e) (omega (arith, below, size))
+
+pub runners-size : (task : Task) (j : ℕ) (l : LedgerState) (runners : List Runner) → IsBegunFor task j l runners → length runners ≡ task.limits.workers
+runners-size task j l runners is =
+    sym (length-map runners (λ (r : Runner). r.pass)) ∙ ap length is.passes ∙ length-map (new_passes l 0 task.limits.workers) (λ (q : PassState). Some q)
+    ∙ new-size l 0 task.limits.workers
+
+new-held : (task : Task) (j : ℕ) (l : LedgerState) (runners : List Runner) (k : ℕ) (d : Runner) → IsBegunFor task j l runners → k < length runners
+    → (get_or runners k d).pass ≡ Some (new_pass l k)
+new-held task j l runners k d is below =
+    passes-at runners (new_passes l 0 task.limits.workers) k d (new_pass l k) is.passes below
+    ∙ ap (λ (q : PassState). Some q)
+    (new-at l 0 task.limits.workers k (new_pass l k) (omega (arith, below, runners-size task j l runners is))
+    ∙ ap (new_pass l) (let z : 0 + k ≡ k = omega arith in z))
+
+pub may-run-all : (task : Task) (j : ℕ) (l : LedgerState) (runners : List Runner) → IsBegunFor task j l runners → All (MayRun task.limits j l) runners
+may-run-all task j l runners is = λ k d below.
+    (new_pass l k, new-held task j l runners k d is below, ready-new task j l (new_passes l 0 task.limits.workers) k is.properties is.property is.ledger)
+
+pub have-ended : (limits : Limits) (j : ℕ) (l : LedgerState) (before after : List Runner) → HaveRun limits j l before after → All HasEnded after
+have-ended limits j l before after h = λ k d below.
+    let run : HasRun limits j l (get_or before k d) (get_or after k d) = h.1 k d (omega (arith, below, h.0)) in
+    ((run.pass, run.held), (run.end, run.kept))
+
+pub begun-for : (task : Task) (j : ℕ) (l : LedgerState) (ps : List PassState) (runners : List Runner) → task.properties ≡ j ∷ [] → j < length task.circuit.justice
+    → IsBegun task.circuit task.properties task.limits.workers task.limits.skeletons task.given l ps → map (λ r. r.pass) runners ≡ map Some ps
+    → IsBegunFor task j l runners
+begun-for task j l ps runners properties inside is same = record {
+  properties = properties;
+  property = inside;
+  ledger = subst (λ (qs : List PassState). IsBegun task.circuit task.properties task.limits.workers task.limits.skeletons task.given l qs) is.passes is;
+  passes = same ∙ ap (λ (qs : List PassState). map Some qs) is.passes;
+}
+
+-- ---- one list that empties, and one that fills
+
+first-and : {X : Type 0} (xs : List X) (x : X) → 0 < length xs → x ≡ get_or xs 0 x → x ∷ remove xs 0 ≡ xs
+first-and [] x below at = absurd (omega arith)
+first-and (y ∷ xs) x below at = ap (λ z. z ∷ xs) at
+
+pub moved-on : {X Y Z : Type 0} (f : X → Y) (g : Z → Y) (done : List Z) (rest : List X) (z : Z) (x : X) → g z ≡ f x → 0 < length rest
+    → x ≡ get_or rest 0 x → map g (done ++ z ∷ []) ++ map f (remove rest 0) ≡ map g done ++ map f rest
+moved-on f g done rest z x same below at =
+    ap (λ ys. ys ++ map f (remove rest 0)) (map-append g done (z ∷ [])) ∙ append_assoc (map g done) (g z ∷ []) (map f (remove rest 0))
+    ∙ ap (λ y. map g done ++ y ∷ map f (remove rest 0)) same ∙ ap (λ xs. map g done ++ map f xs) (first-and rest x below at)
+
+pub all-rest : {X : Type 0} (P : X → Type 0) (xs : List X) → All P xs → All P (remove xs 0)
+all-rest P [] a = λ k d below. absurd (omega arith)
+all-rest P (x ∷ xs) a = λ k d below. a (suc k) d (omega arith)
+
+pub none-left : {X : Type 0} (xs : List X) → length xs ≡ 0 → xs ≡ []
+none-left [] e = refl
+none-left (x ∷ xs) e = absurd (omega (arith, e))
+
+-- ---- what comes back
+
+-- passes and ends of workers that are through, in the order of their numbers
+pub record AreBack (task : Task) (j : ℕ) (l : LedgerState) (ps : List PassState) (es : List WorkerEnd) : Type 0 where
+  passes : length ps ≡ task.limits.workers
+  ends : length es ≡ task.limits.workers
+  through : (k : ℕ) (p : PassState) (e : WorkerEnd) → k < task.limits.workers → IsThrough task.limits j l (get_or ps k p) (get_or es k e)
+  own : (k : ℕ) (p : PassState) → k < task.limits.workers → OwnTurns (get_or ps k p)
+  number : (k : ℕ) (p : PassState) → k < task.limits.workers → (get_or ps k p).number ≡ k
+
+abbrev blank-runner : Runner
+blank-runner = record { pass = None; end = None }
+
+abbrev no-end : Limits → WorkerEnd
+no-end limits = record { spent = fresh_meter limits; phase = phases.Refused }
+
+pub back-of : (task : Task) (j : ℕ) (l : LedgerState) (before after : List Runner) (ps : List PassState) (es : List WorkerEnd) → IsBegunFor task j l before
+    → HaveRun task.limits j l before after → map Some ps ≡ map (λ r. r.pass) after → map Some es ≡ map (λ r. r.end) after → AreBack task j l ps es
+back-of task j l before after ps es is h passes ends =
+    let count : length before ≡ task.limits.workers = runners-size task j l before is in
+    let run : (k : ℕ) → k < task.limits.workers → HasRun task.limits j l (get_or before k blank-runner) (get_or after k blank-runner) =
+    λ k below. h.1 k blank-runner (omega (arith, below, count))
+    in
+    let pass-is : (k : ℕ) (p : PassState) (below : k < task.limits.workers) → (run k below).pass ≡ get_or ps k p = λ k p below.
+    some_same (run k below).pass (get_or ps k p)
+    (sym (run k below).held ∙ passes-at after ps k blank-runner p (sym passes) (omega (arith, below, count, h.0)))
+    in
+    let end-is : (k : ℕ) (e : WorkerEnd) (below : k < task.limits.workers) → (run k below).end ≡ get_or es k e = λ k e below.
+    some_same (run k below).end (get_or es k e)
+    (sym (run k below).kept ∙ ends-at after es k blank-runner e ends (omega (arith, below, count, h.0)))
+    in
+    record {
+      passes = sym (length-map ps (λ (q : PassState). Some q)) ∙ ap length passes ∙ length-map after (λ (r : Runner). r.pass) ∙ h.0 ∙ count;
+      ends = sym (length-map es (λ (q : WorkerEnd). Some q)) ∙ ap length ends ∙ length-map after (λ (r : Runner). r.end) ∙ h.0 ∙ count;
+      through = λ k p e below.
+          subst (λ (q : PassState). IsThrough task.limits j l q (get_or es k e)) (pass-is k p below)
+          (subst (λ (f : WorkerEnd). IsThrough task.limits j l (run k below).pass f) (end-is k e below) (run k below).through);
+      own = λ k p below. subst OwnTurns (pass-is k p below) (run k below).own;
+      number = λ k p below.
+          sym (ap (λ (q : PassState). q.number) (pass-is k p below))
+          ∙ (run k below).number (new_pass l k) (new-held task j l before k blank-runner is (omega (arith, below, count)));
+    }
+
+pub all-back : (task : Task) (j : ℕ) (l : LedgerState) (ps : List PassState) (es : List WorkerEnd) → AreBack task j l ps es → l.workers ≡ task.limits.workers
+    → AreAll l ps
+all-back task j l ps es back workers = λ n below.
+    let inside : n < task.limits.workers = omega (arith, below, workers) in
+    let p : PassState = get_or ps n (new_pass l n) in
+    (n, p, omega (arith, inside, back.passes), sym (get_or_default ps n (new_pass l n) p (omega (arith, inside, back.passes))), back.number n (new_pass l n) inside)
+
+pub of-back : (task : Task) (j : ℕ) (l : LedgerState) (ps : List PassState) (es : List WorkerEnd) → AreBack task j l ps es → AreOf l ps
+of-back task j l ps es back = λ k d below. (back.through k d (no-end task.limits) (omega (arith, below, back.passes))).pass.home
+
+-- ---- lists of entries
+
+-- what is so of each entry, wherever it stands
+all-splits : (Q : CheckedEntry → Type 0) (rest : List CheckedEntry)
+    → ((mid after : List CheckedEntry) (e : CheckedEntry) → rest ≡ mid ++ e ∷ after → Q e) → All Q rest
+all-splits Q [] h = All-nil Q
+all-splits Q (e ∷ rest) h =
+    All-cons Q e rest (h [] rest e refl)
+    (all-splits Q rest (λ mid after f split. h (e ∷ mid) after f (ap (λ (es : List CheckedEntry). e ∷ es) split)))
+
+first-kept : (Q : CheckedEntry → Type 0) (b : Bool) (e : CheckedEntry) (rest : List CheckedEntry) → b ≡ true → All Q (cond b (e ∷ rest) rest) → Q e
+first-kept Q true e rest is a = a 0 e (omega arith)
+first-kept Q false e rest is a = absurd (false≢true is)
+
+rest-kept : (Q : CheckedEntry → Type 0) (b : Bool) (e : CheckedEntry) (rest : List CheckedEntry) → All Q (cond b (e ∷ rest) rest) → All Q rest
+rest-kept Q true e rest a = λ k d below. a (suc k) d (omega arith)
+rest-kept Q false e rest a = a
+
+-- what is so of the entries of a worker is so of each of them
+in-found : (Q : CheckedEntry → Type 0) (n : ℕ) (before after : List CheckedEntry) (e : CheckedEntry) → is_by n e.origin ≡ true
+    → All Q (found_by n (before ++ e ∷ after)) → Q e
+in-found Q n [] after e mine a = first-kept Q (is_by n e.origin) e (found_by n after) mine a
+in-found Q n (x ∷ before) after e mine a =
+    in-found Q n before after e mine (rest-kept Q (is_by n x.origin) x (found_by n (before ++ e ∷ after)) a)
+
+-- ---- the last board
+
+module _ (task : Task) (j : ℕ) (l : LedgerState) (qs ps : List PassState) (es : List WorkerEnd) (b : BoardState) (one : task.properties ≡ j ∷ [])
+    (is : IsBegun task.circuit task.properties task.limits.workers task.limits.skeletons task.given l qs)
+    (origins : All (λ e. e.origin ≡ Given) task.given) (back : AreBack task j l ps es) (closed : IsClosed l ps b) where
+  abbrev rest : List CheckedEntry
+  rest = closed.board.front.0
+
+  entries-are : b.entries ≡ l.given ++ rest
+  entries-are = closed.board.front.1
+
+  workers-are : b.workers ≡ task.limits.workers
+  workers-are = closed.board.workers ∙ is.workers
+
+  abbrev pass-of : ℕ → PassState
+  pass-of n = get_or ps n (new_pass l n)
+
+  goes : (n : ℕ) → n < task.limits.workers → GoesOn (pass-of n) b
+  goes n below = closed.known n (new_pass l n) (omega (arith, below, back.passes))
+
+  own-found : (n : ℕ) → n < task.limits.workers → found_by n b.entries ≡ found_by n (pass-of n).list
+  own-found n below =
+      subst (λ (m : ℕ). found_by m b.entries ≡ found_by m (pass-of n).list) (back.number n (new_pass l n) below) (goes n below).own
+
+  own-ascend : (n : ℕ) → n < task.limits.workers → Ascend n (pass-of n).list (pass-of n).turns
+  own-ascend n below =
+      subst (λ (m : ℕ). Ascend m (pass-of n).list (pass-of n).turns) (back.number n (new_pass l n) below) (back.own n (new_pass l n) below)
+
+  most-least : left_at_first l.limit (length l.given) ≤ most_turns task
+  most-least =
+      least l.limit (length l.given) (length task.given) task.limits.skeletons (length task.properties) is.limit (ap length is.given) (ap length one)
+    where
+      least : (limit first given more properties : ℕ) → limit ≡ min (given + more) most_entries → first ≡ given → properties ≡ 1
+          → (limit - first) * 3 + 6 ≤ 3 * (more + 1 + properties)
+      least limit first given more properties short same one = grind (arith)
+
+  few : (n : ℕ) → n < task.limits.workers → (pass-of n).turns ≤ most_turns task
+  few n below =
+      (let turns = (back.through n (new_pass l n) (no-end task.limits) below).turns in let most = most-least in omega (arith, turns, most))
+
+  -- where an entry stands that was found
+  found-at : (mid after : List CheckedEntry) (e : CheckedEntry) → rest ≡ mid ++ e ∷ after
+      → FromWorker e.origin (IsFind b.circuit (properties_of b.served) b.workers (l.given ++ mid) e)
+  found-at mid after e split =
+      closed.board.board.found (l.given ++ mid) after e
+      (entries-are ∙ ap (λ xs. l.given ++ xs) split ∙ sym (append_assoc l.given mid (e ∷ after)))
+      (let given = closed.board.given in omega (arith, given, length-append l.given mid))
+
+  within-by : (mid after : List CheckedEntry) (e : CheckedEntry) (origin : Origin) → rest ≡ mid ++ e ∷ after → e.origin ≡ origin
+      → FromWorker origin (IsFind b.circuit (properties_of b.served) b.workers (l.given ++ mid) e)
+      → FromWorker origin (λ work. work.turn < most_turns task)
+  within-by mid after e Given split from find = absurd find
+  within-by mid after e (FoundBy work) split from find =
+      let n : ℕ = work.author in
+      let below : n < task.limits.workers = (let author = find.author in omega (arith, author, workers-are)) in
+      let mine : is_by n e.origin ≡ true = ap (is_by n) from ∙ eq-eqb n n refl in
+      let all : All (λ z. turn_of z.origin < (pass-of n).turns) (found_by n b.entries) =
+      subst (All (λ z. turn_of z.origin < (pass-of n).turns)) (sym (own-found n below)) (own-ascend n below).1
+      in
+      let whole : b.entries ≡ (l.given ++ mid) ++ e ∷ after = entries-are ∙ ap (λ xs. l.given ++ xs) split ∙ sym (append_assoc l.given mid (e ∷ after)) in
+      let turn : turn_of e.origin < (pass-of n).turns =
+      in-found (λ z. turn_of z.origin < (pass-of n).turns) n (l.given ++ mid) after e mine
+      (subst (λ (xs : List CheckedEntry). All (λ z. turn_of z.origin < (pass-of n).turns) (found_by n xs)) whole all)
+      in
+      let same : turn_of e.origin ≡ work.turn = ap turn_of from in
+      (let most = few n below in omega (arith, turn, same, most))
+
+  found-within : All (IsFoundWithin (most_turns task)) rest
+  found-within = all-splits (IsFoundWithin (most_turns task)) rest (λ mid after e split. within-by mid after e e.origin split refl (found-at mid after e split))
+
+  found-rest : (w : ℕ) → found_by w b.entries ≡ found_by w rest
+  found-rest w =
+      ap (found_by w) entries-are ∙ filter-append (λ (z : CheckedEntry). is_by w z.origin) l.given rest
+      ∙ ap (λ xs. xs ++ found_by w rest) (none_found w l.given (subst (All (λ (e : CheckedEntry). e.origin ≡ Given)) (sym is.given) origins))
+
+  not-by : (w most : ℕ) (mid : List CheckedEntry) (e : CheckedEntry) (origin : Origin) → most ≤ w
+      → FromWorker origin (IsFind b.circuit (properties_of b.served) most mid e) → is_by w origin ≡ false
+  not-by w most mid e Given past find = refl
+  not-by w most mid e (FoundBy work) past find = ne_eqb work.author w (λ same. (let author = find.author in omega (arith, author, past, same)))
+
+  own-rest : (w : ℕ) → AscendBy w rest
+  own-rest w =
+      elim (cases_lt w task.limits.workers) [
+        | inl below ↦
+            (ascend_later w (pass-of w).list rest (pass-of w).turns (pass-of w).turns (sym (found-rest w) ∙ own-found w below) (omega arith) (own-ascend w below)).0
+        | inr past ↦
+            (ascend_empty w rest 0 (found_others w [] rest
+            (all-splits (λ e. is_by w e.origin ≡ false) rest
+            (λ mid after e split. not-by w b.workers (l.given ++ mid) e e.origin (omega (arith, past, workers-are)) (found-at mid after e split))))).0
+      ]
+
+  rest-is : drop (length task.given) b.entries ≡ rest
+  rest-is =
+      ap (drop (length task.given)) (entries-are ∙ ap (λ xs. xs ++ rest) is.given) ∙ drop-append-le (length task.given) task.given rest (omega arith)
+      ∙ ap (λ xs. xs ++ rest) (drop_all (length task.given) task.given (omega arith))
+
+  board-back : IsBoardOf task b
+  board-back = record {
+    board = closed.board.board;
+    circuit = closed.board.circuit ∙ is.circuit;
+    properties = closed.board.properties ∙ is.properties;
+    workers = workers-are;
+    limit = closed.board.limit ∙ is.limit;
+    given = closed.board.given ∙ ap length is.given;
+    entries = (rest, entries-are ∙ ap (λ xs. xs ++ rest) is.given, found-within);
+    own = λ w. subst (AscendBy w) (sym rest-is) (own-rest w);
+  }
+
+  -- a pass whose list is as long as it may become has the board's
+  whole-list : (p : PassState) → GoesOn p b → length p.list ≡ l.limit → b.entries ≡ p.list
+  whole-list p on full =
+      let none : length on.list.0 ≡ 0 =
+      (let grown = ap length on.list.1 in let within = closed.board.board.within in let limit = closed.board.limit in
+      omega (arith, grown, length-append p.list on.list.0, within, limit, full))
+      in
+      on.list.1 ∙ ap (λ xs. p.list ++ xs) (none-left on.list.0 none) ∙ append-nil p.list
+
+  stuck-by : (p : PassState) → GoesOn p b → IsStuck j (known_by l p) → IsStuckOn j b
+  stuck-by p on h =
+      let whole : b.entries ≡ p.list = whole-list p on h.0 in (
+        ap length whole ∙ h.0 ∙ sym closed.board.limit,
+        (
+          h.1.0,
+          subst (λ (c : Circuit). IsAllowed c j (plain b.entries) h.1.0) (sym closed.board.circuit)
+              (subst (λ (xs : List CheckedEntry). IsAllowed l.circuit j (plain xs) h.1.0) (sym whole) h.1.1),
+        ),
+      )
+
+  tells-by : (p : PassState) (spent : Spendings) (q : Phase) → GoesOn p b → is_running q ≡ false → IsIn j (known_by l p) spent q → Tells j b spent q
+  tells-by p spent phases.Asks on over h = absurd (false≢true (sym over))
+  tells-by p spent phases.Looks on over h = absurd (false≢true (sym over))
+  tells-by p spent phases.Searches on over h = absurd (false≢true (sym over))
+  tells-by p spent phases.AsksLast on over h = absurd (false≢true (sym over))
+  tells-by p spent phases.LooksLast on over h = absurd (false≢true (sym over))
+  tells-by p spent phases.SearchesLast on over h = absurd (false≢true (sym over))
+  tells-by p spent phases.Closed on over h = marks-tell p.marks b.served j on.marks h
+  tells-by p spent phases.Full on over h = stuck-by p on h
+  tells-by p spent phases.Spent on over h = h
+  tells-by p spent phases.Refused on over h = tt
+
+  done-back : (e : WorkerEnd) (k : ℕ) → k < task.limits.workers → IsThrough task.limits j l (pass-of k) e → IsDone task j b e
+  done-back e k below h = record {
+    spent = record {
+      limits = h.counted;
+      within = h.within;
+      most = steps-least task j l.circuit e.spent.steps is.circuit one h.steps;
+    };
+    tells = tells-by (pass-of k) e.spent e.phase (goes k below) h.over h.tells;
+  }
+
+  pub all-done : AreDone task j b es
+  all-done = record {
+    board = board-back;
+    properties = one;
+    count = back.ends;
+    each = λ k d below.
+        let inside : k < task.limits.workers = omega (arith, below, back.ends) in
+        done-back (get_or es k d) k inside (back.through k (new_pass l k) d inside);
+  }

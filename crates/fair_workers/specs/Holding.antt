@@ -1,0 +1,118 @@
+-- Scaffolding of inner functions. A ledger as the list that a worker shares by its pass, and what a worker on a thread
+-- comes to.
+use Rattle.std.specs.Prelude.{◌≡◌, ℕ, ◌+◌, ◌*◌, ◌<◌, ◌≤◌, Bool, true, false, List, [], ◌∷◌, map, length, slice_index_or, Some}
+use Rattle.edge.specs.Units.{Spendings, limit_of}
+use Rattle.wall_store.specs.Boards.{most_entries}
+use Rattle.wall_ledger.specs.declared.marks.Shown.{Shown}
+use Rattle.wall_ledger.specs.declared.marks.Shown.TheVariants as shows
+use Rattle.wall_ledger.specs.Passes.{PassState, LedgerState, OwnTurns, shown_of, new_passes}
+use Rattle.wall_ledger.specs.Turns.{IsBegun}
+use Rattle.fair_workers.specs.declared.ending.WorkerEnd.{WorkerEnd}
+use Rattle.fair_workers.specs.declared.limits.Limits.{Limits}
+use Rattle.fair_workers.specs.declared.runners.Runner.{Runner}
+use Rattle.fair_workers.specs.declared.working.Worker.{Worker}
+use Rattle.fair_workers.specs.Runs.{Task, IsInBudget, IsWithLimits}
+use Rattle.fair_workers.specs.Knowing.{Known}
+use Rattle.fair_workers.specs.Working.{is_running, left_at_first, searches_left_to, search_steps, steps_through, IsIn, IsWorker}
+
+-- an outcome is shown
+abbrev pub is_shown : Shown → Bool
+is_shown shows.Blank = false
+is_shown shows.Won = true
+is_shown shows.Closed = true
+
+-- what a pass knows of its ledger
+abbrev pub known_by : LedgerState → PassState → Known
+known_by l p = record {
+  circuit = l.circuit;
+  properties = l.properties;
+  number = p.number;
+  turns = p.turns;
+  given = length l.given;
+  limit = l.limit;
+  list = p.list;
+  settled = λ j. is_shown (shown_of p.marks j);
+}
+
+-- A pass of the ledger, whose list is one of the ledger's circuit, with a mark for each property that is served.
+pub record IsPassOf (l : LedgerState) (p : PassState) : Type 0 where
+  pub home : p.home ≡ l.home
+  pub circuit : l.home.first.circuit ≡ l.circuit
+  pub marks : map (λ m. m.property) p.marks ≡ l.properties
+  pub limit : l.limit ≤ most_entries
+
+-- what a call leaves of a ledger and its pass
+pub record StaysHeld (l : LedgerState) (p : PassState) (m : LedgerState) (q : PassState) : Type 0 where
+  pub pass : IsPassOf m q
+  pub ledger : m ≡ l
+  pub number : q.number ≡ p.number
+
+-- A pass with which a worker begins: it has seen the given entries and has had no turn, and the list may grow as the
+-- limits say.
+pub record IsReady (limits : Limits) (j : ℕ) (l : LedgerState) (p : PassState) : Type 0 where
+  pub pass : IsPassOf l p
+  pub served : l.properties ≡ j ∷ []
+  pub property : j < length l.circuit.justice
+  pub list : p.list ≡ l.given
+  pub turns : p.turns ≡ 0
+  pub grows : l.limit ≤ length l.given + limits.skeletons
+
+-- a meter with these limits that has counted nothing
+abbrev pub fresh_meter : Limits → Spendings
+fresh_meter limits = record {
+  conflicts = 0;
+  conflict_limit = limit_of limits.conflicts;
+  steps = 0;
+  step_limit = limit_of limits.steps;
+}
+
+-- A worker and its pass between two turns: the steps that it has taken, and those of all searches that are left to it,
+-- are within what a worker takes at most.
+pub record Goes (limits : Limits) (j : ℕ) (l : LedgerState) (p : PassState) (w : Worker) : Type 0 where
+  pub pass : IsPassOf l p
+  pub worker : IsWorker j (known_by l p) w
+  pub counted : IsWithLimits limits w.meter
+  pub steps :
+      steps_through w (searches_left_to (known_by l p) w) (search_steps l.circuit j)
+      ≤ (limits.skeletons + 1) * search_steps l.circuit j
+
+-- How a worker ended, with its pass: what it then knows, and what it spent.
+pub record IsThrough (limits : Limits) (j : ℕ) (l : LedgerState) (p : PassState) (e : WorkerEnd) : Type 0 where
+  pub pass : IsPassOf l p
+  pub turns : p.turns ≤ left_at_first l.limit (length l.given)
+  pub over : is_running e.phase ≡ false
+  pub tells : IsIn j (known_by l p) e.spent e.phase
+  pub counted : IsWithLimits limits e.spent
+  pub within : IsInBudget e.spent
+  pub steps : e.spent.steps ≤ (limits.skeletons + 1) * search_steps l.circuit j
+
+-- a worker that has a pass with which it may begin
+abbrev pub MayRun : Limits → ℕ → LedgerState → Runner → Type 0
+MayRun limits j l r = (p : PassState) × (r.pass ≡ Some p) × IsReady limits j l p
+
+-- The worker has ended: it has its pass again, and its end is kept.
+pub record HasRun (limits : Limits) (j : ℕ) (l : LedgerState) (r s : Runner) : Type 0 where
+  pub pass : PassState
+  pub held : s.pass ≡ Some pass
+  pub end : WorkerEnd
+  pub kept : s.end ≡ Some end
+  pub number : (p : PassState) → r.pass ≡ Some p → pass.number ≡ p.number
+  pub own : OwnTurns pass
+  pub through : IsThrough limits j l pass end
+
+-- all of them have
+abbrev pub HaveRun : Limits → ℕ → LedgerState → List Runner → List Runner → Type 0
+HaveRun limits j l before after =
+    (length after ≡ length before)
+    × ((k : ℕ) (d : Runner) → k < length before → HasRun limits j l (slice_index_or before k d) (slice_index_or after k d))
+
+-- the runner has a pass and an end
+abbrev pub HasEnded : Runner → Type 0
+HasEnded r = ((p : PassState) × (r.pass ≡ Some p)) × ((e : WorkerEnd) × (r.end ≡ Some e))
+
+-- A ledger for a task of property j, and a runner with each of its passes.
+pub record IsBegunFor (task : Task) (j : ℕ) (l : LedgerState) (runners : List Runner) : Type 0 where
+  pub properties : task.properties ≡ j ∷ []
+  pub property : j < length task.circuit.justice
+  pub ledger : IsBegun task.circuit task.properties task.limits.workers task.limits.skeletons task.given l (new_passes l 0 task.limits.workers)
+  pub passes : map (λ r. r.pass) runners ≡ map Some (new_passes l 0 task.limits.workers)

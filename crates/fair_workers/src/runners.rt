@@ -1,0 +1,229 @@
+//! A worker on a thread: it makes what it keeps from round to round, and takes turns until it ends. The main call is
+//! `run_through`.
+
+ghost use Rattle.std.specs.Prelude.{◌≡◌, ◌≤◌, [], false, Some, map, vec_len, vec_capacity, All};
+ghost use Rattle.fair_workers.specs.Working.{is_running};
+ghost use Rattle.fair_workers.specs.Holding.{fresh_meter, Goes, IsReady, IsThrough, MayRun, HasRun, HasEnded};
+
+use crate::ending::{WorkerEnd, spending_of};
+use crate::held::Held;
+use crate::limits::Limits;
+use crate::shared_list::SharedList;
+use crate::working::{Phase, Worker, take_turn};
+use edge::{Bell, Gate, Meter, Point};
+use fair_round::Rounds;
+use std::alloc::Global;
+use std::sync::{Arc, Wait};
+use wall_ledger::{Ledger, Pass};
+
+/// What the workers of a run share: where they wait, their ledger, the number of their property, what each of them may
+/// spend, the gate that they pass, and the bell that ends their searches.
+#[derive(Drop)]
+pub(crate) struct Crew<'a, R: Wait, G: Gate> {
+    pub(crate) rt: &'a R,
+    pub(crate) alloc: Global,
+    pub(crate) ledger: &'a Ledger,
+    pub(crate) property: u32,
+    pub(crate) limits: Limits,
+    pub(crate) gate: &'a G,
+    pub(crate) bell: &'a Arc<Bell>,
+}
+
+/// A worker that goes to a thread and comes back: its pass, and its end once it has one.
+#[derive(Drop)]
+pub(crate) struct Runner {
+    pub(crate) pass: Option<Pass>,
+    pub(crate) end: Option<WorkerEnd>,
+}
+
+// The turns of a worker until it ends. It passes the gate after each round.
+fn take_turns<R: Wait, G: Gate>(crew: &Crew<'_, R, G>, worker: &mut Worker, held: &mut Held<'_, R>)
+    requires { Goes crew.now.limits crew.now.property held.old.ledger.now held.old.pass worker.old }
+    ensures goes { Goes crew.now.limits crew.now.property held.new.ledger.now held.new.pass worker.new }
+    ensures ledger { held.new.ledger.now ≡ held.old.ledger.now }
+    ensures number { held.new.pass.number ≡ held.old.pass.number }
+    ensures over { is_running worker.new.phase ≡ false }
+{
+    let number = held.number();
+    while worker.phase.is_running() {
+        let ledger = held.ledger;
+        let searches = worker.phase.searches();
+        take_turn(crew.alloc, ledger.circuit(), crew.property, worker, held);
+        if searches {
+            crew.gate.pass(number, Point::Turn);
+        }
+    }
+}
+
+// The work of a worker, which may have begun.
+fn run_worker<R: Wait, G: Gate>(
+    crew: &Crew<'_, R, G>,
+    worker: Worker,
+    held: &mut Held<'_, R>,
+) -> WorkerEnd
+    requires { Goes crew.now.limits crew.now.property held.old.ledger.now held.old.pass worker }
+    ensures number { held.new.pass.number ≡ held.old.pass.number }
+    ensures through { IsThrough crew.now.limits crew.now.property held.old.ledger.now held.new.pass result }
+{
+    let mut worker = worker;
+    take_turns(crew, &mut worker, held);
+    WorkerEnd {
+        spent: spending_of(&worker.meter),
+        phase: worker.phase,
+    }
+}
+
+// A meter that has counted nothing, with the bell where a handle of it is not refused. No other meter is made for the work of
+// a worker.
+fn meter_of(limits: Limits, bell: &Arc<Bell>) -> Meter
+    ensures { result ≡ fresh_meter limits }
+{
+    let meter = Meter::new(limits.conflicts, limits.steps);
+    match Arc::try_clone(bell) {
+        Ok(bell) => meter.with_bell(bell),
+        Err(_) => meter,
+    }
+}
+
+// A worker with these rounds and this pass that has begun nothing yet.
+fn begun_worker(
+    bell: &Arc<Bell>,
+    limits: Limits,
+    _property: u32,
+    _ledger: &Ledger,
+    _pass: &Pass,
+    rounds: Rounds,
+) -> Worker
+    requires ready { IsReady limits _property _ledger.now _pass.now }
+    requires circuit { rounds.circuit ≡ _ledger.now.circuit }
+    requires property { rounds.property ≡ _property }
+    requires seen { rounds.seen ≡ [] }
+    ensures { Goes limits _property _ledger.now _pass.now result }
+{
+    Worker {
+        rounds,
+        meter: meter_of(limits, bell),
+        phase: Phase::Asks,
+    }
+}
+
+// The end of a worker to which memory was refused at its start.
+fn refused_at_start(limits: Limits, _property: u32, _ledger: &Ledger, _pass: &Pass) -> WorkerEnd
+    requires { IsReady limits _property _ledger.now _pass.now }
+    ensures { IsThrough limits _property _ledger.now _pass.now result }
+{
+    let meter = Meter::new(limits.conflicts, limits.steps);
+    WorkerEnd {
+        spent: spending_of(&meter),
+        phase: Phase::Refused,
+    }
+}
+
+// The work of the worker that has this pass.
+fn run_held<R: Wait, G: Gate>(crew: &Crew<'_, R, G>, held: &mut Held<'_, R>) -> WorkerEnd
+    requires { IsReady crew.now.limits crew.now.property held.old.ledger.now held.old.pass }
+    ensures number { held.new.pass.number ≡ held.old.pass.number }
+    ensures through { IsThrough crew.now.limits crew.now.property held.old.ledger.now held.new.pass result }
+{
+    let ledger = held.ledger;
+    let number = held.number();
+    match Rounds::new(crew.alloc, ledger.circuit(), crew.property, number) {
+        Ok(rounds) => {
+            let worker = begun_worker(
+                crew.bell,
+                crew.limits,
+                crew.property,
+                ledger,
+                &held.pass,
+                rounds,
+            );
+            run_worker(crew, worker, held)
+        }
+        Err(_) => refused_at_start(crew.limits, crew.property, ledger, &held.pass),
+    }
+}
+
+// Rings the bell where the worker was told that its property has an outcome.
+fn ring_where_closed(bell: &Arc<Bell>, end: &WorkerEnd) {
+    match end.phase {
+        Phase::Closed => bell.ring(),
+        _ => {}
+    }
+}
+
+// The pass of a runner that may run.
+fn taken(runner: &mut Runner, _limits: Limits, _property: u32, _ledger: &Ledger) -> Pass
+    requires { MayRun _limits _property _ledger.now runner.old }
+    ensures pass { runner.old.pass ≡ Some result }
+    ensures ready { IsReady _limits _property _ledger.now result }
+{
+    runner.pass.take().unwrap()
+}
+
+/// The work of a worker from its start to its end. Where memory is refused, even at its start, it ends alone.
+pub(crate) fn run_through<R: Wait, G: Gate>(crew: &Crew<'_, R, G>, runner: &mut Runner)
+    requires { MayRun crew.now.limits crew.now.property crew.now.ledger.now runner.old }
+    ensures { HasRun crew.now.limits crew.now.property crew.now.ledger.now runner.old runner.new }
+{
+    let pass = taken(runner, crew.limits, crew.property, crew.ledger);
+    let number = pass.number();
+    crew.gate.pass(number, Point::Start);
+    let mut held = Held {
+        rt: crew.rt,
+        ledger: crew.ledger,
+        pass,
+    };
+    let end = run_held(crew, &mut held);
+    ring_where_closed(crew.bell, &end);
+    crew.gate.pass(number, Point::Done);
+    let Held { pass, .. } = held;
+    pass.own_turns();
+    runner.pass = Some(pass);
+    runner.end = Some(end);
+}
+
+/// A runner for each pass. Takes no memory: there is room.
+pub(crate) fn runners_of(passes: Vec<Pass>, room: Vec<Runner>) -> Vec<Runner>
+    requires empty { room.items ≡ [] }
+    requires room { vec_len passes ≤ vec_capacity room }
+    ensures { map (λ r. r.pass) result.items ≡ map Some passes.items }
+{
+    let mut rest = passes;
+    let mut runners = room;
+    for number in 0..rest.len() {
+        let _ = number;
+        let pass = rest.remove(0);
+        runners.push_reserved(Runner {
+            pass: Some(pass),
+            end: None,
+        });
+    }
+    runners
+}
+
+/// The passes and the ends of runners that have both. Takes no memory: there is room.
+pub(crate) fn parted(
+    runners: Vec<Runner>,
+    passes: Vec<Pass>,
+    ends: Vec<WorkerEnd>,
+) -> (Vec<Pass>, Vec<WorkerEnd>)
+    requires each { All HasEnded runners.items }
+    requires empty { (passes.items ≡ []) × (ends.items ≡ []) }
+    requires room { (vec_len runners ≤ vec_capacity passes) × (vec_len runners ≤ vec_capacity ends) }
+    ensures passes { map Some result.0.items ≡ map (λ r. r.pass) runners.items }
+    ensures ends { map Some result.1.items ≡ map (λ r. r.end) runners.items }
+{
+    let mut rest = runners;
+    let mut passes = passes;
+    let mut ends = ends;
+    for number in 0..rest.len() {
+        let _ = number;
+        let runner = rest.remove(0);
+        let Runner { pass, end } = runner;
+        let pass = pass.unwrap();
+        let end = end.unwrap();
+        passes.push_reserved(pass);
+        ends.push_reserved(end);
+    }
+    (passes, ends)
+}
