@@ -2,8 +2,9 @@
 //! The program makes the real shelf and sink, and ends with the number of the status that `run` answers.
 #![tactic(auto)]
 
-use edge::{FileShelf, FreeGate, StdSink};
+use edge::{FileShelf, Progress, StdSink};
 use fair_top::{Status, run};
+use std::io::IsTerminal;
 use std::process::ExitCode;
 use std::{env, io};
 
@@ -15,11 +16,20 @@ fn main(rt: HostRuntime) -> ExitCode {
             &words,
             &mut FileShelf::new(rt.alloc(), &rt),
             &mut StdSink::new(&rt),
-            &FreeGate,
+            &progress(&rt),
         ),
         Err(_) => Status::Memory,
     };
     ExitCode::from(status.number())
+}
+
+/// The gate that says on the error stream how far workers are, where that stream is a terminal.
+fn progress(rt: &HostRuntime) -> Option<Progress<'_, HostRuntime>> {
+    if rt.stderr().is_terminal() {
+        Progress::new(rt)
+    } else {
+        None
+    }
 }
 
 /// The words of the command line. Words that are not UTF-8 are handed on as none, which is no command.

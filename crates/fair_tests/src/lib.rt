@@ -18,4 +18,6 @@ mod solving;
 #[cfg(test)]
 mod tests;
 #[cfg(test)]
+mod translating;
+#[cfg(test)]
 mod waving;

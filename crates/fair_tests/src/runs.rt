@@ -1,13 +1,14 @@
-//! One run of the program over a shelf and a sink in memory. The main calls are `run_words` and `ends_so`.
+//! One run of the program over a shelf and a sink in memory. The main calls are `run_words`, by threads, `run_words_alone`,
+//! by one thread, and `ends_so`.
 
 use edge::{FreeGate, MemShelf, MemSink};
-use fair_top::{Status, run};
+use fair_top::{Status, run, run_alone};
 use std::alloc::{AllocError, Global};
 use std::sync::Wait;
 use std::thread::Threads;
 
 pub(crate) const USAGE: &str =
-    "usage: fairlive solve MODEL [--property N] [--workers W] [--conflicts C] [--steps S] [--skeletons K]\n       fairlive check MODEL ANSWER\n       fairlive gen KIND SEED SIZE [--binary]\n       fairlive demo SEED SIZE\n       fairlive wave MODEL ANSWER\n";
+    "usage: fairlive solve MODEL [--property N] [--workers W] [--conflicts C] [--steps S] [--skeletons K]\n       fairlive check MODEL ANSWER\n       fairlive gen KIND SEED SIZE [--binary]\n       fairlive demo SEED SIZE\n       fairlive wave MODEL ANSWER\n       fairlive safety MODEL [--property N]\n";
 
 /// What a run answered, and what it wrote.
 #[derive(Drop)]
@@ -132,6 +133,38 @@ pub(crate) fn run_words<R: Threads + Wait + Sync>(
 ) -> Result<Outcome, AllocError> {
     let list = owned_words(alloc, words)?;
     run_list(rt, alloc, &list, model, answer, most, reads, writes)
+}
+
+/// The same on one thread, with no call failing.
+pub(crate) fn run_words_alone(
+    alloc: Global,
+    words: &[&str],
+    model: &[u8],
+    answer: &str,
+) -> Result<Outcome, AllocError> {
+    let list = owned_words(alloc, words)?;
+    run_list_alone(alloc, &list, model, answer)
+}
+
+fn run_list_alone(
+    alloc: Global,
+    list: &[String],
+    model: &[u8],
+    answer: &str,
+) -> Result<Outcome, AllocError> {
+    let mut shelf = shelf_of(alloc, model, answer, 1000, &[])?;
+    let mut sink = sink_of(alloc, 1000, &[])?;
+    let status = run_alone_into(alloc, list, &mut shelf, &mut sink);
+    taken(alloc, status, &sink)
+}
+
+fn run_alone_into(
+    alloc: Global,
+    list: &[String],
+    shelf: &mut MemShelf,
+    sink: &mut MemSink,
+) -> Status {
+    run_alone(alloc, list, shelf, sink)
 }
 
 /// Whether a run wrote this text and ended with this number.

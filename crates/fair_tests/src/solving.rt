@@ -1,6 +1,6 @@
 //! Runs of `solve` over texts in memory: what it prints of models that were worked out by hand, and that `check` accepts it.
 
-use crate::runs::{Outcome, USAGE, run_words};
+use crate::runs::{Outcome, USAGE, run_words, run_words_alone};
 use std::alloc::{AllocError, Global};
 use std::sync::Wait;
 use std::test::Fail;
@@ -58,7 +58,7 @@ const ENOUGH: &[&str] = &["--conflicts", "1000", "--steps", "1000"];
 /// certificate and of a report how it begins.
 type Row = (&'static [u8], &'static [&'static str], u8, &'static str);
 
-const ROWS: [Row; 42] = [
+const ROWS: [Row; 44] = [
     (TOGGLE, ENOUGH, 0, TWICE),
     (TOGGLE, &[], 0, TWICE),
     (STUCK, ENOUGH, 0, CERTIFICATE),
@@ -82,6 +82,8 @@ const ROWS: [Row; 42] = [
     (RING_2, &[], 0, "1\nj0\n10\n\n\n.\n"),
     (RING_4, &[], 0, "1\nj0\n1000\n\n\n\n\n.\n"),
     (COUNTER, &["--workers", "4"], 0, ROUND),
+    (RING_4, &["--workers", "4"], 0, "1\nj0\n1000\n\n\n\n\n.\n"),
+    (STUCK, &["--workers", "64"], 0, CERTIFICATE),
     (STUCK, &["--workers", "3"], 0, CERTIFICATE),
     (NEVER, &["--conflicts", "0"], 0, CERTIFICATE),
     (TOGGLE, &["--skeletons", "0"], 0, TWICE),
@@ -145,6 +147,11 @@ fn solved<R: Threads + Wait + Sync>(
     run_words(rt, alloc, &words, model, "", 1000, &[], &[])
 }
 
+fn solved_alone(alloc: Global, model: &[u8], options: &[&str]) -> Result<Outcome, AllocError> {
+    let words = words_with(alloc, options)?;
+    run_words_alone(alloc, &words, model, "")
+}
+
 // Whether `check` accepts this answer.
 fn is_accepted<R: Threads + Wait + Sync>(
     rt: &R,
@@ -205,17 +212,30 @@ fn is_solved_so<R: Threads + Wait + Sync>(
     is_right(rt, alloc, row, &ran)
 }
 
-// The place of the first row that is not answered so, from 0.
+// The same of a run on one thread.
+fn is_solved_alone<R: Threads + Wait + Sync>(
+    rt: &R,
+    alloc: Global,
+    row: &Row,
+) -> Result<bool, AllocError> {
+    let ran = solved_alone(alloc, row.0, row.1)?;
+    is_right(rt, alloc, row, &ran)
+}
+
+// The place of the first row that is not answered so, by threads or by one thread, from 0.
 fn wrong_row<R: Threads + Wait + Sync>(rt: &R, alloc: Global) -> Result<Option<usize>, AllocError> {
     for (k, row) in rows().iter().enumerate() {
         if !is_solved_so(rt, alloc, row)? {
+            return Ok(Some(k));
+        }
+        if !is_solved_alone(rt, alloc, row)? {
             return Ok(Some(k));
         }
     }
     Ok(None)
 }
 
-/// The rows, each printed verdict with its check.
+/// The rows, on threads and on one thread, each printed verdict with its check.
 #[test]
 fn answers_of_solve(rt: HostRuntime) -> Result<(), Fail> {
     assert_eq!(rt; wrong_row(&rt, rt.alloc())?, None);

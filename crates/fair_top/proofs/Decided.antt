@@ -140,6 +140,7 @@ without_asked told request statuses.WriteFault result ends (inl same) asked = ab
 without_asked told request statuses.Usage result ends (inl same) asked = absurd ends
 without_asked told request (statuses.Unknown report) result ends (inl same) asked = absurd ends
 without_asked told request (statuses.NoProperty n) result ends (inl same) asked = absurd ends
+without_asked told request (statuses.TooLarge n) result ends (inl same) asked = absurd ends
 
 -- What is printed.
 

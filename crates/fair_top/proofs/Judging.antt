@@ -81,6 +81,7 @@ without_model model answer statuses.WriteFault h = absurd h
 without_model model answer statuses.Usage h = absurd h
 without_model model answer (statuses.Unknown report) h = absurd h
 without_model model answer (statuses.NoProperty n) h = absurd h
+without_model model answer (statuses.TooLarge n) h = absurd h
 
 pub same_bad : (f g : ModelFault) → SameFault f g → IsAnswered (statuses.BadModel g) (statuses.BadModel f)
 same_bad f g h = elim h [
@@ -105,6 +106,7 @@ without_model_exact model answer statuses.WriteFault h verdict d = absurd h
 without_model_exact model answer statuses.Usage h verdict d = absurd h
 without_model_exact model answer (statuses.Unknown report) h verdict d = absurd h
 without_model_exact model answer (statuses.NoProperty n) h verdict d = absurd h
+without_model_exact model answer (statuses.TooLarge n) h verdict d = absurd h
 
 -- What is shown.
 

@@ -4,6 +4,7 @@ mod Decided
 mod Values
 mod Sinks
 mod Dumped
+mod Translated
 mod EachCommand
 mod Taken
 mod Ending

@@ -15,12 +15,13 @@ use Rattle.fair_top.specs.declared.commands.generating.GenKind.TheVariants.{Ring
 use Rattle.fair_top.specs.declared.commands.generating.GenRequest.{GenRequest}
 use Rattle.fair_top.specs.declared.commands.solving.SolveRequest.{SolveRequest}
 use Rattle.fair_top.specs.declared.commands.demonstrating.DemoRequest.{DemoRequest}
-use Rattle.fair_top.specs.Commands.{Asked, Solve}
+use Rattle.fair_top.specs.Commands.{Asked, Solve, Safety}
 use Rattle.fair_top.specs.Words.{IsGiven, IsNumberIn, IsNumberGiven, IsNumberOr, flag_in}
 use Rattle.fair_top.specs.Check.{MeansCheck}
 use Rattle.fair_top.specs.Solve.{MeansSolve}
 use Rattle.fair_top.specs.Gen.{name_of_kind, MeansGen}
 use Rattle.fair_top.specs.Demo.{MeansDemo}
+use Rattle.fair_top.specs.Safety.{MeansSafety}
 
 -- something has the property, or nothing
 abbrev pub SomeOrNone : {A : Type 0} → (A → Type 0) → Type 0
@@ -203,3 +204,23 @@ one_demo rows a b h k =
 pub one_pair : (rows : List Row) (form : List ℕ → List ℕ → Asked) (a b : List ℕ × List ℕ) → MeansCheck rows a.0 a.1 → MeansCheck rows b.0 b.1 → form a.0 a.1 ≡ form b.0 b.1
 one_pair rows form a b h k =
     ap₂ form (one_text (first_of (codes "MODEL") rows) a.0 b.0 h.model_name k.model_name) (one_text (first_of (codes "ANSWER") rows) a.1 b.1 h.answer_name k.answer_name)
+
+-- ---- `safety`
+
+-- the name and the number of `safety`
+abbrev pub Wants : Type 0
+Wants = List ℕ × ℕ
+
+pub safety_or_none : (rows : List Row) → SomeOrNone (λ (wants : Wants). MeansSafety rows wants.0 wants.1)
+safety_or_none rows = by (first_of (codes "MODEL") rows) refl (number_or_none_given rows (codes "property") 0 4294967295 0 (omega arith))
+  where
+    by : (m : Option (List ℕ)) → first_of (codes "MODEL") rows ≡ m → SomeOrNone (IsNumberOr rows (codes "property") 0 4294967295 0)
+        → SomeOrNone (λ (wants : Wants). MeansSafety rows wants.0 wants.1)
+    by (Some model) e (inl p) = inl ((model, p.0), record { model_name = e; number = p.1 })
+    by None e p = inr (λ wants h. (let wrong : None ≡ Some wants.0 = sym e ∙ h.model_name in cc))
+    by (Some model) e (inr none) = inr (λ wants h. none wants.1 h.number)
+
+pub one_safety : (rows : List Row) (m n : List ℕ) (i j : ℕ) → MeansSafety rows m i → MeansSafety rows n j → Safety m i ≡ Safety n j
+one_safety rows m n i j h k =
+    ap₂ Safety (one_text (first_of (codes "MODEL") rows) m n h.model_name k.model_name)
+    (one_number_or rows (codes "property") 0 4294967295 0 i j h.number k.number)

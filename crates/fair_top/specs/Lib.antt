@@ -7,6 +7,7 @@ pub mod Gen
 pub mod Demo
 pub mod Wave
 pub mod Waved
+pub mod Safety
 pub mod Commands
 pub mod Asking
 pub mod Statuses

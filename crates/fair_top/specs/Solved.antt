@@ -1,11 +1,12 @@
 -- Scaffolding of inner functions: what `solve` comes to for a circuit.
-use Rattle.std.specs.Prelude.{◌≡◌, ◌⊎◌, ◌≤◌, ◌<◌, ℕ, List, Option, length}
+use Rattle.std.specs.Prelude.{◌≡◌, ◌⊎◌, ◌≤◌, ◌<◌, ℕ, List, Option, Result, IfOk, IfErr, length}
 use Rattle.unless_memory.specs.Answers.{GivesSome}
 use Rattle.aig_semantics.specs.Circuits.{Circuit}
 use Rattle.certificate.specs.declared.ends.Accepted.{Accepted}
 use Rattle.certificate.specs.Answers.{IsGood, Shows}
 use Rattle.fair_workers.specs.declared.limits.Report.{Report}
-use Rattle.fair_workers.specs.Runs.{AreLimits, IsReport}
+use Rattle.fair_workers.specs.Runs.{AreLimits, IsAnswer, IsEnded, IsReport}
+use Rattle.fair_workers.specs.declared.limits.Ended.{Ended}
 use Rattle.fair_top.specs.declared.commands.solving.SolveRequest.{SolveRequest}
 use Rattle.fair_top.specs.declared.status.Status.{Status}
 use Rattle.fair_top.specs.declared.status.Status.TheVariants as statuses
@@ -48,3 +49,13 @@ SolvesUnlessCut status = GivesSome statuses.Memory (λ end. IsSolved end ⊎ IsC
 abbrev pub SolvesAsked : (List ℕ → Option (List ℕ)) → Asked → Status → Type 0
 SolvesAsked held (Solve model request) status = HasAsked (held model) request → SolvesUnlessCut status
 SolvesAsked held _ status = Unit {0}
+
+-- A call lets workers search for an answer to a request over a circuit, whatever it is handed for the circuit: it may be
+-- made where the request is within its limits and the circuit has the property, and answers what workers leave.
+pub record IsSearch {Handle : Type 0} (circuit_of : Handle → Circuit) (Pre : Handle → SolveRequest → Type 0)
+    (Post : Handle → SolveRequest → Result Report Ended → Type 0) : Type 0 where
+  pub called : (c : Handle) (request : SolveRequest) → AreWithin request → request.property < length (circuit_of c).justice → Pre c request
+  pub answer : (c : Handle) (request : SolveRequest) (result : Result Report Ended) → Post c request result
+      → IfOk result (IsAnswer (task_of (circuit_of c) request))
+  pub ended : (c : Handle) (request : SolveRequest) (result : Result Report Ended) → Post c request result
+      → IfErr result (IsEnded (task_of (circuit_of c) request))

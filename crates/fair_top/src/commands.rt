@@ -19,28 +19,35 @@ ghost use Rattle.fair_top.specs.Check.{done_of};
 ghost use Rattle.fair_top.specs.Commands.{Asked as AskedFor, names_in, meant, fairlive, Means, CommandGives, Decides, ShownBy};
 ghost use Rattle.fair_top.specs.Headline.{AsksFor, IsUsage, IsTakenOrUsage, ReadsNothing, Ends, IsSilent, IsVerdict, IsAnswered, IsShown, FailedOf, ReadFailed, ReadsModelFirst, HasRead};
 ghost use Rattle.fair_top.specs.Asking.{MetFor};
-ghost use Rattle.fair_top.specs.Solved.{SolvesAsked};
+ghost use Rattle.fair_top.specs.Solved.{SolvesAsked, IsSearch};
+ghost use Rattle.std.specs.Arc.{arc_value};
 ghost use Rattle.fair_top.specs.Statuses.{status_in, is_read_fault};
 
 mod checking;
 mod demonstrating;
 mod generating;
 mod solving;
+mod translating;
 mod waving;
 
 use crate::status::Status;
 use crate::texts::{Outcome, with_text};
 use checking::{check, check_of, with_check};
+use circuit::Circuit;
 use clap::error::ErrorKind;
 use clap::{ArgMatches, Command, Error};
 pub use demonstrating::DemoRequest;
 use demonstrating::{demo_of, demonstrate, with_demo};
 use edge::Shelf;
+use fair_workers::{Ended, Report};
 pub use generating::{GenKind, GenRequest};
 use generating::{gen_of, generate, with_gen};
 pub use solving::SolveRequest;
+pub(crate) use solving::limits_of;
 use solving::{solve, solve_of, with_solve};
 use std::alloc::{AllocError, Global};
+use std::sync::Arc;
+use translating::{safety, safety_of, with_safety};
 use waving::{wave, wave_of, with_wave};
 
 /// A command with its values.
@@ -65,19 +72,26 @@ pub(crate) enum Asked<'a> {
         model: &'a str,
         answer: &'a str,
     },
+    /// Write a property of the model as a model for checkers of safety.
+    Safety {
+        model: &'a str,
+        property: u32,
+    },
 }
 
 /// What is written where the words are no command: a line for each command.
 pub(crate) const USAGE: &str =
-    "usage: fairlive solve MODEL [--property N] [--workers W] [--conflicts C] [--steps S] [--skeletons K]\n       fairlive check MODEL ANSWER\n       fairlive gen KIND SEED SIZE [--binary]\n       fairlive demo SEED SIZE\n       fairlive wave MODEL ANSWER\n";
+    "usage: fairlive solve MODEL [--property N] [--workers W] [--conflicts C] [--steps S] [--skeletons K]\n       fairlive check MODEL ANSWER\n       fairlive gen KIND SEED SIZE [--binary]\n       fairlive demo SEED SIZE\n       fairlive wave MODEL ANSWER\n       fairlive safety MODEL [--property N]\n";
 
 /// The status with which a run ends and the text that it writes, but for its writing; or the status of a run that
-/// writes nothing, `ReadFault` or `Memory`.
-pub(crate) fn outcome_of<H: Shelf>(
+/// writes nothing, `ReadFault` or `Memory`. The workers of `solve` search as `search` lets them.
+pub(crate) fn outcome_of<S: Fn(&Arc<Circuit>, SolveRequest) -> Result<Report, Ended>, H: Shelf>(
+    search: &S,
     alloc: Global,
     words: &[String],
     shelf: &mut H,
 ) -> Result<Outcome, Status>
+    requires search { IsSearch (λ c. arc_value c.now) (S.pre search.now) (S.post search.now) }
     ensures found { IfOk result (λ outcome. Ends (H.held shelf.old) (bytes_of words.now) outcome.status outcome.text.items) }
     ensures silent { IfErr result IsSilent }
     ensures aloud { IfOk result (λ outcome. is_read_fault outcome.status ≡ false) }
@@ -92,7 +106,7 @@ pub(crate) fn outcome_of<H: Shelf>(
     ensures kept { KeepsTexts (H.held shelf.old) (H.held shelf.new) }
 {
     match asked_of(alloc, words) {
-        Ok(asked) => outcome_for(alloc, asked, shelf),
+        Ok(asked) => outcome_for(search, alloc, asked, shelf),
         Err(status) => with_text(alloc, status),
     }
 }
@@ -136,7 +150,8 @@ fn program<'a>(alloc: Global) -> Result<Command<'a>, AllocError>
     let program = with_check(alloc, program)?;
     let program = with_gen(alloc, program)?;
     let program = with_demo(alloc, program)?;
-    with_wave(alloc, program)
+    let program = with_wave(alloc, program)?;
+    with_safety(alloc, program)
 }
 
 /// What the command that was met asks for, if it is one of the program's and its values are a request.
@@ -168,13 +183,20 @@ fn asked_as<'a>(name: &str, given: &ArgMatches<'a>) -> Option<Asked<'a>>
         "gen" => gen_of(given),
         "demo" => demo_of(given),
         "wave" => wave_of(given),
+        "safety" => safety_of(given),
         _ => None,
     }
 }
 
 /// The outcome of what is asked for: a case for each command.
-fn outcome_for<H: Shelf>(alloc: Global, asked: Asked, shelf: &mut H) -> Result<Outcome, Status>
-    requires { (words : List (List ℕ)) × AsksFor words (meant asked) }
+fn outcome_for<S: Fn(&Arc<Circuit>, SolveRequest) -> Result<Report, Ended>, H: Shelf>(
+    search: &S,
+    alloc: Global,
+    asked: Asked,
+    shelf: &mut H,
+) -> Result<Outcome, Status>
+    requires search { IsSearch (λ c. arc_value c.now) (S.pre search.now) (S.post search.now) }
+    requires asked { (words : List (List ℕ)) × AsksFor words (meant asked) }
     ensures found { IfOk result (λ outcome. CommandGives (H.held shelf.old) (meant asked.entry) outcome.status outcome.text.items) }
     ensures silent { IfErr result IsSilent }
     ensures aloud { IfOk result (λ outcome. is_read_fault outcome.status ≡ false) }
@@ -187,10 +209,11 @@ fn outcome_for<H: Shelf>(alloc: Global, asked: Asked, shelf: &mut H) -> Result<O
     ensures kept { KeepsTexts (H.held shelf.old) (H.held shelf.new) }
 {
     match asked {
-        Asked::Solve { model, request } => solve(alloc, shelf, model, &request),
+        Asked::Solve { model, request } => solve(search, alloc, shelf, model, &request),
         Asked::Check { model, answer } => with_text(alloc, check(alloc, shelf, model, answer)),
         Asked::Gen(request) => generate(alloc, &request),
         Asked::Demo(request) => demonstrate(alloc, &request),
         Asked::Wave { model, answer } => wave(alloc, shelf, model, answer),
+        Asked::Safety { model, property } => safety(alloc, shelf, model, property),
     }
 }

@@ -2,7 +2,7 @@
 //!
 //! | Call | What it does |
 //! |---|---|
-//! | `run` | does what the words ask for, with a runtime at hand |
+//! | `run` | does what the words ask for; the workers of `solve` search on threads |
 //! | `run_alone` | the same on one thread, where workers take turns; it owes its return, and its clauses are those of `run` |
 //! | `Status::number` | the number with which the program ends |
 //! | `runs_agree` | nothing: the law that two runs of `solve` on one property agree |
@@ -17,6 +17,7 @@ mod laws;
 mod models;
 mod reports;
 mod running;
+mod searching;
 mod status;
 mod texts;
 mod words;

@@ -1,11 +1,14 @@
 //! The top call: the one place that decides what a run of the program answers and writes.
 
-ghost use Rattle.std.specs.Prelude.{◌≡◌, ◌≤◌, ◌⊎◌, ℕ, List};
+ghost use Rattle.std.specs.Prelude.{◌≡◌, ◌<◌, ◌≤◌, ◌⊎◌, ℕ, List, length, IfOk, IfErr};
+ghost use Rattle.std.specs.Arc.{arc_value};
+ghost use Rattle.fair_workers.specs.Runs.{IsAnswer, IsEnded};
+ghost use Rattle.fair_top.specs.Solved.{AreWithin, IsSearch};
 ghost use Rattle.edge.specs.Faults.{Rose, NoneFell};
 ghost use Rattle.edge.specs.Reads.{KeepsTexts};
 ghost use Rattle.fair_top.specs.Words.{bytes_of};
 ghost use Rattle.fair_top.specs.Commands.Asked.{Solve, Gen, Demo};
-ghost use Rattle.fair_top.specs.Solve.{HasAsked, IsSolved};
+ghost use Rattle.fair_top.specs.Solve.{HasAsked, IsSolved, task_of};
 ghost use Rattle.fair_top.specs.Demo.{IsSummedUp};
 ghost use Rattle.fair_top.specs.Headline.{AsksFor, IsTakenOrUsage, ReadsNothing, IsFound, IsVerdict, IsAnswered, IsCut, IsShown, IsSilent, HasTaken, ReadFailed, HasRead, HasWritten};
 ghost use Rattle.fair_top.specs.declared.commands.demonstrating.DemoRequest.{DemoRequest};
@@ -14,23 +17,28 @@ ghost use Rattle.fair_top.specs.declared.commands.solving.SolveRequest.{SolveReq
 ghost use Rattle.unless_memory.specs.Answers.{GivesSome};
 ghost use Rattle.fair_top.specs.declared.status.Done.TheVariants.{Printed};
 
-use crate::commands::outcome_of;
+use crate::commands::{SolveRequest, outcome_of};
+use crate::searching::{in_turns, on_threads};
 use crate::status::Status;
 use crate::texts::Outcome;
+use circuit::Circuit;
 use edge::{Gate, Shelf, Sink, write_all};
+use fair_workers::{Ended, Report};
 use std::alloc::Global;
-use std::sync::Wait;
+use std::sync::{Arc, Wait};
 use std::thread::Threads;
 
 /// Runs the command that the words name, of which the first is the program's own name: reads the texts from the
-/// shelf, and writes the answer's text to `out`. The clauses are those of `run_alone`, with their words there.
+/// shelf, and writes the answer's text to `out`. The workers of `solve` have a thread each, and pass the gate before
+/// their first round, between two rounds, and after the last. The clauses are those of `run_alone`, with their words
+/// there; where threads wait for one another no clause says that it returns.
 pub fn run<R: Threads + Wait + Sync, H: Shelf, O: Sink, G: Gate>(
-    _rt: &R,
+    rt: &R,
     alloc: Global,
     words: &[String],
     shelf: &mut H,
     out: &mut O,
-    _gate: &G,
+    gate: &G,
 ) -> Status
     ensures found { IsFound (H.held shelf.old) (bytes_of words.now) result }
     ensures exactly { (verdict : Status) → IsVerdict (H.held shelf.old) (bytes_of words.now) verdict → IsAnswered verdict result }
@@ -52,7 +60,13 @@ pub fn run<R: Threads + Wait + Sync, H: Shelf, O: Sink, G: Gate>(
     ensures unread { ReadsNothing (bytes_of words.now) → shelf.new ≡ shelf.old }
     ensures writes { O.faults out.old ≤ O.faults out.new }
 {
-    run_alone(alloc, words, shelf, out)
+    let search = |circuit: &Arc<Circuit>, request: SolveRequest| -> Result<Report, Ended>
+        requires within { AreWithin request }
+        requires property { request.property < length (arc_value circuit.now).justice }
+        ensures answer { IfOk result (IsAnswer (task_of (arc_value circuit.now) request)) }
+        ensures ended { IfErr result (IsEnded (task_of (arc_value circuit.now) request)) }
+    { on_threads(rt, gate, alloc, circuit, &request) };
+    run_by(&search, alloc, words, shelf, out)
 }
 
 /// The same on one thread, where the workers of `solve` take turns. It waits for nobody, and returns.
@@ -102,7 +116,45 @@ pub fn run_alone<H: Shelf, O: Sink>(
     ensures unread { ReadsNothing (bytes_of words.now) → shelf.new ≡ shelf.old }
     ensures writes { O.faults out.old ≤ O.faults out.new }
 {
-    match outcome_of(alloc, words, shelf) {
+    let search = |circuit: &Arc<Circuit>, request: SolveRequest| -> Result<Report, Ended>
+        requires within { AreWithin request }
+        requires property { request.property < length (arc_value circuit.now).justice }
+        ensures answer { IfOk result (IsAnswer (task_of (arc_value circuit.now) request)) }
+        ensures ended { IfErr result (IsEnded (task_of (arc_value circuit.now) request)) }
+    { in_turns(alloc, circuit, &request) };
+    run_by(&search, alloc, words, shelf, out)
+}
+
+// The same with workers that search by this closure. The clauses are those of `run_alone`.
+fn run_by<S: Fn(&Arc<Circuit>, SolveRequest) -> Result<Report, Ended>, H: Shelf, O: Sink>(
+    search: &S,
+    alloc: Global,
+    words: &[String],
+    shelf: &mut H,
+    out: &mut O,
+) -> Status
+    requires search { IsSearch (λ c. arc_value c.now) (S.pre search.now) (S.post search.now) }
+    ensures found { IsFound (H.held shelf.old) (bytes_of words.now) result }
+    ensures exactly { (verdict : Status) → IsVerdict (H.held shelf.old) (bytes_of words.now) verdict → IsAnswered verdict result }
+    ensures shown { IsShown (H.held shelf.old) (bytes_of words.now) result }
+    ensures words { IsTakenOrUsage (bytes_of words.now) }
+    ensures printed { (request : GenRequest) → AsksFor (bytes_of words.now) (Gen request) → (result ≡ Status.Done Printed) ⊎ ((result ≡ Status.Memory) ⊎ (result ≡ Status.WriteFault)) }
+    ensures solved { (model : List ℕ) (request : SolveRequest) → AsksFor (bytes_of words.now) (Solve model request) → HasAsked (H.held shelf.old model) request
+        → GivesSome Status.Memory (λ status. IsSolved status ⊎ IsCut status) result }
+    ensures summed { (request : DemoRequest) → AsksFor (bytes_of words.now) (Demo request)
+        → GivesSome Status.Memory (λ status. IsSummedUp status ⊎ (status ≡ Status.WriteFault)) result }
+    ensures text { HasTaken (H.held shelf.old) (bytes_of words.now) (O.taken out.old) (O.taken out.new) result }
+    ensures silent { IsSilent result → out.new ≡ out.old }
+    ensures read { result ≡ Status.ReadFault → ReadFailed (H.held shelf.old) (bytes_of words.now) (H.faults shelf.old) (H.faults shelf.new) }
+    ensures reads { HasRead H.reads (H.held shelf.old) (bytes_of words.now) result shelf.old shelf.new }
+    ensures written { HasWritten O.writes result out.old out.new }
+    ensures write { result ≡ Status.WriteFault → Rose (O.faults out.old) (O.faults out.new) }
+    ensures kept { KeepsTexts (H.held shelf.old) (H.held shelf.new) }
+    ensures counts { NoneFell (H.faults shelf.old) (H.faults shelf.new) }
+    ensures unread { ReadsNothing (bytes_of words.now) → shelf.new ≡ shelf.old }
+    ensures writes { O.faults out.old ≤ O.faults out.new }
+{
+    match outcome_of(search, alloc, words, shelf) {
         Ok(Outcome { status, text }) => match write_all(out, &text) {
             Ok(()) => status,
             Err(_) => Status::WriteFault,

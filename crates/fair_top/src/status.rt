@@ -26,8 +26,10 @@ pub enum Status {
     WriteFault,
     /// Memory was refused. Nothing was written.
     Memory,
-    /// `solve`: the model has no property with this number, counted from 0.
+    /// `solve` and `safety`: the model has no property with this number, counted from 0.
     NoProperty(u32),
+    /// `safety`: the translation's greatest variable would be this one, above the limit on models.
+    TooLarge(u64),
     /// The words are no command, or their values are no request of it. Nothing was read.
     Usage,
 }
@@ -48,7 +50,7 @@ pub enum Done {
         property: u32,
         entries: u32,
     },
-    /// `gen`: the text of the model was written.
+    /// `gen` and `safety`: the text of the model was written; `wave`: that of the waves.
     Printed,
     /// `demo`: property 0 of the generated model was decided, and this is a board with its outcome.
     Demo(Board),
@@ -57,7 +59,7 @@ pub enum Done {
 impl Status {
     /// The number with which the program ends: 0 for work done, 1 for a refused answer, 2 for a search of which a stated
     /// budget is spent, 3 for a bad model, 4 and 5 for failed reads and writes, 6 for want of memory, 8 for a property that
-    /// is not there, and 64 for words that are no command, or whose values are no request of it.
+    /// is not there, 9 for a model that would be too large, and 64 for words that are no command, or whose values are no request of it.
     pub fn number(&self) -> u8
         ensures { result ≡ exit_number self.now }
     {
@@ -70,6 +72,7 @@ impl Status {
             Status::WriteFault => 5,
             Status::Memory => 6,
             Status::NoProperty(_) => 8,
+            Status::TooLarge(_) => 9,
             Status::Usage => 64,
         }
     }

@@ -56,6 +56,7 @@ fn status_text(alloc: Global, status: &Status) -> Result<Vec<u8>, AllocError>
         Status::Unknown(report) => text_of_report(alloc, report),
         Status::BadModel(fault) => text_of_model(alloc, fault),
         Status::NoProperty(n) => numbered(alloc, "no property ", u64::from(*n)),
+        Status::TooLarge(n) => numbered(alloc, "too large ", *n),
         Status::Usage => words(alloc, USAGE),
         Status::ReadFault | Status::WriteFault | Status::Memory => Ok(Vec::new(alloc)),
     }

@@ -13,12 +13,12 @@ ghost use Rattle.edge.specs.Reads.{KeepsTexts};
 ghost use Rattle.certificate.specs.declared.ends.Accepted.{Accepted as AcceptedOf};
 ghost use Rattle.certificate.specs.Writing.{certificate_of, certificate_text};
 ghost use Rattle.entry.specs.Proved.{IsGoodRefutation};
-ghost use Rattle.fair_workers.specs.Runs.{IsBoardOf, IsAnswered as IsAnsweredBy};
+ghost use Rattle.fair_workers.specs.Runs.{IsBoardOf, IsAnswered as IsAnsweredBy, IsAnswer, IsEnded};
 ghost use Rattle.wall_store.specs.Boards.{outcome_of, plain};
 ghost use Rattle.fair_top.specs.Check.{done_of};
 ghost use Rattle.fair_top.specs.Commands.{Asked as AskedFor, meant, Means};
 ghost use Rattle.fair_top.specs.Solve.{solve_command, limits_of, task_of, HasAsked, GivesSolve, DecidesSolve, ShownBySolve, IsStimulusOf, IsTextOfOutcome};
-ghost use Rattle.fair_top.specs.Solved.{AreWithin, EndsFor, IsPrinted, SolvesUnlessCut};
+ghost use Rattle.fair_top.specs.Solved.{AreWithin, IsSearch, EndsFor, IsPrinted, SolvesUnlessCut};
 ghost use Rattle.fair_top.specs.Headline.{IsSilent, IsAnswered, FailedOf, ReadsModelFirst};
 ghost use Rattle.fair_top.specs.Statuses.{status_in, is_read_fault};
 
@@ -33,7 +33,7 @@ use circuit::Circuit;
 use clap::{ArgMatches, Command};
 use edge::Shelf;
 use entry::Refutation;
-use fair_workers::{Board, Ended, Limits, run_turns};
+use fair_workers::{Board, Ended, Limits, Report};
 use items::Items;
 use lasso_join::shortest_prefix;
 use std::alloc::{AllocError, Global};
@@ -112,15 +112,17 @@ pub(crate) fn solve_of<'a>(given: &ArgMatches<'a>) -> Option<Asked<'a>>
     Some(Asked::Solve { model, request })
 }
 
-/// Reads the model and decides its property: the status with which the command ends and the text that it writes, but for
+/// Reads the model and lets workers decide its property: the status with which the command ends and the text that it writes, but for
 /// its writing; or the status of a run that writes nothing, `ReadFault` or `Memory`.
-pub(crate) fn solve<H: Shelf>(
+pub(crate) fn solve<S: Fn(&Arc<Circuit>, SolveRequest) -> Result<Report, Ended>, H: Shelf>(
+    search: &S,
     alloc: Global,
     shelf: &mut H,
     model: &str,
     request: &SolveRequest,
 ) -> Result<Outcome, Status>
-    requires { AreWithin request.now }
+    requires search { IsSearch (λ c. arc_value c.now) (S.pre search.now) (S.post search.now) }
+    requires within { AreWithin request.now }
     ensures found { IfOk result (λ outcome. GivesSolve (H.held shelf.old model.now) request.now outcome.status outcome.text.items) }
     ensures silent { IfErr result IsSilent }
     ensures aloud { IfOk result (λ outcome. is_read_fault outcome.status ≡ false) }
@@ -133,49 +135,81 @@ pub(crate) fn solve<H: Shelf>(
     ensures kept { KeepsTexts (H.held shelf.old) (H.held shelf.new) }
 {
     match model_of(alloc, shelf, model) {
-        Ok(found) => solved(alloc, found.into_circuit(), request),
+        Ok(found) => solved(search, alloc, found.into_circuit(), request),
         Err(status) => with_text(alloc, status),
     }
 }
 
 // The same for a circuit.
-fn solved(alloc: Global, circuit: Circuit, request: &SolveRequest) -> Result<Outcome, Status>
-    requires { AreWithin request.now }
+fn solved<S: Fn(&Arc<Circuit>, SolveRequest) -> Result<Report, Ended>>(
+    search: &S,
+    alloc: Global,
+    circuit: Circuit,
+    request: &SolveRequest,
+) -> Result<Outcome, Status>
+    requires search { IsSearch (λ c. arc_value c.now) (S.pre search.now) (S.post search.now) }
+    requires within { AreWithin request.now }
     ensures found { IfOk result (λ outcome. EndsFor circuit request.now outcome.status outcome.text.items) }
     ensures ended { IfErr result (λ status. status ≡ Status.Memory) }
 {
     if request.property as usize >= circuit.property_count() {
         return with_text(alloc, Status::NoProperty(request.property));
     }
-    share_and_run(alloc, circuit, request)
+    share_and_run(search, alloc, circuit, request)
 }
 
 // The same for a property that is there: the workers share the circuit.
-fn share_and_run(alloc: Global, circuit: Circuit, request: &SolveRequest) -> Result<Outcome, Status>
+fn share_and_run<S: Fn(&Arc<Circuit>, SolveRequest) -> Result<Report, Ended>>(
+    search: &S,
+    alloc: Global,
+    circuit: Circuit,
+    request: &SolveRequest,
+) -> Result<Outcome, Status>
+    requires search { IsSearch (λ c. arc_value c.now) (S.pre search.now) (S.post search.now) }
     requires within { AreWithin request.now }
     requires property { request.now.property < length circuit.justice }
     ensures found { IfOk result (λ outcome. EndsFor circuit request.now outcome.status outcome.text.items) }
     ensures ended { IfErr result (λ status. status ≡ Status.Memory) }
 {
     match Arc::new(alloc, circuit) {
-        Ok(circuit) => run_for(alloc, &circuit, request),
+        Ok(circuit) => run_for(search, alloc, &circuit, request),
         Err(_) => Err(Status::Memory),
     }
 }
 
 // The same for a circuit that is shared.
-fn run_for(alloc: Global, circuit: &Arc<Circuit>, request: &SolveRequest) -> Result<Outcome, Status>
+fn run_for<S: Fn(&Arc<Circuit>, SolveRequest) -> Result<Report, Ended>>(
+    search: &S,
+    alloc: Global,
+    circuit: &Arc<Circuit>,
+    request: &SolveRequest,
+) -> Result<Outcome, Status>
+    requires search { IsSearch (λ c. arc_value c.now) (S.pre search.now) (S.post search.now) }
     requires within { AreWithin request.now }
     requires property { request.now.property < length (arc_value circuit.now).justice }
     ensures found { IfOk result (λ outcome. EndsFor (arc_value circuit.now) request.now outcome.status outcome.text.items) }
     ensures ended { IfErr result (λ status. status ≡ Status.Memory) }
 {
-    let limits = limits_of(request);
-    match run_turns(alloc, circuit, request.property, limits, &[], &[]) {
+    match searched(search, circuit, request) {
         Ok(report) => printed(alloc, circuit, request, &report.board),
         Err(Ended::Spent(report)) => with_text(alloc, Status::Unknown(report)),
         Err(Ended::Memory) => Err(Status::Memory),
     }
+}
+
+// What the workers leave.
+fn searched<S: Fn(&Arc<Circuit>, SolveRequest) -> Result<Report, Ended>>(
+    search: &S,
+    circuit: &Arc<Circuit>,
+    request: &SolveRequest,
+) -> Result<Report, Ended>
+    requires search { IsSearch (λ c. arc_value c.now) (S.pre search.now) (S.post search.now) }
+    requires within { AreWithin request.now }
+    requires property { request.now.property < length (arc_value circuit.now).justice }
+    ensures answer { IfOk result (IsAnswer (task_of (arc_value circuit.now) request.now)) }
+    ensures ended { IfErr result (IsEnded (task_of (arc_value circuit.now) request.now)) }
+{
+    search(circuit, *request)
 }
 
 pub(crate) fn limits_of(request: &SolveRequest) -> Limits

@@ -61,3 +61,7 @@ returns-in-Demo-clause-reads g c =
 pub returns-in-Wave-clause-exactly : goal.returns-in-Wave-clause-exactly
 returns-in-Wave-clause-exactly g c = λ verdict d.
     c.wave.ensures.exactly verdict (subst (λ (a : AskedInCode). Decides (g.H.Shelf.held c.args.shelf.now) (meant a) verdict) c.in-Wave.is d)
+
+pub returns-in-Safety-clause-exactly : goal.returns-in-Safety-clause-exactly
+returns-in-Safety-clause-exactly g c = λ verdict d.
+    c.safety.ensures.exactly verdict (subst (λ (a : AskedInCode). Decides (g.H.Shelf.held c.args.shelf.now) (meant a) verdict) c.in-Safety.is d)

@@ -1,52 +1,52 @@
-use Rattle.std.proofs.Common.{refl, inl, inr}
-use Rattle.fair_top.specs.Words.{bytes_of}
-use Rattle.fair_top.specs.Commands.Asked.{Solve}
-use Rattle.fair_top.proofs.Ending.{is_printed, demo_sums_up, demo_is_silent, read_before, written, part_written, good_writes}
 use Rattle.fair_top.proofs.running.run_alone.Goals as goal
 
-pub returns-in-Ok-write_all-clause-printed : goal.returns-in-Ok-write_all-clause-printed
-returns-in-Ok-write_all-clause-printed g c = λ request asks.
-    is_printed (g.H.Shelf.held c.args.shelf.now) (bytes_of c.args.words.now) (g.H.Shelf.faults c.args.shelf.now) (g.H.Shelf.faults c.outcome_of.new.shelf)
-    request c.in-Ok.field-0.status asks c.in-Ok.ensures.exactly c.in-Ok.ensures.read
+pub returns-clause-found : goal.returns-clause-found
+returns-clause-found g c = c.run_by.ensures.found
 
-pub returns-in-Ok-write_all-clause-text : goal.returns-in-Ok-write_all-clause-text
-returns-in-Ok-write_all-clause-text g c =
-    written (g.H.Shelf.held c.args.shelf.now) (bytes_of c.args.words.now) (g.O.Sink.taken c.args.out.now) (g.O.Sink.taken c.write_all.new.sink)
-    c.in-Ok.field-0.status c.in-Ok.field-0.text.items c.deref.result.now c.deref.ensures.value c.in-Ok.ensures.found c.in-Ok-write_all.ensures.all
+pub returns-clause-exactly : goal.returns-clause-exactly
+returns-clause-exactly g c = c.run_by.ensures.exactly
 
-pub returns-in-Err-write_all-clause-text : goal.returns-in-Err-write_all-clause-text
-returns-in-Err-write_all-clause-text g c =
-    part_written (g.H.Shelf.held c.args.shelf.now) (bytes_of c.args.words.now) (g.O.Sink.taken c.args.out.now) (g.O.Sink.taken c.write_all.new.sink)
-    c.in-Ok.field-0.status c.in-Ok.field-0.text.items c.deref.result.now c.deref.ensures.value c.in-Ok.ensures.found c.in-Err-write_all.ensures.part
+pub returns-clause-shown : goal.returns-clause-shown
+returns-clause-shown g c = c.run_by.ensures.shown
 
-pub returns-in-Err-write_all-clause-reads : goal.returns-in-Err-write_all-clause-reads
-returns-in-Err-write_all-clause-reads g c =
-    read_before g.H.Shelf.reads (g.H.Shelf.held c.args.shelf.now) (bytes_of c.args.words.now) c.in-Ok.field-0.status c.args.shelf.now c.outcome_of.new.shelf
-    c.in-Ok.ensures.aloud c.in-Ok.ensures.reads
+pub returns-clause-words : goal.returns-clause-words
+returns-clause-words g c = c.run_by.ensures.words
 
-pub returns-in-Ok-write_all-clause-written : goal.returns-in-Ok-write_all-clause-written
-returns-in-Ok-write_all-clause-written g c =
-    good_writes g.O.Sink.writes (g.H.Shelf.held c.args.shelf.now) (bytes_of c.args.words.now) c.in-Ok.field-0.status c.in-Ok.field-0.text.items
-    c.args.out.now c.write_all.new.sink c.in-Ok.ensures.found c.in-Ok-write_all.ensures.writes
+pub returns-clause-printed : goal.returns-clause-printed
+returns-clause-printed g c = c.run_by.ensures.printed
 
-pub returns-in-Ok-write_all-clause-solved : goal.returns-in-Ok-write_all-clause-solved
-returns-in-Ok-write_all-clause-solved g c = λ model request asks. c.in-Ok.ensures.solved (Solve model request) asks
+pub returns-clause-solved : goal.returns-clause-solved
+returns-clause-solved g c = c.run_by.ensures.solved
 
-pub returns-in-Err-write_all-clause-solved : goal.returns-in-Err-write_all-clause-solved
-returns-in-Err-write_all-clause-solved g c = λ model request asks has. inl (inr (inr refl))
+pub returns-clause-summed : goal.returns-clause-summed
+returns-clause-summed g c = c.run_by.ensures.summed
 
-pub returns-in-Err-clause-solved : goal.returns-in-Err-clause-solved
-returns-in-Err-clause-solved g c = λ model request asks. c.in-Err.ensures.solved (Solve model request) asks
+pub returns-clause-text : goal.returns-clause-text
+returns-clause-text g c = c.run_by.ensures.text
 
-pub returns-in-Ok-write_all-clause-summed : goal.returns-in-Ok-write_all-clause-summed
-returns-in-Ok-write_all-clause-summed g c = λ request asks.
-    demo_sums_up (g.H.Shelf.held c.args.shelf.now) (bytes_of c.args.words.now) request c.in-Ok.field-0.status c.in-Ok.field-0.text.items
-    asks c.in-Ok.ensures.found
+pub returns-clause-silent : goal.returns-clause-silent
+returns-clause-silent g c = c.run_by.ensures.silent
 
-pub returns-in-Err-write_all-clause-summed : goal.returns-in-Err-write_all-clause-summed
-returns-in-Err-write_all-clause-summed g c = λ request asks. inl (inr refl)
+pub returns-clause-read : goal.returns-clause-read
+returns-clause-read g c = c.run_by.ensures.read
 
-pub returns-in-Err-clause-summed : goal.returns-in-Err-clause-summed
-returns-in-Err-clause-summed g c = λ request asks.
-    demo_is_silent (g.H.Shelf.held c.args.shelf.now) (bytes_of c.args.words.now) (g.H.Shelf.faults c.args.shelf.now) (g.H.Shelf.faults c.outcome_of.new.shelf)
-    request c.in-Err.status asks c.in-Err.ensures.silent c.in-Err.ensures.read
+pub returns-clause-reads : goal.returns-clause-reads
+returns-clause-reads g c = c.run_by.ensures.reads
+
+pub returns-clause-written : goal.returns-clause-written
+returns-clause-written g c = c.run_by.ensures.written
+
+pub returns-clause-write : goal.returns-clause-write
+returns-clause-write g c = c.run_by.ensures.write
+
+pub returns-clause-kept : goal.returns-clause-kept
+returns-clause-kept g c = c.run_by.ensures.kept
+
+pub returns-clause-counts : goal.returns-clause-counts
+returns-clause-counts g c = c.run_by.ensures.counts
+
+pub returns-clause-unread : goal.returns-clause-unread
+returns-clause-unread g c = c.run_by.ensures.unread
+
+pub returns-clause-writes : goal.returns-clause-writes
+returns-clause-writes g c = c.run_by.ensures.writes
