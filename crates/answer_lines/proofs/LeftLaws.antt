@@ -215,3 +215,23 @@ ends_too_long old mid text taken left lacks full more =
     } in
     subst (λ (n : ℕ). IsTooLong (most_bytes - n) (left_of old text)) taken
     (subst (λ (bytes : List ℕ). IsTooLong (most_bytes - mid.taken) bytes) left long)
+
+-- where all that was in hand is held, and nothing of the piece is left, the same is in hand
+pub held_all : (given : Bool) (line ahead piece : List ℕ) (k : ℕ) → given ≡ false → line ≡ ahead → front_of given line ++ rest_of piece k k ≡ ahead
+held_all given line ahead piece k not_given is_line =
+    let front : front_of given line ≡ ahead = ap (λ (g : Bool). front_of g line) not_given ∙ is_line in
+    let none : rest_of piece k k ≡ [] = grind (arith, common_steps) in
+    ap (λ (f : List ℕ). f ++ rest_of piece k k) front ∙ ap (λ (r : List ℕ). ahead ++ r) none ∙ append-nil ahead
+
+-- where nothing more is held, the same is in hand
+pub held_none : (given : Bool) (line front rest : List ℕ) → given ≡ false → line ≡ front → front_of given line ++ rest ≡ front ++ rest
+held_none given line front rest not_given is_line =
+    ap (λ (f : List ℕ). f ++ rest) (ap (λ (g : Bool). front_of g line) not_given ∙ is_line)
+
+-- then as much is taken,
+pub taken_same : (ahead before : List ℕ) (place : ℕ) → ahead ≡ before → place - length ahead ≡ place - length before
+taken_same ahead before place same = ap (λ (bytes : List ℕ). place - length bytes) same
+
+-- and the same is left
+pub left_same : (ahead before text : List ℕ) (place : ℕ) → ahead ≡ before → ahead ++ drop ((place - length ahead) + length ahead) text ≡ before ++ drop ((place - length before) + length before) text
+left_same ahead before text place same = ap (λ (bytes : List ℕ). bytes ++ drop ((place - length bytes) + length bytes) text) same

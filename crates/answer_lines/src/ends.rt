@@ -2,11 +2,11 @@
 
 use edge::Failed;
 use std::alloc::AllocError;
+use std::fmt;
 use thiserror::Error;
 
 /// Why a line was not given. Nothing is lost then: the next call reads on for the same line.
-#[derive(Debug, Clone, Copy, PartialEq, Eq, Error)]
-#[error("no line is given")]
+#[derive(Clone, Copy, PartialEq, Eq, Error)]
 pub enum LinesEnd {
     /// A read failed. The shelf has counted it.
     ReadFault,
@@ -15,6 +15,18 @@ pub enum LinesEnd {
     TooLong,
     /// Memory ran out.
     Memory,
+}
+
+impl fmt::Display for LinesEnd {
+    fn fmt<W: fmt::Write>(&self, f: &mut fmt::Formatter<W>) -> fmt::Result {
+        f.write_str("no line is given")
+    }
+}
+
+impl fmt::Debug for LinesEnd {
+    fn fmt<W: fmt::Write>(&self, f: &mut fmt::Formatter<W>) -> fmt::Result {
+        fmt::Display::fmt(self, f)
+    }
 }
 
 impl From<Failed> for LinesEnd {

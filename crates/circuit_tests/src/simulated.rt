@@ -2,11 +2,11 @@
 
 ghost use Rattle.std.specs.Prelude.{IfOk, IsTrue};
 ghost use Rattle.aig_semantics.specs.Runs.{IsPosition};
-ghost use Rattle.ternary.specs.Cubes.{MakesTrue};
+ghost use Rattle.ternary.specs.Cubes.{MakesTrue, NeedsEachLiteral};
 
 use crate::models::{Model, checked, circuit_of, parts_of};
 use circuit::{Circuit, Gate, Latch, ModelEnd, Parts, Position, Reset, eval_into, literal_value};
-use cnf::Lit;
+use cnf::{Cube, Lit};
 use items::Items;
 use std::alloc::{AllocError, Global};
 use std::process::Abort;
@@ -232,6 +232,15 @@ fn are_literals(literals: &[Lit], wanted: &[(u64, bool)]) -> bool {
             .all(|(literal, pair)| is_literal(literal, pair))
 }
 
+/// The cube lifted from a position, each of whose literals is needed.
+fn lifted(alloc: Global, c: &Circuit, at: &Position, keep: &[u64]) -> Result<Cube, AllocError>
+    requires position { IsPosition c.now at.now }
+    requires keep { MakesTrue c.now at.now keep.now }
+    ensures { IfOk result (λ cube. NeedsEachLiteral c.now at.now.inputs keep.now cube) }
+{
+    lift(alloc, c, at, keep)
+}
+
 /// Whether the cube lifted from a position has these literals.
 fn lifts_at(
     alloc: Global,
@@ -246,7 +255,7 @@ fn lifts_at(
     if !are_true(alloc, c, at, keep)? {
         return Ok(false);
     }
-    let cube = lift(alloc, c, at, keep)?;
+    let cube = lifted(alloc, c, at, keep)?;
     Ok(are_literals(cube.as_slice(), wanted))
 }
 

@@ -1,10 +1,10 @@
 //! How the reading and the replay of a stimulus fail.
 use std::alloc::{AllocError, AllocFailed};
+use std::fmt;
 use thiserror::Error;
 
 /// What is wrong with a stimulus.
-#[derive(Clone, Copy, Debug, PartialEq, Eq, Error)]
-#[error("the stimulus stands for no lasso")]
+#[derive(Clone, Copy, PartialEq, Eq, Error)]
 pub enum ReplayFault {
     /// The line with this number, counted from 1, is no line of a stimulus; or the text ends without the line of the
     /// latches, which would have this number.
@@ -21,12 +21,35 @@ pub enum ReplayFault {
     NoProperty,
 }
 
+impl fmt::Display for ReplayFault {
+    fn fmt<W: fmt::Write>(&self, f: &mut fmt::Formatter<W>) -> fmt::Result {
+        f.write_str("the stimulus stands for no lasso")
+    }
+}
+
+impl fmt::Debug for ReplayFault {
+    fn fmt<W: fmt::Write>(&self, f: &mut fmt::Formatter<W>) -> fmt::Result {
+        fmt::Display::fmt(self, f)
+    }
+}
+
 /// Why there is no answer: a fault of the stimulus, or want of memory.
-#[derive(Clone, Copy, Debug, PartialEq, Eq, Error)]
-#[error("no lasso is given")]
+#[derive(Clone, Copy, PartialEq, Eq, Error)]
 pub enum ReplayEnd {
     Fault(ReplayFault),
     Memory,
+}
+
+impl fmt::Display for ReplayEnd {
+    fn fmt<W: fmt::Write>(&self, f: &mut fmt::Formatter<W>) -> fmt::Result {
+        f.write_str("no lasso is given")
+    }
+}
+
+impl fmt::Debug for ReplayEnd {
+    fn fmt<W: fmt::Write>(&self, f: &mut fmt::Formatter<W>) -> fmt::Result {
+        fmt::Display::fmt(self, f)
+    }
 }
 
 impl From<AllocError> for ReplayEnd {

@@ -3,7 +3,7 @@ use Rattle.answer_lines.specs.Left.{Reading, left_of, most_bytes}
 use Rattle.answer_lines.specs.LinesOf.{front_of, rest_of, ahead_of}
 use Rattle.edge.specs.Reads.{GivesBytes}
 use Rattle.text_grammar.specs.Pieces.{Lacks}
-use Rattle.answer_lines.proofs.LeftLaws.{read_left, read_size, read_front, read_end, read_longer}
+use Rattle.answer_lines.proofs.LeftLaws.{read_left, read_size, read_front, read_end, read_longer, held_all, held_none, taken_same, left_same}
 use Rattle.answer_lines.proofs.lines.Lines.read_on.Goals as goal
 
 pub returns-clause-left : goal.returns-clause-left
@@ -78,3 +78,63 @@ returns-then-n-self-clause-too_long g c _ x told =
     let some : 0 < c.in_ok-n.n = search rules in
     subst (λ (r : Reading). length r.ahead < length (left_of r x)) c.self.view_is
     (read_longer (ahead_of s) x s.place c.self.invariant.read (omega (arith, gives.left, some)))
+
+pub returns-in_err-hold-clause-taken : goal.returns-in_err-hold-clause-taken
+returns-in_err-hold-clause-taken g c =
+    let s = c.self.inside in
+    let same : front_of c.hold.new.given c.hold.new.line.items ++ rest_of s.piece.items s.start s.end ≡ ahead_of s = held_none c.hold.new.given c.hold.new.line.items (front_of s.given s.line.items) (rest_of s.piece.items s.start s.end) c.hold.ensures.given c.in_err-hold.ensures.err in
+    taken_same (front_of c.hold.new.given c.hold.new.line.items ++ rest_of s.piece.items s.start s.end) (ahead_of s) s.place same ∙ ap (λ (r : Reading). r.taken) c.self.view_is
+
+pub returns-in_err-hold-clause-left : goal.returns-in_err-hold-clause-left
+returns-in_err-hold-clause-left g c x told =
+    let s = c.self.inside in
+    let same : front_of c.hold.new.given c.hold.new.line.items ++ rest_of s.piece.items s.start s.end ≡ ahead_of s = held_none c.hold.new.given c.hold.new.line.items (front_of s.given s.line.items) (rest_of s.piece.items s.start s.end) c.hold.ensures.given c.in_err-hold.ensures.err in
+    left_same (front_of c.hold.new.given c.hold.new.line.items ++ rest_of s.piece.items s.start s.end) (ahead_of s) x s.place same ∙ ap (λ (r : Reading). left_of r x) c.self.view_is
+
+pub returns-in_err-hold-clause-most : goal.returns-in_err-hold-clause-most
+returns-in_err-hold-clause-most g c =
+    let s = c.self.inside in
+    let same : front_of c.hold.new.given c.hold.new.line.items ++ rest_of s.piece.items s.start s.end ≡ ahead_of s = held_none c.hold.new.given c.hold.new.line.items (front_of s.given s.line.items) (rest_of s.piece.items s.start s.end) c.hold.ensures.given c.in_err-hold.ensures.err in
+    omega (arith, ap length same, c.self.invariant.read, c.self.invariant.within)
+
+pub returns-in_err-n-clause-taken : goal.returns-in_err-n-clause-taken
+returns-in_err-n-clause-taken g c =
+    let s = c.self.inside in
+    let line : c.hold.new.line.items ≡ ahead_of s = c.in_ok-hold.ensures.ok ∙ ap (λ (piece : List ℕ). front_of s.given s.line.items ++ rest_of piece s.start s.end) c.deref.ensures.value in
+    let same : front_of c.hold.new.given c.hold.new.line.items ++ rest_of c.read_into.new.piece.items s.end s.end ≡ ahead_of s = held_all c.hold.new.given c.hold.new.line.items (ahead_of s) c.read_into.new.piece.items s.end c.hold.ensures.given line in
+    taken_same (front_of c.hold.new.given c.hold.new.line.items ++ rest_of c.read_into.new.piece.items s.end s.end) (ahead_of s) s.place same ∙ ap (λ (r : Reading). r.taken) c.self.view_is
+
+pub returns-in_err-n-clause-left : goal.returns-in_err-n-clause-left
+returns-in_err-n-clause-left g c x told =
+    let s = c.self.inside in
+    let line : c.hold.new.line.items ≡ ahead_of s = c.in_ok-hold.ensures.ok ∙ ap (λ (piece : List ℕ). front_of s.given s.line.items ++ rest_of piece s.start s.end) c.deref.ensures.value in
+    let same : front_of c.hold.new.given c.hold.new.line.items ++ rest_of c.read_into.new.piece.items s.end s.end ≡ ahead_of s = held_all c.hold.new.given c.hold.new.line.items (ahead_of s) c.read_into.new.piece.items s.end c.hold.ensures.given line in
+    left_same (front_of c.hold.new.given c.hold.new.line.items ++ rest_of c.read_into.new.piece.items s.end s.end) (ahead_of s) x s.place same ∙ ap (λ (r : Reading). left_of r x) c.self.view_is
+
+pub returns-in_err-n-clause-most : goal.returns-in_err-n-clause-most
+returns-in_err-n-clause-most g c =
+    let s = c.self.inside in
+    let line : c.hold.new.line.items ≡ ahead_of s = c.in_ok-hold.ensures.ok ∙ ap (λ (piece : List ℕ). front_of s.given s.line.items ++ rest_of piece s.start s.end) c.deref.ensures.value in
+    let same : front_of c.hold.new.given c.hold.new.line.items ++ rest_of c.read_into.new.piece.items s.end s.end ≡ ahead_of s = held_all c.hold.new.given c.hold.new.line.items (ahead_of s) c.read_into.new.piece.items s.end c.hold.ensures.given line in
+    omega (arith, ap length same, c.self.invariant.read, c.self.invariant.within)
+
+pub returns-then-n-self-clause-taken : goal.returns-then-n-self-clause-taken
+returns-then-n-self-clause-taken g c =
+    let s = c.self.inside in
+    let line : c.hold.new.line.items ≡ ahead_of s = c.in_ok-hold.ensures.ok ∙ ap (λ (piece : List ℕ). front_of s.given s.line.items ++ rest_of piece s.start s.end) c.deref.ensures.value in
+    let same : front_of c.hold.new.given c.hold.new.line.items ++ rest_of c.read_into.new.piece.items s.end s.end ≡ ahead_of s = held_all c.hold.new.given c.hold.new.line.items (ahead_of s) c.read_into.new.piece.items s.end c.hold.ensures.given line in
+    taken_same (front_of c.hold.new.given c.hold.new.line.items ++ rest_of c.read_into.new.piece.items s.end s.end) (ahead_of s) s.place same ∙ ap (λ (r : Reading). r.taken) c.self.view_is
+
+pub returns-then-n-self-clause-left : goal.returns-then-n-self-clause-left
+returns-then-n-self-clause-left g c x told =
+    let s = c.self.inside in
+    let line : c.hold.new.line.items ≡ ahead_of s = c.in_ok-hold.ensures.ok ∙ ap (λ (piece : List ℕ). front_of s.given s.line.items ++ rest_of piece s.start s.end) c.deref.ensures.value in
+    let same : front_of c.hold.new.given c.hold.new.line.items ++ rest_of c.read_into.new.piece.items s.end s.end ≡ ahead_of s = held_all c.hold.new.given c.hold.new.line.items (ahead_of s) c.read_into.new.piece.items s.end c.hold.ensures.given line in
+    left_same (front_of c.hold.new.given c.hold.new.line.items ++ rest_of c.read_into.new.piece.items s.end s.end) (ahead_of s) x s.place same ∙ ap (λ (r : Reading). left_of r x) c.self.view_is
+
+pub returns-then-n-self-clause-most : goal.returns-then-n-self-clause-most
+returns-then-n-self-clause-most g c =
+    let s = c.self.inside in
+    let line : c.hold.new.line.items ≡ ahead_of s = c.in_ok-hold.ensures.ok ∙ ap (λ (piece : List ℕ). front_of s.given s.line.items ++ rest_of piece s.start s.end) c.deref.ensures.value in
+    let same : front_of c.hold.new.given c.hold.new.line.items ++ rest_of c.read_into.new.piece.items s.end s.end ≡ ahead_of s = held_all c.hold.new.given c.hold.new.line.items (ahead_of s) c.read_into.new.piece.items s.end c.hold.ensures.given line in
+    omega (arith, ap length same, c.self.invariant.read, c.self.invariant.within)
