@@ -22,6 +22,8 @@ TOP = os.path.dirname(os.path.dirname(os.path.abspath(__file__)))
 PROGRAM = [os.path.join(TOP, "crates", "fair_main", "out", "fair_main")]
 CIRCUITS, SECONDS, WORKERS, FEWEST = 300, 240, 4, 60
 KINDS, MOST = ["conflicts", "steps", "skeletons"], 4096
+# how many workers search, each on a thread of its own
+CREWS = (1, 2, 4, 8, 64)
 
 # ---- what was worked out by hand: a model, options, the status, and the text or how it begins
 
@@ -165,13 +167,14 @@ def compare_drawn(cases, seed, number, deadline):
     chance = random.Random(f"{seed} {number}")
     model = maker.draw_model(chance)
     is_broken = maker.States(judge.read_circuit(model.encode("latin1"))).has_fair_lasso(0)
+    workers = CREWS[number % len(CREWS)]
     for small in [[kind] for kind in KINDS] + [KINDS]:
         for budget in budgets():
             limits = {kind: budget if kind in small else MOST for kind in KINDS}
-            if not is_spent(cases, f"drawn{number}", model, 1 + number % 4, limits, is_broken):
+            if not is_spent(cases, f"drawn{number}", model, workers, limits, is_broken):
                 break
         else:
-            cases.complain(f"a report with {MOST} of each", model, f"--workers {1 + number % 4}")
+            cases.complain(f"a report with {MOST} of each", model, f"--workers {workers}")
     return 1
 
 
