@@ -1,0 +1,9 @@
+mod Picking
+mod Repeating
+mod Valued
+mod Running
+mod Laps
+mod Exact
+mod Placing
+mod Defining
+mod Kept

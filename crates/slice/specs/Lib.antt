@@ -1,0 +1,4 @@
+pub mod Symbols
+pub mod Slicing
+pub mod Ends
+pub mod Steps
