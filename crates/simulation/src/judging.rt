@@ -1,0 +1,194 @@
+//! What was chosen, judged. The main calls are `judged_lasso` and `judged_runs`.
+ghost use Rattle.std.specs.Prelude.{◌≡◌, ◌+◌, List, Bool, map, length, All, IsTrue, IfOk, IfSome, OnOk};
+ghost use Rattle.aig_semantics.specs.Literals.{literal_in};
+ghost use Rattle.aig_semantics.specs.Runs.{IsInitial, MeetsConstraints, position_of, successor};
+ghost use Rattle.aig_semantics.specs.Stimuli.{IsFairLassoOf, StandsFor};
+ghost use Rattle.lasso_join.specs.Fitting.{IsStemTo, LeadsTo};
+ghost use Rattle.lasso_join.specs.Prefixes.{stimulus_of};
+
+use circuit::{
+    Circuit, Lasso, Position, Stimulus, eval_into, is_fair_lasso, is_initial, literal_value,
+    next_into,
+};
+use items::Items;
+use lasso_join::shortest_prefix;
+use std::alloc::{AllocError, Global};
+use std::mem;
+
+/// The lasso, where it is a fair one, with no position more than it needs.
+pub(crate) fn judged_lasso(
+    alloc: Global,
+    c: &Circuit,
+    j: u32,
+    chosen: Option<Lasso>,
+) -> Result<Option<Lasso>, AllocError>
+    ensures fair { IfOk result (λ found. IfSome found (IsFairLassoOf c.now j)) }
+    ensures whole { IfOk result (λ found. IfSome found
+        (λ lasso. StandsFor c.now j (stimulus_of lasso) (length lasso.inputs) lasso.from)) }
+{
+    let Some(lasso) = chosen else {
+        return Ok(None);
+    };
+    if !is_fair_lasso(alloc, c, j, &lasso)? {
+        return Ok(None);
+    }
+    Ok(Some(shortest_prefix(alloc, c, j, lasso)?))
+}
+
+// Whether the literals are all true.
+fn are_true(values: &[bool], literals: &[u64]) -> bool
+    ensures { IsTrue result → All (λ literal. IsTrue (literal_in values.now literal)) literals.now }
+{
+    literals
+        .iter()
+        .all(|literal| literal_value(values, *literal))
+}
+
+// The latches' next values.
+fn values_behind(alloc: Global, c: &Circuit, values: &[bool]) -> Result<Items<bool>, AllocError>
+    ensures { IfOk result (λ next. next ≡ map (λ latch. literal_in values.now latch.next) c.now.latches) }
+{
+    let mut next = vec![in alloc; false; c.latches().len()]?;
+    next_into(c, values, &mut next);
+    Ok(Items::from_vec(next))
+}
+
+// The successor of a state with these inputs, where they fit the circuit and its constraints are true there.
+fn successor_of(
+    alloc: Global,
+    c: &Circuit,
+    state: &[bool],
+    inputs: &[bool],
+    values: &mut [bool],
+) -> Result<Option<Items<bool>>, AllocError>
+    requires state { length state.now ≡ length c.now.latches }
+    requires values { length values.old ≡ c.now.max + 1 }
+    ensures possible { IfOk result (λ found. IfSome found (λ _. MeetsConstraints c.now (position_of state.now inputs.now))) }
+    ensures successor { IfOk result (λ found. IfSome found (λ next. next ≡ successor c.now (position_of state.now inputs.now))) }
+{
+    if inputs.len() != c.inputs().len() {
+        return Ok(None);
+    }
+    eval_into(c, state, inputs, values);
+    if !are_true(values, c.constraints()) {
+        return Ok(None);
+    }
+    Ok(Some(values_behind(alloc, c, values)?))
+}
+
+// Puts the position of the state and these inputs behind a run that leads there, and goes on to its successor.
+fn step(
+    alloc: Global,
+    _c: &Circuit,
+    _start: &[bool],
+    inputs: &Items<bool>,
+    next: Items<bool>,
+    state: &mut Items<bool>,
+    run: &mut Items<Position>,
+) -> Result<(), AllocError>
+    requires leads { LeadsTo _c.now _start.now state.old run.old }
+    requires possible { MeetsConstraints _c.now (position_of state.old inputs.now) }
+    requires next { next ≡ successor _c.now (position_of state.old inputs.now) }
+    ensures size { OnOk result (length state.new ≡ length _c.now.latches) }
+    ensures leads { OnOk result (LeadsTo _c.now _start.now state.new run.new) }
+{
+    let inputs = inputs.try_copy(alloc)?;
+    let latches = mem::replace(state, next);
+    run.push(Position { latches, inputs })?;
+    Ok(())
+}
+
+// The run from an initial state by these inputs, up to where they don't fit or a constraint is false.
+#[tactic(auto, using(crate::proofs::Runs::reached))]
+fn run_from(
+    alloc: Global,
+    c: &Circuit,
+    start: &[bool],
+    inputs: &[Items<bool>],
+    values: &mut [bool],
+) -> Result<Items<Position>, AllocError>
+    requires start { IsInitial c.now start.now }
+    requires size { length start.now ≡ length c.now.latches }
+    requires values { length values.old ≡ c.now.max + 1 }
+    ensures { IfOk result (λ run. (t : List Bool) × IsStemTo c.now t run) }
+{
+    let mut run = Items::new(alloc);
+    let mut state = Items::from_slice(alloc, start)?;
+    for now in inputs {
+        let found = successor_of(alloc, c, state.as_slice(), now.as_slice(), values)?;
+        let Some(next) = found else {
+            return Ok(run);
+        };
+        step(alloc, c, start, now, next, &mut state, &mut run)?;
+    }
+    Ok(run)
+}
+
+// The run of a stimulus that begins in an initial state, up to where it fits no more.
+fn laid(alloc: Global, c: &Circuit, chosen: &Stimulus) -> Result<Items<Position>, AllocError>
+    requires initial { IsInitial c.now chosen.now.latches }
+    requires size { length chosen.now.latches ≡ length c.now.latches }
+    ensures { IfOk result (λ run. (t : List Bool) × IsStemTo c.now t run) }
+{
+    let mut values = vec![in alloc; false; c.max() as usize + 1]?;
+    let start = chosen.latches.as_slice();
+    run_from(alloc, c, start, chosen.inputs.as_slice(), &mut values)
+}
+
+// Whether a run may begin with these latches.
+fn can_begin(c: &Circuit, latches: &[bool]) -> bool
+    ensures size { IsTrue result → length latches.now ≡ length c.now.latches }
+    ensures initial { IsTrue result → IsInitial c.now latches.now }
+{
+    if latches.len() != c.latches().len() {
+        return false;
+    }
+    is_initial(c, latches)
+}
+
+// Puts a run behind the others.
+fn put(
+    _c: &Circuit,
+    run: Items<Position>,
+    runs: &mut Vec<Items<Position>>,
+) -> Result<(), AllocError>
+    requires run { (t : List Bool) × IsStemTo _c.now t run }
+    requires runs { All (λ run. (t : List Bool) × IsStemTo _c.now t run) runs.old.items }
+    ensures { OnOk result (All (λ run. (t : List Bool) × IsStemTo _c.now t run) runs.new.items) }
+{
+    runs.push(run)?;
+    Ok(())
+}
+
+// Puts the run of a stimulus behind the others, where it begins in an initial state.
+fn offer(
+    alloc: Global,
+    c: &Circuit,
+    stimulus: &Stimulus,
+    runs: &mut Vec<Items<Position>>,
+) -> Result<(), AllocError>
+    requires { All (λ run. (t : List Bool) × IsStemTo c.now t run) runs.old.items }
+    ensures { OnOk result (All (λ run. (t : List Bool) × IsStemTo c.now t run) runs.new.items) }
+{
+    if !can_begin(c, stimulus.latches.as_slice()) {
+        return Ok(());
+    }
+    let run = laid(alloc, c, stimulus)?;
+    put(c, run, runs)?;
+    Ok(())
+}
+
+/// The runs of those that begin in an initial state, each up to where it fits no more.
+pub(crate) fn judged_runs(
+    alloc: Global,
+    c: &Circuit,
+    chosen: &[Stimulus],
+) -> Result<Vec<Items<Position>>, AllocError>
+    ensures { IfOk result (λ runs. All (λ run. (t : List Bool) × IsStemTo c.now t run) runs.items) }
+{
+    let mut runs = Vec::new(alloc);
+    for stimulus in chosen {
+        offer(alloc, c, stimulus, &mut runs)?;
+    }
+    Ok(runs)
+}
