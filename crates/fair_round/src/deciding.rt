@@ -77,8 +77,38 @@ fn certified(
 
 /// A round: an entry that excludes a skeleton which the view allows, or an outcome of property `j`: a fair lasso, or the
 /// refutation of all skeletons. `rounds` is what the worker keeps from round to round, and `view` what it has seen. It
-/// counts at most the steps of a search for each situation of a skeleton, and of one more.
+/// counts at most the steps of a search for each situation of a skeleton, and of one more. The first round begins with
+/// simulation, where neither count is at its limit; simulation counts nothing.
 pub fn decide(
+    alloc: Global,
+    c: &Arc<Circuit>,
+    j: u32,
+    view: &[Arc<Checked>],
+    rounds: &mut Rounds,
+    author: Author,
+    meter: &mut Meter,
+) -> Result<Deed, Stop>
+    requires circuit { rounds.old.circuit ≡ arc_value c.now }
+    requires property { rounds.old.property ≡ j }
+    requires on { GoesOnFrom rounds.old.seen (viewed view.now) }
+    requires good { IsGoodList (arc_value c.now) (viewed view.now) }
+    requires few { length view.now < 2 ^ 32 }
+    ensures deed { IfOk result (IsDeed (arc_value c.now) (viewed view.now) j author.number author.turn) }
+    ensures stop { IfErr result (IsStop meter.new) }
+    ensures counted { Asks (length (arc_value c.now).latches) (max 1 (length (fair_literals (arc_value c.now) j)) + 1) meter.old
+        meter.new }
+    ensures circuit { rounds.new.circuit ≡ rounds.old.circuit }
+    ensures property { rounds.new.property ≡ rounds.old.property }
+    ensures seen { GoesOnFrom rounds.new.seen (viewed view.now) }
+{
+    if let Some(lasso) = rounds.simulate(alloc, c, j, meter)? {
+        return Ok(Deed::Finish(Outcome::Lasso(lasso)));
+    }
+    decided(alloc, c, j, view, rounds, author, meter)
+}
+
+// The same by a skeleton that the view allows.
+fn decided(
     alloc: Global,
     c: &Arc<Circuit>,
     j: u32,

@@ -286,3 +286,30 @@ pub(crate) fn keep(
     let left = positions.len();
     put(c, runs, positions, left)
 }
+
+// Takes the last run out, where there is one.
+fn take_last(_c: &Circuit, runs: &mut Vec<Items<Position>>) -> Option<Items<Position>>
+    requires { All (IsReachedRun _c.now) runs.old.items }
+    ensures run { IfSome result (IsReachedRun _c.now) }
+    ensures runs { All (IsReachedRun _c.now) runs.new.items }
+    ensures fewer { IfSome result (λ run. length runs.new.items < length runs.old.items) }
+{
+    runs.pop()
+}
+
+/// Keeps runs whose states were reached.
+pub(crate) fn keep_all(
+    c: &Circuit,
+    runs: &mut Vec<Run>,
+    reached: Vec<Items<Position>>,
+) -> Result<(), AllocError>
+    requires reached { All (IsReachedRun c.now) reached.items }
+    requires runs { All (IsRun c.now) runs.old.items }
+    ensures runs { All (IsRun c.now) runs.new.items }
+{
+    let mut reached = reached;
+    'runs: while let Some(run) = take_last(c, &mut reached) {
+        keep(c, runs, run)?;
+    }
+    Ok(())
+}

@@ -2,6 +2,7 @@
 
 ghost use Rattle.std.specs.Prelude.{◌≡◌, ◌<◌, ◌^◌, [], List, length, All, IfOk, IfErr, IfSome, OnOk, OnErr};
 ghost use Rattle.std.specs.Arc.{arc_value};
+ghost use Rattle.aig_semantics.specs.Stimuli.{IsFairLassoOf};
 ghost use Rattle.edge.specs.Ends.{CountsConflicts};
 ghost use Rattle.entry.specs.CheckedEntries.{viewed, GoesOnFrom};
 ghost use Rattle.entry.specs.Laws.{IsGoodList};
@@ -9,26 +10,27 @@ ghost use Rattle.fair_semantics.specs.Entries.{Entry};
 ghost use Rattle.skeleton.specs.Finding.{IsFound, BeginsNone};
 ghost use Rattle.fair_round.specs.Spending.{IsStop};
 ghost use Rattle.fair_round.specs.Scopes.{IsScope, asking_of_scope, entries_of};
-ghost use Rattle.fair_round.specs.Pools.{IsBegun, IsReachedRun};
+ghost use Rattle.fair_round.specs.Pools.{IsBegun, IsReachedRun, IsRun};
 ghost use Rattle.fair_round.specs.Stems.{IsFit};
 
-use crate::pool::{Begun, Run, keep, pooled};
+use crate::pool::{Begun, Run, keep, keep_all, pooled};
 use crate::scope::Scope;
 use crate::stopping::{Stop, solver_stop};
-use circuit::{Circuit, Position};
+use circuit::{Circuit, Lasso, Position};
 use cnf::Cube;
 use edge::Meter;
 use entry::{Checked, share};
 use ic3::{Search, Start};
 use items::Items;
+use simulation::simulate;
 use skeleton::{Found, Query, never_stays};
 use std::alloc::{AllocError, Global};
 use std::marker::Model;
 use std::sync::Arc;
 
 /// What a worker keeps from round to round: its query, the entries that it has seen, runs whose states were reached, cubes
-/// of states in which no skeleton begins, the search from the initial states, and what each of two kinds of rounds has
-/// cost. Contracts see of it what they see of a query.
+/// of states in which no skeleton begins, the search from the initial states, what each of two kinds of rounds has cost,
+/// and whether simulation is done. Contracts see of it what they see of a query.
 #[derive(Drop)]
 pub struct Rounds {
     circuit: Arc<Circuit>,
@@ -38,6 +40,8 @@ pub struct Rounds {
     avoid: Items<Cube>,
     search: Option<Search>,
     costs: Costs,
+    worker: u32,
+    has_simulated: bool,
 }
 
 // What rounds have cost in which the first literal was asked for, and those in which a state was. The cheaper comes next.
@@ -109,6 +113,31 @@ fn new_search(alloc: Global, c: &Arc<Circuit>) -> Result<Search, AllocError>
     Search::new(alloc, c, Start::Initial)
 }
 
+// Whether the count of conflicts, or that of steps, equals its limit.
+fn is_at_limit(meter: &Meter) -> bool {
+    let spent = meter.spending();
+    spent.conflict_limit() == Some(spent.conflicts()) || spent.step_limit() == Some(spent.steps())
+}
+
+// What simulation shows: a fair lasso, or none. Its runs are kept.
+fn simulated(
+    alloc: Global,
+    c: &Circuit,
+    j: u32,
+    worker: u32,
+    meter: &Meter,
+    runs: &mut Vec<Run>,
+) -> Result<Option<Lasso>, Stop>
+    requires { All (IsRun c.now) runs.old.items }
+    ensures lasso { IfOk result (λ found. IfSome found (IsFairLassoOf c.now j)) }
+    ensures stop { IfErr result (IsStop meter.now) }
+    ensures runs { All (IsRun c.now) runs.new.items }
+{
+    let found = simulate(alloc, c, j, worker, meter)?;
+    keep_all(c, runs, found.runs)?;
+    Ok(found.lasso)
+}
+
 impl Rounds {
     /// The rounds of a worker of this number for property `j`, before the first: nothing is seen. The error is want of
     /// memory.
@@ -125,6 +154,8 @@ impl Rounds {
             avoid: Items::new(alloc),
             search: None,
             costs: first_costs(worker),
+            worker,
+            has_simulated: false,
         })
     }
 
@@ -225,6 +256,27 @@ impl Rounds {
         ensures { self.new ≡ self.old }
     {
         self.search = Some(kept);
+    }
+
+    /// Before the first round: a fair lasso that simulation by draws from the worker's number shows, or none; then the states
+    /// of its runs go into the pool. Nothing is begun where a count is at its limit.
+    pub(crate) fn simulate(
+        &mut self,
+        alloc: Global,
+        c: &Circuit,
+        j: u32,
+        meter: &Meter,
+    ) -> Result<Option<Lasso>, Stop>
+        requires { self.old.circuit ≡ c.now }
+        ensures lasso { IfOk result (λ found. IfSome found (IsFairLassoOf c.now j)) }
+        ensures stop { IfErr result (IsStop meter.now) }
+        ensures same { self.new ≡ self.old }
+    {
+        if self.has_simulated || is_at_limit(meter) {
+            return Ok(None);
+        }
+        self.has_simulated = true;
+        simulated(alloc, c, j, self.worker, meter, &mut self.runs)
     }
 
     /// Keeps a run whose states were reached. The error is want of memory.
