@@ -12,6 +12,8 @@ mod running;
 #[cfg(test)]
 mod searching;
 #[cfg(test)]
+mod sliced;
+#[cfg(test)]
 mod tests;
 #[cfg(test)]
 mod translated;

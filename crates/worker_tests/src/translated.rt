@@ -108,8 +108,8 @@ fn verdict_on(alloc: Global, c: &Circuit) -> Result<Option<bool>, AllocError> {
     Ok(if same { Some(has_lasso) } else { None })
 }
 
-// One call; no clause of it is wanted here.
-fn read(alloc: Global, text: &[u8]) -> Result<Model, ModelEnd> {
+/// The model of a text. One call; no clause of it is wanted here.
+pub(crate) fn read(alloc: Global, text: &[u8]) -> Result<Model, ModelEnd> {
     aiger_ascii::read(alloc, text)
 }
 
