@@ -11,14 +11,16 @@ use Rattle.fair_top.specs.declared.status.Status.{Status}
 use Rattle.fair_top.specs.declared.status.Status.TheVariants as statuses
 use Rattle.fair_top.specs.Solve.{MeansSolve}
 use Rattle.fair_top.specs.Demo.{MeansDemo}
+use Rattle.fair_top.specs.Slice.{MeansSlice}
 use Rattle.fair_top.specs.Safety.{MeansSafety}
-use Rattle.fair_top.specs.Commands.{Asked, Solve, Check, Gen, Demo, Wave, Safety, Means, CommandGives}
+use Rattle.fair_top.specs.Commands.{Asked, Solve, Check, Gen, Demo, Wave, Slice, Safety, Means, CommandGives}
 use Rattle.fair_top.specs.Solved.{SolvesAsked}
 use Rattle.fair_top.specs.Headline.{HasWritten}
-use Rattle.fair_top.proofs.Values.{SomeOrNone, Asks, solve_or_none, names_or_none, request_or_none, demo_or_none, one_solve, one_pair, one_request, one_demo, Wants, safety_or_none, one_safety}
+use Rattle.fair_top.proofs.Values.{SomeOrNone, Asks, solve_or_none, names_or_none, request_or_none, demo_or_none, one_solve, one_pair, one_request, one_demo, Wants, safety_or_none, one_wanted}
 use Rattle.fair_top.proofs.Sinks.{of_check, of_solve, of_demo}
 use Rattle.fair_top.proofs.Dumped.{of_wave}
 use Rattle.fair_top.proofs.Translated.{of_safety}
+use Rattle.fair_top.proofs.Sliced.{of_slice}
 
 -- what the values of a command ask for, if they do
 asked_from : {T : Type 0} {P : T → Type 0} → (T → Asked) → SomeOrNone P → Option Asked
@@ -33,8 +35,9 @@ request_in name rows =
     (cond (bytes_eq name (codes "gen")) (asked_from (λ (request : GenRequest). Gen request) (request_or_none rows))
     (cond (bytes_eq name (codes "demo")) (asked_from (λ (request : DemoRequest). Demo request) (demo_or_none rows))
     (cond (bytes_eq name (codes "wave")) (asked_from (λ (names : List ℕ × List ℕ). Wave names.0 names.1) (names_or_none rows))
+    (cond (bytes_eq name (codes "slice")) (asked_from (λ (wants : Wants). Slice wants.0 wants.1) (safety_or_none rows))
     (cond (bytes_eq name (codes "safety")) (asked_from (λ (wants : Wants). Safety wants.0 wants.1) (safety_or_none rows))
-    None)))))
+    None))))))
 
 is_picked : (name own : List ℕ) (rows : List Row) (asked : Asked) (this other : Option Asked) → (name ≡ own → this ≡ Some asked → Means asked name rows)
     → (other ≡ Some asked → Means asked name rows) → cond (bytes_eq name own) this other ≡ Some asked → Means asked name rows
@@ -62,8 +65,9 @@ reads_means name rows asked =
     (is_picked name (codes "gen") rows asked _ _ (λ is. from_means name rows asked (λ (request : GenRequest). Gen request) (request_or_none rows) (λ t h. (is, h)))
     (is_picked name (codes "demo") rows asked _ _ (λ is. from_means name rows asked (λ (request : DemoRequest). Demo request) (demo_or_none rows) (λ t h. (is, h)))
     (is_picked name (codes "wave") rows asked _ _ (λ is. from_means name rows asked (λ (names : List ℕ × List ℕ). Wave names.0 names.1) (names_or_none rows) (λ t h. (is, h)))
+    (is_picked name (codes "slice") rows asked _ _ (λ is. from_means name rows asked (λ (wants : Wants). Slice wants.0 wants.1) (safety_or_none rows) (λ t h. (is, h)))
     (is_picked name (codes "safety") rows asked _ _ (λ is. from_means name rows asked (λ (wants : Wants). Safety wants.0 wants.1) (safety_or_none rows) (λ t h. (is, h)))
-    (none_asked name rows asked))))))
+    (none_asked name rows asked)))))))
 
 -- the values of a command that ask for something ask for nothing else
 from_found : {T : Type 0} {P : T → Type 0} (form : T → Asked) (either : SomeOrNone P) (t : T) → P t
@@ -89,9 +93,12 @@ means_reads name rows (Demo request) h =
 means_reads name rows (Wave model answer) h =
     ap (λ (n : List ℕ). request_in n rows) h.0
     ∙ from_found (λ (names : List ℕ × List ℕ). Wave names.0 names.1) (names_or_none rows) (model, answer) h.1 (one_pair rows (λ m a. Wave m a))
+means_reads name rows (Slice model property) h =
+    ap (λ (n : List ℕ). request_in n rows) h.0
+    ∙ from_found (λ (wants : Wants). Slice wants.0 wants.1) (safety_or_none rows) (model, property) h.1 (one_wanted rows (λ m p. Slice m p))
 means_reads name rows (Safety model property) h =
     ap (λ (n : List ℕ). request_in n rows) h.0
-    ∙ from_found (λ (wants : Wants). Safety wants.0 wants.1) (safety_or_none rows) (model, property) h.1 (λ a b. one_safety rows a.0 b.0 a.1 b.1)
+    ∙ from_found (λ (wants : Wants). Safety wants.0 wants.1) (safety_or_none rows) (model, property) h.1 (one_wanted rows (λ m p. Safety m p))
 
 -- the values are of one request at most
 pub one_meant : (name : List ℕ) (rows : List Row) (a b : Asked) → Means a name rows → Means b name rows → a ≡ b
@@ -123,6 +130,10 @@ pub no_safety : (rows : List Row) → ((wants : Wants) → MeansSafety rows want
 unfolding request_in
 no_safety rows none = none_read (codes "safety") rows (from_none (λ (wants : Wants). Safety wants.0 wants.1) (safety_or_none rows) none)
 
+pub no_slice : (rows : List Row) → ((wants : Wants) → MeansSlice rows wants.0 wants.1 → ⊥) → (asked : Asked) → Means asked (codes "slice") rows → ⊥
+unfolding request_in
+no_slice rows none = none_read (codes "slice") rows (from_none (λ (wants : Wants). Slice wants.0 wants.1) (safety_or_none rows) none)
+
 pub no_demo : (rows : List Row) → ((request : DemoRequest) → MeansDemo rows request → ⊥) → (asked : Asked) → Means asked (codes "demo") rows → ⊥
 unfolding request_in
 no_demo rows none = none_read (codes "demo") rows (from_none (λ (request : DemoRequest). Demo request) (demo_or_none rows) none)
@@ -135,6 +146,7 @@ memory_solves held (Check model answer) result e = tt
 memory_solves held (Gen request) result e = tt
 memory_solves held (Demo request) result e = tt
 memory_solves held (Wave model answer) result e = tt
+memory_solves held (Slice model property) result e = tt
 memory_solves held (Safety model property) result e = tt
 
 -- ---- what a sink saw
@@ -151,5 +163,7 @@ of_command Write held (Demo request) status text old new gives writes =
     of_demo Write request status text old new gives writes
 of_command Write held (Wave model answer) status text old new gives writes =
     of_wave Write (held model) (held answer) status text old new gives writes
+of_command Write held (Slice model property) status text old new gives writes =
+    of_slice Write (held model) property status text old new gives writes
 of_command Write held (Safety model property) status text old new gives writes =
     of_safety Write (held model) property status text old new gives writes

@@ -5,6 +5,7 @@ mod Values
 mod Sinks
 mod Dumped
 mod Translated
+mod Sliced
 mod EachCommand
 mod Taken
 mod Ending

@@ -15,7 +15,7 @@ use Rattle.fair_top.specs.declared.commands.generating.GenKind.TheVariants.{Ring
 use Rattle.fair_top.specs.declared.commands.generating.GenRequest.{GenRequest}
 use Rattle.fair_top.specs.declared.commands.solving.SolveRequest.{SolveRequest}
 use Rattle.fair_top.specs.declared.commands.demonstrating.DemoRequest.{DemoRequest}
-use Rattle.fair_top.specs.Commands.{Asked, Solve, Safety}
+use Rattle.fair_top.specs.Commands.{Asked, Solve}
 use Rattle.fair_top.specs.Words.{IsGiven, IsNumberIn, IsNumberGiven, IsNumberOr, flag_in}
 use Rattle.fair_top.specs.Check.{MeansCheck}
 use Rattle.fair_top.specs.Solve.{MeansSolve}
@@ -205,9 +205,9 @@ pub one_pair : (rows : List Row) (form : List ℕ → List ℕ → Asked) (a b :
 one_pair rows form a b h k =
     ap₂ form (one_text (first_of (codes "MODEL") rows) a.0 b.0 h.model_name k.model_name) (one_text (first_of (codes "ANSWER") rows) a.1 b.1 h.answer_name k.answer_name)
 
--- ---- `safety`
+-- ---- `safety`, and `slice`
 
--- the name and the number of `safety`
+-- the name and the number of such a command
 abbrev pub Wants : Type 0
 Wants = List ℕ × ℕ
 
@@ -220,7 +220,7 @@ safety_or_none rows = by (first_of (codes "MODEL") rows) refl (number_or_none_gi
     by None e p = inr (λ wants h. (let wrong : None ≡ Some wants.0 = sym e ∙ h.model_name in cc))
     by (Some model) e (inr none) = inr (λ wants h. none wants.1 h.number)
 
-pub one_safety : (rows : List Row) (m n : List ℕ) (i j : ℕ) → MeansSafety rows m i → MeansSafety rows n j → Safety m i ≡ Safety n j
-one_safety rows m n i j h k =
-    ap₂ Safety (one_text (first_of (codes "MODEL") rows) m n h.model_name k.model_name)
-    (one_number_or rows (codes "property") 0 4294967295 0 i j h.number k.number)
+pub one_wanted : (rows : List Row) (form : List ℕ → ℕ → Asked) (a b : Wants) → MeansSafety rows a.0 a.1 → MeansSafety rows b.0 b.1 → form a.0 a.1 ≡ form b.0 b.1
+one_wanted rows form a b h k =
+    ap₂ form (one_text (first_of (codes "MODEL") rows) a.0 b.0 h.model_name k.model_name)
+    (one_number_or rows (codes "property") 0 4294967295 0 a.1 b.1 h.number k.number)

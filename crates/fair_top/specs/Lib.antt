@@ -8,6 +8,7 @@ pub mod Demo
 pub mod Wave
 pub mod Waved
 pub mod Safety
+pub mod Slice
 pub mod Commands
 pub mod Asking
 pub mod Statuses

@@ -26,6 +26,7 @@ ghost use Rattle.fair_top.specs.Statuses.{status_in, is_read_fault};
 mod checking;
 mod demonstrating;
 mod generating;
+mod slicing;
 mod solving;
 mod translating;
 mod waving;
@@ -42,6 +43,7 @@ use edge::Shelf;
 use fair_workers::{Ended, Report};
 pub use generating::{GenKind, GenRequest};
 use generating::{gen_of, generate, with_gen};
+use slicing::{slice_of, with_slice, write_slice};
 pub use solving::SolveRequest;
 pub(crate) use solving::limits_of;
 use solving::{solve, solve_of, with_solve};
@@ -72,6 +74,11 @@ pub(crate) enum Asked<'a> {
         model: &'a str,
         answer: &'a str,
     },
+    /// Write what of the model lies in the cone of a property.
+    Slice {
+        model: &'a str,
+        property: u32,
+    },
     /// Write a property of the model as a model for checkers of safety.
     Safety {
         model: &'a str,
@@ -81,7 +88,7 @@ pub(crate) enum Asked<'a> {
 
 /// What is written where the words are no command: a line for each command.
 pub(crate) const USAGE: &str =
-    "usage: fairlive solve MODEL [--property N] [--workers W] [--conflicts C] [--steps S] [--skeletons K]\n       fairlive check MODEL ANSWER\n       fairlive gen KIND SEED SIZE [--binary]\n       fairlive demo SEED SIZE\n       fairlive wave MODEL ANSWER\n       fairlive safety MODEL [--property N]\n";
+    "usage: fairlive solve MODEL [--property N] [--workers W] [--conflicts C] [--steps S] [--skeletons K]\n       fairlive check MODEL ANSWER\n       fairlive gen KIND SEED SIZE [--binary]\n       fairlive demo SEED SIZE\n       fairlive wave MODEL ANSWER\n       fairlive slice MODEL [--property N]\n       fairlive safety MODEL [--property N]\n";
 
 /// The status with which a run ends and the text that it writes, but for its writing; or the status of a run that
 /// writes nothing, `ReadFault` or `Memory`. The workers of `solve` search as `search` lets them.
@@ -151,6 +158,7 @@ fn program<'a>(alloc: Global) -> Result<Command<'a>, AllocError>
     let program = with_gen(alloc, program)?;
     let program = with_demo(alloc, program)?;
     let program = with_wave(alloc, program)?;
+    let program = with_slice(alloc, program)?;
     with_safety(alloc, program)
 }
 
@@ -183,6 +191,7 @@ fn asked_as<'a>(name: &str, given: &ArgMatches<'a>) -> Option<Asked<'a>>
         "gen" => gen_of(given),
         "demo" => demo_of(given),
         "wave" => wave_of(given),
+        "slice" => slice_of(given),
         "safety" => safety_of(given),
         _ => None,
     }
@@ -214,6 +223,7 @@ fn outcome_for<S: Fn(&Arc<Circuit>, SolveRequest) -> Result<Report, Ended>, H: S
         Asked::Gen(request) => generate(alloc, &request),
         Asked::Demo(request) => demonstrate(alloc, &request),
         Asked::Wave { model, answer } => wave(alloc, shelf, model, answer),
+        Asked::Slice { model, property } => write_slice(alloc, shelf, model, property),
         Asked::Safety { model, property } => safety(alloc, shelf, model, property),
     }
 }

@@ -65,3 +65,7 @@ returns-in-Wave-clause-exactly g c = λ verdict d.
 pub returns-in-Safety-clause-exactly : goal.returns-in-Safety-clause-exactly
 returns-in-Safety-clause-exactly g c = λ verdict d.
     c.safety.ensures.exactly verdict (subst (λ (a : AskedInCode). Decides (g.H.Shelf.held c.args.shelf.now) (meant a) verdict) c.in-Safety.is d)
+
+pub returns-in-Slice-clause-exactly : goal.returns-in-Slice-clause-exactly
+returns-in-Slice-clause-exactly g c = λ verdict d.
+    c.write_slice.ensures.exactly verdict (subst (λ (a : AskedInCode). Decides (g.H.Shelf.held c.args.shelf.now) (meant a) verdict) c.in-Slice.is d)
