@@ -14,6 +14,8 @@ mod generated;
 #[cfg(test)]
 mod runs;
 #[cfg(test)]
+mod slicing;
+#[cfg(test)]
 mod solving;
 #[cfg(test)]
 mod tests;

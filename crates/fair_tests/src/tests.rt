@@ -454,7 +454,7 @@ fn first_line_is_judged_as_it_is_read(rt: HostRuntime) -> Result<(), Fail> {
     Ok(())
 }
 
-const NO_COMMANDS: [&[&str]; 18] = [
+const NO_COMMANDS: [&[&str]; 21] = [
     &[],
     &["fairlive"],
     &["fairlive", "check"],
@@ -463,6 +463,9 @@ const NO_COMMANDS: [&[&str]; 18] = [
     &["fairlive", "solve", "m", "a"],
     &["fairlive", "wave", "m"],
     &["fairlive", "wave", "m", "a", "a"],
+    &["fairlive", "slice"],
+    &["fairlive", "slice", "m", "a"],
+    &["fairlive", "slice", "m", "--property", "4294967296"],
     &["fairlive", "safety"],
     &["fairlive", "safety", "m", "a"],
     &["fairlive", "safety", "m", "--property", "4294967296"],
