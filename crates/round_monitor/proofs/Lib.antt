@@ -1,0 +1,9 @@
+mod Lists
+mod Numbering
+mod Reading
+mod Extending
+mod Valued
+mod Watched
+mod Greedy
+mod Exact
+mod Kept

@@ -1,0 +1,10 @@
+use Rattle.std.proofs.Common.{◌∙◌, ◌*◌, ap, ap₂}
+use Rattle.live_to_safe.specs.Watching.{zero_latch}
+use Rattle.round_monitor.specs.Watching.{seen_latch}
+use Rattle.round_monitor.proofs.Lists.{numbered_push}
+use Rattle.round_monitor.proofs.latches.push_seen.Goals as goal
+
+pub loop-m-preserved : goal.loop-m-preserved
+loop-m-preserved c =
+    numbered_push (seen_latch c.args.z) c.loop-m.m _ c.loop-m.all c.push.new.self c.zero_latch.result c.in_ok-push.ensures.ok c.loop-m.invariant
+    (c.zero_latch.ensures ∙ ap₂ zero_latch c.seen.ensures (c.positive.ensures ∙ ap (λ g. 2 * g) c.seen_gate.ensures))
