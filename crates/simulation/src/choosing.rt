@@ -1,17 +1,20 @@
-//! What simulation chooses: the shortest of the lassos that it sees, or the runs that go deepest. The main call is `choose`.
+//! What simulation chooses: the shortest of the lassos that it sees, or of each batch a run with many states. The main call
+//! is `choose`.
 
-use crate::blocks::{Block, Found, Source, walk_block};
-use crate::closing::closed;
-use crate::cone::{Cone, cone_of};
+use crate::batches::{Batch, RunLoop, Supply, run_batch};
 use crate::draws::{Draws, mixed};
-use crate::reading::{has_run, word_at};
+use crate::parts::{Part, part_of};
+use crate::repeating::whole_lasso;
+use crate::tasks::{Task, fair_literals};
+use crate::words::{RUNS, bit_of, word_at};
 use circuit::{Circuit, Lasso, Reset, Stimulus};
+use cone::cone_of;
 use edge::Meter;
 use items::Items;
 use std::alloc::{AllocError, Global};
 
-/// How many blocks of runs there are.
-const MOST_BLOCKS: u32 = 4;
+/// How many batches there are.
+const MOST_BATCHES: u32 = 4;
 
 /// How many positions a run has.
 const MOST_POSITIONS: u64 = 300;
@@ -19,18 +22,18 @@ const MOST_POSITIONS: u64 = 300;
 /// How many words are evaluated, about.
 const MOST_WORDS: u64 = 40_000_000;
 
-/// How many values the runs have that are handed on, about.
-const MOST_KEPT: u64 = 10_000_000;
+/// How many values of variables are computed where the runs that are chosen are judged, about.
+const MOST_VALUES: u64 = 10_000_000;
 
-/// A lasso, or none, and stimuli of runs. Neither is judged.
+/// A lasso, or none, and the stimuli of some runs. Neither is judged.
 #[derive(Drop)]
 pub(crate) struct Chosen {
     pub(crate) lasso: Option<Lasso>,
     pub(crate) runs: Vec<Stimulus>,
 }
 
-// How many blocks there are, and how many positions a run has: over few latches there are few states.
-fn sizes_of(cone: &Cone) -> (u32, u64) {
+// How many batches there are, and how many positions a run has: four for each state where there are few latches.
+fn sizes_of(cone: &Part) -> (u32, u64) {
     match cone.latches.len() {
         0 => (1, 4),
         1 => (1, 8),
@@ -38,47 +41,45 @@ fn sizes_of(cone: &Cone) -> (u32, u64) {
         3 => (1, 32),
         4 => (1, 64),
         5 => (1, 128),
-        _ => (MOST_BLOCKS, MOST_POSITIONS),
+        _ => (MOST_BATCHES, MOST_POSITIONS),
     }
 }
 
-// The latches of a run at first. What is outside the cone begins with 0 where it may.
-fn start_of(
+// The latches of a run at its first position. Outside the cone they are 0 where they may be.
+fn first_latches(
     alloc: Global,
-    c: &Circuit,
-    cone: &Cone,
-    block: &Block,
+    task: &Task<'_>,
+    batch: &Batch,
     run: u32,
 ) -> Result<Items<bool>, AllocError> {
-    let mut start = Vec::new(alloc);
-    for latch in c.latches() {
-        start.push(match latch.reset {
+    let mut latches = Vec::new(alloc);
+    for latch in task.circuit.latches() {
+        latches.push(match latch.reset {
             Reset::One => true,
             Reset::Zero | Reset::Free => false,
         })?;
     }
-    for (latch, word) in cone.latches.iter().zip(block.starts.iter()) {
-        if let Some(value) = start.get_mut(latch.place) {
-            *value = has_run(*word, run);
+    for (placed, word) in task.cone.latches.iter().zip(batch.starts.iter()) {
+        if let Some(value) = latches.get_mut(placed.place) {
+            *value = bit_of(*word, run);
         }
     }
-    Ok(Items::from_vec(start))
+    Ok(Items::from_vec(latches))
 }
 
-// The inputs of a run at a position. What is outside the cone is 0.
+// The inputs of a run at a position, counted from 0. Outside the cone they are 0.
 fn inputs_at(
     alloc: Global,
-    c: &Circuit,
-    cone: &Cone,
-    block: &Block,
+    task: &Task<'_>,
+    batch: &Batch,
     run: u32,
     position: usize,
 ) -> Result<Items<bool>, AllocError> {
-    let mut inputs = vec![in alloc; false; c.inputs().len()]?;
-    let first = position.saturating_mul(cone.inputs.len());
-    for (k, input) in cone.inputs.iter().enumerate() {
+    let mut inputs = vec![in alloc; false; task.circuit.inputs().len()]?;
+    let first = position.saturating_mul(task.cone.inputs.len());
+    for (k, input) in task.cone.inputs.iter().enumerate() {
         if let Some(value) = inputs.get_mut(input.place) {
-            *value = has_run(word_at(&block.record, first.saturating_add(k)), run);
+            *value = bit_of(word_at(&batch.inputs, first.saturating_add(k)), run);
         }
     }
     Ok(Items::from_vec(inputs))
@@ -87,40 +88,38 @@ fn inputs_at(
 // The inputs of the first positions of a run.
 fn first_inputs(
     alloc: Global,
-    c: &Circuit,
-    cone: &Cone,
-    block: &Block,
+    task: &Task<'_>,
+    batch: &Batch,
     run: u32,
     count: u64,
 ) -> Result<Items<Items<bool>>, AllocError> {
     let mut inputs = Items::new(alloc);
     for position in 0..count as usize {
-        let now = inputs_at(alloc, c, cone, block, run, position)?;
+        let now = inputs_at(alloc, task, batch, run, position)?;
         inputs.push(now)?;
     }
     Ok(inputs)
 }
 
-// The first positions of a run.
-fn stimulus_of(
+// The stimulus of the first positions of a run.
+fn first_positions(
     alloc: Global,
-    c: &Circuit,
-    cone: &Cone,
-    block: &Block,
+    task: &Task<'_>,
+    batch: &Batch,
     run: u32,
     count: u64,
 ) -> Result<Stimulus, AllocError> {
-    let latches = start_of(alloc, c, cone, block, run)?;
-    let inputs = first_inputs(alloc, c, cone, block, run, count)?;
+    let latches = first_latches(alloc, task, batch, run)?;
+    let inputs = first_inputs(alloc, task, batch, run, count)?;
     Ok(Stimulus { latches, inputs })
 }
 
-// The run of a block that goes deepest, and how many positions it has.
-fn deepest(block: &Block) -> (u32, u64) {
+// The run of a batch that has a new state latest, and how many positions it has up to there.
+fn deepest(batch: &Batch) -> (u32, u64) {
     let mut best = 0;
     let mut most = 0;
-    for run in 0..64_u32 {
-        let depth = word_at(&block.depths, run as usize);
+    for run in 0..RUNS {
+        let depth = word_at(&batch.depths, run as usize);
         if depth > most {
             best = run;
             most = depth;
@@ -129,45 +128,42 @@ fn deepest(block: &Block) -> (u32, u64) {
     (best, most)
 }
 
-// How many positions a run may have that is handed on.
+// How many positions a run may have that is chosen.
 fn most_kept(c: &Circuit) -> u64 {
-    let size = c.max().saturating_add(1);
-    MOST_KEPT
-        .checked_div(size)
+    let variables = c.max().saturating_add(1);
+    MOST_VALUES
+        .checked_div(variables)
         .unwrap_or(0)
-        .checked_div(u64::from(MOST_BLOCKS))
+        .checked_div(u64::from(MOST_BATCHES))
         .unwrap_or(0)
 }
 
-// Puts the run of a block that goes deepest behind the others.
+// Appends the run of a batch that has a new state latest.
 fn keep_deepest(
     alloc: Global,
-    c: &Circuit,
-    cone: &Cone,
-    block: &Block,
+    task: &Task<'_>,
+    batch: &Batch,
     runs: &mut Vec<Stimulus>,
 ) -> Result<(), AllocError> {
-    let (run, depth) = deepest(block);
-    let count = depth.min(most_kept(c));
-    let stimulus = stimulus_of(alloc, c, cone, block, run, count)?;
+    let (run, depth) = deepest(batch);
+    let count = depth.min(most_kept(task.circuit));
+    let stimulus = first_positions(alloc, task, batch, run, count)?;
     runs.push(stimulus)?;
     Ok(())
 }
 
-// The lasso of a block.
+// The lasso of a loop that a batch shows.
 fn lasso_of(
     alloc: Global,
-    c: &Circuit,
-    j: u32,
-    cone: &Cone,
-    block: &Block,
-    found: Found,
+    task: &Task<'_>,
+    batch: &Batch,
+    found: RunLoop,
 ) -> Result<Option<Lasso>, AllocError> {
-    let stimulus = stimulus_of(alloc, c, cone, block, found.run, found.count)?;
-    closed(alloc, c, j, &stimulus, found.from as usize)
+    let stimulus = first_positions(alloc, task, batch, found.run, found.count)?;
+    whole_lasso(alloc, task.circuit, &stimulus, found.from as usize)
 }
 
-// The shorter one of two lassos, if there are so many.
+// The shorter one of two lassos; the first where they are of one length.
 fn shorter(a: Option<Lasso>, b: Option<Lasso>) -> Option<Lasso> {
     match (a, b) {
         (Some(a), Some(b)) => Some(if b.inputs.len() < a.inputs.len() {
@@ -180,85 +176,70 @@ fn shorter(a: Option<Lasso>, b: Option<Lasso>) -> Option<Lasso> {
     }
 }
 
-// Puts what a block shows to what is chosen. Answers how many positions a shorter lasso can have.
-fn take_block(
+// Chooses from a batch of so many positions. Answers how many positions the next one has: fewer than a loop that was found.
+fn take_batch(
     alloc: Global,
-    c: &Circuit,
-    j: u32,
-    cone: &Cone,
-    block: &Block,
+    task: &Task<'_>,
+    batch: &Batch,
     positions: u64,
     chosen: &mut Chosen,
 ) -> Result<u64, AllocError> {
-    let Some(found) = block.found else {
-        keep_deepest(alloc, c, cone, block, &mut chosen.runs)?;
+    let Some(found) = batch.found else {
+        keep_deepest(alloc, task, batch, &mut chosen.runs)?;
         return Ok(positions);
     };
-    let lasso = lasso_of(alloc, c, j, cone, block, found)?;
+    let lasso = lasso_of(alloc, task, batch, found)?;
     chosen.lasso = shorter(chosen.lasso.take(), lasso);
     Ok(found.count.saturating_sub(1))
 }
 
-// One block more, of so many positions.
-fn try_block(
+// The same of one more batch.
+fn try_batch(
     alloc: Global,
-    c: &Circuit,
-    j: u32,
-    cone: &Cone,
-    source: &mut Source,
+    task: &Task<'_>,
+    supply: &mut Supply,
     positions: u64,
     chosen: &mut Chosen,
-    meter: &Meter,
 ) -> Result<u64, AllocError> {
-    let block = walk_block(alloc, c, cone, source, positions, meter)?;
-    take_block(alloc, c, j, cone, &block, positions, chosen)
+    let batch = run_batch(alloc, task, supply, positions)?;
+    take_batch(alloc, task, &batch, positions, chosen)
 }
 
-// All blocks.
-fn choose_in(
+// Chooses from all batches.
+fn try_batches(
     alloc: Global,
-    c: &Circuit,
-    j: u32,
-    cone: &Cone,
-    source: &mut Source,
+    task: &Task<'_>,
+    supply: &mut Supply,
     chosen: &mut Chosen,
-    meter: &Meter,
 ) -> Result<(), AllocError> {
-    let (blocks, most) = sizes_of(cone);
+    let (batches, most) = sizes_of(task.cone);
     let mut positions = most;
-    for _block in 0..blocks {
-        if positions > 0 && source.left > 0 {
-            positions = try_block(alloc, c, j, cone, source, positions, chosen, meter)?;
+    for _batch in 0..batches {
+        if positions > 0 && supply.words_left > 0 {
+            positions = try_batch(alloc, task, supply, positions, chosen)?;
         }
     }
     Ok(())
 }
 
-// What is chosen in a cone.
-fn chosen_in(
-    alloc: Global,
-    c: &Circuit,
-    j: u32,
-    cone: &Cone,
-    seed: u32,
-    meter: &Meter,
-) -> Result<Chosen, AllocError> {
-    let mut source = Source {
+// A lasso, or else runs, of those that `seed` fixes.
+fn choose_for(alloc: Global, task: &Task<'_>, seed: u32) -> Result<Chosen, AllocError> {
+    let mut supply = Supply {
         draws: Draws::new(mixed(u64::from(seed))),
-        left: MOST_WORDS,
+        words_left: MOST_WORDS,
     };
     let mut chosen = Chosen {
         lasso: None,
         runs: Vec::new(alloc),
     };
-    choose_in(alloc, c, j, cone, &mut source, &mut chosen, meter)?;
+    try_batches(alloc, task, &mut supply, &mut chosen)?;
     if chosen.lasso.is_some() {
         chosen.runs = Vec::new(alloc);
     }
     Ok(chosen)
 }
 
-/// A lasso of property `j`, or else runs, of those that `seed` fixes.
+/// A lasso of property `j`, or else runs, of those that `seed` fixes. The error is want of memory, or a bell that is rung.
 pub(crate) fn choose(
     alloc: Global,
     c: &Circuit,
@@ -266,6 +247,14 @@ pub(crate) fn choose(
     seed: u32,
     meter: &Meter,
 ) -> Result<Chosen, AllocError> {
-    let cone = cone_of(alloc, c, j)?;
-    chosen_in(alloc, c, j, &cone, seed, meter)
+    let marked = cone_of(alloc, c, j)?;
+    let cone = part_of(alloc, c, marked.marks())?;
+    let literals = fair_literals(alloc, c, j)?;
+    let task = Task {
+        circuit: c,
+        cone: &cone,
+        literals: &literals,
+        meter,
+    };
+    choose_for(alloc, &task, seed)
 }

@@ -1,6 +1,7 @@
 //! Numbers drawn from a seed. The main type is `Draws`.
 
-/// A generator of 64 even bits at a time (splitmix64; Steele, Lea, Flood, 2014).
+/// A generator of 64 bits at a time, each 0 or 1 equally often (SplitMix64; Steele, Lea, Flood, Fast splittable
+/// pseudorandom number generators, 2014).
 #[derive(Drop)]
 pub(crate) struct Draws {
     state: u64,
@@ -19,7 +20,7 @@ impl Draws {
     }
 }
 
-/// A number whose bits all depend on those of this one.
+/// The generator's mixing function, one to one: each bit of the answer depends on all bits of the number.
 pub(crate) fn mixed(number: u64) -> u64 {
     let mut bits = number;
     bits = (bits ^ (bits >> 30)).wrapping_mul(0xbf58_476d_1ce4_e5b9);

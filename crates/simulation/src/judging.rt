@@ -3,7 +3,7 @@ ghost use Rattle.std.specs.Prelude.{◌≡◌, ◌+◌, List, Bool, map, length,
 ghost use Rattle.aig_semantics.specs.Literals.{literal_in};
 ghost use Rattle.aig_semantics.specs.Runs.{IsInitial, MeetsConstraints, position_of, successor};
 ghost use Rattle.aig_semantics.specs.Stimuli.{IsFairLassoOf, StandsFor};
-ghost use Rattle.lasso_join.specs.Fitting.{IsStemTo, LeadsTo};
+ghost use Rattle.lasso_join.specs.Fitting.{IsStemTo};
 ghost use Rattle.lasso_join.specs.Prefixes.{stimulus_of};
 
 use circuit::{
@@ -44,8 +44,8 @@ fn are_true(values: &[bool], literals: &[u64]) -> bool
         .all(|literal| literal_value(values, *literal))
 }
 
-// The latches' next values.
-fn values_behind(alloc: Global, c: &Circuit, values: &[bool]) -> Result<Items<bool>, AllocError>
+// The latches' next values, where `values` is the valuation of a position.
+fn next_values(alloc: Global, c: &Circuit, values: &[bool]) -> Result<Items<bool>, AllocError>
     ensures { IfOk result (λ next. next ≡ map (λ latch. literal_in values.now latch.next) c.now.latches) }
 {
     let mut next = vec![in alloc; false; c.latches().len()]?;
@@ -73,66 +73,82 @@ fn successor_of(
     if !are_true(values, c.constraints()) {
         return Ok(None);
     }
-    Ok(Some(values_behind(alloc, c, values)?))
+    Ok(Some(next_values(alloc, c, values)?))
 }
 
-// Puts the position of the state and these inputs behind a run that leads there, and goes on to its successor.
+/// An initial run, and the state to which it leads.
+#[derive(Drop)]
+struct Stem {
+    positions: Items<Position>,
+    state: Items<bool>,
+}
+
+// Appends the position of a stem's state with these inputs, and goes on to its successor.
 fn step(
     alloc: Global,
     _c: &Circuit,
-    _start: &[bool],
     inputs: &Items<bool>,
     next: Items<bool>,
-    state: &mut Items<bool>,
-    run: &mut Items<Position>,
+    stem: &mut Stem,
 ) -> Result<(), AllocError>
-    requires leads { LeadsTo _c.now _start.now state.old run.old }
-    requires possible { MeetsConstraints _c.now (position_of state.old inputs.now) }
-    requires next { next ≡ successor _c.now (position_of state.old inputs.now) }
-    ensures size { OnOk result (length state.new ≡ length _c.now.latches) }
-    ensures leads { OnOk result (LeadsTo _c.now _start.now state.new run.new) }
+    requires stem { IsStemTo _c.now stem.old.state stem.old.positions }
+    requires possible { MeetsConstraints _c.now (position_of stem.old.state inputs.now) }
+    requires next { next ≡ successor _c.now (position_of stem.old.state inputs.now) }
+    ensures size { OnOk result (length stem.new.state ≡ length _c.now.latches) }
+    ensures stem { OnOk result (IsStemTo _c.now stem.new.state stem.new.positions) }
 {
     let inputs = inputs.try_copy(alloc)?;
-    let latches = mem::replace(state, next);
-    run.push(Position { latches, inputs })?;
+    let latches = mem::replace(&mut stem.state, next);
+    stem.positions.push(Position { latches, inputs })?;
     Ok(())
 }
 
-// The run from an initial state by these inputs, up to where they don't fit or a constraint is false.
-#[tactic(auto, using(crate::proofs::Runs::reached))]
-fn run_from(
+// Appends a position for each of these inputs, up to where they don't fit or a constraint is false.
+fn extend(
     alloc: Global,
     c: &Circuit,
-    start: &[bool],
     inputs: &[Items<bool>],
     values: &mut [bool],
-) -> Result<Items<Position>, AllocError>
-    requires start { IsInitial c.now start.now }
-    requires size { length start.now ≡ length c.now.latches }
+    stem: &mut Stem,
+) -> Result<(), AllocError>
+    requires stem { IsStemTo c.now stem.old.state stem.old.positions }
+    requires size { length stem.old.state ≡ length c.now.latches }
     requires values { length values.old ≡ c.now.max + 1 }
-    ensures { IfOk result (λ run. (t : List Bool) × IsStemTo c.now t run) }
+    ensures { OnOk result (IsStemTo c.now stem.new.state stem.new.positions) }
 {
-    let mut run = Items::new(alloc);
-    let mut state = Items::from_slice(alloc, start)?;
     for now in inputs {
-        let found = successor_of(alloc, c, state.as_slice(), now.as_slice(), values)?;
+        let found = successor_of(alloc, c, stem.state.as_slice(), now.as_slice(), values)?;
         let Some(next) = found else {
-            return Ok(run);
+            return Ok(());
         };
-        step(alloc, c, start, now, next, &mut state, &mut run)?;
+        step(alloc, c, now, next, stem)?;
     }
-    Ok(run)
+    Ok(())
+}
+
+// The stem of no position.
+#[tactic(auto, using(crate::proofs::Runs::empty_stem))]
+fn begin(alloc: Global, _c: &Circuit, start: &[bool]) -> Result<Stem, AllocError>
+    requires { IsInitial _c.now start.now }
+    ensures state { IfOk result (λ stem. stem.state ≡ start.now) }
+    ensures stem { IfOk result (λ stem. IsStemTo _c.now stem.state stem.positions) }
+{
+    Ok(Stem {
+        positions: Items::new(alloc),
+        state: Items::from_slice(alloc, start)?,
+    })
 }
 
 // The run of a stimulus that begins in an initial state, up to where it fits no more.
-fn laid(alloc: Global, c: &Circuit, chosen: &Stimulus) -> Result<Items<Position>, AllocError>
+fn run_of(alloc: Global, c: &Circuit, chosen: &Stimulus) -> Result<Items<Position>, AllocError>
     requires initial { IsInitial c.now chosen.now.latches }
     requires size { length chosen.now.latches ≡ length c.now.latches }
     ensures { IfOk result (λ run. (t : List Bool) × IsStemTo c.now t run) }
 {
     let mut values = vec![in alloc; false; c.max() as usize + 1]?;
-    let start = chosen.latches.as_slice();
-    run_from(alloc, c, start, chosen.inputs.as_slice(), &mut values)
+    let mut stem = begin(alloc, c, chosen.latches.as_slice())?;
+    extend(alloc, c, chosen.inputs.as_slice(), &mut values, &mut stem)?;
+    Ok(stem.positions)
 }
 
 // Whether a run may begin with these latches.
@@ -146,7 +162,7 @@ fn can_begin(c: &Circuit, latches: &[bool]) -> bool
     is_initial(c, latches)
 }
 
-// Puts a run behind the others.
+// Appends a run.
 fn put(
     _c: &Circuit,
     run: Items<Position>,
@@ -160,25 +176,25 @@ fn put(
     Ok(())
 }
 
-// Puts the run of a stimulus behind the others, where it begins in an initial state.
-fn offer(
+// Appends the run of a stimulus, where it begins in an initial state.
+fn put_run_of(
     alloc: Global,
     c: &Circuit,
-    stimulus: &Stimulus,
+    chosen: &Stimulus,
     runs: &mut Vec<Items<Position>>,
 ) -> Result<(), AllocError>
     requires { All (λ run. (t : List Bool) × IsStemTo c.now t run) runs.old.items }
     ensures { OnOk result (All (λ run. (t : List Bool) × IsStemTo c.now t run) runs.new.items) }
 {
-    if !can_begin(c, stimulus.latches.as_slice()) {
+    if !can_begin(c, chosen.latches.as_slice()) {
         return Ok(());
     }
-    let run = laid(alloc, c, stimulus)?;
+    let run = run_of(alloc, c, chosen)?;
     put(c, run, runs)?;
     Ok(())
 }
 
-/// The runs of those that begin in an initial state, each up to where it fits no more.
+/// The runs of the stimuli that begin in an initial state, each up to where the stimulus fits no more.
 pub(crate) fn judged_runs(
     alloc: Global,
     c: &Circuit,
@@ -188,7 +204,7 @@ pub(crate) fn judged_runs(
 {
     let mut runs = Vec::new(alloc);
     for stimulus in chosen {
-        offer(alloc, c, stimulus, &mut runs)?;
+        put_run_of(alloc, c, stimulus, &mut runs)?;
     }
     Ok(runs)
 }

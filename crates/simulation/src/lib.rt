@@ -1,26 +1,28 @@
-//! Simulation of a circuit by drawn inputs: fair lassos that a run shows, and runs whose states are reached, before a
-//! search begins.
+//! Simulation of a circuit by drawn inputs, before a search begins: fair lassos that a run shows, and runs whose states
+//! are reached.
 //!
 //! | Call | Gives |
 //! |---|---|
-//! | `simulate` | a fair lasso of the property where a drawn run has one; else some drawn runs |
+//! | `simulate` | a fair lasso of a property where a drawn run shows one; else some drawn runs |
 //!
-//! Of 64 runs at once, one in each bit of a word, the cone of the property is evaluated (`cone`, `words`), with inputs of
-//! several densities (`draws`, `mixes`). Where the state of a run comes back, with each literal true between, the loop is
-//! gone along until the whole state is back (`closing`). All this chooses, and no contract rests on it: `judging` sees to it
-//! that what was chosen is a fair lasso, or an initial run.
+//! A batch (`batches`) is 64 runs of the cone of the property (`parts`), which are evaluated at once, one in each bit of a
+//! word (`words`, `evaluating`), on inputs of several densities (`draws`, `densities`). Where a run comes back to a state
+//! (`state_table`) with each literal true on the way, the inputs of this loop are repeated until the state of the whole
+//! circuit is back (`repeating`). No contract says what `choosing` takes from some batches: `judging` judges whether it is
+//! a fair lasso, or an initial run.
 #![tactic(auto)]
 
-mod blocks;
+mod batches;
 mod choosing;
-mod closing;
-mod cone;
+mod densities;
 mod draws;
+mod evaluating;
 mod judging;
-mod met;
-mod mixes;
-mod reading;
+mod parts;
+mod repeating;
 mod simulating;
+mod state_table;
+mod tasks;
 mod words;
 
 pub use simulating::{Simulated, simulate};

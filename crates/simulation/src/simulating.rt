@@ -1,4 +1,4 @@
-//! The public call: what is chosen by simulation is judged. The main call is `simulate`.
+//! The public call: simulation chooses, and what it chose is judged. The main call is `simulate`.
 ghost use Rattle.std.specs.Prelude.{◌≡◌, List, Bool, length, All, IfOk, IfSome};
 ghost use Rattle.aig_semantics.specs.Stimuli.{IsFairLassoOf, StandsFor};
 ghost use Rattle.lasso_join.specs.Fitting.{IsStemTo};
@@ -11,17 +11,24 @@ use edge::Meter;
 use items::Items;
 use std::alloc::{AllocError, Global};
 
-/// What simulation found: a fair lasso, or none, and runs whose states were reached.
+/// What simulation found: a fair lasso; or none, and initial runs.
 #[derive(Drop)]
 pub struct Simulated {
     pub lasso: Option<Lasso>,
     pub runs: Vec<Items<Position>>,
 }
 
-/// Runs of the circuit by inputs that `seed` fixes, with a look for a fair lasso of property `j`, counted from 0: at most
-/// 256 of 300 positions each, fewer where the circuit is large, and none where it is too large. What is found depends on
-/// the circuit, `j` and `seed` alone. A lasso has no position more than its stimulus needs. Where there is one, there are
-/// no runs. Nothing is counted on the meter; where its bell rings, the error comes, as for want of memory.
+/// Runs the circuit on drawn inputs, and looks for a fair lasso of property `j`, counted from 0; of a number without a
+/// property there is none. What comes depends on the circuit, `j` and `seed` alone.
+///
+/// There are four batches of 64 runs with 300 positions each; where the cone of the property has n latches, at most five,
+/// one batch with 2^(n + 2) positions. No more than some 40 million words are evaluated for them, so there are fewer where
+/// the cone is large. A lasso has no position more than its stimulus needs, and with it come no runs. Where there is none,
+/// there are at most four runs: of each batch the one that came latest to a new state, up to this state, with at most some
+/// 10 million values of variables in all; a run may be without positions.
+///
+/// Nothing is counted on the meter. The error is want of memory, or a bell of the meter that is rung, which is looked at
+/// before each position of a batch.
 pub fn simulate(
     alloc: Global,
     c: &Circuit,

@@ -1,41 +1,21 @@
-//! Sixty-four positions at once: a word for each variable, with a bit for each run. The main calls are `eval_words` and
-//! `next_words`.
+//! Lists of words with a bit for each of 64 runs. A place past the end of a list reads as 0, and is not written.
 
-use crate::cone::{Cone, Leaf};
-use crate::reading::{put_word, word_at};
+/// How many runs a word has.
+pub(crate) const RUNS: u32 = 64;
 
-/// The word of a literal, where `values` has that of variable `v` at place `v`.
-pub(crate) fn literal_word(values: &[u64], literal: u64) -> u64 {
-    word_at(values, (literal / 2) as usize) ^ 0_u64.wrapping_sub(literal % 2)
+/// The word at a place, 0 past the end.
+pub(crate) fn word_at(words: &[u64], place: usize) -> u64 {
+    words.get(place).copied().unwrap_or(0)
 }
 
-/// Puts the words of these variables.
-pub(crate) fn put_words(leaves: &[Leaf], words: &[u64], values: &mut [u64]) {
-    for (leaf, word) in leaves.iter().zip(words.iter()) {
-        put_word(values, leaf.var as usize, *word);
+/// Writes the word at a place, if there is that place.
+pub(crate) fn put_word(words: &mut [u64], place: usize, word: u64) {
+    if let Some(kept) = words.get_mut(place) {
+        *kept = word;
     }
 }
 
-/// Evaluates the gates of a cone. Gates outside it keep their words.
-pub(crate) fn eval_words(cone: &Cone, values: &mut [u64]) {
-    for gate in cone.gates.iter() {
-        let word = literal_word(values, gate.rhs0) & literal_word(values, gate.rhs1);
-        put_word(values, gate.var as usize, word);
-    }
-}
-
-/// Writes the next words of the latches of a cone.
-pub(crate) fn next_words(cone: &Cone, values: &[u64], state: &mut [u64]) {
-    for (word, latch) in state.iter_mut().zip(cone.latches.iter()) {
-        *word = literal_word(values, latch.next);
-    }
-}
-
-/// The runs in which each of these literals is true.
-pub(crate) fn all_true(values: &[u64], literals: &[u64]) -> u64 {
-    let mut runs = u64::MAX;
-    for literal in literals {
-        runs &= literal_word(values, *literal);
-    }
-    runs
+/// The bit of a run, whose number is counted from 0.
+pub(crate) fn bit_of(word: u64, run: u32) -> bool {
+    word.wrapping_shr(run) & 1 == 1
 }

@@ -1,8 +1,8 @@
-//! Inputs of several densities: each of the 64 runs of a block has one of five. The main call is `drawn_input`.
+//! Inputs of several densities: how often an input is 1. The main call is `drawn_input`.
 
 use crate::draws::Draws;
 
-// The runs with these densities: every fifth bit.
+// The runs of each of five kinds: every fifth bit of a word.
 const EVEN: u64 = 0x1084_2108_4210_8421;
 
 const OWN: u64 = EVEN << 1;
@@ -13,7 +13,7 @@ const OFTEN: u64 = EVEN << 3;
 
 const STEADY: u64 = EVEN << 4;
 
-// Where each input is 1 with a frequency of its own, in eighths.
+// Bits of which each is 1 in one to seven eighths of the draws, by the level, of three that are 1 in half of them.
 fn by_level(level: u64, a: u64, b: u64, c: u64) -> u64 {
     match level % 7 {
         0 => a & b & c,
@@ -26,8 +26,9 @@ fn by_level(level: u64, a: u64, b: u64, c: u64) -> u64 {
     }
 }
 
-/// The values of an input in 64 runs: even ones, of the input's own level, 1 in an eighth of the positions, in seven
-/// eighths, and those of the position before, of which one in 32 changes.
+/// The values of an input at a position, in the bit of each run. By the number of the run modulo five an input is 1 in
+/// half of the positions; in one to seven eighths of them, by the input's own level; in one eighth; in seven eighths; or it
+/// has the value of the position before, `before`, but in one of 32 positions.
 pub(crate) fn drawn_input(draws: &mut Draws, level: u64, before: u64) -> u64 {
     let a = draws.next();
     let b = draws.next();
