@@ -95,7 +95,7 @@ property_is_read c n s (line ∷ lines) rows small there e f =
     ∙ ap (λ t. if t then Ok (claimed HasLasso n) else Err (faults.NoProperty n)) (lt-ltb n (length c.justice) there))
     (latches_are_read c n s lines rows parts.1 f)
 
-stimulus_is_read : (c : Circuit) (n : ℕ) (s : Stimulus) (lines : List Numbered) (rows : List (List ℕ)) → n < 2 ^ 63 → n < length c.justice
+pub stimulus_is_read : (c : Circuit) (n : ℕ) (s : Stimulus) (lines : List Numbered) (rows : List (List ℕ)) → n < 2 ^ 63 → n < length c.justice
     → bare lines ≡ codes "1" ∷ property_line n ∷ (rows ++ codes "." ∷ []) → row_values rows ≡ present (s.latches ∷ s.inputs) → read_lines c Status lines ≡ Ok (Dotted n s)
 stimulus_is_read c n s [] rows small there e f = absurd (cc e)
 stimulus_is_read c n s (line ∷ lines) rows small there e f =
@@ -110,7 +110,7 @@ in_any_case (Ok (Lasso n positions from)) P h = tt
 in_any_case (Ok (Holds n entries)) P h = h
 in_any_case (Err end) P h = h
 
-same_state : (s t : State) (r : Stepped) → r ≡ Ok s → r ≡ Ok t → s ≡ t
+pub same_state : (s t : State) (r : Stepped) → r ≡ Ok s → r ≡ Ok t → s ≡ t
 same_state s t r e f = cc (e, f)
 
 good_kept : (c : Circuit) (told : Option (List ℕ)) (text : List ℕ) (s : State) (kept : Option LassoOf) (accepted : Accepted) → MayBe told text

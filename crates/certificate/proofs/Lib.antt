@@ -11,7 +11,7 @@ pub mod CompletingTexts
 mod Ended
 pub mod GoodRead
 pub mod GoodTrue
-mod Judged
+pub mod Judged
 pub mod OneEnd
 mod Reached
 mod Readable
@@ -22,4 +22,9 @@ mod Playing
 mod AddedLines
 mod PlainLines
 mod WrittenCertificates
-mod Kept
+pub mod Kept
+pub mod Taken
+pub mod TakenBack
+pub mod Printed
+pub mod LoadedLaws
+pub mod WholeLaws

@@ -45,7 +45,7 @@ pub record Reached (c : Circuit) (told : Option (List ℕ)) (r : Reading) (s : S
   pub read : read_lines c Status (kept_from 1 given) ≡ Ok s
   pub numbered : number ≡ 1 + length given
 
-pub reached_start : (c : Circuit) (told : Option (List ℕ)) → Reached c told at_start Status 1
+unfoldable pub reached_start : (c : Circuit) (told : Option (List ℕ)) → Reached c told at_start Status 1
 reached_start c told = record {
   given = [];
   passed = record { front = []; lack = All-nil _; spells = refl; taken = refl; split = λ x is. refl; behind = λ e. absurd (cc e) };
@@ -149,6 +149,12 @@ reached_next c told old new s t number reached goes_on took lacks read = record 
   numbered = omega (arith, reached.numbered, length-append reached.given (new.line ∷ []));
 }
 
+-- the line is given behind those before it
+pub next_given : (c : Circuit) (told : Option (List ℕ)) (old new : Reading) (s t : State) (number : ℕ) (reached : Reached c told old s number) (goes_on : old.last ≡ false) (took : Took told old new) (lacks : Lacks new.line 10) (read : read_lines c s (kept_from number (new.line ∷ [])) ≡ Ok t)
+    → (reached_next c told old new s t number reached goes_on took lacks read).given ≡ reached.given ++ new.line ∷ []
+unfolding reached_next
+next_given c told old new s t number reached goes_on took lacks read = refl
+
 -- ---- a text that the shelf may hold
 
 -- of what is left, where it is told, this is so, and else it may be
@@ -234,14 +240,15 @@ end_said c told r s number result reached most none finishes =
     (subst (λ (n : ℕ). Finishes c s n result) (reached.numbered ∙ sym (ap (λ (ls : List (List ℕ)). 1 + length ls) (ap lines_of (front_only p.front rest empty) ∙ lines))) finishes))
 
 -- where the text ends its lines have led to the state
-pub text_at_end : (c : Circuit) (told : Option (List ℕ)) (r : Reading) (s : State) (number : ℕ) → Reached c told r s number → r.taken ≤ most_bytes → IfTold told (λ text. left_of r text ≡ []) → (text : List ℕ) × MayBe told text × ((read_lines c Status (kept_from 1 (readable text)) ≡ Ok s) × (length text ≤ most_bytes))
+pub text_at_end : (c : Circuit) (told : Option (List ℕ)) (r : Reading) (s : State) (number : ℕ) (reached : Reached c told r s number) → r.taken ≤ most_bytes → IfTold told (λ text. left_of r text ≡ []) → (text : List ℕ) × MayBe told text × ((read_lines c Status (kept_from 1 (readable text)) ≡ Ok s) × (length text ≤ most_bytes) × (lines_of text ≡ reached.given))
 text_at_end c told r s number reached most none =
     let p : Passed told r reached.given = reached.passed in
     let lines : lines_of p.front ≡ reached.given = front_lines r.last reached.given p.front p.lack p.spells in
-    said told p.front (left_of r) (λ rest. rest ≡ []) (λ text. (read_lines c Status (kept_from 1 (readable text)) ≡ Ok s) × (length text ≤ most_bytes)) ([], refl) p.split none
+    said told p.front (left_of r) (λ rest. rest ≡ []) (λ text. (read_lines c Status (kept_from 1 (readable text)) ≡ Ok s) × (length text ≤ most_bytes) × (lines_of text ≡ reached.given)) ([], refl) p.split none
     (λ rest empty. (
       ap (λ (ls : List (List ℕ)). read_lines c Status (kept_from 1 ls)) (front_readable p.front rest reached.given (omega (arith, p.taken, most)) empty lines) ∙ reached.read,
       omega (arith, p.taken, most, length-append p.front rest, ap length empty),
+      ap lines_of (front_only p.front rest empty) ∙ lines,
     ))
 
 -- ---- the clauses of each end

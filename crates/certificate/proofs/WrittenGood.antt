@@ -83,8 +83,10 @@ written_lines n s small =
     ∙ ap (λ ls. codes "1" ∷ property_line n ∷ ls)
     (filter-append (λ line. not (is_skipped line)) (rows_of s) (codes "." ∷ []) ∙ ap (λ ls. ls ++ codes "." ∷ []) (rows_kept (s.latches ∷ s.inputs)))
 
-pub written_is_good : (c : Circuit) → WrittenIsGood c
-written_is_good c n s positions from small stands short =
+pub written_has : (n : ℕ) (s : Stimulus) → n < 2 ^ 63 → HasStimulus n s (answer_text n s)
+written_has n s small =
     let spells : Spells s (rows_of s ++ codes "." ∷ []) = (rows_of s, refl, rows_read (s.latches ∷ s.inputs)) in
-    let has : HasStimulus n s (answer_text n s) = (rows_of s ++ codes "." ∷ [], (small, written_lines n s small), spells) in
-    (stands.has.lasso.property, short, s, has, stands)
+    (rows_of s ++ codes "." ∷ [], (small, written_lines n s small), spells)
+
+pub written_is_good : (c : Circuit) → WrittenIsGood c
+written_is_good c n s positions from small stands short = (stands.has.lasso.property, short, s, written_has n s small, stands)

@@ -4,10 +4,9 @@ use Rattle.text_grammar.specs.Lines.{ended_lines}
 use Rattle.certificate_lines.specs.declared.words.Version.TheVariants.{Two}
 use Rattle.certificate_lines.specs.declared.words.WordLine.TheVariants as lines
 use Rattle.certificate_lines.specs.Words.{word_line_text}
-use Rattle.entry.specs.declared.refutations.Refutation.{Refutation}
+use Rattle.fair_semantics.specs.declared.entries.Use.{Use}
 use Rattle.certificate.specs.Certificates.{refutation_lines}
 use Rattle.certificate.specs.Answers.{property_line}
-use Rattle.certificate.specs.Writing.{certificate_of}
 
 -- the text has these lines more, each with its line feed
 abbrev pub Adds : List ℕ → List ℕ → List (List ℕ) → Type 0
@@ -18,5 +17,6 @@ abbrev pub head_lines : ℕ → List (List ℕ)
 head_lines n = codes "0" ∷ property_line n ∷ word_line_text (lines.Version Two) ∷ []
 
 -- those behind them
-abbrev pub last_lines : Refutation → List (List ℕ)
-last_lines refutation = refutation_lines (certificate_of [] refutation) ++ word_line_text lines.End ∷ []
+abbrev pub last_lines : List Use → List (List ℕ) → List (List ℕ)
+last_lines uses proof =
+    refutation_lines (record { version = Two; entries = []; uses = uses; proof = proof }) ++ word_line_text lines.End ∷ []

@@ -17,21 +17,11 @@ use Rattle.certificate_lines.specs.Clauses.{clause_text}
 use Rattle.entry.specs.Clauses.{clause_of}
 use Rattle.entry.specs.Proved.{IsProved, IsGoodRefutation}
 use Rattle.certificate.specs.declared.limits.TheConstants.{MAX_ENTRIES}
+pub use Rattle.certificate.specs.declared.loaded.Written.{Written}
+pub use Rattle.certificate.specs.declared.loaded.Certificate.{Certificate}
 
--- An entry as its lines spell it: the literals of each clause as the model numbers them, and the lines of the proof of
--- each clause.
-pub record Written : Type 0 where
-  pub kind : Kind
-  pub clauses : List (List ℕ)
-  pub uses : List Use
-  pub proofs : List (List (List ℕ))
-
-pub record Certificate : Type 0 where
-  pub version : Version
-  pub entries : List Written
-  -- of the refutation
-  pub uses : List Use
-  pub proof : List (List ℕ)
+-- An entry as its lines spell it (`Written`) has the literals of each clause as the model numbers them, and the lines of the
+-- proof of each clause. A certificate has its version, its entries, and the uses and the proof of the refutation.
 
 -- How it is spelled.
 

@@ -19,6 +19,8 @@ use Rattle.certificate.specs.Lines.{end_of}
 use Rattle.certificate.specs.Answers.{HasCertificate, IsGood, Shows}
 use Rattle.certificate.specs.Ends.{IsRefused, ReadsWell}
 use Rattle.certificate.specs.Writing.{certificate_of, certificate_text, IsRefutedBy}
+use Rattle.certificate.specs.declared.loaded.Loaded.{Loaded}
+use Rattle.certificate.specs.Loading.{HoldsAnswer, accepted_of, printed_text, printed_again}
 
 -- a text is read as a good answer exactly where it is one
 abbrev pub ReadsGood : Circuit → Type 0
@@ -83,3 +85,14 @@ WrittenCertificatesAreGood c =
     → IsRefutedBy c n list refutation → length (certificate_text n (certificate_of list refutation)) ≤ most_bytes
     → HasCertificate n (certificate_of list refutation) (certificate_text n (certificate_of list refutation))
     × IsGood c (certificate_text n (certificate_of list refutation)) (Holds n (length list))
+
+-- What is held of a good answer makes that text good: it is good for what is accepted where this is held.
+abbrev pub HeldIsGood : Circuit → Type 0
+HeldIsGood c = (text : List ℕ) (loaded : Loaded) → HoldsAnswer c text loaded → IsGood c text (accepted_of loaded)
+
+-- What is printed of an answer that is held has the same, but for the version of a certificate, and is good for the same,
+-- where it is within the limit.
+abbrev pub PrintedHoldsTheSame : Circuit → Type 0
+PrintedHoldsTheSame c =
+    (text : List ℕ) (loaded : Loaded) → HoldsAnswer c text loaded → length (printed_text loaded) ≤ most_bytes
+    → HoldsAnswer c (printed_text loaded) (printed_again loaded)

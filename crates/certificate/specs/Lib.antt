@@ -11,3 +11,6 @@ pub mod Steps
 pub mod Texts
 pub mod Adding
 pub mod Lassos
+pub mod Loading
+pub mod Taking
+pub mod Whole

@@ -1,7 +1,7 @@
 //! The check of an answer against a circuit. The main calls are `check_answer`, and `check_with_lasso`, which keeps the
 //! lasso of a stimulus.
 
-ghost use Rattle.std.specs.Prelude.{◌≡◌, ◌<◌, ◌≤◌, List, [], ◌∷◌, ℕ, true, false, Some, Result, Ok, Err, IfOk, IfErr, OnOk, IsTrue, IsFalse};
+ghost use Rattle.std.specs.Prelude.{◌≡◌, ◌<◌, ◌≤◌, List, [], ◌∷◌, ◌++◌, ℕ, true, false, Some, Result, Ok, Err, IfOk, IfErr, OnOk, IsTrue, IsFalse};
 ghost use Rattle.edge.specs.Faults.{Rose, NoneFell};
 ghost use Rattle.edge.specs.Reads.{KeepsTexts, Reads};
 ghost use Rattle.edge.specs.Told.{IfTold};
@@ -15,8 +15,11 @@ ghost use Rattle.certificate.specs.Reading.{read_lines};
 ghost use Rattle.certificate.specs.Seen.{seen, IsKept};
 ghost use Rattle.certificate.specs.Steps.{OfEnd};
 ghost use Rattle.certificate.specs.Texts.{OfLines, ReadingSays};
+ghost use Rattle.certificate.specs.Whole.{IsReadWhole};
+ghost use Rattle.stimulus.specs.Texts.{kept_lines};
 
 use crate::ends::{Accepted, AnswerEnd};
+use crate::keeping::KeptLines;
 use crate::laws::good_answers_are_true;
 use crate::state::State;
 use crate::steps::{finish, step};
@@ -105,23 +108,36 @@ fn read_answer<H: Shelf>(
 {
     let mut lines = Lines::new(alloc)?;
     let mut state = State::Status;
-    let result = read_on(alloc, circuit, shelf, name, &mut lines, &mut state, kept);
+    let mut unkept = KeptLines::none(alloc);
+    let result = read_on(
+        alloc,
+        circuit,
+        shelf,
+        name,
+        &mut lines,
+        &mut state,
+        &mut unkept,
+        kept,
+    );
     drop(state);
     result
 }
 
-// The same, from the start of the text and of its reading.
-fn read_on<H: Shelf>(
+/// The same, from the start of the text and of its reading: with the state that it ends in, and with its lines where they
+/// are kept.
+pub(crate) fn read_on<H: Shelf>(
     alloc: Global,
     circuit: &Circuit,
     shelf: &mut H,
     name: &str,
     lines: &mut Lines,
     state: &mut State,
+    all: &mut KeptLines,
     kept: &mut Option<Lasso>,
 ) -> Result<Accepted, AnswerEnd>
     requires start { lines.old ≡ at_start }
     requires state { state.old ≡ State.Status }
+    requires none { all.old.lines ≡ [] }
     ensures found { ReadingSays circuit.now (H.held shelf.old name.now) result }
     ensures exactly { (text : List ℕ) (verdict : Result Accepted AnswerEnd) → H.held shelf.old name.now ≡ Some text
         → ReadsAs circuit.now text verdict → EndsWith result verdict }
@@ -131,10 +147,12 @@ fn read_on<H: Shelf>(
     ensures kept { KeepsTexts (H.held shelf.old) (H.held shelf.new) }
     ensures lasso { IfOk result (λ accepted. KeepsLasso circuit.now (H.held shelf.old name.now) accepted kept.new) }
     ensures untouched { UnlessStimulus result (kept.new ≡ kept.old) }
+    ensures whole { IfOk result (λ accepted. all.old.keeps ≡ true
+        → IsReadWhole circuit.now (H.held shelf.old name.now) accepted all.new.lines (seen state.new) kept.new) }
 {
     let mut number = 1;
     'lines: while next_line(lines, shelf, name)? {
-        advance(alloc, circuit, state, number, lines.line())?;
+        advance(alloc, circuit, state, number, lines.line(), all)?;
         number += 1;
     }
     finish(alloc, circuit, &*state, number, kept)
@@ -163,8 +181,29 @@ fn next_line<H: Shelf>(lines: &mut Lines, shelf: &mut H, name: &str) -> Result<b
     Ok(lines.next(shelf, name)?)
 }
 
-// Goes on to the state behind a line with this number, skipped or not.
+// Goes on to the state behind a line with this number, skipped or not, which is kept where lines are.
 fn advance(
+    alloc: Global,
+    circuit: &Circuit,
+    state: &mut State,
+    number: u64,
+    line: &[u8],
+    all: &mut KeptLines,
+) -> Result<(), AnswerEnd>
+    requires { IsKept circuit.now state.old }
+    ensures ok { OnOk result (read_lines circuit.now (seen state.old) (kept_from number (line.now ∷ [])) ≡ Ok (seen state.new)) }
+    ensures kept { OnOk result (IsKept circuit.now state.new) }
+    ensures fault { IfErr result
+        (OfEnd (λ fault. read_lines circuit.now (seen state.old) (kept_from number (line.now ∷ [])) ≡ Err fault)) }
+    ensures keeps { all.new.keeps ≡ all.old.keeps }
+    ensures lines { OnOk result (all.old.keeps ≡ true → all.new.lines ≡ all.old.lines ++ kept_lines (line.now ∷ [])) }
+{
+    all.keep(alloc, line)?;
+    advance_state(alloc, circuit, state, number, line)
+}
+
+// The same of the state alone.
+fn advance_state(
     alloc: Global,
     circuit: &Circuit,
     state: &mut State,

@@ -1,6 +1,6 @@
 //! The laws of answers. Each call does nothing; its contract is the law.
 
-ghost use Rattle.certificate.specs.Laws.{ReadsGood, GoodIsTrue, VerdictsAgree, EachHasEnd, OneIsGood, GoodHasNoFault, OneFault, FaultsStay, JudgedBefore, WrittenIsGood, WrittenCertificatesAreGood};
+ghost use Rattle.certificate.specs.Laws.{ReadsGood, GoodIsTrue, VerdictsAgree, EachHasEnd, OneIsGood, GoodHasNoFault, OneFault, FaultsStay, JudgedBefore, WrittenIsGood, WrittenCertificatesAreGood, HeldIsGood, PrintedHoldsTheSame};
 
 use circuit::Circuit;
 use entry::{good_lists_grow, refutations_leave_no_lasso};
@@ -59,3 +59,11 @@ pub fn written_certificates_are_good(c: &Circuit)
 {
     let _within_limits = c.max();
 }
+
+/// What `load` holds of an answer, and what `print` writes of it: the text is good for what is accepted where this is held;
+/// and what is printed has the same, but for the version of a certificate, where the text is within the limit on its
+/// length.
+pub fn printed_answers_hold_the_same(c: &Circuit)
+    ensures good { HeldIsGood c.now }
+    ensures same { PrintedHoldsTheSame c.now }
+{}

@@ -4,6 +4,8 @@
 //! |---|---|
 //! | `check_answer` | judges the answer that a shelf holds: a stimulus, or a certificate of version 1 or 2 |
 //! | `check_with_lasso` | the same, and keeps the lasso of an accepted stimulus |
+//! | `load` | judges it as `check_answer` does, and holds what was accepted |
+//! | `print` | writes the answer that is held, a certificate in version 2 |
 //! | `write` | writes the answer with the certificate of checked entries and a refutation |
 //! | `answers_are_read_as_good` | a law: what is read as a good answer is one, and every good answer is so read |
 //! | `good_answers_are_true` | a law: a good answer shows a fair lasso, or that there is none |
@@ -12,6 +14,7 @@
 //! | `first_faults_stay` | a law: a fault that is not one of the text's end stays, whatever follows |
 //! | `written_stimuli_are_good` | a law: what `stimulus::write` writes is good, where the stimulus is |
 //! | `written_certificates_are_good` | a law: what `write` writes is good, where entries and refutation are |
+//! | `printed_answers_hold_the_same` | a law: what `print` writes of an answer that is held has the same |
 #![tactic(auto)]
 
 mod checking;
@@ -19,12 +22,17 @@ mod ending;
 mod ends;
 mod entries;
 mod heads;
+mod keeping;
 mod laws;
 mod limits;
+mod loaded;
+mod loading;
+mod printing;
 mod refuting;
 mod rows;
 mod state;
 mod steps;
+mod taking;
 mod uses;
 mod writing;
 
@@ -32,7 +40,11 @@ pub use checking::{check_answer, check_with_lasso};
 pub use ends::{Accepted, AnswerEnd, AnswerFault};
 pub use laws::{
     answers_are_read_as_good, answers_have_one_end, first_faults_stay, good_answers_agree,
-    good_answers_are_true, written_certificates_are_good, written_stimuli_are_good,
+    good_answers_are_true, printed_answers_hold_the_same, written_certificates_are_good,
+    written_stimuli_are_good,
 };
 pub use limits::MAX_ENTRIES;
+pub use loaded::{Certificate, Loaded, Written};
+pub use loading::load;
+pub use printing::print;
 pub use writing::write;

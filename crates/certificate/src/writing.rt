@@ -39,13 +39,17 @@ pub fn write(
     for entry in list {
         add_entry(alloc, &mut text, &**entry)?;
     }
-    add_last(&mut text, refutation)?;
+    add_last(
+        &mut text,
+        refutation.uses.as_slice(),
+        refutation.proof.as_slice(),
+    )?;
     Ok(text)
 }
 
 // Each of these adds lines at the end of a text, each with its line feed.
 
-fn add_word_line(text: &mut Vec<u8>, line: WordLine) -> Result<(), AllocError>
+pub(crate) fn add_word_line(text: &mut Vec<u8>, line: WordLine) -> Result<(), AllocError>
     ensures { OnOk result (Adds text.old.items text.new.items (word_line_text line ∷ [])) }
 {
     push_word_line(text, line)?;
@@ -53,7 +57,7 @@ fn add_word_line(text: &mut Vec<u8>, line: WordLine) -> Result<(), AllocError>
     Ok(())
 }
 
-fn add_uses(text: &mut Vec<u8>, uses: &[Use]) -> Result<(), AllocError>
+pub(crate) fn add_uses(text: &mut Vec<u8>, uses: &[Use]) -> Result<(), AllocError>
     ensures { OnOk result (Adds text.old.items text.new.items (uses_text (map written uses.now) ∷ [])) }
 {
     push_uses(text, uses)?;
@@ -62,7 +66,7 @@ fn add_uses(text: &mut Vec<u8>, uses: &[Use]) -> Result<(), AllocError>
 }
 
 // The status, the property and the version.
-fn add_head(text: &mut Vec<u8>, j: u32) -> Result<(), AllocError>
+pub(crate) fn add_head(text: &mut Vec<u8>, j: u32) -> Result<(), AllocError>
     ensures { OnOk result (Adds text.old.items text.new.items (head_lines j)) }
 {
     text.extend_from_slice(b"0\nj")?;
@@ -154,7 +158,7 @@ fn add_proof(text: &mut Vec<u8>, proof: &Proof) -> Result<(), AllocError>
     add_lines(text, proof.as_slice())
 }
 
-fn add_proofs(text: &mut Vec<u8>, proofs: &[Proof]) -> Result<(), AllocError>
+pub(crate) fn add_proofs(text: &mut Vec<u8>, proofs: &[Proof]) -> Result<(), AllocError>
     ensures { OnOk result (Adds text.old.items text.new.items (flat_map proof_lines proofs.now)) }
 {
     for proof in proofs {
@@ -185,15 +189,19 @@ fn add_entry(alloc: Global, text: &mut Vec<u8>, e: &Checked) -> Result<(), Alloc
 }
 
 // The refutation and the line `end`.
-fn add_last(text: &mut Vec<u8>, refutation: &Refutation) -> Result<(), AllocError>
-    ensures { OnOk result (Adds text.old.items text.new.items (last_lines refutation.now)) }
+pub(crate) fn add_last(
+    text: &mut Vec<u8>,
+    uses: &[Use],
+    proof: &[ProofLine],
+) -> Result<(), AllocError>
+    ensures { OnOk result (Adds text.old.items text.new.items (last_lines uses.now proof.now)) }
 {
     let line = certificate_lines::Refutation {
-        uses: refutation.uses.len() as u64,
-        proof_lines: refutation.proof.len() as u64,
+        uses: uses.len() as u64,
+        proof_lines: proof.len() as u64,
     };
     add_word_line(text, WordLine::Refutation(line))?;
-    add_uses(text, refutation.uses.as_slice())?;
-    add_lines(text, refutation.proof.as_slice())?;
+    add_uses(text, uses)?;
+    add_lines(text, proof)?;
     add_word_line(text, WordLine::End)
 }

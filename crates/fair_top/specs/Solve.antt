@@ -12,7 +12,7 @@ use Rattle.certificate_lines.specs.declared.words.Version.TheVariants.{Two}
 use Rattle.certificate.specs.declared.ends.Accepted.{Accepted}
 use Rattle.certificate.specs.declared.ends.Accepted.TheVariants as accepted
 use Rattle.certificate.specs.Answers.{IsGood}
-use Rattle.certificate.specs.Certificates.{Certificate}
+use Rattle.certificate.specs.declared.loaded.Certificate.{Certificate}
 use Rattle.certificate.specs.Writing.{certificate_of, certificate_text}
 use Rattle.entry.specs.CheckedEntries.{CheckedEntry}
 use Rattle.lasso_join.specs.Prefixes.{stimulus_of}

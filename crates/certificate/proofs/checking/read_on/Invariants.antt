@@ -1,15 +1,16 @@
-use Rattle.std.proofs.Common.{◌+◌, ◌-◌, ◌≤◌, false}
+use Rattle.std.proofs.Common.{◌≡◌, ◌+◌, ◌-◌, ◌≤◌, false}
 use Rattle.edge.specs.Faults.{NoneFell}
 use Rattle.edge.specs.Reads.{KeepsTexts, Reads}
 use Rattle.answer_lines.specs.Left.{most_bytes}
 use Rattle.certificate.specs.Seen.{seen, IsKept}
-use Rattle.certificate.proofs.Reached.{Reached}
+use Rattle.certificate.proofs.WholeLaws.{Keeping}
 use Rattle.certificate.proofs.checking.read_on.Given as goal
 
 -- the lines that were given led to the state
 abbrev pub invariant-lines : goal.invariant-lines
 invariant-lines g l = record {
-  reached : Reached l.circuit (g.H.Shelf.held l.fn.shelf l.name) l.lines (seen l.state) l.number;
+  reached : Keeping l.circuit (g.H.Shelf.held l.fn.shelf l.name) l.lines (seen l.state) l.number l.fn.all.keeps l.all.lines;
+  keeps : l.all.keeps ≡ l.fn.all.keeps;
   state : IsKept l.circuit l.state;
   below : l.number ≤ l.lines.taken + 1;
   within : l.lines.taken ≤ most_bytes;

@@ -1,0 +1,61 @@
+//! The lines of an answer, kept where that is wanted. The main type is `KeptLines`.
+
+ghost use Rattle.std.specs.Prelude.{◌≡◌, [], ◌∷◌, ◌++◌, false, true, OnOk};
+ghost use Rattle.stimulus.specs.Texts.{kept_lines};
+
+use cnf::ProofLine;
+use items::Items;
+use std::alloc::{AllocError, Global};
+use stimulus::is_skipped;
+
+/// The lines that are not skipped, where lines are kept.
+#[derive(Drop)]
+pub(crate) struct KeptLines {
+    pub(crate) keeps: bool,
+    pub(crate) lines: Items<ProofLine>,
+}
+
+impl KeptLines {
+    /// Keeps none.
+    pub(crate) fn none(alloc: Global) -> KeptLines
+        ensures keeps { result.keeps ≡ false }
+        ensures lines { result.lines ≡ [] }
+    {
+        KeptLines {
+            keeps: false,
+            lines: Items::new(alloc),
+        }
+    }
+
+    /// Keeps each, none so far.
+    pub(crate) fn each(alloc: Global) -> KeptLines
+        ensures keeps { result.keeps ≡ true }
+        ensures lines { result.lines ≡ [] }
+    {
+        KeptLines {
+            keeps: true,
+            lines: Items::new(alloc),
+        }
+    }
+
+    /// Keeps the line, unless it is skipped or none is kept.
+    pub(crate) fn keep(&mut self, alloc: Global, line: &[u8]) -> Result<(), AllocError>
+        ensures keeps { self.new.keeps ≡ self.old.keeps }
+        ensures lines { OnOk result (self.old.keeps ≡ true → self.new.lines ≡ self.old.lines ++ kept_lines (line.now ∷ [])) }
+    {
+        if self.keeps {
+            keep_line(alloc, &mut self.lines, line)?;
+        }
+        Ok(())
+    }
+}
+
+fn keep_line(alloc: Global, lines: &mut Items<ProofLine>, line: &[u8]) -> Result<(), AllocError>
+    ensures { OnOk result (lines.new ≡ lines.old ++ kept_lines (line.now ∷ [])) }
+{
+    if is_skipped(line) {
+        return Ok(());
+    }
+    lines.push(Items::from_slice(alloc, line)?)?;
+    Ok(())
+}
