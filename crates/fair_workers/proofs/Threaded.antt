@@ -1,6 +1,6 @@
 -- Workers on threads: what each of them begins with and comes to, and what the board of their ledger is then.
 use Rattle.std.proofs.Common.{◌≡◌, ℕ, zero, suc, ◌+◌, ◌-◌, ◌*◌, ◌<◌, ◌≤◌, min, Bool, true, false, cond, List, [], ◌∷◌, ◌++◌, map, Some, None, inl, inr, length, get_or, drop, refl, sym, ap, ◌∙◌, subst, arith}
-use Rattle.std.specs.Prelude.{Option, Contains, ◌==◌}
+use Rattle.std.specs.Prelude.{Option, Contains, ◌==◌, IfSome}
 use Rattle.std.specs.List.{All, Any, AllPairs, remove}
 use Rattle.std.proofs.lemmas.Bool.{false≢true, cases_lt, eq-eqb, ne_eqb}
 use Rattle.std.proofs.lemmas.List.{get_or-map, get_or_default, length-map, length-append, append-nil, append_assoc, map-append, drop-append-le, drop_all}
@@ -11,7 +11,7 @@ use Rattle.edge.specs.Units.{Spendings}
 use Rattle.entry.specs.declared.origins.Origin.{Origin}
 use Rattle.entry.specs.declared.origins.Origin.TheVariants.{Given, Worker as FoundBy}
 use Rattle.entry.specs.CheckedEntries.{CheckedEntry}
-use Rattle.skeleton.specs.Finding.{IsAllowed}
+use Rattle.skeleton.specs.Finding.{Asking, IsAllowed}
 use Rattle.wall_store.specs.Boards.{BoardState, FromWorker, AscendBy, Ascend, IsFind, is_by, found_by, turn_of, most_entries, plain, first_board, properties_of}
 use Rattle.wall_store.proofs.Ascending.{none_found, ascend_empty, ascend_later, found_others}
 use Rattle.wall_ledger.specs.Passes.{Marked, PassState, LedgerState, GoesOn, OwnTurns, blank, new_pass, new_passes}
@@ -24,7 +24,7 @@ use Rattle.fair_workers.specs.declared.working.Phase.TheVariants as phases
 use Rattle.fair_workers.specs.declared.working.Worker.{Worker}
 use Rattle.fair_workers.specs.Runs.{Task, AreLimits, IsFoundWithin, IsBoardOf, IsInBudget, IsWithLimits, most_turns}
 use Rattle.fair_workers.specs.Knowing.{Known}
-use Rattle.fair_workers.specs.Working.{rank, left, left_to, left_at_first, searches_left_to, searches_ahead, search_steps, steps_through, is_running, IsIn, IsStuck, IsWorker, Turns, KeepsLimits}
+use Rattle.fair_workers.specs.Working.{rank, left, left_to, left_at_first, searches_left_to, searches_ahead, search_steps, steps_through, is_running, AreRoundsOf, IsIn, IsStuck, IsWorker, Turns, KeepsLimits}
 use Rattle.fair_workers.specs.Ends.{IsStuckOn, Tells, IsDone, AreDone}
 use Rattle.fair_workers.specs.Holding.{known_by, fresh_meter, Goes, StaysHeld, IsPassOf, IsReady, IsThrough, MayRun, HasRun, HaveRun, HasEnded, IsBegunFor}
 use Rattle.fair_workers.proofs.Causes.{steps-least}
@@ -36,12 +36,11 @@ use Rattle.fair_round.proofs.Counting.{steps-first, steps-kept, steps-over, step
 
 -- with a pass that is ready a worker begins
 ready-worker : (limits : Limits) (j : ℕ) (l : LedgerState) (p : PassState) (w : Worker) → IsReady limits j l p
-    → w.rounds.circuit ≡ l.circuit → w.rounds.property ≡ j → w.rounds.seen ≡ [] → w.phase ≡ phases.Asks → IsWorker j (known_by l p) w
-ready-worker limits j l p w is circuit property seen phase = record {
+    → w.rounds ≡ None → w.phase ≡ phases.Asks → IsWorker j (known_by l p) w
+ready-worker limits j l p w is none phase = record {
   served = is.served;
-  circuit = circuit;
-  property = property;
-  on = (plain p.list, sym (ap (λ xs. xs ++ plain p.list) seen));
+  inside = is.property;
+  rounds = subst (λ (r : Option Asking). IfSome r (AreRoundsOf l.circuit j (plain p.list))) (sym none) tt;
   phase = subst (IsIn j (known_by l p) w.meter) (sym phase) tt;
   short = is.pass.limit;
   turns = subst (λ q. p.turns + left l.limit (length p.list) q ≤ left_at_first l.limit (length l.given)) (sym phase)
@@ -64,10 +63,10 @@ ready-steps limits j l p w is phase meter =
     few limit seen given more ahead same grows one = omega (arith, same, grows, one)
 
 pub goes-first : (limits : Limits) (j : ℕ) (l : LedgerState) (p : PassState) (w : Worker) → IsReady limits j l p
-    → w.rounds.circuit ≡ l.circuit → w.rounds.property ≡ j → w.rounds.seen ≡ [] → w.meter ≡ fresh_meter limits → w.phase ≡ phases.Asks → Goes limits j l p w
-goes-first limits j l p w is circuit property seen meter phase = record {
+    → w.rounds ≡ None → w.meter ≡ fresh_meter limits → w.phase ≡ phases.Asks → Goes limits j l p w
+goes-first limits j l p w is none meter phase = record {
   pass = is.pass;
-  worker = ready-worker limits j l p w is circuit property seen phase;
+  worker = ready-worker limits j l p w is none phase;
   counted = record { conflicts = ap (λ (s : Spendings). s.conflict_limit) meter; steps = ap (λ (s : Spendings). s.step_limit) meter };
   steps = ready-steps limits j l p w is phase meter;
 }
@@ -109,22 +108,6 @@ goes-through limits j l m q v spent ledger g over same within =
       within = subst IsInBudget same within;
       steps = steps-last v.meter.steps (searches_left_to (known_by m q) v) (search_steps m.circuit j) ((limits.skeletons + 1) * search_steps m.circuit j) g.steps;
     }))
-
--- a worker that was refused memory at its start
-pub through-refused : (limits : Limits) (j : ℕ) (l : LedgerState) (p : PassState) (spent : Spendings) → IsReady limits j l p
-    → spent ≡ fresh_meter limits → IsInBudget spent → IsThrough limits j l p (record { spent = spent; phase = phases.Refused })
-through-refused limits j l p spent is same within = record {
-  pass = is.pass;
-  turns = none p.turns (left_at_first l.limit (length l.given)) is.turns;
-  over = refl;
-  tells = tt;
-  counted = record { conflicts = ap (λ (s : Spendings). s.conflict_limit) same; steps = ap (λ (s : Spendings). s.step_limit) same };
-  within = within;
-  steps = none spent.steps ((limits.skeletons + 1) * search_steps l.circuit j) (ap (λ (s : Spendings). s.steps) same);
-}
-  where
-    none : (a b : ℕ) → a ≡ 0 → a ≤ b
-    none a b e = omega (arith, e)
 
 -- ---- new passes
 

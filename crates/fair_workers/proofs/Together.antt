@@ -1,6 +1,6 @@
 -- Workers that take turns over one board.
 use Rattle.std.proofs.Common.{◌≡◌, ◌≢◌, ℕ, ◌+◌, ◌-◌, ◌*◌, ◌<◌, ◌≤◌, max, min, Bool, true, false, ◌||◌, List, [], ◌∷◌, ◌++◌, ◌⊎◌, inl, inr, None, map, length, get_or, set, take, drop, refl, sym, ap, ◌∙◌, subst, arith}
-use Rattle.std.specs.Prelude.{Contains, ◌==◌}
+use Rattle.std.specs.Prelude.{Option, Contains, ◌==◌, IfSome}
 use Rattle.std.specs.List.{All}
 use Rattle.std.proofs.Math.Seq.{map-set_same}
 use Rattle.std.proofs.lemmas.Bool.{false≢true, cases_lt, eq-eqb, ne_eqb}
@@ -14,7 +14,7 @@ use Rattle.entry.specs.declared.origins.Origin.{Origin}
 use Rattle.entry.specs.declared.origins.Origin.TheVariants.{Given, Worker as FoundBy}
 use Rattle.entry.specs.CheckedEntries.{CheckedEntry, GoesOnFrom}
 use Rattle.fair_semantics.specs.declared.skeletons.Skeleton.{Skeleton}
-use Rattle.skeleton.specs.Finding.{IsAllowed}
+use Rattle.skeleton.specs.Finding.{Asking, IsAllowed}
 use Rattle.wall_store.specs.declared.outcomes.Served.{Served}
 use Rattle.wall_store.specs.Boards.{BoardState, IsBoard, FromWorker, is_by, found_by, turn_of, AscendBy, Ascend, plain, properties_of, outcome_of, most_entries, first_board}
 use Rattle.wall_store.specs.Events.{seen_by, list_of, IsSettled}
@@ -29,12 +29,12 @@ use Rattle.fair_workers.specs.declared.board_workers.BoardWorker.{BoardWorker}
 use Rattle.fair_workers.specs.declared.lending.LentBoard.{LentBoard}
 use Rattle.fair_workers.specs.Runs.{Task, IsFoundWithin, IsBoardOf, IsWithLimits, IsInBudget, AreSpentOn, IsFull, IsAnswer, IsReport, most_situations, most_steps, most_turns}
 use Rattle.fair_workers.specs.Knowing.{Known}
-use Rattle.fair_workers.specs.Working.{rank, is_running, is_refused, left, left_at_first, searches_left, searches_ahead, search_steps, steps_through, IsIn, IsStuck, IsWorker, Turns, KeepsLimits}
+use Rattle.fair_workers.specs.Working.{rank, is_running, is_refused, left, left_at_first, searches_left, searches_ahead, search_steps, steps_through, AreRoundsOf, IsIn, IsStuck, IsWorker, Turns, KeepsLimits}
 use Rattle.fair_workers.specs.BoardWorkers.{known_at, known_of, left_by, left_of, searches_left_by, KeepsWithin, runs_at, turns_at, IsOfTurn, GoesOnBy, StaysLent, IsBoardWorker, TakesTurn, Follows, AreWorkers, ServeTask, HaveEnded, task_of}
 use Rattle.fair_workers.specs.Ends.{IsStuckOn, Tells, IsDone, AreDone}
 use Rattle.fair_workers.specs.declared.ending.WorkerEnd.{WorkerEnd}
 use Rattle.fair_workers.proofs.Causes.{steps-least}
-use Rattle.fair_workers.proofs.Turned.{turn-within, is-running}
+use Rattle.fair_workers.proofs.Turned.{turn-within, is-running, rounds-same}
 use Rattle.fair_workers.proofs.LentBoards.{is-not-none, some-is, seen-size, seen-within}
 use Rattle.fair_round.proofs.Counting.{steps-first, steps-kept, steps-over, steps-last}
 
@@ -87,10 +87,10 @@ sparing-first limits j b w few seen phase none =
 first-turns : (limit given seen : ℕ) → given ≤ seen → 0 + left limit seen phases.Asks ≤ left_at_first limit given
 first-turns limit given seen whole = omega (arith, whole)
 
-pub worker-first : (j : ℕ) (b : BoardState) (m : BoardWorker) → IsBoard b → m.number < b.workers → m.worker.rounds.circuit ≡ b.circuit
-    → m.worker.rounds.property ≡ j → m.worker.rounds.seen ≡ [] → m.worker.phase ≡ phases.Asks → m.turns ≡ 0 → m.seen ≡ seen_by b m.number
-    → seen_by b m.number ≡ length b.entries → properties_of b.served ≡ j ∷ [] → IsBoardWorker j b m
-worker-first j b m is below circuit property none phase turns seen whole served =
+pub worker-first : (j : ℕ) (b : BoardState) (m : BoardWorker) → IsBoard b → m.number < b.workers → j < length b.circuit.justice → m.worker.rounds ≡ None
+    → m.worker.phase ≡ phases.Asks → m.turns ≡ 0 → m.seen ≡ seen_by b m.number → seen_by b m.number ≡ length b.entries
+    → properties_of b.served ≡ j ∷ [] → IsBoardWorker j b m
+worker-first j b m is below inside none phase turns seen whole served =
     let k : Known = known_at b m.number m.turns in
     let size : b.given ≤ length (list_of b m.number) = omega (arith, is.given, whole, seen-size b m.number is below) in
     record {
@@ -98,9 +98,8 @@ worker-first j b m is below circuit property none phase turns seen whole served 
       seen = seen;
       worker = record {
         served = served;
-        circuit = circuit;
-        property = property;
-        on = (plain (list_of b m.number), sym (ap (λ xs. xs ++ plain (list_of b m.number)) none));
+        inside = inside;
+        rounds = subst (λ (r : Option Asking). IfSome r (AreRoundsOf b.circuit j (plain (list_of b m.number)))) (sym none) tt;
         phase = subst (IsIn j k m.worker.meter) (sym phase) tt;
         short = is.limit;
         turns = subst (λ p. m.turns + left b.limit (length (list_of b m.number)) p ≤ left_at_first b.limit b.given) (sym phase)
@@ -168,9 +167,8 @@ worker-stays : (j : ℕ) (k l : Known) (w : Worker) → l.circuit ≡ k.circuit 
     → l.limit ≡ k.limit → l.list ≡ k.list → (k.settled j ≡ true → l.settled j ≡ true) → IsWorker j k w → IsWorker j l w
 worker-stays j k l w circuit properties turns given limit list settled is = record {
   served = properties ∙ is.served;
-  circuit = is.circuit ∙ sym circuit;
-  property = is.property;
-  on = subst (λ (xs : List CheckedEntry). GoesOnFrom w.rounds.seen (plain xs)) (sym list) is.on;
+  inside = subst (λ (c : Circuit). j < length c.justice) (sym circuit) is.inside;
+  rounds = rounds-same w.rounds j k l circuit list is.rounds;
   phase = phase-stays j k l w.meter w.phase circuit limit list settled is.phase;
   short = subst (λ (n : ℕ). n ≤ most_entries) (sym limit) is.short;
   turns = turns-stay k.turns l.turns (length k.list) (length l.list) k.limit l.limit k.given l.given (rank w.phase) turns (ap length list) limit given is.turns;

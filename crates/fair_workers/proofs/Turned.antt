@@ -1,6 +1,6 @@
 -- What a worker's calls come to, by what it knows.
 use Rattle.std.proofs.Common.{◌≡◌, ℕ, max, ◌+◌, ◌-◌, ◌*◌, ◌<◌, ◌≤◌, true, List, [], ◌∷◌, ◌++◌, length, get_or, refl, sym, ap, ◌∙◌, subst, arith}
-use Rattle.std.specs.Prelude.{Contains}
+use Rattle.std.specs.Prelude.{Option, Some, None, Result, Ok, Err, Contains, IfSome, IfOk}
 use Rattle.std.specs.List.{Any}
 use Rattle.std.proofs.lemmas.Bool.{false≢true}
 use Rattle.std.proofs.lemmas.List.{length-append, map-append, append_assoc}
@@ -9,18 +9,19 @@ use Rattle.edge.specs.Units.{Spendings}
 use Rattle.fair_semantics.specs.Entries.{Entry, used_entries, AreClosed}
 use Rattle.fair_semantics.specs.Skeletons.{IsSkeleton}
 use Rattle.entry.specs.CheckedEntries.{CheckedEntry, GoesOnFrom}
+use Rattle.skeleton.specs.Finding.{Asking}
 use Rattle.entry.specs.declared.origins.Origin.{Origin}
 use Rattle.entry.specs.declared.origins.Origin.TheVariants.{Given, Worker as FoundBy}
 use Rattle.wall_store.specs.declared.outcomes.Posted.{Posted}
 use Rattle.wall_store.specs.declared.outcomes.Posted.TheVariants as posts
 use Rattle.wall_store.specs.Boards.{FromWorker, most_entries, plain}
-use Rattle.fair_round.specs.Spending.{path_steps}
+use Rattle.fair_round.specs.Spending.{Asks, path_steps}
 use Rattle.fair_round.specs.Deeds.{IsWorkOf}
 use Rattle.fair_workers.specs.Knowing.{Known, AreSettled, Keeps, KeepsList, SeesMore, HasPosted, HasFinished, IsOwn}
 use Rattle.fair_workers.specs.declared.working.Phase.{Phase}
 use Rattle.fair_workers.specs.declared.working.Phase.TheVariants as phases
 use Rattle.fair_workers.specs.declared.working.Worker.{Worker}
-use Rattle.fair_workers.specs.Working.{rank, left, left_to, left_at_first, searches_ahead, searches_left, searches_left_to, search_steps, steps_through, is_running, phase_after, IsAtLimit, IsIn, IsWorker, Turns, Thinks}
+use Rattle.fair_workers.specs.Working.{rank, left, left_to, left_at_first, searches_ahead, searches_left, searches_left_to, search_steps, steps_through, is_running, phase_after, AreRoundsOf, IsAtLimit, IsIn, IsWorker, Turns, Thinks}
 use Rattle.fair_round.proofs.Counting.{steps-fewer, steps-behind}
 
 -- ---- lists that go on
@@ -32,6 +33,34 @@ goes-on-more seen entries more h =
 goes-on-in : (seen : List Entry) (k l : Known) → SeesMore k l → GoesOnFrom seen (plain k.list) → GoesOnFrom seen (plain l.list)
 goes-on-in seen k l sees h =
     subst (λ (xs : List CheckedEntry). GoesOnFrom seen (plain xs)) (sym sees.list.1) (goes-on-more seen k.list sees.list.0 h)
+
+rounds-in : (r : Option Asking) (j : ℕ) (k l : Known) → SeesMore k l → IfSome r (AreRoundsOf k.circuit j (plain k.list))
+    → IfSome r (AreRoundsOf l.circuit j (plain l.list))
+rounds-in None j k l sees h = tt
+rounds-in (Some r) j k l sees h = record {
+  circuit = h.circuit ∙ sym sees.keeps.circuit;
+  property = h.property;
+  on = goes-on-in r.seen k l sees h.on;
+}
+
+pub rounds-same : (r : Option Asking) (j : ℕ) (k l : Known) → l.circuit ≡ k.circuit → l.list ≡ k.list → IfSome r (AreRoundsOf k.circuit j (plain k.list))
+    → IfSome r (AreRoundsOf l.circuit j (plain l.list))
+rounds-same r j k l circuit list h =
+    subst (λ (xs : List CheckedEntry). IfSome r (AreRoundsOf l.circuit j (plain xs))) (sym list)
+    (subst (λ (c : Circuit). IfSome r (AreRoundsOf c j (plain k.list))) (sym circuit) h)
+
+-- rounds that were just made have seen nothing
+pub made-rounds : {E : Type 0} (r : Result Asking E) (c : Circuit) (j : ℕ) (xs : List Entry)
+    → IfOk r (λ made. made ≡ record { circuit = c; property = j; seen = [] }) → IfOk r (AreRoundsOf c j xs)
+made-rounds (Ok r) c j xs made = record {
+  circuit = ap (λ (a : Asking). a.circuit) made;
+  property = ap (λ (a : Asking). a.property) made;
+  on = (xs, sym (ap (λ (a : Asking). a.seen ++ xs) made));
+}
+made-rounds (Err e) c j xs made = tt
+
+inside-on : (j : ℕ) (k l : Known) → Keeps k l → j < length k.circuit.justice → j < length l.circuit.justice
+inside-on j k l kept inside = subst (λ (c : Circuit). j < length c.justice) (sym kept.circuit) inside
 
 no-shorter : (k l : Known) → SeesMore k l → length k.list ≤ length l.list
 no-shorter k l sees = omega (arith, ap length sees.list.1, length-append k.list sees.list.0)
@@ -106,9 +135,8 @@ kept-turn j searches k l w p is kept less fewer here =
     record {
       worker = record {
         served = kept.keeps.properties ∙ is.served;
-        circuit = is.circuit ∙ sym kept.keeps.circuit;
-        property = is.property;
-        on = subst (λ (xs : List CheckedEntry). GoesOnFrom w.rounds.seen (plain xs)) (sym kept.list) is.on;
+        inside = inside-on j k l kept.keeps is.inside;
+        rounds = rounds-same w.rounds j k l kept.keeps.circuit kept.list is.rounds;
         phase = here;
         short = short-on k.limit l.limit kept.keeps.limit is.short;
         turns = turns-on k l (left k.limit (length k.list) w.phase) (left l.limit (length l.list) p) kept.keeps falls is.turns;
@@ -133,9 +161,8 @@ seen-turn : (j searches : ℕ) (k l : Known) (w : Worker) (p : Phase) → IsWork
 seen-turn j searches k l w p is sees falls fewer here = record {
   worker = record {
     served = sees.keeps.properties ∙ is.served;
-    circuit = is.circuit ∙ sym sees.keeps.circuit;
-    property = is.property;
-    on = goes-on-in w.rounds.seen k l sees is.on;
+    inside = inside-on j k l sees.keeps is.inside;
+    rounds = rounds-in w.rounds j k l sees is.rounds;
     phase = here;
     short = short-on k.limit l.limit sees.keeps.limit is.short;
     turns = turns-on k l (left k.limit (length k.list) w.phase) (left l.limit (length l.list) p) sees.keeps falls is.turns;
@@ -214,9 +241,8 @@ phase-thinks j k a b phases.Refused running h = absurd (false≢true running)
 pub thinks_worker : (j searches : ℕ) (k : Known) (w v : Worker) → IsWorker j k w → Thinks j searches k w v → is_running w.phase ≡ true → IsWorker j k v
 thinks_worker j searches k w v is t running = record {
   served = is.served;
-  circuit = t.circuit ∙ is.circuit;
-  property = t.property ∙ is.property;
-  on = t.on;
+  inside = is.inside;
+  rounds = t.rounds;
   phase = subst (IsIn j k v.meter) (sym t.phase) (phase-thinks j k w.meter v.meter w.phase running is.phase);
   short = is.short;
   turns = subst (λ p. k.turns + left k.limit (length k.list) p ≤ left_at_first k.limit k.given) (sym t.phase) is.turns;
@@ -234,6 +260,19 @@ thinks_turn j searches k l w v u t turn = record {
       in
       steps-behind u.meter.steps v.meter.steps w.meter.steps searches (searches_left_to l u) (searches_left_to k w) cost t.steps behind;
 }
+
+-- a search that did not begin
+pub counts-none : (n searches : ℕ) (x : Spendings) → Asks n searches x x
+counts-none n searches x = record {
+  conflict_limit = refl;
+  step_limit = refl;
+  conflicts = omega arith;
+  steps = omega arith;
+  bound = more x.steps (searches * path_steps n);
+}
+  where
+    more : (a b : ℕ) → a ≤ a + b
+    more a b = omega arith
 
 -- one search, in the phase for it
 pub thought : (p : Phase) (s t : ℕ) (c d : Circuit) (j : ℕ) → p ≡ phases.Searches → d ≡ c

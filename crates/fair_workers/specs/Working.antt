@@ -1,10 +1,11 @@
 -- Scaffolding of inner functions. A worker, and what a turn comes to, by what it knows of the list that it shares.
-use Rattle.std.specs.Prelude.{◌≡◌, ℕ, ◌+◌, ◌-◌, ◌*◌, ◌<◌, ◌≤◌, max, Bool, true, false, ◌∷◌, [], length}
+use Rattle.std.specs.Prelude.{◌≡◌, ℕ, ◌+◌, ◌-◌, ◌*◌, ◌<◌, ◌≤◌, max, Bool, true, false, List, ◌∷◌, [], length, IfSome}
 use Rattle.aig_semantics.specs.Circuits.{Circuit, fair_literals}
 use Rattle.edge.specs.Units.{Spendings}
 use Rattle.entry.specs.CheckedEntries.{GoesOnFrom}
+use Rattle.fair_semantics.specs.Entries.{Entry}
 use Rattle.fair_semantics.specs.declared.skeletons.Skeleton.{Skeleton}
-use Rattle.skeleton.specs.Finding.{IsAllowed}
+use Rattle.skeleton.specs.Finding.{Asking, IsAllowed}
 use Rattle.wall_store.specs.declared.outcomes.Posted.{Posted}
 use Rattle.wall_store.specs.declared.outcomes.Posted.TheVariants as posts
 use Rattle.wall_store.specs.Boards.{most_entries, plain}
@@ -126,12 +127,18 @@ pub record KeepsLimits (old new : Spendings) : Type 0 where
   pub conflicts : new.conflict_limit ≡ old.conflict_limit
   pub steps : new.step_limit ≡ old.step_limit
 
--- A worker that serves property j and knows this. With each turn less is left, so there are no more turns than that.
+-- what a worker keeps from round to round is of this circuit and property, and what was seen goes on from it
+pub record AreRoundsOf (c : Circuit) (j : ℕ) (seen : List Entry) (r : Asking) : Type 0 where
+  pub circuit : r.circuit ≡ c
+  pub property : r.property ≡ j
+  pub on : GoesOnFrom r.seen seen
+
+-- A worker that serves property j and knows this; before its first search it keeps nothing. With each turn less is left, so
+-- there are no more turns than that.
 pub record IsWorker (j : ℕ) (k : Known) (w : Worker) : Type 0 where
   pub served : k.properties ≡ j ∷ []
-  pub circuit : w.rounds.circuit ≡ k.circuit
-  pub property : w.rounds.property ≡ j
-  pub on : GoesOnFrom w.rounds.seen (plain k.list)
+  pub inside : j < length k.circuit.justice
+  pub rounds : IfSome w.rounds (AreRoundsOf k.circuit j (plain k.list))
   pub phase : IsIn j k w.meter w.phase
   pub short : k.limit ≤ most_entries
   pub turns : k.turns + left_to k w ≤ left_at_first k.limit k.given
@@ -145,11 +152,9 @@ pub record Turns (j searches : ℕ) (k : Known) (w : Worker) (l : Known) (v : Wo
       steps_through v (searches_left_to l v + searches) (search_steps k.circuit j)
       ≤ steps_through w (searches_left_to k w) (search_steps k.circuit j)
 
--- The worker thought over what it has seen, in so many searches, which changed its query and its meter alone.
+-- The worker thought over what it has seen, in so many searches, which changed its rounds and its meter alone.
 pub record Thinks (j searches : ℕ) (k : Known) (w v : Worker) : Type 0 where
   pub phase : v.phase ≡ w.phase
-  pub circuit : v.rounds.circuit ≡ w.rounds.circuit
-  pub property : v.rounds.property ≡ w.rounds.property
-  pub on : GoesOnFrom v.rounds.seen (plain k.list)
+  pub rounds : IfSome v.rounds (AreRoundsOf k.circuit j (plain k.list))
   pub limits : KeepsLimits w.meter v.meter
   pub steps : v.meter.steps ≤ steps_through w searches (search_steps k.circuit j)

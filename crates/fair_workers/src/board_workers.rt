@@ -1,6 +1,6 @@
 //! The workers of a board, and whose turn it is. The main calls are `workers_on` and `turn_of`.
 
-ghost use Rattle.std.specs.Prelude.{◌≡◌, ℕ, ◌+◌, ◌<◌, ◌≤◌, ◌∷◌, [], true, false, All, map, length, slice_index, vec_capacity, IfOk, OnOk};
+ghost use Rattle.std.specs.Prelude.{◌≡◌, ℕ, ◌+◌, ◌<◌, ◌≤◌, ◌∷◌, [], true, false, None, All, map, length, slice_index, vec_capacity, IfOk, OnOk};
 ghost use Rattle.std.specs.Arc.{arc_value};
 ghost use Rattle.edge.specs.Units.{limit_of};
 ghost use Rattle.wall_store.specs.Boards.{properties_of};
@@ -16,7 +16,6 @@ use crate::working::{Phase, Worker, take_turn};
 use circuit::Circuit;
 use edge::Meter;
 use entry::Checked;
-use fair_round::Rounds;
 use std::alloc::{AllocError, Global};
 use std::sync::Arc;
 use wall_store::Board;
@@ -40,40 +39,34 @@ pub(crate) struct BoardWorker {
     pub(crate) worker: Worker,
 }
 
-// A worker that has seen so many entries, and has spent nothing. No other meter is made for the work of a run.
-fn new_worker(
-    alloc: Global,
-    task: &RunTask<'_>,
-    number: u32,
-    seen: usize,
-) -> Result<BoardWorker, AllocError>
-    requires { task.now.property < length (arc_value task.now.circuit.now).justice }
-    ensures { IfOk result (λ m. m ≡ record {
+// A worker that has seen so many entries, and has begun and spent nothing. No other meter is made for the work of a run.
+fn new_worker(limits: Limits, number: u32, seen: usize) -> BoardWorker
+    ensures { result ≡ record {
       number = number;
       seen = seen;
       turns = 0;
       worker = record {
-        rounds = record { circuit = arc_value task.now.circuit.now; property = task.now.property; seen = [] };
+        rounds = None;
         meter = record {
           conflicts = 0;
-          conflict_limit = limit_of task.now.limits.conflicts;
+          conflict_limit = limit_of limits.conflicts;
           steps = 0;
-          step_limit = limit_of task.now.limits.steps;
+          step_limit = limit_of limits.steps;
         };
         phase = Phase.Asks;
       };
-    }) }
+    } }
 {
-    Ok(BoardWorker {
+    BoardWorker {
         number,
         seen,
         turns: 0,
         worker: Worker {
-            rounds: Rounds::new(alloc, task.circuit, task.property, number)?,
-            meter: Meter::new(task.limits.conflicts, task.limits.steps),
+            rounds: None,
+            meter: Meter::new(limits.conflicts, limits.steps),
             phase: Phase::Asks,
         },
-    })
+    }
 }
 
 /// The workers over a board that each of them has seen whole, and whose entries are all given.
@@ -93,17 +86,12 @@ pub(crate) fn workers_on(
     ensures workers { IfOk result (λ made. AreWorkers task.now.limits task.now.property board.now made.items) }
 {
     let mut workers = Vec::new(alloc);
-    fill(alloc, task, board, &mut workers)?;
+    fill(task, board, &mut workers)?;
     Ok(workers)
 }
 
 // Puts the workers into a list in which there is none.
-fn fill(
-    alloc: Global,
-    task: &RunTask<'_>,
-    board: &Board,
-    workers: &mut Vec<BoardWorker>,
-) -> Result<(), AllocError>
+fn fill(task: &RunTask<'_>, board: &Board, workers: &mut Vec<BoardWorker>) -> Result<(), AllocError>
     requires property { task.now.property < length (arc_value task.now.circuit.now).justice }
     requires circuit { arc_value task.now.circuit.now ≡ board.now.circuit }
     requires served { properties_of board.now.served ≡ task.now.property ∷ [] }
@@ -118,7 +106,7 @@ fn fill(
     board.holds();
     let seen = board.entries().len();
     for number in 0..task.limits.workers {
-        workers.push(new_worker(alloc, task, number, seen)?)?;
+        workers.push(new_worker(task.limits, number, seen))?;
     }
     Ok(())
 }

@@ -1,5 +1,4 @@
-//! A worker on a thread: it makes what it keeps from round to round, and takes turns until it ends. The main call is
-//! `run_through`.
+//! A worker on a thread: it takes turns until it ends. The main call is `run_through`.
 
 ghost use Rattle.std.specs.Prelude.{◌≡◌, ◌≤◌, [], false, Some, map, vec_len, vec_capacity, All};
 ghost use Rattle.fair_workers.specs.Working.{is_running};
@@ -11,7 +10,6 @@ use crate::limits::Limits;
 use crate::shared_list::SharedList;
 use crate::working::{Phase, Worker, take_turn};
 use edge::{Bell, Gate, Meter, Point};
-use fair_round::Rounds;
 use std::alloc::Global;
 use std::sync::{Arc, Wait};
 use wall_ledger::{Ledger, Pass};
@@ -85,37 +83,21 @@ fn meter_of(limits: Limits, bell: &Arc<Bell>) -> Meter
     }
 }
 
-// A worker with these rounds and this pass that has begun nothing yet.
+// A worker with this pass that has begun nothing yet.
 fn begun_worker(
     bell: &Arc<Bell>,
     limits: Limits,
     _property: u32,
     _ledger: &Ledger,
     _pass: &Pass,
-    rounds: Rounds,
 ) -> Worker
-    requires ready { IsReady limits _property _ledger.now _pass.now }
-    requires circuit { rounds.circuit ≡ _ledger.now.circuit }
-    requires property { rounds.property ≡ _property }
-    requires seen { rounds.seen ≡ [] }
+    requires { IsReady limits _property _ledger.now _pass.now }
     ensures { Goes limits _property _ledger.now _pass.now result }
 {
     Worker {
-        rounds,
+        rounds: None,
         meter: meter_of(limits, bell),
         phase: Phase::Asks,
-    }
-}
-
-// The end of a worker to which memory was refused at its start.
-fn refused_at_start(limits: Limits, _property: u32, _ledger: &Ledger, _pass: &Pass) -> WorkerEnd
-    requires { IsReady limits _property _ledger.now _pass.now }
-    ensures { IsThrough limits _property _ledger.now _pass.now result }
-{
-    let meter = Meter::new(limits.conflicts, limits.steps);
-    WorkerEnd {
-        spent: spending_of(&meter),
-        phase: Phase::Refused,
     }
 }
 
@@ -126,21 +108,8 @@ fn run_held<R: Wait, G: Gate>(crew: &Crew<'_, R, G>, held: &mut Held<'_, R>) -> 
     ensures through { IsThrough crew.now.limits crew.now.property held.old.ledger.now held.new.pass result }
 {
     let ledger = held.ledger;
-    let number = held.number();
-    match Rounds::new(crew.alloc, ledger.circuit(), crew.property, number) {
-        Ok(rounds) => {
-            let worker = begun_worker(
-                crew.bell,
-                crew.limits,
-                crew.property,
-                ledger,
-                &held.pass,
-                rounds,
-            );
-            run_worker(crew, worker, held)
-        }
-        Err(_) => refused_at_start(crew.limits, crew.property, ledger, &held.pass),
-    }
+    let worker = begun_worker(crew.bell, crew.limits, crew.property, ledger, &held.pass);
+    run_worker(crew, worker, held)
 }
 
 // Rings the bell where the worker was told that its property has an outcome.
@@ -160,7 +129,7 @@ fn taken(runner: &mut Runner, _limits: Limits, _property: u32, _ledger: &Ledger)
     runner.pass.take().unwrap()
 }
 
-/// The work of a worker from its start to its end. Where memory is refused, even at its start, it ends alone.
+/// The work of a worker from its start to its end. Where memory is refused, it ends alone.
 pub(crate) fn run_through<R: Wait, G: Gate>(crew: &Crew<'_, R, G>, runner: &mut Runner)
     requires { MayRun crew.now.limits crew.now.property crew.now.ledger.now runner.old }
     ensures { HasRun crew.now.limits crew.now.property crew.now.ledger.now runner.old runner.new }

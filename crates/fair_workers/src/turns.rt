@@ -110,11 +110,11 @@ fn run_task(alloc: Global, task: &RunTask<'_>, schedule: &[u32]) -> Result<Repor
 /// says who takes the first turns; a number of it that is no worker's, or that of a worker that has ended, is skipped.
 /// Then the workers take turns from worker 0 upwards, again and again. No clause says who takes a turn; tests show it.
 ///
-/// A worker that is refused memory ends, and the others go on. An outcome comes before want of memory, and that before a
-/// report without an outcome. `Spent` comes only where the property has no outcome, and either the list is full and its
-/// entries allow a skeleton, or each worker has spent its conflicts or its steps. Whatever their limit is, no worker takes
-/// more steps than `most_steps` says; so a limit above that is never spent. Nor does one take more turns than `most_turns`
-/// says; within these, in ascending turns, it found what it added to the list.
+/// A worker that is refused memory ends, be it at its start, and the others go on. An outcome comes before want of memory,
+/// and that before a report without an outcome. `Spent` comes only where the property has no outcome, and either the list
+/// is full and its entries allow a skeleton, or each worker has spent its conflicts or its steps. Whatever their limit is,
+/// no worker takes more steps than `most_steps` says; so a limit above that is never spent. Nor does one take more turns
+/// than `most_turns` says; within these, in ascending turns, it found what it added to the list.
 pub fn run_turns(
     alloc: Global,
     c: &Arc<Circuit>,

@@ -1,13 +1,17 @@
 //! A worker, and what it does in a turn over any shared list. The main call is `take_turn`: the work up to the next event
 //! of the list, and that event.
 
-ghost use Rattle.std.specs.Prelude.{◌≡◌, true, IfOk, IfErr};
+ghost use Rattle.std.specs.Prelude.{◌≡◌, ◌+◌, ◌^◌, ◌<◌, max, true, None, length, IfOk, IfErr, IfSome};
 ghost use Rattle.std.specs.Arc.{arc_value};
+ghost use Rattle.aig_semantics.specs.Circuits.{fair_literals};
+ghost use Rattle.edge.specs.Ends.{CountsConflicts};
+ghost use Rattle.entry.specs.CheckedEntries.{viewed, GoesOnFrom};
+ghost use Rattle.entry.specs.Laws.{IsGoodList};
 ghost use Rattle.skeleton.specs.Finding.{IsFound};
 ghost use Rattle.wall_store.specs.Boards.{plain};
-ghost use Rattle.fair_round.specs.Spending.{IsSpent, IsStop};
+ghost use Rattle.fair_round.specs.Spending.{Asks, IsSpent, IsStop};
 ghost use Rattle.fair_round.specs.Deeds.{IsDeed, IsPosting, IsTrueBehind};
-ghost use Rattle.fair_workers.specs.Working.{is_running, is_refused, phase_after, searches_ahead, IsStuck, IsWorker, Turns, Thinks};
+ghost use Rattle.fair_workers.specs.Working.{is_running, is_refused, phase_after, searches_ahead, AreRoundsOf, IsStuck, IsWorker, Turns, Thinks};
 
 use crate::shared_list::SharedList;
 use circuit::Circuit;
@@ -15,7 +19,7 @@ use edge::Meter;
 use entry::Checked;
 use fair_round::{Author, Deed, Rounds, Stop, decide};
 use skeleton::Found;
-use std::alloc::Global;
+use std::alloc::{AllocError, Global};
 use std::sync::Arc;
 use wall_store::{Outcome, Posted};
 
@@ -44,12 +48,58 @@ pub(crate) enum Phase {
     Refused,
 }
 
-/// A worker: its rounds, its meter, and what it does next or how it ended.
+/// A worker: its rounds, which it makes when it first searches, its meter, and what it does next or how it ended.
 #[derive(Drop)]
 pub(crate) struct Worker {
-    pub(crate) rounds: Rounds,
+    pub(crate) rounds: Option<Rounds>,
     pub(crate) meter: Meter,
     pub(crate) phase: Phase,
+}
+
+// The rounds of a worker, made where it has none yet. They are put back behind the work.
+fn taken(
+    alloc: Global,
+    c: &Arc<Circuit>,
+    j: u32,
+    number: u32,
+    rounds: &mut Option<Rounds>,
+    _view: &[Arc<Checked>],
+) -> Result<Rounds, AllocError>
+    requires property { j < length (arc_value c.now).justice }
+    requires rounds { IfSome rounds.old (AreRoundsOf (arc_value c.now) j (viewed _view.now)) }
+    ensures rounds { IfOk result (AreRoundsOf (arc_value c.now) j (viewed _view.now)) }
+    ensures none { rounds.new ≡ None }
+{
+    match rounds.take() {
+        Some(rounds) => Ok(rounds),
+        None => Rounds::new(alloc, c, j, number),
+    }
+}
+
+// What the worker does next with the view.
+fn decided(
+    alloc: Global,
+    c: &Arc<Circuit>,
+    j: u32,
+    view: &[Arc<Checked>],
+    author: Author,
+    worker: &mut Worker,
+) -> Result<Deed, Stop>
+    requires property { j < length (arc_value c.now).justice }
+    requires rounds { IfSome worker.old.rounds (AreRoundsOf (arc_value c.now) j (viewed view.now)) }
+    requires good { IsGoodList (arc_value c.now) (viewed view.now) }
+    requires few { length view.now < 2 ^ 32 }
+    ensures deed { IfOk result (IsDeed (arc_value c.now) (viewed view.now) j author.number author.turn) }
+    ensures stop { IfErr result (IsStop worker.new.meter) }
+    ensures counted { Asks (length (arc_value c.now).latches) (max 1 (length (fair_literals (arc_value c.now) j)) + 1)
+        worker.old.meter worker.new.meter }
+    ensures rounds { IfSome worker.new.rounds (AreRoundsOf (arc_value c.now) j (viewed view.now)) }
+    ensures phase { worker.new.phase ≡ worker.old.phase }
+{
+    let mut rounds = taken(alloc, c, j, author.number, &mut worker.rounds, view)?;
+    let deed = decide(alloc, c, j, view, &mut rounds, author, &mut worker.meter);
+    drop(worker.rounds.replace(rounds));
+    deed
 }
 
 // What the worker does next with what it has seen.
@@ -73,31 +123,50 @@ fn think<L: SharedList>(
         number: shared.number(),
         turn: shared.turns(),
     };
-    decide(
-        alloc,
-        c,
-        j,
-        shared.view(),
-        &mut worker.rounds,
-        author,
-        &mut worker.meter,
-    )
+    decided(alloc, c, j, shared.view(), author, worker)
+}
+
+// Whether a skeleton is left, by the view.
+fn left_in(
+    alloc: Global,
+    c: &Arc<Circuit>,
+    j: u32,
+    view: &[Arc<Checked>],
+    number: u32,
+    worker: &mut Worker,
+) -> Result<Found, Stop>
+    requires property { j < length (arc_value c.now).justice }
+    requires rounds { IfSome worker.old.rounds (AreRoundsOf (arc_value c.now) j (viewed view.now)) }
+    requires good { IsGoodList (arc_value c.now) (viewed view.now) }
+    requires few { length view.now < 2 ^ 32 }
+    ensures found { IfOk result (IsFound (arc_value c.now) j (viewed view.now)) }
+    ensures stop { IfErr result (IsStop worker.new.meter) }
+    ensures counted { CountsConflicts worker.old.meter worker.new.meter }
+    ensures rounds { IfSome worker.new.rounds (AreRoundsOf (arc_value c.now) j (viewed view.now)) }
+    ensures phase { worker.new.phase ≡ worker.old.phase }
+{
+    let mut rounds = taken(alloc, c, j, number, &mut worker.rounds, view)?;
+    let found = rounds.next(alloc, view, &mut worker.meter);
+    drop(worker.rounds.replace(rounds));
+    found
 }
 
 // Whether a skeleton is left, by what the worker has seen.
 fn think_last<L: SharedList>(
     alloc: Global,
+    c: &Arc<Circuit>,
     j: u32,
     worker: &mut Worker,
     shared: &L,
 ) -> Result<Found, Stop>
     requires kept { L.is_kept shared.now }
     requires worker { IsWorker j (L.known shared.now) worker.old }
+    requires circuit { arc_value c.now ≡ (L.known shared.now).circuit }
     ensures found { IfOk result (IsFound (L.known shared.now).circuit j (plain (L.known shared.now).list)) }
     ensures stop { IfErr result (IsStop worker.new.meter) }
     ensures thinks { Thinks j (searches_ahead worker.new.phase) (L.known shared.now) worker.old worker.new }
 {
-    worker.rounds.next(alloc, shared.view(), &mut worker.meter)
+    left_in(alloc, c, j, shared.view(), shared.number(), worker)
 }
 
 // Asks whether the property is open.
@@ -279,14 +348,21 @@ fn search<L: SharedList>(
 }
 
 // Asks for a skeleton for the last time.
-fn search_last<L: SharedList>(alloc: Global, j: u32, worker: &mut Worker, shared: &mut L)
+fn search_last<L: SharedList>(
+    alloc: Global,
+    c: &Arc<Circuit>,
+    j: u32,
+    worker: &mut Worker,
+    shared: &mut L,
+)
     requires kept { L.is_kept shared.old }
     requires worker { IsWorker j (L.known shared.old) worker.old }
+    requires circuit { arc_value c.now ≡ (L.known shared.old).circuit }
     requires phase { worker.old.phase ≡ Phase.SearchesLast }
     ensures on { L.goes_on shared.old shared.new }
     ensures turns { Turns j 0 (L.known shared.old) worker.old (L.known shared.new) worker.new }
 {
-    match think_last(alloc, j, worker, shared) {
+    match think_last(alloc, c, j, worker, shared) {
         Ok(Found::Skeleton(_left)) => end_full(j, worker, shared),
         Ok(Found::Refuted(refutation)) => {
             finish(j, worker, Outcome::Holds(refutation), shared);
@@ -348,7 +424,7 @@ pub(crate) fn take_turn<L: SharedList>(
         Phase::Searches => search(alloc, c, j, worker, shared),
         Phase::AsksLast => ask_last(j, worker, shared),
         Phase::LooksLast => look_last(j, worker, shared),
-        Phase::SearchesLast => search_last(alloc, j, worker, shared),
+        Phase::SearchesLast => search_last(alloc, c, j, worker, shared),
         Phase::Closed | Phase::Full | Phase::Spent | Phase::Refused => unreachable!(),
     }
 }

@@ -1,4 +1,4 @@
-use Rattle.std.proofs.Common.{refl}
+use Rattle.std.proofs.Common.{None, refl}
 use Rattle.fair_workers.specs.declared.working.Phase.TheVariants.{Asks}
 use Rattle.fair_workers.specs.declared.working.Worker.{Worker}
 use Rattle.fair_workers.proofs.Threaded.{goes-first}
@@ -6,6 +6,5 @@ use Rattle.fair_workers.proofs.runners.begun_worker.Goals as goal
 
 pub returns : goal.returns
 returns c =
-    let w : Worker = record { rounds = c.args.rounds; meter = c.meter_of.result; phase = Asks } in
-    goes-first c.args.limits c.args._property c.args._ledger.now c.args._pass.now w c.requires.ready c.requires.circuit c.requires.property c.requires.seen
-    c.meter_of.ensures refl
+    let w : Worker = record { rounds = None; meter = c.meter_of.result; phase = Asks } in
+    goes-first c.args.limits c.args._property c.args._ledger.now c.args._pass.now w c.requires refl c.meter_of.ensures refl

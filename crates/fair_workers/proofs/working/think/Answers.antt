@@ -1,17 +1,26 @@
-use Rattle.std.proofs.Common.{refl, sym, subst, IfOk}
+use Rattle.std.proofs.Common.{◌<◌, length, sym, ◌∙◌, subst, IfOk}
+use Rattle.std.specs.Prelude.{IfSome}
 use Rattle.std.specs.Arc.{arc_value}
-use Rattle.entry.specs.CheckedEntries.{viewed, GoesOnFrom}
+use Rattle.entry.specs.CheckedEntries.{viewed}
 use Rattle.entry.specs.Laws.{IsGoodList}
 use Rattle.wall_store.specs.Boards.{plain}
 use Rattle.fair_round.specs.Deeds.{IsDeed}
+use Rattle.fair_workers.specs.Working.{AreRoundsOf}
 use Rattle.fair_workers.proofs.Turned.{thought}
 use Rattle.fair_workers.proofs.working.think.Goals as goal
 
-pub decide-requires-clause-on : goal.decide-requires-clause-on
-decide-requires-clause-on g c = subst (GoesOnFrom c.args.worker.now.rounds.seen) (sym c.view.ensures.viewed) c.requires.worker.on
+pub decided-requires-clause-property : goal.decided-requires-clause-property
+decided-requires-clause-property g c = subst (λ d. c.args.j < length d.justice) (sym c.requires.circuit) c.requires.worker.inside
 
-pub decide-requires-clause-good : goal.decide-requires-clause-good
-decide-requires-clause-good g c =
+pub decided-requires-clause-rounds : goal.decided-requires-clause-rounds
+decided-requires-clause-rounds g c =
+    let k = g.L.SharedList.known c.args.shared.now in
+    let r = c.args.worker.now.rounds in
+    subst (λ xs. IfSome r (AreRoundsOf (arc_value c.args.c.now) c.args.j xs)) (sym c.view.ensures.viewed)
+    (subst (λ d. IfSome r (AreRoundsOf d c.args.j (plain k.list))) (sym c.requires.circuit) c.requires.worker.rounds)
+
+pub decided-requires-clause-good : goal.decided-requires-clause-good
+decided-requires-clause-good g c =
     subst (IsGoodList (arc_value c.args.c.now)) (sym c.view.ensures.viewed)
     (subst (λ d. IsGoodList d (plain (g.L.SharedList.known c.args.shared.now).list)) (sym c.requires.circuit) c.view.ensures.good)
 
@@ -20,21 +29,23 @@ returns-clause-deed g c =
     let k = g.L.SharedList.known c.args.shared.now in
     let d = arc_value c.args.c.now in
     let xs = viewed c.view.result.now in
-    subst (λ e. IfOk c.decide.result (IsDeed e (plain k.list) c.args.j k.number k.turns)) c.requires.circuit
-    (subst (λ ys. IfOk c.decide.result (IsDeed d ys c.args.j k.number k.turns)) c.view.ensures.viewed
-    (subst (λ n. IfOk c.decide.result (IsDeed d xs c.args.j n k.turns)) c.number.ensures
-    (subst (λ t. IfOk c.decide.result (IsDeed d xs c.args.j c.number.result t)) c.turns.ensures c.decide.ensures.deed)))
+    subst (λ e. IfOk c.decided.result (IsDeed e (plain k.list) c.args.j k.number k.turns)) c.requires.circuit
+    (subst (λ ys. IfOk c.decided.result (IsDeed d ys c.args.j k.number k.turns)) c.view.ensures.viewed
+    (subst (λ n. IfOk c.decided.result (IsDeed d xs c.args.j n k.turns)) c.number.ensures
+    (subst (λ t. IfOk c.decided.result (IsDeed d xs c.args.j c.number.result t)) c.turns.ensures c.decided.ensures.deed)))
 
 pub returns-clause-thinks : goal.returns-clause-thinks
 returns-clause-thinks g c =
     let k = g.L.SharedList.known c.args.shared.now in
+    let d = arc_value c.args.c.now in
+    let r = c.decided.new.worker.rounds in
     record {
-      phase = refl;
-      circuit = c.decide.ensures.circuit;
-      property = c.decide.ensures.property;
-      on = subst (GoesOnFrom c.decide.new.rounds.seen) c.view.ensures.viewed c.decide.ensures.seen;
-      limits = record { conflicts = c.decide.ensures.counted.conflict_limit; steps = c.decide.ensures.counted.step_limit };
+      phase = c.decided.ensures.phase;
+      rounds =
+          subst (λ e. IfSome r (AreRoundsOf e c.args.j (plain k.list))) c.requires.circuit
+          (subst (λ xs. IfSome r (AreRoundsOf d c.args.j xs)) c.view.ensures.viewed c.decided.ensures.rounds);
+      limits = record { conflicts = c.decided.ensures.counted.conflict_limit; steps = c.decided.ensures.counted.step_limit };
       steps =
-          thought c.args.worker.now.phase c.args.worker.now.meter.steps c.decide.new.meter.steps k.circuit (arc_value c.args.c.now) c.args.j
-          c.requires.phase c.requires.circuit c.decide.ensures.counted.bound;
+          thought c.decided.new.worker.phase c.args.worker.now.meter.steps c.decided.new.worker.meter.steps k.circuit d c.args.j
+          (c.decided.ensures.phase ∙ c.requires.phase) c.requires.circuit c.decided.ensures.counted.bound;
     }
