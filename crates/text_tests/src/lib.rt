@@ -21,3 +21,5 @@ mod names;
 mod numerals;
 #[cfg(test)]
 mod outside;
+#[cfg(test)]
+mod told;
