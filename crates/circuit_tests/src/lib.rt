@@ -1,10 +1,12 @@
 //! Tests of small circuits, with values worked out by hand: their check, values and lassos, their clauses, their
-//! simulation with unknown values, stimuli that are replayed on them, and lassos joined of parts. They need public calls
-//! alone, and stand here so that the gate proves the crates of these calls once.
+//! simulation with unknown values, stimuli that are replayed on them, lassos joined of parts, and lassos by simulation.
+//! They need public calls alone, and stand here so that the gate proves the crates of these calls once.
 #![tactic(auto)]
 
 #[cfg(test)]
 mod circuits;
+#[cfg(test)]
+mod drawn_runs;
 #[cfg(test)]
 mod fitting;
 #[cfg(test)]

@@ -5,6 +5,7 @@ use items::Items;
 use std::alloc::{AllocError, Global};
 
 /// A model with one property.
+#[derive(Drop)]
 pub(crate) struct Model {
     pub(crate) max: u64,
     pub(crate) inputs: &'static [u64],
