@@ -60,7 +60,7 @@ refused_written (Ok outcome) fault status text silent = text
 refused_written (Err other) fault (inr e) text silent = e
 refused_written (Err other) fault (inl e) text silent = let wrong : false ≡ true = sym (ap ends_silently e) ∙ silent in absurd (cc wrong)
 
-written_status : (result : Result Outcome Status) (status : Status) (text : List ℕ) → IsWritten result status text → (status_in result ≡ status) ⊎ (status_in result ≡ statuses.Memory)
+pub written_status : (result : Result Outcome Status) (status : Status) (text : List ℕ) → IsWritten result status text → (status_in result ≡ status) ⊎ (status_in result ≡ statuses.Memory)
 written_status (Ok outcome) status text h = inl h.0
 written_status (Err other) status text h = inr h
 
@@ -136,7 +136,7 @@ exact_by m model answer end h exact verdict (inr (other, e, (text, told, (claime
     let decided : DecidesEnd m.circuit claimed other = subst (λ (x : Model). DecidesEnd x.circuit claimed other) (sym (h.one text n told form)) said in
     subst (λ (v : Status). IsAnswered v (wave_status end)) (sym e) (as_status end other (exact claimed other claim_told decided))
 
-still : (verdict status result : Status) → (result ≡ status) ⊎ (result ≡ statuses.Memory) → IsAnswered verdict status → IsAnswered verdict result
+pub still : (verdict status result : Status) → (result ≡ status) ⊎ (result ≡ statuses.Memory) → IsAnswered verdict status → IsAnswered verdict result
 still verdict status result (inl same) h = subst (λ (s : Status). IsAnswered verdict s) (sym same) h
 still verdict status result (inr memory) h = inr memory
 
@@ -189,7 +189,7 @@ without_exact model answer status result h is verdict d = still verdict status r
 
 -- No answer is accepted.
 
-accepts : Status → Bool
+unfoldable pub accepts : Status → Bool
 accepts (statuses.Done Printed) = false
 accepts (statuses.Done done) = true
 accepts _ = false
@@ -207,7 +207,7 @@ waves_accept_none (Err (ends.Refused fault)) = refl
 waves_accept_none (Err ends.ReadFault) = refl
 waves_accept_none (Err ends.Memory) = refl
 
-no_model_accepts_none : (model : Option (List ℕ)) (status : Status) → EndsWithoutModel model status → accepts status ≡ false
+pub no_model_accepts_none : (model : Option (List ℕ)) (status : Status) → EndsWithoutModel model status → accepts status ≡ false
 unfolding accepts
 no_model_accepts_none model (statuses.BadModel fault) h = refl
 no_model_accepts_none model statuses.ReadFault h = refl
@@ -224,7 +224,7 @@ memory_accepts_none : accepts statuses.Memory ≡ false
 unfolding accepts
 memory_accepts_none = refl
 
-not_both : (a : Accepted) (status result : Status) → accepts status ≡ false → (result ≡ status) ⊎ (result ≡ statuses.Memory) → result ≡ statuses.Done (done_of a) → ⊥
+pub not_both : (a : Accepted) (status result : Status) → accepts status ≡ false → (result ≡ status) ⊎ (result ≡ statuses.Memory) → result ≡ statuses.Done (done_of a) → ⊥
 not_both a status result none (inl e) is =
     let wrong : true ≡ false = sym (accepts_done a) ∙ sym (ap accepts is) ∙ ap accepts e ∙ none in cc wrong
 not_both a status result none (inr e) is =
@@ -240,7 +240,7 @@ without_shown model status result h either a is = not_both a status result (no_m
 
 -- Reads and silence.
 
-written_unread : (result : Result Outcome Status) (status : Status) (text : List ℕ) → is_read_fault status ≡ false → IsWritten result status text → is_read_fault (status_in result) ≡ false
+pub written_unread : (result : Result Outcome Status) (status : Status) (text : List ℕ) → is_read_fault status ≡ false → IsWritten result status text → is_read_fault (status_in result) ≡ false
 written_unread (Ok outcome) status text none h = ap is_read_fault h.0 ∙ none
 written_unread (Err other) status text none h = ap is_read_fault h
 
@@ -253,7 +253,7 @@ waved_unread m (Err (ends.Refused fault)) kept result c h = written_unread resul
 waved_unread m (Err ends.ReadFault) kept result c h = ap (λ (r : Result Outcome Status). is_read_fault (status_in r)) h
 waved_unread m (Err ends.Memory) kept result c h = ap (λ (r : Result Outcome Status). is_read_fault (status_in r)) h
 
-unread_end : (end : End) → has_unread end ≡ true → end ≡ Err ends.ReadFault
+pub unread_end : (end : End) → has_unread end ≡ true → end ≡ Err ends.ReadFault
 unread_end (Ok found) e = absurd (cc e)
 unread_end (Err (ends.Refused fault)) e = absurd (cc e)
 unread_end (Err ends.ReadFault) e = refl

@@ -12,13 +12,15 @@ use Rattle.fair_top.specs.declared.status.Status.TheVariants as statuses
 use Rattle.fair_top.specs.Solve.{MeansSolve}
 use Rattle.fair_top.specs.Demo.{MeansDemo}
 use Rattle.fair_top.specs.Slice.{MeansSlice}
+use Rattle.fair_top.specs.Convert.{IsConversion}
 use Rattle.fair_top.specs.Safety.{MeansSafety}
-use Rattle.fair_top.specs.Commands.{Asked, Solve, Check, Gen, Demo, Wave, Slice, Safety, Means, CommandGives}
+use Rattle.fair_top.specs.Commands.{Asked, Solve, Check, Gen, Demo, Wave, Slice, Convert, Safety, Means, CommandGives}
 use Rattle.fair_top.specs.Solved.{SolvesAsked}
 use Rattle.fair_top.specs.Headline.{HasWritten}
 use Rattle.fair_top.proofs.Values.{SomeOrNone, Asks, solve_or_none, names_or_none, request_or_none, demo_or_none, one_solve, one_pair, one_request, one_demo, Wants, safety_or_none, one_wanted}
 use Rattle.fair_top.proofs.Sinks.{of_check, of_solve, of_demo}
 use Rattle.fair_top.proofs.Dumped.{of_wave}
+use Rattle.fair_top.proofs.Remaking.{of_remade}
 use Rattle.fair_top.proofs.Translated.{of_safety}
 use Rattle.fair_top.proofs.Sliced.{of_slice}
 
@@ -36,8 +38,9 @@ request_in name rows =
     (cond (bytes_eq name (codes "demo")) (asked_from (λ (request : DemoRequest). Demo request) (demo_or_none rows))
     (cond (bytes_eq name (codes "wave")) (asked_from (λ (names : List ℕ × List ℕ). Wave names.0 names.1) (names_or_none rows))
     (cond (bytes_eq name (codes "slice")) (asked_from (λ (wants : Wants). Slice wants.0 wants.1) (safety_or_none rows))
+    (cond (bytes_eq name (codes "convert")) (asked_from (λ (names : List ℕ × List ℕ). Convert names.0 names.1) (names_or_none rows))
     (cond (bytes_eq name (codes "safety")) (asked_from (λ (wants : Wants). Safety wants.0 wants.1) (safety_or_none rows))
-    None))))))
+    None)))))))
 
 is_picked : (name own : List ℕ) (rows : List Row) (asked : Asked) (this other : Option Asked) → (name ≡ own → this ≡ Some asked → Means asked name rows)
     → (other ≡ Some asked → Means asked name rows) → cond (bytes_eq name own) this other ≡ Some asked → Means asked name rows
@@ -66,8 +69,9 @@ reads_means name rows asked =
     (is_picked name (codes "demo") rows asked _ _ (λ is. from_means name rows asked (λ (request : DemoRequest). Demo request) (demo_or_none rows) (λ t h. (is, h)))
     (is_picked name (codes "wave") rows asked _ _ (λ is. from_means name rows asked (λ (names : List ℕ × List ℕ). Wave names.0 names.1) (names_or_none rows) (λ t h. (is, h)))
     (is_picked name (codes "slice") rows asked _ _ (λ is. from_means name rows asked (λ (wants : Wants). Slice wants.0 wants.1) (safety_or_none rows) (λ t h. (is, h)))
+    (is_picked name (codes "convert") rows asked _ _ (λ is. from_means name rows asked (λ (names : List ℕ × List ℕ). Convert names.0 names.1) (names_or_none rows) (λ t h. (is, h)))
     (is_picked name (codes "safety") rows asked _ _ (λ is. from_means name rows asked (λ (wants : Wants). Safety wants.0 wants.1) (safety_or_none rows) (λ t h. (is, h)))
-    (none_asked name rows asked)))))))
+    (none_asked name rows asked))))))))
 
 -- the values of a command that ask for something ask for nothing else
 from_found : {T : Type 0} {P : T → Type 0} (form : T → Asked) (either : SomeOrNone P) (t : T) → P t
@@ -96,6 +100,9 @@ means_reads name rows (Wave model answer) h =
 means_reads name rows (Slice model property) h =
     ap (λ (n : List ℕ). request_in n rows) h.0
     ∙ from_found (λ (wants : Wants). Slice wants.0 wants.1) (safety_or_none rows) (model, property) h.1 (one_wanted rows (λ m p. Slice m p))
+means_reads name rows (Convert model answer) h =
+    ap (λ (n : List ℕ). request_in n rows) h.0
+    ∙ from_found (λ (names : List ℕ × List ℕ). Convert names.0 names.1) (names_or_none rows) (model, answer) h.1 (one_pair rows (λ m a. Convert m a))
 means_reads name rows (Safety model property) h =
     ap (λ (n : List ℕ). request_in n rows) h.0
     ∙ from_found (λ (wants : Wants). Safety wants.0 wants.1) (safety_or_none rows) (model, property) h.1 (one_wanted rows (λ m p. Safety m p))
@@ -147,6 +154,7 @@ memory_solves held (Gen request) result e = tt
 memory_solves held (Demo request) result e = tt
 memory_solves held (Wave model answer) result e = tt
 memory_solves held (Slice model property) result e = tt
+memory_solves held (Convert model answer) result e = tt
 memory_solves held (Safety model property) result e = tt
 
 -- ---- what a sink saw
@@ -165,5 +173,7 @@ of_command Write held (Wave model answer) status text old new gives writes =
     of_wave Write (held model) (held answer) status text old new gives writes
 of_command Write held (Slice model property) status text old new gives writes =
     of_slice Write (held model) property status text old new gives writes
+of_command Write held (Convert model answer) status text old new gives writes =
+    of_remade Write IsConversion (held model) (held answer) status text old new gives writes
 of_command Write held (Safety model property) status text old new gives writes =
     of_safety Write (held model) property status text old new gives writes

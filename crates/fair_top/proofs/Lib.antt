@@ -4,6 +4,8 @@ mod Decided
 mod Values
 mod Sinks
 mod Dumped
+mod Remaking
+mod Converted
 mod Translated
 mod Sliced
 mod EachCommand

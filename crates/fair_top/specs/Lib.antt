@@ -7,6 +7,9 @@ pub mod Gen
 pub mod Demo
 pub mod Wave
 pub mod Waved
+pub mod Remade
+pub mod Remaking
+pub mod Convert
 pub mod Safety
 pub mod Slice
 pub mod Commands

@@ -24,8 +24,10 @@ ghost use Rattle.std.specs.Arc.{arc_value};
 ghost use Rattle.fair_top.specs.Statuses.{status_in, is_read_fault};
 
 mod checking;
+mod converting;
 mod demonstrating;
 mod generating;
+mod remaking;
 mod slicing;
 mod solving;
 mod translating;
@@ -37,12 +39,14 @@ use checking::{check, check_of, with_check};
 use circuit::Circuit;
 use clap::error::ErrorKind;
 use clap::{ArgMatches, Command, Error};
+use converting::{Conversion, convert_of, with_convert};
 pub use demonstrating::DemoRequest;
 use demonstrating::{demo_of, demonstrate, with_demo};
 use edge::Shelf;
 use fair_workers::{Ended, Report};
 pub use generating::{GenKind, GenRequest};
 use generating::{gen_of, generate, with_gen};
+use remaking::remake;
 use slicing::{slice_of, with_slice, write_slice};
 pub use solving::SolveRequest;
 pub(crate) use solving::limits_of;
@@ -79,6 +83,11 @@ pub(crate) enum Asked<'a> {
         model: &'a str,
         property: u32,
     },
+    /// Write the answer in the current version.
+    Convert {
+        model: &'a str,
+        answer: &'a str,
+    },
     /// Write a property of the model as a model for checkers of safety.
     Safety {
         model: &'a str,
@@ -88,7 +97,7 @@ pub(crate) enum Asked<'a> {
 
 /// What is written where the words are no command: a line for each command.
 pub(crate) const USAGE: &str =
-    "usage: fairlive solve MODEL [--property N] [--workers W] [--conflicts C] [--steps S] [--skeletons K]\n       fairlive check MODEL ANSWER\n       fairlive gen KIND SEED SIZE [--binary]\n       fairlive demo SEED SIZE\n       fairlive wave MODEL ANSWER\n       fairlive slice MODEL [--property N]\n       fairlive safety MODEL [--property N]\n";
+    "usage: fairlive solve MODEL [--property N] [--workers W] [--conflicts C] [--steps S] [--skeletons K]\n       fairlive check MODEL ANSWER\n       fairlive gen KIND SEED SIZE [--binary]\n       fairlive demo SEED SIZE\n       fairlive wave MODEL ANSWER\n       fairlive slice MODEL [--property N]\n       fairlive convert MODEL ANSWER\n       fairlive safety MODEL [--property N]\n";
 
 /// The status with which a run ends and the text that it writes, but for its writing; or the status of a run that
 /// writes nothing, `ReadFault` or `Memory`. The workers of `solve` search as `search` lets them.
@@ -159,6 +168,7 @@ fn program<'a>(alloc: Global) -> Result<Command<'a>, AllocError>
     let program = with_demo(alloc, program)?;
     let program = with_wave(alloc, program)?;
     let program = with_slice(alloc, program)?;
+    let program = with_convert(alloc, program)?;
     with_safety(alloc, program)
 }
 
@@ -192,6 +202,7 @@ fn asked_as<'a>(name: &str, given: &ArgMatches<'a>) -> Option<Asked<'a>>
         "demo" => demo_of(given),
         "wave" => wave_of(given),
         "slice" => slice_of(given),
+        "convert" => convert_of(given),
         "safety" => safety_of(given),
         _ => None,
     }
@@ -224,6 +235,7 @@ fn outcome_for<S: Fn(&Arc<Circuit>, SolveRequest) -> Result<Report, Ended>, H: S
         Asked::Demo(request) => demonstrate(alloc, &request),
         Asked::Wave { model, answer } => wave(alloc, shelf, model, answer),
         Asked::Slice { model, property } => write_slice(alloc, shelf, model, property),
+        Asked::Convert { model, answer } => remake(alloc, shelf, model, answer, &Conversion {}),
         Asked::Safety { model, property } => safety(alloc, shelf, model, property),
     }
 }

@@ -62,6 +62,10 @@ pub returns-in-Wave-clause-exactly : goal.returns-in-Wave-clause-exactly
 returns-in-Wave-clause-exactly g c = λ verdict d.
     c.wave.ensures.exactly verdict (subst (λ (a : AskedInCode). Decides (g.H.Shelf.held c.args.shelf.now) (meant a) verdict) c.in-Wave.is d)
 
+pub returns-in-Convert-clause-exactly : goal.returns-in-Convert-clause-exactly
+returns-in-Convert-clause-exactly g c = λ verdict d.
+    c.remake.ensures.exactly verdict (subst (λ (a : AskedInCode). Decides (g.H.Shelf.held c.args.shelf.now) (meant a) verdict) c.in-Convert.is d)
+
 pub returns-in-Safety-clause-exactly : goal.returns-in-Safety-clause-exactly
 returns-in-Safety-clause-exactly g c = λ verdict d.
     c.safety.ensures.exactly verdict (subst (λ (a : AskedInCode). Decides (g.H.Shelf.held c.args.shelf.now) (meant a) verdict) c.in-Safety.is d)

@@ -7,6 +7,7 @@ use Rattle.fair_top.specs.Gen.{gen_command}
 use Rattle.fair_top.specs.Demo.{demo_command}
 use Rattle.fair_top.specs.Wave.{wave_command}
 use Rattle.fair_top.specs.Slice.{slice_command}
+use Rattle.fair_top.specs.Convert.{convert_command}
 use Rattle.fair_top.specs.Safety.{safety_command}
 use Rattle.fair_top.proofs.commands.program.Goals as goal
 
@@ -24,5 +25,7 @@ returns c =
     (λ command h.
     h
     ∙ ap (λ (a : App). with_subcommand a safety_command.top)
-    (c.in_ok-program-6.ensures ∙ ap (λ (a : App). with_subcommand a slice_command.top) first))
+    (c.in_ok-program-7.ensures
+    ∙ ap (λ (a : App). with_subcommand a convert_command.top)
+    (c.in_ok-program-6.ensures ∙ ap (λ (a : App). with_subcommand a slice_command.top) first)))
     c.with_safety.ensures
