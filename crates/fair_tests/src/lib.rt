@@ -4,6 +4,8 @@
 #[cfg(test)]
 mod certificates;
 #[cfg(test)]
+mod converting;
+#[cfg(test)]
 mod demonstrated;
 #[cfg(test)]
 mod dumps;
