@@ -21,6 +21,9 @@ const STUCK: &str = "aag 1 0 1 0 0 0 0 1 0\n2 2\n1\n2\n";
 // The input is asked to be 1 again and again.
 const INPUT: &str = "aag 1 1 0 0 0 0 0 1 0\n2\n1\n2\n";
 
+// A counter of two bits that starts at 0, and is asked to be 3 again and again.
+const COUNTER: &str = "aag 6 0 2 0 4 0 0 1 0\n2 3\n4 11\n1\n12\n6 5 2\n8 4 3\n10 9 7\n12 4 2\n";
+
 // A property that no position meets.
 const NEVER: &str = "aag 1 0 1 0 0 0 0 1 0\n2 3\n1\n0\n";
 
@@ -162,25 +165,38 @@ fn drawn_models_under_limits(rt: HostRuntime) -> Result<(), Fail> {
 
 // ---- workers on threads
 
-// How many of two workers on threads met the other at their start.
-fn met_of_two<R: Threads + Wait + Sync>(rt: &R, alloc: Global) -> Result<u64, AllocError> {
+// How many of so many workers on threads met all others at their start, and how many were done; and how they ended.
+fn met_of<R: Threads + Wait + Sync>(
+    rt: &R,
+    alloc: Global,
+    text: &str,
+    workers: u32,
+) -> Result<((u64, u64), End), AllocError> {
     let n = Numbers {
-        workers: 2,
+        workers,
         conflicts: ENOUGH,
         steps: ENOUGH,
         skeletons: 9,
     };
-    let meeting = Meeting::new();
-    if let Some(c) = circuit_of(alloc, STUCK.as_bytes())? {
-        let _ended = run_on_threads(rt, alloc, &c, &n, &meeting);
-    }
-    Ok(meeting.met())
+    let meeting = Meeting::of(u64::from(workers));
+    let end = match circuit_of(alloc, text.as_bytes())? {
+        Some(c) => answer_of(run_on_threads(rt, alloc, &c, &n, &meeting)).0,
+        None => End::Memory,
+    };
+    Ok((meeting.met(), end))
 }
 
 /// Two workers run at the same time.
 #[test]
 fn two_workers_meet(rt: HostRuntime) -> Result<(), Fail> {
-    assert_eq!(rt; met_of_two(&rt, rt.alloc())?, 2);
+    assert!(rt; met_of(&rt, rt.alloc(), COUNTER, 2)? == ((2, 2), End::Lasso));
+    Ok(())
+}
+
+/// More workers than there are processors run at the same time, and come to an end.
+#[test]
+fn many_workers_meet(rt: HostRuntime) -> Result<(), Fail> {
+    assert!(rt; met_of(&rt, rt.alloc(), STUCK, 64)? == ((64, 64), End::Holds));
     Ok(())
 }
 
