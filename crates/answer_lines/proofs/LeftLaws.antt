@@ -2,7 +2,8 @@
 use Rattle.std.proofs.Common.{◌≡◌, ◌≢◌, ℕ, zero, suc, ◌+◌, ◌-◌, ◌≤◌, ◌<◌, Bool, true, false, List, [], ◌∷◌, ◌++◌, length, take, drop, refl, ap, sym, subst, ◌∙◌, arith, append_assoc, append-nil, length-append, length-take, inl, inr, Option, Some}
 use Rattle.std.proofs.lemmas.List.{length-drop, take-append-drop, drop-take, drop_all, get_or_append_left}
 use Rattle.std.proofs.Math.Seq.{take-append-add, take-append_seam, get_or-append-add}
-use Rattle.std.specs.Prelude.{IsTrue, IsFalse}
+use Rattle.std.specs.Prelude.{IsTrue, IsFalse, Result, Ok, Err}
+use Rattle.std.specs.Result.{OnErr}
 use Rattle.std.proofs.lemmas.List.Elements.{All-append, All-head}
 use Rattle.std.proofs.lemmas.Grind.{common_steps}
 use Rattle.edge.specs.Reads.{GivesBytes}
@@ -235,3 +236,13 @@ taken_same ahead before place same = ap (λ (bytes : List ℕ). place - length b
 -- and the same is left
 pub left_same : (ahead before text : List ℕ) (place : ℕ) → ahead ≡ before → ahead ++ drop ((place - length ahead) + length ahead) text ≡ before ++ drop ((place - length before) + length before) text
 left_same ahead before text place same = ap (λ (bytes : List ℕ). bytes ++ drop ((place - length bytes) + length bytes) text) same
+
+-- at an error
+pub on_err : {T E P : Type 0} (r : Result T E) → P → OnErr r P
+on_err (Ok x) p = tt
+on_err (Err e) p = p
+
+-- what cannot be so where there is something
+pub is_none : {P : Type 0} (given : Bool) → (IsTrue given → P → ⊥) → P → IsFalse given
+is_none true some p = absurd (some refl p)
+is_none false some p = refl
