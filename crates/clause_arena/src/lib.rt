@@ -78,6 +78,3 @@ impl<T: Copy> Arena<T> {
         &self.values.as_slice()[place.start as usize..place.end as usize]
     }
 }
-
-#[cfg(test)]
-mod tests;

@@ -118,16 +118,16 @@ fn teaches(alloc: Global, row: &Row) -> Result<bool, AllocError> {
 
 #[test]
 fn first_implication_points(rt: HostRuntime) -> Result<(), Fail> {
-    for row in rows() {
-        assert!(rt; teaches(rt.alloc(), row)?, "of {:?}", row.1);
+    for (k, row) in rows().iter().enumerate() {
+        assert!(rt; teaches(rt.alloc(), row)?, "of row {k}");
     }
     Ok(())
 }
 
 #[test]
 fn minimised_clauses(rt: HostRuntime) -> Result<(), Fail> {
-    for row in minimised_rows() {
-        assert!(rt; teaches(rt.alloc(), row)?, "of {:?}", row.1);
+    for (k, row) in minimised_rows().iter().enumerate() {
+        assert!(rt; teaches(rt.alloc(), row)?, "of row {k}");
     }
     Ok(())
 }

@@ -1,6 +1,6 @@
-//! Tests of clauses and cubes, worked out by hand: lists of them, lines that a checker of proofs judges, trails, what
-//! conflicts teach, frames of lemmas, and cubes that lose literals. They need public calls alone, and stand here so that
-//! the gate proves the crates of these calls once.
+//! Tests of clauses and cubes, worked out by hand: lists of them, literals in four bytes, lists of values in one block of
+//! memory, lines that a checker of proofs judges, trails, what conflicts teach, frames of lemmas, and cubes that lose
+//! literals. They need public calls alone, and stand here so that the gate proves the crates of these calls once.
 #![tactic(auto)]
 
 #[cfg(test)]
@@ -8,11 +8,15 @@ mod conflicts;
 #[cfg(test)]
 mod frames;
 #[cfg(test)]
+mod lending;
+#[cfg(test)]
 mod lines;
 #[cfg(test)]
 mod lists;
 #[cfg(test)]
 mod literals;
+#[cfg(test)]
+mod packing;
 #[cfg(test)]
 mod shortening;
 #[cfg(test)]

@@ -220,7 +220,7 @@ fn restarts_of_four(alloc: Global) -> Result<u64, AllocError> {
 
 #[test]
 fn restarts_in_their_order(rt: HostRuntime) -> Result<(), Fail> {
-    assert_eq!(rt; restarts_of_four(rt.alloc())?, 12);
+    assert!(rt; restarts_of_four(rt.alloc())? == 12);
     Ok(())
 }
 
@@ -235,7 +235,7 @@ fn answer_alone(alloc: Global, line: &str) -> Result<Answer, AllocError> {
 fn each_line_alone(rt: HostRuntime) -> Result<(), Fail> {
     for rows in [judged_lines(), spelled_lines()] {
         for (line, wanted) in rows {
-            assert_eq!(rt; answer_alone(rt.alloc(), line)?, *wanted, "of {line}");
+            assert!(rt; answer_alone(rt.alloc(), line)? == *wanted, "of {line}");
         }
     }
     Ok(())
@@ -263,7 +263,7 @@ fn lines_of_six(alloc: Global) -> Result<u64, AllocError> {
 
 #[test]
 fn lines_in_their_order(rt: HostRuntime) -> Result<(), Fail> {
-    assert_eq!(rt; lines_of_six(rt.alloc())?, 16);
+    assert!(rt; lines_of_six(rt.alloc())? == 16);
     Ok(())
 }
 
@@ -286,6 +286,6 @@ fn is_fine_with_empty(alloc: Global) -> Result<[bool; 5], AllocError> {
 
 #[test]
 fn an_empty_clause_is_given(rt: HostRuntime) -> Result<(), Fail> {
-    assert_eq!(rt; is_fine_with_empty(rt.alloc())?, [true; 5]);
+    assert!(rt; is_fine_with_empty(rt.alloc())? == [true; 5]);
     Ok(())
 }

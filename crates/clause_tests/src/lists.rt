@@ -26,8 +26,8 @@ fn has_value(alloc: Global, row: &Value) -> Result<bool, AllocError> {
 
 #[test]
 fn clauses_hold(rt: HostRuntime) -> Result<(), Fail> {
-    for row in values() {
-        assert!(rt; has_value(rt.alloc(), row)?, "of {row:?}");
+    for (k, row) in values().iter().enumerate() {
+        assert!(rt; has_value(rt.alloc(), row)?, "of row {k}");
     }
     Ok(())
 }
@@ -57,13 +57,19 @@ fn is_copied(alloc: Global) -> Result<bool, AllocError> {
     Ok(copy == long && crosses(&long).len() == 6)
 }
 
+fn comparisons(alloc: Global) -> Result<[bool; 5], AllocError> {
+    Ok([
+        is_part(alloc, &[8, 5, 5], LONG)?,
+        is_part(alloc, LONG, &[8, 5, 5])?,
+        is_part(alloc, &[6], LONG)?,
+        is_copied(alloc)?,
+        are_equal(alloc, &[8, 5, 5], &[5, 8, 5])?,
+    ])
+}
+
 #[test]
 fn clauses_are_compared(rt: HostRuntime) -> Result<(), Fail> {
-    assert!(rt; is_part(rt.alloc(), &[8, 5, 5], LONG)?);
-    assert!(rt; !is_part(rt.alloc(), LONG, &[8, 5, 5])?);
-    assert!(rt; !is_part(rt.alloc(), &[6], LONG)?);
-    assert!(rt; is_copied(rt.alloc())?);
-    assert!(rt; !are_equal(rt.alloc(), &[8, 5, 5], &[5, 8, 5])?);
+    assert!(rt; comparisons(rt.alloc())? == [true, false, false, true, false]);
     Ok(())
 }
 
@@ -111,12 +117,18 @@ fn lengths_of_both(alloc: Global) -> Result<[usize; 2], AllocError> {
     Ok([length, db.into_vec().len()])
 }
 
+fn are_kept(alloc: Global) -> Result<[bool; 4], AllocError> {
+    Ok([
+        is_blank(&Db::from_vec(Vec::new(alloc))),
+        numbers_of_both(alloc)? == [1, 2],
+        list_of_both(alloc)? == [true; 4],
+        lengths_of_both(alloc)? == [2, 2],
+    ])
+}
+
 #[test]
 fn lists_of_clauses(rt: HostRuntime) -> Result<(), Fail> {
-    assert!(rt; is_blank(&Db::from_vec(Vec::new(rt.alloc()))));
-    assert_eq!(rt; numbers_of_both(rt.alloc())?, [1, 2]);
-    assert_eq!(rt; list_of_both(rt.alloc())?, [true; 4]);
-    assert_eq!(rt; lengths_of_both(rt.alloc())?, [2, 2]);
+    assert!(rt; are_kept(rt.alloc())? == [true; 4]);
     Ok(())
 }
 
@@ -152,11 +164,17 @@ fn has_its_own(cube: &Cube) -> bool {
         && !has_literal(cube.as_slice(), literal(2))
 }
 
+fn are_cubes(alloc: Global) -> Result<[bool; 3], AllocError> {
+    Ok([
+        contains_its_own(alloc)?,
+        length_of_copy(alloc)? == 2,
+        is_cube_negated(alloc)?,
+    ])
+}
+
 #[test]
 fn cubes(rt: HostRuntime) -> Result<(), Fail> {
-    assert!(rt; contains_its_own(rt.alloc())?);
-    assert_eq!(rt; length_of_copy(rt.alloc())?, 2);
-    assert!(rt; is_cube_negated(rt.alloc())?);
+    assert!(rt; are_cubes(rt.alloc())? == [true; 3]);
     Ok(())
 }
 

@@ -16,8 +16,6 @@
 mod names;
 mod packed;
 mod table;
-#[cfg(test)]
-mod tests;
 
 pub use names::Names;
 pub use packed::Packed;

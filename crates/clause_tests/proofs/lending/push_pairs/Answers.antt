@@ -1,5 +1,5 @@
 use Rattle.clause_arena.proofs.LendingLaws.{stays_longer}
-use Rattle.clause_arena.proofs.tests.push_pairs.Goals as goal
+use Rattle.clause_tests.proofs.lending.push_pairs.Goals as goal
 
 pub pushes-preserved : goal.pushes-preserved
 pushes-preserved c =
