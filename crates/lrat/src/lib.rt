@@ -5,6 +5,7 @@
 //! - `Checker::given`: how many clauses were given
 //! - `Checker::step`: judges a line, which adds a clause or deletes some
 //! - `Checker::proved_empty`: whether an empty clause was given or added
+//! - `read_line`: what a line asks for, with its literals and hints, or its ids
 //! - `threads_hand_on_checkers`: nothing: a checker may be handed to another thread
 #![tactic(auto)]
 
@@ -19,4 +20,5 @@ mod store;
 
 pub use checker::{Checker, threads_hand_on_checkers};
 pub use faults::LratEnd;
+pub use lines::{Kind, read_line};
 pub use proof_semantics::LratFault;

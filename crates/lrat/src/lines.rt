@@ -14,7 +14,7 @@ const GREATEST: u64 = 9_223_372_036_854_775_807;
 
 /// What a line asks for: its literals and hints, or its ids, are kept beside.
 #[derive(Clone, Copy)]
-pub(crate) enum Kind {
+pub enum Kind {
     /// To add a clause under this id.
     Addition(u64),
     /// To delete clauses. The line has this id of its own.
@@ -23,7 +23,7 @@ pub(crate) enum Kind {
 
 /// What the line asks for, with the literals of an addition, or the ids of a deletion, in
 /// `literals`, and the hints in `hints`. `None` where the line is in no form.
-pub(crate) fn read_line(
+pub fn read_line(
     line: &[u8],
     literals: &mut Vec<Lit>,
     hints: &mut Vec<Lit>,
