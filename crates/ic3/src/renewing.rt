@@ -17,7 +17,7 @@ use std::sync::Arc;
 
 /// A solver is old where the questions that brought a clause of their own outnumber this, the gates of its cone and its
 /// lemmas together.
-const OLD_BEHIND: u64 = 1_000;
+const OLD_BEHIND: u64 = 200;
 
 /// Whether the solver is old. No contract rests on it.
 pub(crate) fn is_old(s: &Questions, cone: &Cone, lemmas: usize) -> bool {
