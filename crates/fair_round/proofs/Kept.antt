@@ -1,7 +1,7 @@
 -- What a worker keeps, as it goes on.
-use Rattle.std.proofs.Common.{◌≡◌, ℕ, ◌+◌, ◌*◌, ◌^◌, ◌≤◌, Option, None, Some, IfSome, Result, Ok, Err, IfOk, List, [], ◌++◌, length, refl, sym, subst, ◌∙◌, ap}
+use Rattle.std.proofs.Common.{◌≡◌, ℕ, ◌+◌, ◌*◌, ◌^◌, ◌≤◌, Option, None, Some, IfSome, Result, Ok, Err, IfOk, OnOk, OnErr, List, [], ◌++◌, length, refl, sym, subst, ◌∙◌, ap}
 use Rattle.std.specs.List.{All}
-use Rattle.std.proofs.lemmas.List.{append_assoc}
+use Rattle.std.proofs.lemmas.List.{append_assoc, append-nil}
 use Rattle.std.proofs.lemmas.List.Elements.{All-weaker}
 use Rattle.aig_semantics.specs.Circuits.{Circuit}
 use Rattle.proof_semantics.specs.declared.literals.Lit.{Lit}
@@ -16,6 +16,16 @@ use Rattle.fair_round.proofs.Counting.{path_steps-is}
 
 pub goes-on-then : (xs ys zs : List Entry) → GoesOnFrom xs ys → GoesOnFrom ys zs → GoesOnFrom xs zs
 goes-on-then xs ys zs (more, e) (rest, f) = (more ++ rest, f ∙ ap (λ us. us ++ rest) e ∙ append_assoc xs more rest)
+
+-- a list that has become the view, or stayed
+pub caught-grows : {T E : Type 0} (r : Result T E) (old new view : List Entry) → OnOk r (new ≡ view) → OnErr r (new ≡ old)
+    → GoesOnFrom old view → GoesOnFrom old new
+caught-grows (Ok t) old new view caught kept on = subst (GoesOnFrom old) (sym caught) on
+caught-grows (Err e) old new view caught kept on = ([], kept ∙ sym (append-nil old))
+
+pub on-err : {T E : Type 0} {P Q : Type 0} (r : Result T E) → (P → Q) → OnErr r P → OnErr r Q
+on-err (Ok t) then h = tt
+on-err (Err e) then h = then h
 
 -- the same of a circuit, a property and entries that are these
 pub avoid-as : (c d : Circuit) (j i : ℕ) (xs ys : List Entry) (avoid : List (List Lit)) → c ≡ d → j ≡ i → xs ≡ ys

@@ -19,7 +19,7 @@ use crate::stopping::{Stop, solver_stop};
 use circuit::{Circuit, Lasso, Position};
 use cnf::Cube;
 use edge::Meter;
-use entry::{Checked, share};
+use entry::{Checked, catch_up};
 use ic3::{Search, Start};
 use items::Items;
 use simulation::simulate;
@@ -159,7 +159,7 @@ impl Rounds {
         })
     }
 
-    // Takes the view for what was seen.
+    // Takes the view for what was seen, and copies no handle that it has.
     fn catch_up(&mut self, alloc: Global, view: &[Arc<Checked>]) -> Result<(), AllocError>
         requires on { GoesOnFrom self.old.seen (viewed view.now) }
         ensures circuit { self.new.circuit ≡ self.old.circuit }
@@ -168,8 +168,7 @@ impl Rounds {
         ensures kept { OnErr result (self.new ≡ self.old) }
     {
         never_stays();
-        self.seen = share(alloc, view)?;
-        Ok(())
+        catch_up(alloc, &mut self.seen, view)
     }
 
     /// A skeleton that the view allows, or a refutation.
