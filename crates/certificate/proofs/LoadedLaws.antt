@@ -1,25 +1,24 @@
 -- What is held of an answer that was read and accepted.
-use Rattle.std.proofs.Common.{◌≡◌, ℕ, Bool, true, false, inl, inr, List, [], ◌∷◌, ◌++◌, length, take, Option, Some, None, Result, Ok, Err, refl, sym, ap, ◌∙◌, subst}
+use Rattle.std.proofs.Common.{◌≡◌, ℕ, Bool, true, inr, List, [], ◌∷◌, ◌++◌, length, take, Option, Some, Result, Ok, Err, refl, sym, ap, ◌∙◌, subst}
 use Rattle.std.specs.Prelude.{codes, IfOk}
 use Rattle.std.proofs.lemmas.List.{length-take-le}
 use Rattle.aig_semantics.specs.declared.traces.Stimulus.{Stimulus}
 use Rattle.aig_semantics.specs.declared.traces.Lasso.{Lasso as LassoOf}
 use Rattle.aig_semantics.specs.Circuits.{Circuit}
 use Rattle.aig_semantics.specs.Stimuli.{StandsFor}
-use Rattle.edge.specs.Told.{MayBe}
 use Rattle.certificate.specs.declared.ends.Accepted.{Accepted}
 use Rattle.certificate.specs.declared.ends.Accepted.TheVariants as accepted
 use Rattle.certificate.specs.declared.ends.AnswerEnd.{AnswerEnd}
 use Rattle.certificate.specs.declared.ends.AnswerEnd.TheVariants as ends
 use Rattle.certificate.specs.declared.loaded.Loaded.{Loaded}
 use Rattle.certificate.specs.declared.loaded.Loaded.TheVariants.{Lasso, Holds}
-use Rattle.certificate.specs.Certificates.{Certificate, lines_of_certificate}
-use Rattle.certificate.specs.Answers.{property_line, HasStimulus, IsGood, Shows}
+use Rattle.certificate.specs.Certificates.{Certificate}
+use Rattle.certificate.specs.Answers.{property_line, HasStimulus, Shows}
 use Rattle.certificate.specs.Ends.{CheckSays, EndsWith, has_unread}
 use Rattle.certificate.specs.Lassos.{lasso_of, IsLassoAtEnd}
 use Rattle.certificate.specs.Lines.{Numbered, bare, kept_in, kept_readable}
 use Rattle.certificate.specs.Reading.{State, Status, Dotted, read_lines}
-use Rattle.certificate.specs.Loading.{HoldsAnswer, IsHeldOf, accepted_of, accepted_in}
+use Rattle.certificate.specs.Loading.{IsHeldOf, accepted_of, accepted_in}
 use Rattle.certificate.specs.Laws.{GoodIsTrue, HeldIsGood}
 use Rattle.certificate.specs.Taking.{certificate_at}
 use Rattle.certificate.specs.Whole.{IsReadWhole, IsLoadedAs, GivesLoaded}

@@ -1,28 +1,24 @@
 -- What is printed of an answer that is held is a good answer, which has the same.
-use Rattle.std.proofs.Common.{◌≡◌, ◌≤◌, ◌<◌, ◌^◌, ℕ, ◌+◌, List, [], ◌∷◌, ◌++◌, map, flat_map, length, get_or, refl, sym, ap, ◌∙◌, subst, arith, All, append_assoc, length-append}
+use Rattle.std.proofs.Common.{◌<◌, ◌^◌, ℕ, ◌+◌, List, [], ◌∷◌, ◌++◌, map, flat_map, length, get_or, refl, arith, All}
 use Rattle.std.specs.Prelude.{codes}
-use Rattle.std.proofs.lemmas.List.{length-map}
 use Rattle.std.proofs.lemmas.List.Elements.{All-nil, All-cons, All-head, All-tail, All-append, All-map, All-weaker, All-push, All-from_get_or}
 use Rattle.aig_semantics.specs.Circuits.{Circuit}
 use Rattle.proof_semantics.specs.declared.literals.Lit.{Lit}
-use Rattle.fair_semantics.specs.declared.entries.Use.{Use}
 use Rattle.fair_semantics.specs.Entries.{Entry}
-use Rattle.answer_lines.specs.Left.{most_bytes}
 use Rattle.certificate_lines.specs.declared.uses.WrittenUse.{WrittenUse}
 use Rattle.certificate_lines.specs.declared.words.Version.{Version}
 use Rattle.certificate_lines.specs.declared.words.Version.TheVariants.{One, Two}
 use Rattle.certificate_lines.specs.declared.words.WordLine.TheVariants as lines
 use Rattle.certificate_lines.specs.Fields.{IsNumber}
-use Rattle.certificate_lines.specs.Words.{word_line_text, HasNumbers}
+use Rattle.certificate_lines.specs.Words.{word_line_text}
 use Rattle.certificate_lines.specs.Uses.{uses_text, MayStand, written}
 use Rattle.certificate_lines.specs.Clauses.{clause_text}
 use Rattle.entry.specs.Proved.{AreProofs, obligation_of}
-use Rattle.certificate.specs.declared.loaded.Loaded.{Loaded}
 use Rattle.certificate.specs.declared.loaded.Loaded.TheVariants.{Lasso, Holds}
 use Rattle.certificate.specs.Certificates.{Written, Certificate, opening_line, proof_lines, entry_lines, entry_with, refuting_line, refutation_lines, lines_of_certificate, CanBeWritten, AreProvedBehind, IsGoodCertificate}
 use Rattle.certificate.specs.Answers.{property_line, HasCertificate}
 use Rattle.certificate.specs.Writing.{certificate_lines_of, certificate_text}
-use Rattle.certificate.specs.Loading.{HoldsAnswer, in_version_two, printed_text, printed_again}
+use Rattle.certificate.specs.Loading.{in_version_two}
 use Rattle.certificate.specs.Laws.{HeldIsGood, PrintedHoldsTheSame}
 use Rattle.certificate.proofs.PlainLines.{IsPlain, word_line_plain, property_plain, status_plain, uses_plain, clause_plain, refuting_plain, written_kept}
 use Rattle.certificate.proofs.WrittenGood.{written_has}

@@ -1,11 +1,9 @@
 -- The certificate of a good answer is taken out of its lines as it is spelled.
-use Rattle.std.proofs.Common.{◌≡◌, ℕ, suc, ◌+◌, ◌<◌, ◌≤◌, ◌^◌, Bool, true, false, List, [], ◌∷◌, ◌++◌, map, flat_map, length, Option, Some, None, Ok, refl, sym, ap, ◌∙◌, subst, append_assoc, append-nil, arith, length-append, All}
-use Rattle.std.specs.Prelude.{codes, option_map, option_and_then, if◌then◌else◌, nat_lt}
+use Rattle.std.proofs.Common.{◌≡◌, ℕ, ◌+◌, ◌<◌, ◌≤◌, ◌^◌, List, [], ◌∷◌, ◌++◌, map, flat_map, length, Option, Some, None, refl, sym, ap, ◌∙◌, append_assoc, arith, length-append, All}
+use Rattle.std.specs.Prelude.{codes, option_map, option_and_then, if◌then◌else◌}
 use Rattle.std.proofs.lemmas.Bool.{lt-ltb}
-use Rattle.std.proofs.lemmas.List.{length-map}
 use Rattle.std.proofs.lemmas.List.Elements.{All-nil, All-cons, All-head, All-tail, All-weaker}
 use Rattle.aig_semantics.specs.Circuits.{Circuit}
-use Rattle.proof_semantics.specs.declared.literals.Lit.{Lit}
 use Rattle.fair_semantics.specs.declared.entries.Use.{Use}
 use Rattle.fair_semantics.specs.Entries.{Entry}
 use Rattle.certificate_lines.specs.declared.words.Opening.{Opening}
@@ -15,13 +13,13 @@ use Rattle.certificate_lines.specs.declared.words.WordLine.{WordLine}
 use Rattle.certificate_lines.specs.declared.words.WordLine.TheVariants as lines
 use Rattle.certificate_lines.specs.Fields.{IsNumber}
 use Rattle.certificate_lines.specs.Words.{word_line_text, word_line_of, HasNumbers}
-use Rattle.certificate_lines.specs.Uses.{uses_text, uses_of, MayStand, written}
-use Rattle.certificate_lines.specs.Clauses.{clause_text, clause_of}
+use Rattle.certificate_lines.specs.Uses.{uses_text, MayStand, written}
+use Rattle.certificate_lines.specs.Clauses.{clause_text}
 use Rattle.certificate_lines.proofs.WordLaws.{word_back}
 use Rattle.certificate_lines.proofs.UseLaws.{uses_back}
 use Rattle.certificate_lines.proofs.ClauseLaws.{clause_back}
 use Rattle.certificate.specs.declared.limits.TheConstants.{MAX_ENTRIES}
-use Rattle.certificate.specs.Certificates.{Written, Certificate, opening_line, proof_lines, entry_lines, entry_with, refuting_line, refutation_lines, lines_of_certificate, CanBeWritten, AreClausesOf, AreProvedBehind, IsGoodCertificate}
+use Rattle.certificate.specs.Certificates.{Written, Certificate, proof_lines, entry_lines, entry_with, refuting_line, refutation_lines, lines_of_certificate, CanBeWritten, AreProvedBehind, IsGoodCertificate}
 use Rattle.certificate.specs.Answers.{property_line}
 use Rattle.certificate.specs.Taking.{Taker, ◌>>=◌, many, line_at, with_rest, opening_in, refuting_in, version_in, proof_in, opening_at, refuting_at, version_at, count_at, clause_at, named, uses_at, proof_at, entry_at, certificate_at}
 use Rattle.certificate.proofs.CompletingEntries.{as_many}

@@ -1,17 +1,16 @@
 -- The lines of an answer that are kept while it is read.
-use Rattle.std.proofs.Common.{◌≡◌, ℕ, ◌+◌, ◌≤◌, Bool, true, false, not, List, [], ◌∷◌, ◌++◌, length, refl, sym, ap, ◌∙◌, Option, Some, Result, Ok, Err}
+use Rattle.std.proofs.Common.{◌≡◌, ℕ, ◌+◌, ◌≤◌, Bool, true, false, not, List, [], ◌∷◌, ◌++◌, sym, ap, ◌∙◌, Option, Result, Ok, Err}
 use Rattle.std.specs.Prelude.{IfOk}
 use Rattle.std.proofs.lemmas.List.Elements.{filter-append}
 use Rattle.aig_semantics.specs.declared.traces.Lasso.{Lasso as LassoOf}
 use Rattle.aig_semantics.specs.Circuits.{Circuit}
 use Rattle.answer_lines.specs.Left.{Reading, at_start, left_of, most_bytes, Took}
-use Rattle.edge.specs.Told.{IfTold, MayBe}
+use Rattle.edge.specs.Told.{IfTold}
 use Rattle.text_grammar.specs.Lines.{lines_of}
 use Rattle.text_grammar.specs.Pieces.{Lacks}
 use Rattle.stimulus.specs.Texts.{is_skipped, kept_lines}
 use Rattle.certificate.specs.declared.ends.Accepted.{Accepted}
 use Rattle.certificate.specs.declared.ends.AnswerEnd.{AnswerEnd}
-use Rattle.certificate.specs.Answers.{IsGood}
 use Rattle.certificate.specs.Ends.{IsGoodAtEnd}
 use Rattle.certificate.specs.Lassos.{IsLassoAtEnd}
 use Rattle.certificate.specs.Lines.{kept_from}

@@ -4,8 +4,6 @@
 use Rattle.std.specs.Prelude.{◌≡◌, ℕ, ◌≤◌, All, List, [], ◌∷◌, ◌++◌, map, length, flat_map, Ok}
 use Rattle.aig_semantics.specs.Circuits.{Circuit}
 use Rattle.proof_semantics.specs.declared.literals.Lit.{Lit}
-use Rattle.fair_semantics.specs.declared.entries.Kind.{Kind}
-use Rattle.fair_semantics.specs.declared.entries.Use.{Use}
 use Rattle.fair_semantics.specs.Entries.{Entry}
 use Rattle.certificate_lines.specs.declared.words.Version.{Version}
 use Rattle.certificate_lines.specs.declared.words.WordLine.{WordLine}

@@ -11,7 +11,7 @@ use Rattle.certificate.specs.Lines.{kept_in, kept_readable, bare}
 use Rattle.certificate.specs.Answers.{IsGood}
 use Rattle.certificate.specs.Reading.{State, Status, read_lines}
 use Rattle.certificate.specs.Lassos.{IsLassoAtEnd}
-use Rattle.certificate.specs.Loading.{IsHeldOf, accepted_of}
+use Rattle.certificate.specs.Loading.{accepted_of}
 
 -- the text that the shelf may hold is good for this, its lines are these and end in the state, and of a stimulus the lasso
 -- is kept

@@ -1,4 +1,4 @@
-use Rattle.std.proofs.Common.{◌≡◌, ℕ, Bool, List, Option, sym, subst}
+use Rattle.std.proofs.Common.{ℕ, Bool, List, Option, sym, subst}
 use Rattle.std.specs.Prelude.{IfOk}
 use Rattle.edge.specs.Reads.{Reads}
 use Rattle.certificate.specs.Whole.{IsReadWhole}

@@ -1,4 +1,4 @@
-use Rattle.std.proofs.Common.{rules, get_or}
+use Rattle.std.proofs.Common.{rules}
 use Rattle.fair_semantics.specs.declared.entries.Side.TheVariants as sides
 use Rattle.certificate_lines.specs.declared.uses.WrittenUse.{WrittenUse}
 use Rattle.certificate.specs.Taking.{named}
