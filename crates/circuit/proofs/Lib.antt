@@ -11,3 +11,4 @@ pub mod Tables
 pub mod Told
 pub mod Ranking
 pub mod Evaluated
+pub mod RoundsAlong

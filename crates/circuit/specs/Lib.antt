@@ -6,5 +6,7 @@ pub mod Evaluation
 pub mod Marks
 pub mod Faults
 pub mod Following
+pub mod Rounds
+pub mod RoundsAlong
 pub mod Orders
 pub mod Ordering

@@ -17,7 +17,7 @@ pub fn literal_value(values: &[bool], literal: u64) -> bool
     if literal % 2 == 1 { !value } else { value }
 }
 
-fn clear(out: &mut [bool])
+pub(crate) fn clear(out: &mut [bool])
     ensures { out.new ≡ replicate (length out.old) false }
 {
     for value in out.iter_mut() {

@@ -52,7 +52,7 @@ fn either(a: bool, b: bool) -> bool
     a || b
 }
 
-fn note_seen(values: &[bool], literals: &[u64], seen: &mut [bool])
+pub(crate) fn note_seen(values: &[bool], literals: &[u64], seen: &mut [bool])
     requires { length seen.old ≡ length literals.now }
     ensures { seen.new ≡ seen_with values.now literals.now seen.old }
 {
@@ -120,14 +120,14 @@ fn same(a: &[bool], b: &[bool]) -> bool
     true
 }
 
-fn all_true(values: &[bool]) -> bool
+pub(crate) fn all_true(values: &[bool]) -> bool
     ensures { result ≡ list_all (λ b. b) values.now }
 {
     values.iter().all(|value| *value)
 }
 
 /// The literals of property `j`, and then those of fairness.
-fn literals_of(alloc: Global, c: &Circuit, j: usize) -> Result<Vec<u64>, AllocError>
+pub(crate) fn literals_of(alloc: Global, c: &Circuit, j: usize) -> Result<Vec<u64>, AllocError>
     requires { j < length c.now.justice }
     ensures { IfOk result (λ literals. literals.items ≡ fair_literals c.now j) }
 {

@@ -3,9 +3,9 @@
 
 use crate::models::checked;
 use aiger_names::Model;
-use circuit::{Circuit, Gate, Latch, ModelEnd, Parts, Position, Reset};
+use circuit::{Circuit, Gate, Latch, ModelEnd, Parts, Position, Reset, are_positions, rounds};
 use items::Items;
-use round_monitor::{are_positions, monitor, rounds};
+use round_monitor::monitor;
 use std::alloc::{AllocError, Global};
 use std::test::*;
 

@@ -14,12 +14,12 @@ use Rattle.round_monitor.specs.Counting.{HasRunOfRounds, own_position, HasFullRu
 use Rattle.round_monitor.specs.Numbers.{sizes_of, seen, counter, seen_gate, counter_gate}
 use Rattle.round_monitor.specs.Watching.{seen_latch, counter_latch, new_latches}
 use Rattle.round_monitor.specs.Monitor.{monitor_circuit}
-use Rattle.round_monitor.specs.Steps.{none_seen, ends_with, seen_next, more_if, rounds_along}
+use Rattle.circuit.specs.RoundsAlong.{none_seen, ends_with, seen_next, more_if, rounds_along}
 use Rattle.round_monitor.proofs.Lists.{cons-same, get_or-behind}
 use Rattle.round_monitor.proofs.Numbering.{latches-length}
 use Rattle.round_monitor.proofs.Extending.{HasOneValuation}
 use Rattle.round_monitor.proofs.Watched.{tally, tally-zero, tally-true, tally-told, watch_state, joint, next-is, kept, back}
-use Rattle.round_monitor.proofs.Greedy.{length-seen_next, rounds-fewer, counted}
+use Rattle.circuit.proofs.RoundsAlong.{length-seen_next, rounds-fewer, counted}
 
 first-sum : (e : Bool) (n : ℕ) → more_if e n ≡ more_if e 0 + n
 first-sum true n = omega arith

@@ -4,6 +4,5 @@ mod Reading
 mod Extending
 mod Valued
 mod Watched
-mod Greedy
 mod Exact
 mod Kept

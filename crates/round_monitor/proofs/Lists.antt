@@ -1,7 +1,7 @@
 -- Lists: numbered ones, and where their elements stand.
-use Rattle.std.proofs.Common.{◌≡◌, ℕ, zero, suc, ◌+◌, ◌-◌, ◌<◌, ◌≤◌, ◌==◌, cond, List, [], ◌∷◌, ◌++◌, map, length, get_or, take, drop, refl, sym, ap, ◌∙◌, subst, arith, take_at, drop_at}
+use Rattle.std.proofs.Common.{◌≡◌, ℕ, zero, suc, ◌+◌, ◌-◌, ◌<◌, ◌≤◌, ◌==◌, cond, List, [], ◌∷◌, ◌++◌, map, length, get_or, take, drop, refl, sym, ap, ◌∙◌, arith, take_at, drop_at}
 use Rattle.std.specs.List.{All, Contains, range_with_len}
-use Rattle.std.proofs.lemmas.List.{append_assoc, append-nil, drop_more, length-map}
+use Rattle.std.proofs.lemmas.List.{append_assoc, append-nil, length-map}
 use Rattle.std.proofs.lemmas.List.Elements.{All-nil, All-cons, All-head, All-tail}
 use Rattle.std.proofs.lemmas.List.FromFn.{length-range_with_len, get_or-range_with_len, map-range_with_len_more}
 use Rattle.std.proofs.lemmas.List.Sums.{sum_by-append}
@@ -79,12 +79,6 @@ get_or-behind [] ys m i d e =
     ap (λ k. get_or ys k d) same
 get_or-behind (x ∷ xs) ys zero i d e = absurd (omega (arith, e))
 get_or-behind (x ∷ xs) ys (suc m) i d e = get_or-behind xs ys m i d (omega (arith, e))
-
--- what is so of an element, and of those behind it, is so of those from it on
-pub all_on : {A : Type 0} (P : A → Type 0) (xs : List A) (k : ℕ) (x : A) → k < length xs → x ≡ get_or xs k x → P x → (All P (drop k xs) → All P xs)
-    → All P (drop (k + 1) xs) → All P xs
-all_on P xs k x below is h back rest =
-    back (subst (All P) (sym (drop_more xs k x below)) (All-cons P (get_or xs k x) (drop (k + 1) xs) (subst P is h) rest))
 
 -- ---- numbers in order
 

@@ -13,7 +13,7 @@ use Rattle.live_to_safe.specs.Numbers.{negation}
 use Rattle.live_to_safe.specs.Watching.{numbered, for_each, chain, chain_end}
 use Rattle.round_monitor.specs.declared.sizes.Sizes.{Sizes}
 use Rattle.round_monitor.specs.Numbers.{seen, counter, missing, ending, seen_gate, counter_gate}
-use Rattle.round_monitor.specs.Steps.{ends_with, seen_next}
+use Rattle.circuit.specs.RoundsAlong.{ends_with, seen_next}
 use Rattle.round_monitor.specs.Watching.{each_of, missing_gate, all_gates, all_literal, none_missing, round_ends, next_seen_gate, later_counter_gates, counter_gates, new_gates}
 use Rattle.round_monitor.proofs.Lists.{cons-same}
 use Rattle.round_monitor.proofs.Reading.{negation-variable}

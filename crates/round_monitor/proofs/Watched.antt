@@ -21,7 +21,7 @@ use Rattle.round_monitor.specs.Numbers.{sizes_of, seen, counter, seen_gate, coun
 use Rattle.round_monitor.specs.Watching.{seen_latch, counter_latch, new_latches, new_gates}
 use Rattle.round_monitor.specs.Monitor.{monitor_circuit, monitor_model}
 use Rattle.round_monitor.specs.Ends.{IsMonitorable}
-use Rattle.round_monitor.specs.Steps.{ends_with, seen_next, more_if, none_seen}
+use Rattle.circuit.specs.RoundsAlong.{ends_with, seen_next, more_if, none_seen}
 use Rattle.round_monitor.proofs.Lists.{numbered-length, map_numbered, numbered_agrees, split_same, cons-same}
 use Rattle.round_monitor.proofs.Numbering.{latch_vars, latches-length, gate_vars, gate_count, greatest-is}
 use Rattle.round_monitor.proofs.Reading.{IsBefore, ReadsBefore, new_gates_read, new_latches_read}

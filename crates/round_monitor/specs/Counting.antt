@@ -1,14 +1,9 @@
--- How many rounds of a property a run has, and what the counters of its monitor tell of that.
-use Rattle.std.specs.Prelude.{◌≡◌, ◌↔◌, ℕ, ◌+◌, ◌-◌, ◌<◌, ◌≤◌, List, map, length, take, Some, slice_get, slice_index_or, false, IsTrue}
+-- What the counters of a monitor tell of the rounds of a run.
+use Rattle.std.specs.Prelude.{◌≡◌, ◌↔◌, ℕ, ◌+◌, ◌-◌, ◌<◌, List, map, length, take, Some, slice_get, slice_index_or, false, IsTrue}
 use Rattle.aig_semantics.specs.declared.traces.Position.{Position}
 use Rattle.aig_semantics.specs.Circuits.{Circuit, fair_literals}
 use Rattle.aig_semantics.specs.Runs.{position_of, successor, IsInitialRun}
 use Rattle.fair_semantics.specs.Rounds.{HasRounds}
-
--- the run has n rounds of property j, and no more
-pub record IsMostRounds (c : Circuit) (j : ℕ) (run : List Position) (n : ℕ) : Type 0 where
-  pub has : HasRounds c j n run
-  pub most : (m : ℕ) → HasRounds c j m run → m ≤ n
 
 -- some initial run has k rounds of property j, or more
 abbrev pub HasRunOfRounds : Circuit → ℕ → ℕ → Type 0

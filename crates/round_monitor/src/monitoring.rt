@@ -63,7 +63,7 @@ fn monitored(alloc: Global, c: &Circuit, j: usize, k: u32, z: Sizes) -> Result<M
 }
 
 /// The literals of the property, and then those of fairness.
-pub(crate) fn literals_of(alloc: Global, c: &Circuit, j: usize) -> Result<Vec<u64>, AllocError>
+fn literals_of(alloc: Global, c: &Circuit, j: usize) -> Result<Vec<u64>, AllocError>
     requires { j < length c.now.justice }
     ensures { IfOk result (λ literals. literals.items ≡ fair_literals c.now j) }
 {

@@ -1,6 +1,6 @@
 use Rattle.aig_semantics.specs.Runs.{IsPosition}
-use Rattle.round_monitor.proofs.Lists.{all_on}
-use Rattle.round_monitor.proofs.counting.are_positions.Goals as goal
+use Rattle.circuit.proofs.RoundsAlong.{all_on}
+use Rattle.circuit.proofs.counts.are_positions.Goals as goal
 
 pub loop-position-preserved : goal.loop-position-preserved
 loop-position-preserved c =

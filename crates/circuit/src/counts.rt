@@ -1,17 +1,15 @@
-//! The rounds of a run, counted. The main call is `rounds`: each round ends as early as it can, and so there are as many as
-//! there can be.
+//! How often a run meets the fairness of a property anew: its rounds, counted. The main call is `rounds`: each round ends
+//! as early as it can, and so there are as many as there can be.
 
-ghost use Rattle.std.specs.Prelude.{◌≡◌, ◌↔◌, ◌+◌, ◌<◌, ◌||◌, length, replicate, false, All, IfOk, IsTrue};
-ghost use Rattle.std.specs.List.{list_all};
-ghost use Rattle.aig_semantics.specs.Circuits.{fair_literals};
+ghost use Rattle.std.specs.Prelude.{◌≡◌, ◌↔◌, ◌+◌, ◌<◌, length, All, IfOk, IsTrue};
 ghost use Rattle.aig_semantics.specs.Runs.{IsPosition, valuation_at};
-ghost use Rattle.circuit.specs.Following.{seen_with};
-ghost use Rattle.round_monitor.specs.Counting.{IsMostRounds};
-ghost use Rattle.round_monitor.specs.Steps.{ends_with, seen_next, none_seen, rounds_along};
+ghost use Rattle.circuit.specs.Rounds.{IsMostRounds};
+ghost use Rattle.circuit.specs.RoundsAlong.{ends_with, seen_next, rounds_along};
 
-use crate::monitoring::literals_of;
+use crate::circuits::Circuit;
+use crate::evaluating::{clear, eval_into};
+use crate::lassos::{all_true, literals_of, note_seen};
 use aig_semantics::Position;
-use circuit::{Circuit, eval_into, literal_value};
 use std::alloc::{AllocError, Global};
 
 /// How many rounds of property `j`, counted from 0, a run has: the greatest number of segments of consecutive positions,
@@ -94,33 +92,4 @@ fn ends_round(
     }
     clear(seen);
     true
-}
-
-fn either(a: bool, b: bool) -> bool
-    ensures { result ≡ (a || b) }
-{
-    a || b
-}
-
-fn note_seen(values: &[bool], literals: &[u64], seen: &mut [bool])
-    requires { length seen.old ≡ length literals.now }
-    ensures { seen.new ≡ seen_with values.now literals.now seen.old }
-{
-    for (k, literal) in literals.iter().enumerate() {
-        seen[k] = either(seen[k], literal_value(values, *literal));
-    }
-}
-
-fn all_true(values: &[bool]) -> bool
-    ensures { result ≡ list_all (λ b. b) values.now }
-{
-    values.iter().all(|value| *value)
-}
-
-fn clear(values: &mut [bool])
-    ensures { values.new ≡ replicate (length values.old) false }
-{
-    for value in values.iter_mut() {
-        *value = false;
-    }
 }

@@ -1,6 +1,6 @@
 use Rattle.std.proofs.Common.{rules, ◌≡◌, ◌∙◌, length, replicate, false}
-use Rattle.round_monitor.proofs.Greedy.{told}
-use Rattle.round_monitor.proofs.counting.rounds.Goals as goal
+use Rattle.circuit.proofs.RoundsAlong.{told}
+use Rattle.circuit.proofs.counts.rounds.Goals as goal
 
 pub returns : goal.returns
 returns c =

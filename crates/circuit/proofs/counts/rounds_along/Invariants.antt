@@ -1,6 +1,6 @@
 use Rattle.std.proofs.Common.{◌≡◌, ◌+◌, ◌≤◌, drop, length}
-use Rattle.round_monitor.specs.Steps.{rounds_along}
-use Rattle.round_monitor.proofs.counting.rounds_along.Given as goal
+use Rattle.circuit.specs.RoundsAlong.{rounds_along}
+use Rattle.circuit.proofs.counts.rounds_along.Given as goal
 
 abbrev pub invariant-loop-position : goal.invariant-loop-position
 invariant-loop-position l =

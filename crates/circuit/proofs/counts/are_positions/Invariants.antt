@@ -1,7 +1,7 @@
 use Rattle.std.proofs.Common.{drop}
 use Rattle.std.specs.List.{All}
 use Rattle.aig_semantics.specs.Runs.{IsPosition}
-use Rattle.round_monitor.proofs.counting.are_positions.Given as goal
+use Rattle.circuit.proofs.counts.are_positions.Given as goal
 
 abbrev pub invariant-loop-position : goal.invariant-loop-position
 invariant-loop-position l = All (IsPosition l.c) (drop l.position-index l.run) → All (IsPosition l.c) l.run

@@ -1,16 +1,22 @@
 -- Rounds that end as early as they can are as many as there can be.
-use Rattle.std.proofs.Common.{◌≡◌, ℕ, zero, suc, ◌+◌, ◌<◌, ◌≤◌, ◌⊎◌, Bool, true, false, cond, ◌||◌, List, [], ◌∷◌, ◌++◌, length, drop, replicate, refl, sym, ap, ◌∙◌, subst, inl, inr, arith, length-append, IsTrue}
+use Rattle.std.proofs.Common.{◌≡◌, ℕ, zero, suc, ◌+◌, ◌<◌, ◌≤◌, ◌⊎◌, Bool, true, false, cond, ◌||◌, List, [], ◌∷◌, ◌++◌, length, get_or, drop, replicate, refl, sym, ap, ◌∙◌, subst, inl, inr, arith, length-append, IsTrue}
 use Rattle.std.specs.List.{All, Any, list_all}
 use Rattle.std.proofs.lemmas.Bool.{and_parts, and_from, false≢true}
-use Rattle.std.proofs.lemmas.List.{append_assoc, length-replicate}
+use Rattle.std.proofs.lemmas.List.{append_assoc, drop_more, length-replicate}
 use Rattle.std.proofs.lemmas.List.Elements.{All-nil, All-cons, All-head, All-tail}
 use Rattle.aig_semantics.specs.declared.traces.Position.{Position}
 use Rattle.aig_semantics.specs.Circuits.{Circuit, fair_literals}
 use Rattle.aig_semantics.specs.Runs.{literal_at, valuation_at}
 use Rattle.circuit.specs.Following.{seen_with}
 use Rattle.fair_semantics.specs.Rounds.{HasRounds}
-use Rattle.round_monitor.specs.Counting.{IsMostRounds}
-use Rattle.round_monitor.specs.Steps.{none_seen, ends_with, seen_next, more_if, rounds_along}
+use Rattle.circuit.specs.Rounds.{IsMostRounds}
+use Rattle.circuit.specs.RoundsAlong.{none_seen, ends_with, seen_next, more_if, rounds_along}
+
+-- what is so of an element, and of those behind it, is so of those from it on
+pub all_on : {A : Type 0} (P : A → Type 0) (xs : List A) (k : ℕ) (x : A) → k < length xs → x ≡ get_or xs k x → P x → (All P (drop k xs) → All P xs)
+    → All P (drop (k + 1) xs) → All P xs
+all_on P xs k x below is h back rest =
+    back (subst (All P) (sym (drop_more xs k x below)) (All-cons P (get_or xs k x) (drop (k + 1) xs) (subst P is h) rest))
 
 -- ---- each literal was seen, or is true at one of these positions
 
