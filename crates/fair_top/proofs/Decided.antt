@@ -22,7 +22,7 @@ use Rattle.entry.specs.Proved.{IsProved, IsGoodRefutation}
 use Rattle.fair_semantics.specs.Entries.{Entry}
 use Rattle.fair_workers.specs.Runs.{IsReport}
 use Rattle.wall_store.specs.Boards.{BoardState, IsBoard, plain, IsSoundList}
-use Rattle.fair_top.specs.declared.commands.solving.SolveRequest.{SolveRequest}
+use Rattle.command_lines.specs.declared.commands.solving.SolveRequest.{SolveRequest}
 use Rattle.fair_top.specs.declared.status.Status.{Status}
 use Rattle.fair_top.specs.declared.status.Status.TheVariants as statuses
 use Rattle.fair_top.specs.declared.texts.Outcome.{Outcome}

@@ -1,149 +1,19 @@
--- What is so of any command: a line for each in `request_in`, `reads_means`, `means_reads` and `of_command`.
-use Rattle.std.specs.Prelude.{Option, None, Some, unwrap_or}
-use Rattle.std.proofs.Common.{◌≡◌, inl, inr, Bool, true, false, cond, List, ℕ, refl, sym, ◌∙◌, ap, subst, codes}
-use Rattle.std.specs.Str.{bytes_eq}
-use Rattle.std.proofs.lemmas.Slice.Eq.{bytes_eq-Decides}
-use Rattle.clap.specs.Walk.{Row}
+-- What is so of any command: a line for each in `memory_solves` and `of_command`.
+use Rattle.std.specs.Prelude.{Option}
+use Rattle.std.proofs.Common.{◌≡◌, inr, Bool, false, List, ℕ, sym, subst}
 use Rattle.edge.specs.Writes.{Writes}
-use Rattle.fair_top.specs.declared.commands.generating.GenRequest.{GenRequest}
-use Rattle.fair_top.specs.declared.commands.demonstrating.DemoRequest.{DemoRequest}
 use Rattle.fair_top.specs.declared.status.Status.{Status}
 use Rattle.fair_top.specs.declared.status.Status.TheVariants as statuses
-use Rattle.fair_top.specs.Solve.{MeansSolve}
-use Rattle.fair_top.specs.Demo.{MeansDemo}
-use Rattle.fair_top.specs.Slice.{MeansSlice}
 use Rattle.fair_top.specs.Convert.{IsConversion}
-use Rattle.fair_top.specs.Safety.{MeansSafety}
-use Rattle.fair_top.specs.Commands.{Asked, Solve, Check, Gen, Demo, Wave, Slice, Convert, Safety, Means, CommandGives}
+use Rattle.command_lines.specs.Commands.{Asked, Solve, Check, Gen, Demo, Wave, Slice, Convert, Safety}
+use Rattle.fair_top.specs.Commands.{CommandGives}
 use Rattle.fair_top.specs.Solved.{SolvesAsked}
 use Rattle.fair_top.specs.Headline.{HasWritten}
-use Rattle.fair_top.proofs.Values.{SomeOrNone, Asks, solve_or_none, names_or_none, request_or_none, demo_or_none, one_solve, one_pair, one_request, one_demo, Wants, safety_or_none, one_wanted}
 use Rattle.fair_top.proofs.Sinks.{of_check, of_solve, of_demo}
 use Rattle.fair_top.proofs.Dumped.{of_wave}
 use Rattle.fair_top.proofs.Remaking.{of_remade}
 use Rattle.fair_top.proofs.Translated.{of_safety}
 use Rattle.fair_top.proofs.Sliced.{of_slice}
-
--- what the values of a command ask for, if they do
-asked_from : {T : Type 0} {P : T → Type 0} → (T → Asked) → SomeOrNone P → Option Asked
-asked_from form (inl found) = Some (form found.0)
-asked_from form (inr none) = None
-
--- what a command of this name with these values asks for
-request_in : List ℕ → List Row → Option Asked
-request_in name rows =
-    cond (bytes_eq name (codes "solve")) (asked_from (λ (asks : Asks). Solve asks.0 asks.1) (solve_or_none rows))
-    (cond (bytes_eq name (codes "check")) (asked_from (λ (names : List ℕ × List ℕ). Check names.0 names.1) (names_or_none rows))
-    (cond (bytes_eq name (codes "gen")) (asked_from (λ (request : GenRequest). Gen request) (request_or_none rows))
-    (cond (bytes_eq name (codes "demo")) (asked_from (λ (request : DemoRequest). Demo request) (demo_or_none rows))
-    (cond (bytes_eq name (codes "wave")) (asked_from (λ (names : List ℕ × List ℕ). Wave names.0 names.1) (names_or_none rows))
-    (cond (bytes_eq name (codes "slice")) (asked_from (λ (wants : Wants). Slice wants.0 wants.1) (safety_or_none rows))
-    (cond (bytes_eq name (codes "convert")) (asked_from (λ (names : List ℕ × List ℕ). Convert names.0 names.1) (names_or_none rows))
-    (cond (bytes_eq name (codes "safety")) (asked_from (λ (wants : Wants). Safety wants.0 wants.1) (safety_or_none rows))
-    None)))))))
-
-is_picked : (name own : List ℕ) (rows : List Row) (asked : Asked) (this other : Option Asked) → (name ≡ own → this ≡ Some asked → Means asked name rows)
-    → (other ≡ Some asked → Means asked name rows) → cond (bytes_eq name own) this other ≡ Some asked → Means asked name rows
-is_picked name own rows asked this other first second = by (bytes_eq name own) refl
-  where
-    by : (b : Bool) → bytes_eq name own ≡ b → cond b this other ≡ Some asked → Means asked name rows
-    by true e h = first ((bytes_eq-Decides name own).0 e) h
-    by false e h = second h
-
-from_means : {T : Type 0} {P : T → Type 0} (name : List ℕ) (rows : List Row) (asked : Asked) (form : T → Asked) (either : SomeOrNone P)
-    → ((t : T) → P t → Means (form t) name rows) → asked_from form either ≡ Some asked → Means asked name rows
-unfolding asked_from
-from_means name rows asked form (inl found) each e =
-    subst (λ (a : Asked). Means a name rows) (ap (λ (o : Option Asked). unwrap_or o (form found.0)) e) (each found.0 found.1)
-from_means name rows asked form (inr none) each e = let wrong : ◌≡◌ {A = Option Asked} None (Some asked) = e in absurd (cc)
-
-none_asked : (name : List ℕ) (rows : List Row) (asked : Asked) → ◌≡◌ {A = Option Asked} None (Some asked) → Means asked name rows
-none_asked name rows asked e = absurd (cc)
-
-reads_means : (name : List ℕ) (rows : List Row) (asked : Asked) → request_in name rows ≡ Some asked → Means asked name rows
-unfolding request_in
-reads_means name rows asked =
-    is_picked name (codes "solve") rows asked _ _ (λ is. from_means name rows asked (λ (asks : Asks). Solve asks.0 asks.1) (solve_or_none rows) (λ t h. (is, h)))
-    (is_picked name (codes "check") rows asked _ _ (λ is. from_means name rows asked (λ (names : List ℕ × List ℕ). Check names.0 names.1) (names_or_none rows) (λ t h. (is, h)))
-    (is_picked name (codes "gen") rows asked _ _ (λ is. from_means name rows asked (λ (request : GenRequest). Gen request) (request_or_none rows) (λ t h. (is, h)))
-    (is_picked name (codes "demo") rows asked _ _ (λ is. from_means name rows asked (λ (request : DemoRequest). Demo request) (demo_or_none rows) (λ t h. (is, h)))
-    (is_picked name (codes "wave") rows asked _ _ (λ is. from_means name rows asked (λ (names : List ℕ × List ℕ). Wave names.0 names.1) (names_or_none rows) (λ t h. (is, h)))
-    (is_picked name (codes "slice") rows asked _ _ (λ is. from_means name rows asked (λ (wants : Wants). Slice wants.0 wants.1) (safety_or_none rows) (λ t h. (is, h)))
-    (is_picked name (codes "convert") rows asked _ _ (λ is. from_means name rows asked (λ (names : List ℕ × List ℕ). Convert names.0 names.1) (names_or_none rows) (λ t h. (is, h)))
-    (is_picked name (codes "safety") rows asked _ _ (λ is. from_means name rows asked (λ (wants : Wants). Safety wants.0 wants.1) (safety_or_none rows) (λ t h. (is, h)))
-    (none_asked name rows asked))))))))
-
--- the values of a command that ask for something ask for nothing else
-from_found : {T : Type 0} {P : T → Type 0} (form : T → Asked) (either : SomeOrNone P) (t : T) → P t
-    → ((a b : T) → P a → P b → form a ≡ form b) → asked_from form either ≡ Some (form t)
-unfolding asked_from
-from_found form (inl found) t h one = ap (λ (a : Asked). Some a) (one found.0 t found.1 h)
-from_found form (inr none) t h one = absurd (none t h)
-
-means_reads : (name : List ℕ) (rows : List Row) (asked : Asked) → Means asked name rows → request_in name rows ≡ Some asked
-unfolding request_in
-means_reads name rows (Solve model request) h =
-    ap (λ (n : List ℕ). request_in n rows) h.0
-    ∙ from_found (λ (asks : Asks). Solve asks.0 asks.1) (solve_or_none rows) (model, request) h.1 (λ a b. one_solve rows a.0 b.0 a.1 b.1)
-means_reads name rows (Check model answer) h =
-    ap (λ (n : List ℕ). request_in n rows) h.0
-    ∙ from_found (λ (names : List ℕ × List ℕ). Check names.0 names.1) (names_or_none rows) (model, answer) h.1 (one_pair rows (λ m a. Check m a))
-means_reads name rows (Gen request) h =
-    ap (λ (n : List ℕ). request_in n rows) h.0
-    ∙ from_found (λ (request : GenRequest). Gen request) (request_or_none rows) request h.1 (λ a b k l. ap (λ (r : GenRequest). Gen r) (one_request rows a b k l))
-means_reads name rows (Demo request) h =
-    ap (λ (n : List ℕ). request_in n rows) h.0
-    ∙ from_found (λ (request : DemoRequest). Demo request) (demo_or_none rows) request h.1 (λ a b k l. ap (λ (r : DemoRequest). Demo r) (one_demo rows a b k l))
-means_reads name rows (Wave model answer) h =
-    ap (λ (n : List ℕ). request_in n rows) h.0
-    ∙ from_found (λ (names : List ℕ × List ℕ). Wave names.0 names.1) (names_or_none rows) (model, answer) h.1 (one_pair rows (λ m a. Wave m a))
-means_reads name rows (Slice model property) h =
-    ap (λ (n : List ℕ). request_in n rows) h.0
-    ∙ from_found (λ (wants : Wants). Slice wants.0 wants.1) (safety_or_none rows) (model, property) h.1 (one_wanted rows (λ m p. Slice m p))
-means_reads name rows (Convert model answer) h =
-    ap (λ (n : List ℕ). request_in n rows) h.0
-    ∙ from_found (λ (names : List ℕ × List ℕ). Convert names.0 names.1) (names_or_none rows) (model, answer) h.1 (one_pair rows (λ m a. Convert m a))
-means_reads name rows (Safety model property) h =
-    ap (λ (n : List ℕ). request_in n rows) h.0
-    ∙ from_found (λ (wants : Wants). Safety wants.0 wants.1) (safety_or_none rows) (model, property) h.1 (one_wanted rows (λ m p. Safety m p))
-
--- the values are of one request at most
-pub one_meant : (name : List ℕ) (rows : List Row) (a b : Asked) → Means a name rows → Means b name rows → a ≡ b
-one_meant name rows a b h k =
-    ap (λ (o : Option Asked). unwrap_or o a) (sym (means_reads name rows a h) ∙ means_reads name rows b k)
-
-none_read : (name : List ℕ) (rows : List Row) → request_in name rows ≡ None → (asked : Asked) → Means asked name rows → ⊥
-none_read name rows e asked h = let wrong : ◌≡◌ {A = Option Asked} None (Some asked) = sym e ∙ means_reads name rows asked h in cc
-
-pub asked_or_none : (name : List ℕ) (rows : List Row) → SomeOrNone (λ (asked : Asked). Means asked name rows)
-asked_or_none name rows = by (request_in name rows) refl
-  where
-    by : (read : Option Asked) → request_in name rows ≡ read → SomeOrNone (λ (asked : Asked). Means asked name rows)
-    by (Some asked) e = inl (asked, reads_means name rows asked e)
-    by None e = inr (none_read name rows e)
-
-from_none : {T : Type 0} {P : T → Type 0} (form : T → Asked) (either : SomeOrNone P) → ((t : T) → P t → ⊥) → asked_from form either ≡ None
-unfolding asked_from
-from_none form (inl found) none = absurd (none found.0 found.1)
-from_none form (inr other) none = refl
-
--- ---- where a command's values ask for nothing, of commands that want it said
-
-pub no_solve : (rows : List Row) → ((asks : Asks) → MeansSolve rows asks.0 asks.1 → ⊥) → (asked : Asked) → Means asked (codes "solve") rows → ⊥
-unfolding request_in
-no_solve rows none = none_read (codes "solve") rows (from_none (λ (asks : Asks). Solve asks.0 asks.1) (solve_or_none rows) none)
-
-pub no_safety : (rows : List Row) → ((wants : Wants) → MeansSafety rows wants.0 wants.1 → ⊥) → (asked : Asked) → Means asked (codes "safety") rows → ⊥
-unfolding request_in
-no_safety rows none = none_read (codes "safety") rows (from_none (λ (wants : Wants). Safety wants.0 wants.1) (safety_or_none rows) none)
-
-pub no_slice : (rows : List Row) → ((wants : Wants) → MeansSlice rows wants.0 wants.1 → ⊥) → (asked : Asked) → Means asked (codes "slice") rows → ⊥
-unfolding request_in
-no_slice rows none = none_read (codes "slice") rows (from_none (λ (wants : Wants). Slice wants.0 wants.1) (safety_or_none rows) none)
-
-pub no_demo : (rows : List Row) → ((request : DemoRequest) → MeansDemo rows request → ⊥) → (asked : Asked) → Means asked (codes "demo") rows → ⊥
-unfolding request_in
-no_demo rows none = none_read (codes "demo") rows (from_none (λ (request : DemoRequest). Demo request) (demo_or_none rows) none)
 
 -- ---- where memory is refused
 

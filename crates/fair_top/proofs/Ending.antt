@@ -3,22 +3,24 @@ use Rattle.std.proofs.Common.{◌≡◌, ◌⊎◌, inl, inr, ℕ, Bool, true, f
 use Rattle.std.specs.Prelude.{Option, Result, IfOk}
 use Rattle.edge.specs.Reads.{ReadsOf}
 use Rattle.edge.specs.Writes.{Adds, AddsPart, Writes}
-use Rattle.fair_top.specs.declared.commands.generating.GenRequest.{GenRequest}
+use Rattle.command_lines.specs.declared.commands.generating.GenRequest.{GenRequest}
 use Rattle.fair_top.specs.declared.status.Status.{Status}
 use Rattle.fair_top.specs.declared.status.Status.TheVariants as statuses
 use Rattle.fair_top.specs.declared.status.Done.TheVariants.{Printed}
-use Rattle.fair_top.specs.declared.commands.demonstrating.DemoRequest.{DemoRequest}
+use Rattle.command_lines.specs.declared.commands.demonstrating.DemoRequest.{DemoRequest}
 use Rattle.fair_top.specs.Demo.{GivesDemo, IsSummedUp, demo_circuit}
 use Rattle.fair_top.specs.Solved.{SolvesAsked}
-use Rattle.fair_top.specs.Commands.{Asked, Gen, Demo, names_in, CommandGives, Decides}
-use Rattle.fair_top.specs.Headline.{AsksFor, IsUsage, Ends, IsVerdict, IsAnswered, IsTakenOrUsage, IsSilent, HasTaken, HasWritten, FailedOf, ReadFailed, ReadsModelFirst, HasRead}
+use Rattle.command_lines.specs.Commands.{Asked, Gen, Demo, names_in}
+use Rattle.fair_top.specs.Commands.{CommandGives, Decides}
+use Rattle.command_lines.specs.Asking.{AsksFor, IsUsage, IsTakenOrUsage}
+use Rattle.fair_top.specs.Headline.{Ends, IsVerdict, IsAnswered, IsSilent, HasTaken, HasWritten, FailedOf, ReadFailed, ReadsModelFirst, HasRead}
 use Rattle.fair_top.specs.Statuses.{is_read_fault, ends_silently}
 use Rattle.fair_top.specs.Texts.{text_of}
 use Rattle.fair_top.specs.declared.texts.Outcome.{Outcome}
 use Rattle.unless_memory.specs.Answers.{GivesSome}
 use Rattle.fair_top.proofs.EachCommand.{memory_solves, of_command}
 use Rattle.fair_top.proofs.Summed.{sums_up}
-use Rattle.fair_top.proofs.Taken.{one_asked, not_usage}
+use Rattle.command_lines.proofs.Taken.{one_asked, not_usage}
 
 -- what is decided for what is asked for is decided for the words
 pub exact_for : (held : List ℕ → Option (List ℕ)) (words : List (List ℕ)) (asked : Asked) (result : Status) → AsksFor words asked

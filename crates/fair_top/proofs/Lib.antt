@@ -1,7 +1,6 @@
 mod TextsRead
 mod Judging
 mod Decided
-mod Values
 mod Sinks
 mod Dumped
 mod Remaking
@@ -9,7 +8,6 @@ mod Converted
 mod Translated
 mod Sliced
 mod EachCommand
-mod Taken
 mod Ending
 mod Agreeing
 mod Summed

@@ -1,19 +1,17 @@
 -- What a command that makes a text of an answer gives, from the model and the end of the loading of the answer.
-use Rattle.std.proofs.Common.{◌≡◌, ◌⊎◌, ℕ, Bool, true, false, List, [], ◌∷◌, None, Some, refl, sym, ◌∙◌, ap, subst, inl, inr, Ok, Err}
+use Rattle.std.proofs.Common.{◌≡◌, ◌⊎◌, ℕ, Bool, true, false, List, [], ◌∷◌, Some, refl, sym, ◌∙◌, ap, subst, inl, inr, Ok, Err}
 use Rattle.std.specs.Prelude.{Option, Result, IfOk, IfErr}
 use Rattle.aig_semantics.specs.Circuits.{Circuit}
 use Rattle.aiger_grammar.specs.Models.{Model}
 use Rattle.circuit.specs.declared.faults.ModelFault.{ModelFault}
 use Rattle.edge.specs.Reads.{ReadsOf, Reads}
-use Rattle.edge.specs.Told.{MayBe}
 use Rattle.edge.specs.Writes.{Writes}
 use Rattle.certificate.specs.declared.ends.Accepted.{Accepted}
-use Rattle.certificate.specs.declared.ends.Accepted.TheVariants as accepted
 use Rattle.certificate.specs.declared.ends.AnswerEnd.{AnswerEnd}
 use Rattle.certificate.specs.declared.ends.AnswerEnd.TheVariants as ends
 use Rattle.certificate.specs.declared.loaded.Loaded.{Loaded}
 use Rattle.certificate.specs.Ends.{DecidesEnd, CheckSays, EndsWith, has_unread}
-use Rattle.certificate.specs.Loading.{IsHeld, IsHeldOf, accepted_of, accepted_in}
+use Rattle.certificate.specs.Loading.{IsHeld, IsHeldOf, accepted_in}
 use Rattle.fair_top.specs.declared.status.Status.{Status}
 use Rattle.fair_top.specs.declared.status.Status.TheVariants as statuses
 use Rattle.fair_top.specs.declared.status.Done.TheVariants.{Printed}
@@ -22,7 +20,6 @@ use Rattle.fair_top.specs.ModelGiven.{OfSomeText}
 use Rattle.fair_top.specs.Check.{done_of}
 use Rattle.fair_top.specs.Remade.{EndsRemade, GivesRemade, remade_status, DecidesRemade}
 use Rattle.fair_top.specs.Remaking.{IsMadeOf, IsMade, IsRemade}
-use Rattle.fair_top.specs.Waved.{IsWritten}
 use Rattle.fair_top.specs.Statuses.{is_read_fault, ends_silently, status_in}
 use Rattle.fair_top.specs.Texts.{text_of}
 use Rattle.fair_top.specs.Headline.{IsSilent, IsAnswered, HoldsModel, ReadsModel, ReadsModelFirst, HasWritten}

@@ -7,8 +7,8 @@ use Rattle.certificate.specs.declared.ends.Accepted.{Accepted}
 use Rattle.certificate.specs.declared.ends.AnswerEnd.{AnswerEnd}
 use Rattle.certificate.specs.declared.ends.AnswerEnd.TheVariants as ends
 use Rattle.certificate.specs.Ends.{DecidesEnd}
-use Rattle.fair_top.specs.declared.commands.solving.SolveRequest.{SolveRequest}
-use Rattle.fair_top.specs.declared.commands.demonstrating.DemoRequest.{DemoRequest}
+use Rattle.command_lines.specs.declared.commands.solving.SolveRequest.{SolveRequest}
+use Rattle.command_lines.specs.declared.commands.demonstrating.DemoRequest.{DemoRequest}
 use Rattle.fair_top.specs.declared.status.Status.{Status}
 use Rattle.fair_top.specs.ModelGiven.{OfSomeText}
 use Rattle.fair_top.specs.Check.{status_of, JudgesAs}

@@ -12,7 +12,7 @@ use Rattle.edge.specs.InMemory.{ShelfInMemory, text_of}
 use Rattle.edge.specs.Reads.{Reads}
 use Rattle.edge.proofs.Steady.{ReadsInMemory, no_read_fails}
 use Rattle.wall_store.specs.Boards.{BoardState}
-use Rattle.fair_top.specs.declared.commands.demonstrating.DemoRequest.{DemoRequest}
+use Rattle.command_lines.specs.declared.commands.demonstrating.DemoRequest.{DemoRequest}
 use Rattle.fair_top.specs.declared.status.Status.{Status}
 use Rattle.fair_top.specs.declared.status.Status.TheVariants as statuses
 use Rattle.fair_top.specs.declared.status.Done.TheVariants as dones

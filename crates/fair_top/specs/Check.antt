@@ -1,7 +1,5 @@
--- The command `check MODEL ANSWER`: what its words mean, and what it gives.
-use Rattle.std.specs.Prelude.{◌≡◌, ◌⊎◌, ℕ, List, Option, Result, Ok, Err, codes}
-use Rattle.clap.specs.Walk.{Row}
-use Rattle.clap.specs.Simple.{App, new_app, with_rule}
+-- The command `check MODEL ANSWER`: what it gives.
+use Rattle.std.specs.Prelude.{◌≡◌, ◌⊎◌, ℕ, List, Option, Result, Ok, Err}
 use Rattle.certificate.specs.declared.ends.Accepted.{Accepted}
 use Rattle.certificate.specs.declared.ends.Accepted.TheVariants as accepted
 use Rattle.certificate.specs.declared.ends.AnswerEnd.{AnswerEnd}
@@ -10,20 +8,11 @@ use Rattle.fair_top.specs.declared.status.Status.{Status}
 use Rattle.fair_top.specs.declared.status.Status.TheVariants as statuses
 use Rattle.fair_top.specs.declared.status.Done.{Done}
 use Rattle.fair_top.specs.declared.status.Done.TheVariants as done
-use Rattle.fair_top.specs.Words.{wanted, IsGiven}
 use Rattle.certificate.specs.Answers.{Shows}
 use Rattle.certificate.specs.Ends.{DecidesEnd}
 use Rattle.fair_top.specs.ModelTexts.{OfModel}
 use Rattle.fair_top.specs.ModelGiven.{Taking, OfText, OfSomeText, SaysBadModel}
 use Rattle.fair_top.specs.Texts.{text_of}
-
-abbrev pub check_command : App
-check_command = with_rule (with_rule (new_app (codes "check")) (wanted (codes "MODEL"))) (wanted (codes "ANSWER"))
-
--- the names that are given
-pub record MeansCheck (rows : List Row) (model answer : List ℕ) : Type 0 where
-  pub model_name : IsGiven rows (codes "MODEL") model
-  pub answer_name : IsGiven rows (codes "ANSWER") answer
 
 -- what was done where an answer was accepted
 abbrev pub done_of : Accepted → Done

@@ -1,22 +1,11 @@
--- The command `convert MODEL ANSWER`: what its words mean, and what it gives.
-use Rattle.std.specs.Prelude.{◌≡◌, ℕ, List, Option, codes}
-use Rattle.clap.specs.Walk.{Row}
-use Rattle.clap.specs.Simple.{App, new_app, with_rule}
+-- The command `convert MODEL ANSWER`: what it gives.
+use Rattle.std.specs.Prelude.{◌≡◌, ℕ, List, Option}
 use Rattle.aig_semantics.specs.Circuits.{Circuit}
 use Rattle.certificate.specs.declared.loaded.Loaded.{Loaded}
 use Rattle.certificate.specs.Answers.{IsGood}
 use Rattle.certificate.specs.Loading.{HoldsAnswer, accepted_of, printed_text}
 use Rattle.fair_top.specs.declared.status.Status.{Status}
-use Rattle.fair_top.specs.Words.{wanted}
-use Rattle.fair_top.specs.Check.{MeansCheck}
 use Rattle.fair_top.specs.Remade.{GivesRemade}
-
-abbrev pub convert_command : App
-convert_command = with_rule (with_rule (new_app (codes "convert")) (wanted (codes "MODEL"))) (wanted (codes "ANSWER"))
-
--- the names that are given, as those of `check` are
-abbrev pub MeansConvert : List Row → List ℕ → List ℕ → Type 0
-MeansConvert rows model answer = MeansCheck rows model answer
 
 -- The text is the answer's conversion: of what the answer has, a certificate in version 2, or the stimulus. Both are good
 -- answers for the same: for one property, and with the same positions and place, or the same number of entries.

@@ -1,8 +1,6 @@
--- The command `demo SEED SIZE`: two workers decide property 0 of a generated model, the answer is checked, and a summary
--- is printed. What its words mean, and what it gives.
+-- The command `demo SEED SIZE`, for which two workers decide property 0 of a generated model, the answer is checked, and a
+-- summary is printed: what it gives.
 use Rattle.std.specs.Prelude.{◌≡◌, ◌⊎◌, ℕ, List, ◌++◌, length, decimal, codes, Option, Some, None}
-use Rattle.clap.specs.Walk.{Row}
-use Rattle.clap.specs.Simple.{App, new_app, with_rule}
 use Rattle.aig_semantics.specs.Circuits.{Circuit}
 use Rattle.model_gen.specs.Generated.{scramble_circuit}
 use Rattle.certificate.specs.declared.ends.Accepted.{Accepted}
@@ -12,22 +10,13 @@ use Rattle.wall_store.specs.declared.outcomes.Outcome.TheVariants.{Lasso, Holds}
 use Rattle.wall_store.specs.Boards.{BoardState, outcome_of}
 use Rattle.fair_workers.specs.declared.limits.Report.{Report}
 use Rattle.fair_workers.specs.Runs.{Task, IsAnswered, IsReport}
-use Rattle.fair_top.specs.declared.commands.demonstrating.DemoRequest.{DemoRequest}
-use Rattle.fair_top.specs.declared.commands.solving.SolveRequest.{SolveRequest}
+use Rattle.command_lines.specs.declared.commands.demonstrating.DemoRequest.{DemoRequest}
+use Rattle.command_lines.specs.declared.commands.solving.SolveRequest.{SolveRequest}
 use Rattle.fair_top.specs.declared.status.Status.{Status}
 use Rattle.fair_top.specs.declared.status.Status.TheVariants as statuses
 use Rattle.fair_top.specs.declared.status.Done.TheVariants as done
-use Rattle.fair_top.specs.Words.{wanted_number, IsNumberGiven}
-use Rattle.fair_top.specs.Solve.{default_request, task_of, IsTextOfOutcome}
-
-abbrev pub demo_command : App
-demo_command =
-    with_rule (with_rule (new_app (codes "demo")) (wanted_number (codes "SEED") 0 4294967295)) (wanted_number (codes "SIZE") 1 256)
-
--- the numbers that are given
-pub record MeansDemo (rows : List Row) (request : DemoRequest) : Type 0 where
-  pub seed_number : IsNumberGiven rows (codes "SEED") 0 4294967295 request.seed
-  pub size_number : IsNumberGiven rows (codes "SIZE") 1 256 request.size
+use Rattle.command_lines.specs.Solve.{default_request}
+use Rattle.fair_top.specs.Solve.{task_of, IsTextOfOutcome}
 
 -- the circuit that `gen scramble` writes for the seed and the size
 abbrev pub demo_circuit : DemoRequest → Circuit

@@ -1,10 +1,7 @@
 -- What a run of the program answers, writes and reads, whatever its commands are.
-use Rattle.std.specs.Prelude.{◌≡◌, ◌≢◌, ◌⊎◌, ◌+◌, ℕ, Bool, true, false, List, [], ◌∷◌, Option, Some}
+use Rattle.std.specs.Prelude.{◌≡◌, ◌⊎◌, ◌+◌, ℕ, Bool, true, false, List, [], ◌∷◌, Option}
 use Rattle.aig_semantics.specs.declared.limits.TheConstants.{MAX_MODEL_BYTES}
 use Rattle.circuit.specs.declared.faults.ModelFault.TheVariants.{Cycle}
-use Rattle.clap.specs.Walk.{Row}
-use Rattle.clap.specs.Simple.{subcommand_of}
-use Rattle.clap.specs.Faults.{fault_of}
 use Rattle.edge.specs.Told.{IfTold}
 use Rattle.edge.specs.Faults.{Rose}
 use Rattle.edge.specs.Reads.{ReadsOf, Within, Reads}
@@ -15,38 +12,12 @@ use Rattle.fair_top.specs.declared.status.Status.{Status}
 use Rattle.fair_top.specs.declared.status.Status.TheVariants as statuses
 use Rattle.fair_top.specs.ModelTexts.{OfModel}
 use Rattle.fair_top.specs.Check.{done_of}
-use Rattle.fair_top.specs.Commands.{Asked, names_in, usage_text, fairlive, Means, CommandGives, Decides, ShownBy}
+use Rattle.command_lines.specs.Commands.{Asked, names_in, usage_text}
+use Rattle.command_lines.specs.Asking.{AsksFor, IsUsage}
+use Rattle.fair_top.specs.Commands.{CommandGives, Decides, ShownBy}
 use Rattle.fair_top.specs.Statuses.{is_read_fault}
 
 -- What the words ask for.
-
--- `clap` takes the words, as the command of this name with these values
-pub record IsTaken (words : List (List ℕ)) (name : List ℕ) (rows : List Row) : Type 0 where
-  pub faultless : fault_of fairlive words ≡ []
-  pub command : subcommand_of fairlive words ≡ Some (name, rows)
-
--- the words ask for this
-pub record AsksFor (words : List (List ℕ)) (asked : Asked) : Type 0 where
-  pub name : List ℕ
-  pub rows : List Row
-  pub taken : IsTaken words name rows
-  pub means : Means asked name rows
-
--- `clap` takes the words as a command, and its values are no request of it
-pub record AsksForNothing (words : List (List ℕ)) : Type 0 where
-  pub name : List ℕ
-  pub rows : List Row
-  pub taken : IsTaken words name rows
-  pub refused : (asked : Asked) → Means asked name rows → ⊥
-
--- the words are no command: `clap` does not take them (so a request for help), for another cause than memory, or their
--- values are no request
-abbrev pub IsUsage : List (List ℕ) → Type 0
-IsUsage words = (fault_of fairlive words ≢ []) ⊎ AsksForNothing words
-
--- the words ask for something, or are no command
-abbrev pub IsTakenOrUsage : List (List ℕ) → Type 0
-IsTakenOrUsage words = IsUsage words ⊎ ((asked : Asked) × AsksFor words asked)
 
 -- nothing is read for the words
 abbrev pub ReadsNothing : List (List ℕ) → Type 0

@@ -1,6 +1,5 @@
 pub mod ModelTexts
 pub mod ModelGiven
-pub mod Words
 pub mod Check
 pub mod Solve
 pub mod Gen
@@ -13,7 +12,6 @@ pub mod Convert
 pub mod Safety
 pub mod Slice
 pub mod Commands
-pub mod Asking
 pub mod Statuses
 pub mod Texts
 pub mod Solved

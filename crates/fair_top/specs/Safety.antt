@@ -1,8 +1,6 @@
--- The command `safety MODEL [--property N]`: what its words mean, and what it gives. A property of MODEL is written as a
--- model with one bad state literal, after Biere, Artho, Schuppan, Liveness Checking as Safety Checking (FMICS 2002).
-use Rattle.std.specs.Prelude.{◌≡◌, ◌⊎◌, ◌≤◌, ◌↔◌, ℕ, List, length, Option, codes}
-use Rattle.clap.specs.Walk.{Row}
-use Rattle.clap.specs.Simple.{App, new_app, with_rule}
+-- The command `safety MODEL [--property N]`: what it gives. A property of MODEL is written as a model with one
+-- bad state literal, after Biere, Artho, Schuppan, Liveness Checking as Safety Checking (FMICS 2002).
+use Rattle.std.specs.Prelude.{◌≡◌, ◌⊎◌, ◌≤◌, ◌↔◌, ℕ, List, length, Option}
 use Rattle.aig_semantics.specs.declared.limits.TheConstants.{MAX_MODEL_BYTES}
 use Rattle.aig_semantics.specs.Circuits.{Circuit}
 use Rattle.aiger_grammar.specs.Spelling.{ascii_text, HasAsciiForm}
@@ -14,18 +12,9 @@ use Rattle.live_to_safe.specs.Ends.{IsTranslatable, IsTooLarge}
 use Rattle.fair_top.specs.declared.status.Status.{Status}
 use Rattle.fair_top.specs.declared.status.Status.TheVariants as statuses
 use Rattle.fair_top.specs.declared.status.Done.TheVariants.{Printed}
-use Rattle.fair_top.specs.Words.{wanted, number_option, IsGiven, IsNumberOr}
 use Rattle.fair_top.specs.ModelTexts.{OfModel}
 use Rattle.fair_top.specs.ModelGiven.{OfText, OfSomeText, SaysBadModel}
 use Rattle.fair_top.specs.Texts.{text_of}
-
-abbrev pub safety_command : App
-safety_command = with_rule (with_rule (new_app (codes "safety")) (wanted (codes "MODEL"))) (number_option (codes "property") 0 4294967295)
-
--- the name that is given, and the number, which is 0 where none is given
-pub record MeansSafety (rows : List Row) (model : List ℕ) (property : ℕ) : Type 0 where
-  pub model_name : IsGiven rows (codes "MODEL") model
-  pub number : IsNumberOr rows (codes "property") 0 4294967295 0 property
 
 -- The text is that of the translation; it stands for it, and is read as it where it is not too long. The translation has a
 -- bad run exactly where the circuit has a fair lasso of the property.

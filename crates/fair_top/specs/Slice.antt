@@ -1,8 +1,6 @@
--- The command `slice MODEL [--property N]`: what its words mean, and what it gives. What lies in a property's cone is written
--- as a model with this one property (cone of influence; Clarke, Grumberg, Peled, Model Checking, 1999).
-use Rattle.std.specs.Prelude.{◌≡◌, ◌⊎◌, ◌≤◌, ◌<◌, ◌↔◌, ℕ, List, length, Option, codes}
-use Rattle.clap.specs.Walk.{Row}
-use Rattle.clap.specs.Simple.{App, new_app, with_rule}
+-- The command `slice MODEL [--property N]`: what it gives. What lies in a property's cone is written as a model
+-- with this one property (cone of influence; Clarke, Grumberg, Peled, Model Checking, 1999).
+use Rattle.std.specs.Prelude.{◌≡◌, ◌⊎◌, ◌≤◌, ◌<◌, ◌↔◌, ℕ, List, length, Option}
 use Rattle.aig_semantics.specs.declared.limits.TheConstants.{MAX_MODEL_BYTES}
 use Rattle.aig_semantics.specs.Circuits.{Circuit}
 use Rattle.aiger_grammar.specs.Models.{Model}
@@ -13,18 +11,9 @@ use Rattle.slice.specs.Slicing.{IsSlice}
 use Rattle.fair_top.specs.declared.status.Status.{Status}
 use Rattle.fair_top.specs.declared.status.Status.TheVariants as statuses
 use Rattle.fair_top.specs.declared.status.Done.TheVariants.{Printed}
-use Rattle.fair_top.specs.Words.{wanted, number_option}
-use Rattle.fair_top.specs.Safety.{MeansSafety}
 use Rattle.fair_top.specs.ModelTexts.{IsModelText, OfModel}
 use Rattle.fair_top.specs.ModelGiven.{OfText, OfSomeText, SaysBadModel}
 use Rattle.fair_top.specs.Texts.{text_of}
-
-abbrev pub slice_command : App
-slice_command = with_rule (with_rule (new_app (codes "slice")) (wanted (codes "MODEL"))) (number_option (codes "property") 0 4294967295)
-
--- the name and the number that are given, as those of `safety` are
-abbrev pub MeansSlice : List Row → List ℕ → ℕ → Type 0
-MeansSlice rows model property = MeansSafety rows model property
 
 -- The text is that of the slice; it stands for it, and is read as it where it is not too long. The slice has a fair lasso of
 -- its one property exactly where the model has one of property j.

@@ -7,11 +7,11 @@ use Rattle.certificate.specs.Answers.{IsGood, Shows}
 use Rattle.fair_workers.specs.declared.limits.Report.{Report}
 use Rattle.fair_workers.specs.Runs.{AreLimits, IsAnswer, IsEnded, IsReport}
 use Rattle.fair_workers.specs.declared.limits.Ended.{Ended}
-use Rattle.fair_top.specs.declared.commands.solving.SolveRequest.{SolveRequest}
+use Rattle.command_lines.specs.declared.commands.solving.SolveRequest.{SolveRequest}
 use Rattle.fair_top.specs.declared.status.Status.{Status}
 use Rattle.fair_top.specs.declared.status.Status.TheVariants as statuses
 use Rattle.fair_top.specs.Check.{done_of}
-use Rattle.fair_top.specs.Commands.{Asked, Solve}
+use Rattle.command_lines.specs.Commands.{Asked, Solve}
 use Rattle.fair_top.specs.Solve.{limits_of, task_of, property_of, IsWithinList, IsWrittenAs, HasAsked, IsSolved}
 use Rattle.fair_top.specs.Headline.{IsCut}
 use Rattle.fair_top.specs.Texts.{text_of}

@@ -11,7 +11,7 @@ use Rattle.proof_semantics.specs.declared.faults.LratFault.{LratFault}
 use Rattle.proof_semantics.specs.declared.faults.LratFault.TheVariants as proofs
 use Rattle.entry.specs.declared.faults.EntryFault.{EntryFault}
 use Rattle.entry.specs.declared.faults.EntryFault.TheVariants as entries
-use Rattle.fair_top.specs.declared.commands.TheConstants.{USAGE}
+use Rattle.command_lines.specs.declared.commands.TheConstants.{USAGE}
 use Rattle.fair_top.specs.declared.status.Status.{Status}
 use Rattle.fair_top.specs.declared.status.Status.TheVariants as statuses
 use Rattle.fair_top.specs.declared.status.Done.{Done}

@@ -1,7 +1,5 @@
--- The command `wave MODEL ANSWER`: what its words mean, and what it gives.
-use Rattle.std.specs.Prelude.{◌≡◌, ◌⊎◌, ℕ, List, Option, Result, Ok, Err, codes}
-use Rattle.clap.specs.Walk.{Row}
-use Rattle.clap.specs.Simple.{App, new_app, with_rule}
+-- The command `wave MODEL ANSWER`: what it gives.
+use Rattle.std.specs.Prelude.{◌≡◌, ◌⊎◌, ℕ, List, Option, Result, Ok, Err}
 use Rattle.aig_semantics.specs.declared.traces.Lasso.{Lasso as LassoOf}
 use Rattle.aiger_grammar.specs.Models.{Model}
 use Rattle.certificate.specs.declared.ends.Accepted.{Accepted}
@@ -17,18 +15,9 @@ use Rattle.waves.specs.Dumps.{waves_text}
 use Rattle.fair_top.specs.declared.status.Status.{Status}
 use Rattle.fair_top.specs.declared.status.Status.TheVariants as statuses
 use Rattle.fair_top.specs.declared.status.Done.TheVariants.{Printed}
-use Rattle.fair_top.specs.Words.{wanted}
-use Rattle.fair_top.specs.Check.{MeansCheck}
 use Rattle.fair_top.specs.ModelTexts.{IsModelText, OfModel}
 use Rattle.fair_top.specs.ModelGiven.{OfText, OfSomeText, SaysBadModel}
 use Rattle.fair_top.specs.Texts.{text_of}
-
-abbrev pub wave_command : App
-wave_command = with_rule (with_rule (new_app (codes "wave")) (wanted (codes "MODEL"))) (wanted (codes "ANSWER"))
-
--- the names that are given, as those of `check` are
-abbrev pub MeansWave : List Row → List ℕ → List ℕ → Type 0
-MeansWave rows model answer = MeansCheck rows model answer
 
 -- the answer is refused as `check` refuses it, or is a good certificate, which has no lasso
 abbrev pub HasNoWaves : Model → List ℕ → AnswerFault → Type 0

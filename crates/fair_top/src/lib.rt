@@ -1,4 +1,4 @@
-//! The program: its words, the texts that it reads, its verdict, and what it writes.
+//! The program: the texts that it reads, its verdict, and what it writes.
 //!
 //! | Call | What it does |
 //! |---|---|
@@ -7,9 +7,8 @@
 //! | `Status::number` | the number with which the program ends |
 //! | `runs_agree` | nothing: the law that two runs of `solve` on one property agree |
 //!
-//! A command has files of its own, as `specs/Check.antt` and `src/commands/checking.rt` are, and a line, or a case, in
-//! each list of `specs/Commands.antt`, `src/commands.rt` and `proofs/EachCommand.antt`, and in three more files, which
-//! `src/commands.rt` names.
+//! What its words ask for, `command_lines` tells. A command has files of its own there, and here, as `specs/Check.antt` and
+//! `src/commands/checking.rt` are, and a line, or a case, in each list of the files that `src/commands.rt` names.
 #![tactic(auto)]
 
 mod commands;
@@ -20,9 +19,7 @@ mod running;
 mod searching;
 mod status;
 mod texts;
-mod words;
 
-pub use commands::{DemoRequest, GenKind, GenRequest, SolveRequest};
 pub use laws::runs_agree;
 pub use running::{run, run_alone};
 pub use status::{Done, Status};

@@ -1,14 +1,13 @@
 //! The text of MODEL, read. The main call is `model_of`.
 
-ghost use Rattle.std.specs.Prelude.{◌≡◌, ◌⊎◌, ◌↔◌, ℕ, ◌+◌, List, Option, Some, Ok, Err, IsTrue, IfOk, IfErr, take};
+ghost use Rattle.std.specs.Prelude.{◌≡◌, ◌⊎◌, ◌↔◌, Ok, Err, IsTrue, IfOk, IfErr};
 ghost use Rattle.edge.specs.Faults.{Rose, NoneFell};
 ghost use Rattle.edge.specs.Reads.{KeepsTexts};
-ghost use Rattle.edge.specs.Told.{IfTold};
 ghost use Rattle.circuit.specs.declared.faults.ModelFault.{ModelFault as FaultOf};
 ghost use Rattle.aiger_grammar.specs.Models.{Model as ModelOf};
 ghost use Rattle.aiger_grammar.specs.BothForms.{SameFault};
 ghost use Rattle.fair_top.specs.ModelTexts.{is_binary, IsTextIn, HasFaultIn, IsModelText, IsBadModel};
-ghost use Rattle.fair_top.specs.Judged.{IsModelOf, IsFaultOf, EndsWithoutModel};
+ghost use Rattle.fair_top.specs.Judged.{IsModelOf, EndsWithoutModel};
 ghost use Rattle.fair_top.specs.Headline.{ReadsModel};
 ghost use Rattle.fair_top.specs.Statuses.{has_read_fault};
 

@@ -7,8 +7,9 @@ ghost use Rattle.fair_workers.specs.Runs.{IsAnswer, IsEnded};
 ghost use Rattle.fair_top.specs.Solve.{task_of};
 ghost use Rattle.fair_top.specs.Solved.{AreWithin};
 
-use crate::commands::{SolveRequest, limits_of};
+use crate::commands::limits_of;
 use circuit::Circuit;
+use command_lines::SolveRequest;
 use edge::Gate;
 use fair_workers::{Ended, Report, run_all, run_turns};
 use std::alloc::Global;

@@ -4,11 +4,11 @@ ghost use Rattle.std.specs.Prelude.{◌≡◌, ◌⊎◌, ◌++◌, true, false,
 ghost use Rattle.fair_top.specs.Statuses.{ends_silently, status_in, is_read_fault};
 ghost use Rattle.fair_top.specs.Texts.{text_of, line_with, bad_model_text, replay_text, proof_fault_text, entry_fault_text, refusal_text, done_text};
 
-use crate::commands::USAGE;
 use crate::reports::text_of_report;
 use crate::status::{Done, Status};
 use certificate::AnswerFault;
 use circuit::ModelFault;
+use command_lines::USAGE;
 use entry::EntryFault;
 use proof_semantics::LratFault;
 use std::alloc::{AllocError, Global};

@@ -1,49 +1,9 @@
-//! The command `convert`: its words, and the text that it makes of an answer.
+//! The command `convert`: the text that it makes of an answer.
 
-ghost use Rattle.std.specs.Prelude.{◌≡◌, codes, false, IfOk, IfSome, IfNone};
-ghost use Rattle.clap.specs.Simple.{app_of, with_subcommand};
-ghost use Rattle.clap.specs.Walk.{rows_of};
-ghost use Rattle.clap.specs.Matches.{found_of};
-ghost use Rattle.clap.specs.declared.builder.command.Command.TheViews.{out-Command as fields_of};
-ghost use Rattle.fair_top.specs.Commands.{Asked as AskedFor, meant, Means};
-ghost use Rattle.fair_top.specs.Convert.{convert_command};
-
-use crate::commands::Asked;
 use crate::commands::remaking::MakesText;
-use crate::words::{required, value_of};
 use certificate::{Loaded, print, printed_answers_hold_the_same};
 use circuit::Circuit;
-use clap::{ArgMatches, Command};
 use std::alloc::{AllocError, Global};
-
-fn convert_command<'a>(alloc: Global) -> Result<Command<'a>, AllocError>
-    ensures shape { IfOk result (λ command. app_of command ≡ convert_command) }
-    ensures local { IfOk result (λ command. (fields_of command).has_globals ≡ false) }
-{
-    Command::new(alloc, "convert")
-        .arg(required(alloc, "MODEL"))?
-        .arg(required(alloc, "ANSWER"))
-}
-
-/// The program with this command.
-pub(crate) fn with_convert<'a>(
-    alloc: Global,
-    program: Command<'a>,
-) -> Result<Command<'a>, AllocError>
-    ensures { IfOk result (λ more. app_of more ≡ with_subcommand (app_of program.entry) convert_command.top) }
-{
-    program.subcommand(convert_command(alloc)?)
-}
-
-/// The names that `convert` is given.
-pub(crate) fn convert_of<'a>(given: &ArgMatches<'a>) -> Option<Asked<'a>>
-    ensures found { IfSome result (λ asked. Means (meant asked) (codes "convert") (rows_of (found_of given.now))) }
-    ensures none { IfNone result ((asked : AskedFor) → Means asked (codes "convert") (rows_of (found_of given.now)) → ⊥) }
-{
-    let model = value_of(given, "MODEL")?;
-    let answer = value_of(given, "ANSWER")?;
-    Some(Asked::Convert { model, answer })
-}
 
 /// The answer in the current version.
 #[derive(Clone, Copy)]

@@ -1,30 +1,23 @@
 //! The command `demo`: two workers decide property 0 of a generated model, and the answer is checked. The main call is
 //! `demonstrate`. Writes nothing.
 
-ghost use Rattle.std.specs.Prelude.{◌≡◌, ◌≤◌, List, [], Some, length, codes, false, IfOk, IfErr, IfSome, IfNone};
-ghost use Rattle.clap.specs.Simple.{app_of, with_subcommand};
-ghost use Rattle.clap.specs.Walk.{rows_of};
-ghost use Rattle.clap.specs.Matches.{found_of};
-ghost use Rattle.clap.specs.declared.builder.command.Command.TheViews.{out-Command as fields_of};
+ghost use Rattle.std.specs.Prelude.{◌≡◌, ◌≤◌, [], Some, length, codes, false, IfOk, IfErr};
 ghost use Rattle.std.specs.Arc.{arc_value};
 ghost use Rattle.certificate.specs.declared.ends.Accepted.{Accepted as AcceptedOf};
 ghost use Rattle.certificate.specs.Answers.{IsGood};
 ghost use Rattle.wall_store.specs.Boards.{outcome_of};
 ghost use Rattle.fair_workers.specs.Runs.{IsAnswered as IsAnsweredBy, IsAnswer, IsReport};
 ghost use Rattle.fair_top.specs.Check.{done_of};
-ghost use Rattle.fair_top.specs.Commands.{Asked as AskedFor, meant, Means};
-ghost use Rattle.fair_top.specs.Demo.{demo_command, demo_task, verdict_text, summary_text, SumsUpAnswer, SumsUpBoard, SumsUpReport, SumsUp, GivesDemo};
+ghost use Rattle.fair_top.specs.Demo.{demo_task, verdict_text, summary_text, SumsUpAnswer, SumsUpBoard, SumsUpReport, SumsUp, GivesDemo};
 ghost use Rattle.fair_top.specs.Solve.{IsTextOfOutcome};
 ghost use Rattle.fair_top.specs.Statuses.{status_in, is_read_fault};
 
-use crate::commands::Asked;
-use crate::commands::solving::{DEFAULTS, SolveRequest, entry_count, limits_of, printed};
+use crate::commands::solving::{entry_count, limits_of, printed};
 use crate::status::{Done, Status};
 use crate::texts::Outcome;
-use crate::words::{number_of, required_number};
 use certificate::{AnswerEnd, check_answer};
 use circuit::Circuit;
-use clap::{ArgMatches, Command};
+use command_lines::{DEFAULTS, DemoRequest, SolveRequest};
 use edge::{MemShelf, Shelf};
 use fair_workers::{Board, Ended, Report, run_turns};
 use model_gen::scramble;
@@ -33,46 +26,11 @@ use std::sync::Arc;
 use text_grammar::push_number;
 use wall_store::Outcome as Found;
 
-/// The model of `scramble` that `demo` decides.
-#[derive(Clone, Copy)]
-pub struct DemoRequest {
-    /// 0 to 4,294,967,295.
-    pub seed: u64,
-    /// The number of latches, 1 to 256.
-    pub size: u64,
-}
-
 // Property 0, two workers, and the default budgets of `solve`.
 const REQUEST: SolveRequest = SolveRequest {
     workers: 2,
     ..DEFAULTS
 };
-
-fn demo_command<'a>(alloc: Global) -> Result<Command<'a>, AllocError>
-    ensures shape { IfOk result (λ command. app_of command ≡ demo_command) }
-    ensures local { IfOk result (λ command. (fields_of command).has_globals ≡ false) }
-{
-    Command::new(alloc, "demo")
-        .arg(required_number(alloc, "SEED", 0, 4_294_967_295))?
-        .arg(required_number(alloc, "SIZE", 1, 256))
-}
-
-/// The program with this command.
-pub(crate) fn with_demo<'a>(alloc: Global, program: Command<'a>) -> Result<Command<'a>, AllocError>
-    ensures { IfOk result (λ more. app_of more ≡ with_subcommand (app_of program.entry) demo_command.top) }
-{
-    program.subcommand(demo_command(alloc)?)
-}
-
-/// The request that the values of `demo` are.
-pub(crate) fn demo_of<'a>(given: &ArgMatches<'a>) -> Option<Asked<'a>>
-    ensures found { IfSome result (λ asked. Means (meant asked) (codes "demo") (rows_of (found_of given.now))) }
-    ensures none { IfNone result ((asked : AskedFor) → Means asked (codes "demo") (rows_of (found_of given.now)) → ⊥) }
-{
-    let seed = number_of(given, "SEED", 0, 4_294_967_295)?;
-    let size = number_of(given, "SIZE", 1, 256)?;
-    Some(Asked::Demo(DemoRequest { seed, size }))
-}
 
 /// Lets two workers decide the property of the generated model: the status with which the command ends, and the summary.
 /// The error is `Memory`.

@@ -1,11 +1,7 @@
 //! The command `safety`: reads MODEL, and makes the text of the translation of a property, for checkers of safety. The main
 //! call is `safety`. Writes nothing.
 
-ghost use Rattle.std.specs.Prelude.{◌≡◌, ◌∷◌, [], ◌↔◌, codes, false, IfOk, IfErr, IfSome, IfNone};
-ghost use Rattle.clap.specs.Simple.{app_of, with_subcommand};
-ghost use Rattle.clap.specs.Walk.{rows_of};
-ghost use Rattle.clap.specs.Matches.{found_of};
-ghost use Rattle.clap.specs.declared.builder.command.Command.TheViews.{out-Command as fields_of};
+ghost use Rattle.std.specs.Prelude.{◌≡◌, ◌∷◌, [], ◌↔◌, false, IfOk, IfErr};
 ghost use Rattle.edge.specs.Faults.{NoneFell};
 ghost use Rattle.edge.specs.Reads.{KeepsTexts};
 ghost use Rattle.certificate.specs.declared.ends.Accepted.{Accepted as AcceptedOf};
@@ -13,54 +9,18 @@ ghost use Rattle.live_to_safe.specs.BadRuns.{HasBadRun, HasFairLasso};
 ghost use Rattle.live_to_safe.specs.Translation.{safety_model};
 ghost use Rattle.live_to_safe.specs.Ends.{IsTranslatable};
 ghost use Rattle.fair_top.specs.Check.{done_of};
-ghost use Rattle.fair_top.specs.Commands.{Asked as AskedFor, meant, Means};
-ghost use Rattle.fair_top.specs.Safety.{safety_command, EndsSafety, GivesSafety, DecidesSafety};
+ghost use Rattle.fair_top.specs.Safety.{EndsSafety, GivesSafety, DecidesSafety};
 ghost use Rattle.fair_top.specs.Headline.{IsSilent, IsAnswered, FailedOf, ReadsModelFirst};
 ghost use Rattle.fair_top.specs.Statuses.{status_in, is_read_fault};
 
-use crate::commands::Asked;
 use crate::models::model_of;
 use crate::status::{Done, Status};
 use crate::texts::{Outcome, with_text};
-use crate::words::{number_option, number_or, required, value_of};
 use aiger_names::Model;
 use circuit::Circuit;
-use clap::{ArgMatches, Command};
 use edge::Shelf;
 use live_to_safe::{TranslateEnd, translate};
-use std::alloc::{AllocError, Global};
-
-fn safety_command<'a>(alloc: Global) -> Result<Command<'a>, AllocError>
-    ensures shape { IfOk result (λ command. app_of command ≡ safety_command) }
-    ensures local { IfOk result (λ command. (fields_of command).has_globals ≡ false) }
-{
-    Command::new(alloc, "safety")
-        .arg(required(alloc, "MODEL"))?
-        .arg(number_option(alloc, "property", 0, 4_294_967_295))
-}
-
-/// The program with this command.
-pub(crate) fn with_safety<'a>(
-    alloc: Global,
-    program: Command<'a>,
-) -> Result<Command<'a>, AllocError>
-    ensures { IfOk result (λ more. app_of more ≡ with_subcommand (app_of program.entry) safety_command.top) }
-{
-    program.subcommand(safety_command(alloc)?)
-}
-
-/// The name and the number that `safety` is given.
-pub(crate) fn safety_of<'a>(given: &ArgMatches<'a>) -> Option<Asked<'a>>
-    ensures found { IfSome result (λ asked. Means (meant asked) (codes "safety") (rows_of (found_of given.now))) }
-    ensures none { IfNone result ((asked : AskedFor) → Means asked (codes "safety") (rows_of (found_of given.now)) → ⊥) }
-{
-    let model = value_of(given, "MODEL")?;
-    let property = number_or(given, "property", 0, 4_294_967_295, 0)?;
-    Some(Asked::Safety {
-        model,
-        property: property as u32,
-    })
-}
+use std::alloc::Global;
 
 /// Reads the model and translates its property: the status with which the command ends and the text that it writes, but
 /// for its writing; or the status of a run that writes nothing, `ReadFault` or `Memory`.

@@ -1,17 +1,12 @@
 //! The command `wave`: reads MODEL and ANSWER, judges the answer, and makes the waves of its lasso. The main call is
 //! `wave`. Writes nothing.
 
-ghost use Rattle.std.specs.Prelude.{◌≡◌, ◌∷◌, [], codes, false, IfOk, IfErr, IfSome, IfNone};
-ghost use Rattle.clap.specs.Simple.{app_of, with_subcommand};
-ghost use Rattle.clap.specs.Walk.{rows_of};
-ghost use Rattle.clap.specs.Matches.{found_of};
-ghost use Rattle.clap.specs.declared.builder.command.Command.TheViews.{out-Command as fields_of};
+ghost use Rattle.std.specs.Prelude.{◌≡◌, ◌∷◌, [], false, IfOk, IfErr};
 ghost use Rattle.edge.specs.Faults.{NoneFell};
 ghost use Rattle.edge.specs.Reads.{KeepsTexts};
 ghost use Rattle.certificate.specs.declared.ends.Accepted.{Accepted as AcceptedOf};
 ghost use Rattle.fair_top.specs.Check.{done_of};
-ghost use Rattle.fair_top.specs.Commands.{Asked as AskedFor, meant, Means};
-ghost use Rattle.fair_top.specs.Wave.{wave_command, GivesWave, DecidesWave};
+ghost use Rattle.fair_top.specs.Wave.{GivesWave, DecidesWave};
 ghost use Rattle.fair_top.specs.Waved.{CarriesLasso, IsGoodLasso, IsWritten, IsWaved};
 ghost use Rattle.fair_top.specs.Texts.{text_of};
 ghost use Rattle.fair_top.specs.declared.status.Done.TheVariants.{Printed};
@@ -19,43 +14,14 @@ ghost use Rattle.waves.specs.Dumps.{waves_text};
 ghost use Rattle.fair_top.specs.Headline.{IsSilent, IsAnswered, FailedOf, ReadsModelFirst};
 ghost use Rattle.fair_top.specs.Statuses.{status_in, is_read_fault};
 
-use crate::commands::Asked;
 use crate::models::model_of;
 use crate::status::{Done, Status};
 use crate::texts::{Outcome, with_text};
-use crate::words::{required, value_of};
 use aig_semantics::Lasso;
 use aiger_names::Model;
 use certificate::{Accepted, AnswerEnd, AnswerFault, check_with_lasso};
-use clap::{ArgMatches, Command};
 use edge::Shelf;
-use std::alloc::{AllocError, Global};
-
-fn wave_command<'a>(alloc: Global) -> Result<Command<'a>, AllocError>
-    ensures shape { IfOk result (λ command. app_of command ≡ wave_command) }
-    ensures local { IfOk result (λ command. (fields_of command).has_globals ≡ false) }
-{
-    Command::new(alloc, "wave")
-        .arg(required(alloc, "MODEL"))?
-        .arg(required(alloc, "ANSWER"))
-}
-
-/// The program with this command.
-pub(crate) fn with_wave<'a>(alloc: Global, program: Command<'a>) -> Result<Command<'a>, AllocError>
-    ensures { IfOk result (λ more. app_of more ≡ with_subcommand (app_of program.entry) wave_command.top) }
-{
-    program.subcommand(wave_command(alloc)?)
-}
-
-/// The names that `wave` is given.
-pub(crate) fn wave_of<'a>(given: &ArgMatches<'a>) -> Option<Asked<'a>>
-    ensures found { IfSome result (λ asked. Means (meant asked) (codes "wave") (rows_of (found_of given.now))) }
-    ensures none { IfNone result ((asked : AskedFor) → Means asked (codes "wave") (rows_of (found_of given.now)) → ⊥) }
-{
-    let model = value_of(given, "MODEL")?;
-    let answer = value_of(given, "ANSWER")?;
-    Some(Asked::Wave { model, answer })
-}
+use std::alloc::Global;
 
 /// Reads the texts under both names, judges the answer, and makes the waves of its lasso: the status with which the command
 /// ends and the text that it writes, but for its writing; or the status of a run that writes nothing, `ReadFault` or

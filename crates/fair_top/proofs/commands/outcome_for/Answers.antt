@@ -1,7 +1,8 @@
 use Rattle.std.proofs.Common.{subst, sym, refl}
 use Rattle.std.specs.Prelude.{IfOk}
-use Rattle.fair_top.specs.declared.commands.Asked.{Asked as AskedInCode}
-use Rattle.fair_top.specs.Commands.{meant, names_in, CommandGives, Decides, ShownBy}
+use Rattle.command_lines.specs.declared.commands.Asked.{Asked as AskedInCode}
+use Rattle.command_lines.specs.Commands.{meant, names_in}
+use Rattle.fair_top.specs.Commands.{CommandGives, Decides, ShownBy}
 use Rattle.fair_top.specs.Headline.{ReadsModelFirst}
 use Rattle.fair_top.specs.Solved.{SolvesAsked}
 use Rattle.fair_top.specs.Statuses.{status_in, is_read_fault}

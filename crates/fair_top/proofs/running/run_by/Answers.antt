@@ -1,6 +1,6 @@
 use Rattle.std.proofs.Common.{refl, inl, inr}
-use Rattle.fair_top.specs.Words.{bytes_of}
-use Rattle.fair_top.specs.Commands.Asked.{Solve}
+use Rattle.command_lines.specs.Words.{bytes_of}
+use Rattle.command_lines.specs.Commands.Asked.{Solve}
 use Rattle.fair_top.proofs.Ending.{is_printed, demo_sums_up, demo_is_silent, read_before, written, part_written, good_writes}
 use Rattle.fair_top.proofs.running.run_by.Goals as goal
 

@@ -1,0 +1,4 @@
+mod Globals
+mod Values
+mod EachCommand
+pub mod Taken

@@ -1,0 +1,12 @@
+pub mod Words
+pub mod Solve
+pub mod Check
+pub mod Gen
+pub mod Demo
+pub mod Wave
+pub mod Slice
+pub mod Convert
+pub mod Safety
+pub mod Commands
+pub mod Asking
+pub mod Met

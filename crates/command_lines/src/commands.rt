@@ -1,0 +1,183 @@
+//! The commands, each of which has a module of its own: here is one line, or one case, for each in the list of what is
+//! asked for, in the usage text, in `program` and in `asked_as`. The main call is `asked_of`.
+//!
+//! A new command has here a file in `src/commands/` and one in `specs/`, and in `fair_top`, which runs it, again one of each
+//! with a file of lemmas. Else it touches the lists: here `specs/Commands.antt`, this file, `proofs/EachCommand.antt`,
+//! `proofs/commands/program/Answers.antt` and `specs/Lib.antt`, and those that `fair_top/src/commands.rt` names.
+
+ghost use Rattle.std.specs.Prelude.{◌≡◌, ◌⊎◌, option_map, IfOk, IfErr, IfSome, IfNone};
+ghost use Rattle.clap.specs.Simple.{app_of, subcommand_rows_of, subcommand_of};
+ghost use Rattle.clap.specs.Walk.{rows_of};
+ghost use Rattle.clap.specs.Matches.{found_of};
+ghost use Rattle.clap.specs.Kinds.{FailsBy};
+ghost use Rattle.clap.specs.Faults.{fault_of};
+ghost use Rattle.command_lines.specs.Words.{bytes_of};
+ghost use Rattle.command_lines.specs.Commands.{Asked as AskedFor, meant, fairlive, Means};
+ghost use Rattle.command_lines.specs.Asking.{AsksFor, IsUsage, IsTakenOrUsage, IsTold};
+ghost use Rattle.command_lines.specs.Met.{MetFor, IsRead};
+
+mod checking;
+mod converting;
+mod demonstrating;
+mod generating;
+mod slicing;
+mod solving;
+mod translating;
+mod waving;
+
+use checking::{check_of, with_check};
+use clap::error::ErrorKind;
+use clap::{ArgMatches, Command, Error};
+use converting::{convert_of, with_convert};
+pub use demonstrating::DemoRequest;
+use demonstrating::{demo_of, with_demo};
+pub use generating::{GenKind, GenRequest};
+use generating::{gen_of, with_gen};
+use slicing::{slice_of, with_slice};
+pub use solving::{DEFAULTS, SolveRequest};
+use solving::{solve_of, with_solve};
+use std::alloc::{AllocError, Global};
+use translating::{safety_of, with_safety};
+use waving::{wave_of, with_wave};
+
+/// A command with its values.
+#[derive(Clone, Copy)]
+pub enum Asked<'a> {
+    /// Decide a property of the model under the name.
+    Solve {
+        model: &'a str,
+        request: SolveRequest,
+    },
+    /// Check the answer under one name against the model under the other.
+    Check {
+        model: &'a str,
+        answer: &'a str,
+    },
+    /// Write a generated model.
+    Gen(GenRequest),
+    /// Decide a property of a generated model, and print a summary.
+    Demo(DemoRequest),
+    /// Write the waves of the answer's lasso.
+    Wave {
+        model: &'a str,
+        answer: &'a str,
+    },
+    /// Write what of the model lies in the cone of a property.
+    Slice {
+        model: &'a str,
+        property: u32,
+    },
+    /// Write the answer in the current version.
+    Convert {
+        model: &'a str,
+        answer: &'a str,
+    },
+    /// Write a property of the model as a model for checkers of safety.
+    Safety {
+        model: &'a str,
+        property: u32,
+    },
+}
+
+/// What is written where the words are no command: a line for each command.
+pub const USAGE: &str =
+    "usage: fairlive solve MODEL [--property N] [--workers W] [--conflicts C] [--steps S] [--skeletons K]\n       fairlive check MODEL ANSWER\n       fairlive gen KIND SEED SIZE [--binary]\n       fairlive demo SEED SIZE\n       fairlive wave MODEL ANSWER\n       fairlive slice MODEL [--property N]\n       fairlive convert MODEL ANSWER\n       fairlive safety MODEL [--property N]\n";
+
+/// Why the words ask for nothing.
+#[derive(Drop)]
+pub enum WordsEnd {
+    /// They are no command, or their values are no request of it.
+    Usage,
+    /// Memory was refused.
+    Memory,
+}
+
+/// What the words ask for, of which the first is the program's own name: where `clap` takes them, and their values are such
+/// as the command takes.
+pub fn asked_of<'a>(alloc: Global, words: &'a [String]) -> Result<Asked<'a>, WordsEnd>
+    // What is told is asked for; and whatever is asked for is told, unless memory is refused.
+    ensures found { IfOk result (λ asked. AsksFor (bytes_of words.now) (meant asked)) }
+    ensures exactly { (asked : AskedFor) → AsksFor (bytes_of words.now) asked → IsTold asked result }
+    // Words ask for something, or are no command; `Usage` is answered where they are none.
+    ensures either { IsTakenOrUsage (bytes_of words.now) }
+    ensures ended { IfErr result (λ end. ((end ≡ WordsEnd.Usage) × IsUsage (bytes_of words.now)) ⊎ (end ≡ WordsEnd.Memory)) }
+{
+    read_words(alloc, words)
+}
+
+fn read_words<'a>(alloc: Global, words: &'a [String]) -> Result<Asked<'a>, WordsEnd>
+    ensures { IsRead (bytes_of words.now) result }
+{
+    match matches_of(alloc, words) {
+        Ok(matches) => match asked_by(&matches) {
+            Some(asked) => Ok(asked),
+            None => Err(WordsEnd::Usage),
+        },
+        Err(error) => match error.kind() {
+            ErrorKind::OutOfMemory => Err(WordsEnd::Memory),
+            _ => Err(WordsEnd::Usage),
+        },
+    }
+}
+
+/// What `clap` makes of the words.
+fn matches_of<'a>(alloc: Global, words: &'a [String]) -> Result<ArgMatches<'a>, Error>
+    ensures found { IfOk result (λ matches. subcommand_rows_of matches ≡ subcommand_of fairlive (bytes_of words.now)) }
+    ensures kinds { FailsBy (fault_of fairlive (bytes_of words.now)) result }
+{
+    let command = program(alloc)?;
+    command.try_get_matches_from(words)
+}
+
+/// The program and its commands: a line for each.
+fn program<'a>(alloc: Global) -> Result<Command<'a>, AllocError>
+    ensures { IfOk result (λ command. app_of command ≡ fairlive) }
+{
+    let program = Command::new(alloc, "fairlive")
+        .subcommand_required(true)
+        .disable_help_subcommand(true);
+    let program = with_solve(alloc, program)?;
+    let program = with_check(alloc, program)?;
+    let program = with_gen(alloc, program)?;
+    let program = with_demo(alloc, program)?;
+    let program = with_wave(alloc, program)?;
+    let program = with_slice(alloc, program)?;
+    let program = with_convert(alloc, program)?;
+    with_safety(alloc, program)
+}
+
+/// What the command that was met asks for, if it is one of the program's and its values are a request.
+fn asked_by<'a>(matches: &ArgMatches<'a>) -> Option<Asked<'a>>
+    ensures found { IfSome result (λ asked. MetFor (subcommand_rows_of matches.now) (meant asked)) }
+    ensures none { IfNone result ((asked : AskedFor) → MetFor (subcommand_rows_of matches.now) asked → ⊥) }
+{
+    match met(matches) {
+        Some((name, given)) => asked_as(name, given),
+        None => None,
+    }
+}
+
+/// The name of the command that was met, and its values.
+fn met<'a, 'm>(matches: &'m ArgMatches<'a>) -> Option<(&'a str, &'m ArgMatches<'a>)>
+    ensures { option_map (λ p. (p.0.now, rows_of (found_of p.1.now))) result ≡ subcommand_rows_of matches.now }
+{
+    matches.subcommand()
+}
+
+/// What the command of this name asks for: a case for each.
+fn asked_as<'a>(name: &str, given: &ArgMatches<'a>) -> Option<Asked<'a>>
+    ensures found { IfSome result (λ asked. Means (meant asked) name.now (rows_of (found_of given.now))) }
+    ensures none { IfNone result ((asked : AskedFor) → Means asked name.now (rows_of (found_of given.now)) → ⊥) }
+{
+    match name {
+        "solve" => solve_of(given),
+        "check" => check_of(given),
+        "gen" => gen_of(given),
+        "demo" => demo_of(given),
+        "wave" => wave_of(given),
+        "slice" => slice_of(given),
+        "convert" => convert_of(given),
+        "safety" => safety_of(given),
+        _ => None,
+    }
+}

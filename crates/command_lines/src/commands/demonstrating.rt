@@ -1,0 +1,49 @@
+//! The words of the command `demo`.
+
+ghost use Rattle.std.specs.Prelude.{◌≡◌, codes, false, IfOk, IfSome, IfNone};
+ghost use Rattle.clap.specs.Simple.{app_of, with_subcommand};
+ghost use Rattle.clap.specs.Walk.{rows_of};
+ghost use Rattle.clap.specs.Matches.{found_of};
+ghost use Rattle.clap.specs.declared.builder.command.Command.TheViews.{out-Command as fields_of};
+ghost use Rattle.command_lines.specs.Commands.{Asked as AskedFor, meant, Means};
+ghost use Rattle.command_lines.specs.Demo.{demo_command};
+
+use crate::commands::Asked;
+use crate::words::{number_of, required_number};
+use clap::{ArgMatches, Command};
+use std::alloc::{AllocError, Global};
+
+/// The model of `scramble` that `demo` decides.
+#[derive(Clone, Copy)]
+pub struct DemoRequest {
+    /// 0 to 4,294,967,295.
+    pub seed: u64,
+    /// The number of latches, 1 to 256.
+    pub size: u64,
+}
+
+fn demo_command<'a>(alloc: Global) -> Result<Command<'a>, AllocError>
+    ensures shape { IfOk result (λ command. app_of command ≡ demo_command) }
+    ensures local { IfOk result (λ command. (fields_of command).has_globals ≡ false) }
+{
+    Command::new(alloc, "demo")
+        .arg(required_number(alloc, "SEED", 0, 4_294_967_295))?
+        .arg(required_number(alloc, "SIZE", 1, 256))
+}
+
+/// The program with this command.
+pub(crate) fn with_demo<'a>(alloc: Global, program: Command<'a>) -> Result<Command<'a>, AllocError>
+    ensures { IfOk result (λ more. app_of more ≡ with_subcommand (app_of program.entry) demo_command.top) }
+{
+    program.subcommand(demo_command(alloc)?)
+}
+
+/// The request that the values of `demo` are.
+pub(crate) fn demo_of<'a>(given: &ArgMatches<'a>) -> Option<Asked<'a>>
+    ensures found { IfSome result (λ asked. Means (meant asked) (codes "demo") (rows_of (found_of given.now))) }
+    ensures none { IfNone result ((asked : AskedFor) → Means asked (codes "demo") (rows_of (found_of given.now)) → ⊥) }
+{
+    let seed = number_of(given, "SEED", 0, 4_294_967_295)?;
+    let size = number_of(given, "SIZE", 1, 256)?;
+    Some(Asked::Demo(DemoRequest { seed, size }))
+}

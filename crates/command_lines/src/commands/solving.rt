@@ -1,0 +1,85 @@
+//! The words of the command `solve`.
+
+ghost use Rattle.std.specs.Prelude.{◌≡◌, codes, false, IfOk, IfSome, IfNone};
+ghost use Rattle.clap.specs.Simple.{app_of, with_subcommand};
+ghost use Rattle.clap.specs.Walk.{rows_of};
+ghost use Rattle.clap.specs.Matches.{found_of};
+ghost use Rattle.clap.specs.declared.builder.command.Command.TheViews.{out-Command as fields_of};
+ghost use Rattle.command_lines.specs.Commands.{Asked as AskedFor, meant, Means};
+ghost use Rattle.command_lines.specs.Solve.{solve_command};
+
+use crate::commands::Asked;
+use crate::words::{number_option, number_or, required, value_of};
+use clap::{ArgMatches, Command};
+use std::alloc::{AllocError, Global};
+
+/// Which property is to be decided, and by what means.
+#[derive(Clone, Copy)]
+pub struct SolveRequest {
+    /// The number of the property, counted from 0.
+    pub property: u32,
+    /// How many workers search, 1 to 64.
+    pub workers: u32,
+    /// How many conflicts a worker may count, 0 to 4,294,967,295; the last value means no limit.
+    pub conflicts: u64,
+    /// How many steps a worker may count, 0 to 4,294,967,295; the last value means no limit.
+    pub steps: u64,
+    /// By how many entries the shared list may grow, 0 to 65,536.
+    pub skeletons: u32,
+}
+
+/// What is asked for where only a model is named.
+pub const DEFAULTS: SolveRequest = SolveRequest {
+    property: 0,
+    workers: 1,
+    conflicts: 1_000_000,
+    steps: 100_000,
+    skeletons: 10_000,
+};
+
+fn solve_command<'a>(alloc: Global) -> Result<Command<'a>, AllocError>
+    ensures shape { IfOk result (λ command. app_of command ≡ solve_command) }
+    ensures local { IfOk result (λ command. (fields_of command).has_globals ≡ false) }
+{
+    Command::new(alloc, "solve")
+        .arg(required(alloc, "MODEL"))?
+        .arg(number_option(alloc, "property", 0, 4_294_967_295))?
+        .arg(number_option(alloc, "workers", 1, 64))?
+        .arg(number_option(alloc, "conflicts", 0, 4_294_967_295))?
+        .arg(number_option(alloc, "steps", 0, 4_294_967_295))?
+        .arg(number_option(alloc, "skeletons", 0, 65_536))
+}
+
+/// The program with this command.
+pub(crate) fn with_solve<'a>(alloc: Global, program: Command<'a>) -> Result<Command<'a>, AllocError>
+    ensures { IfOk result (λ more. app_of more ≡ with_subcommand (app_of program.entry) solve_command.top) }
+{
+    program.subcommand(solve_command(alloc)?)
+}
+
+/// The name and the numbers that `solve` is given, with their defaults.
+pub(crate) fn solve_of<'a>(given: &ArgMatches<'a>) -> Option<Asked<'a>>
+    ensures found { IfSome result (λ asked. Means (meant asked) (codes "solve") (rows_of (found_of given.now))) }
+    ensures none { IfNone result ((asked : AskedFor) → Means asked (codes "solve") (rows_of (found_of given.now)) → ⊥) }
+{
+    let model = value_of(given, "MODEL")?;
+    let property = number_or(
+        given,
+        "property",
+        0,
+        4_294_967_295,
+        u64::from(DEFAULTS.property),
+    )?;
+    let workers = number_or(given, "workers", 1, 64, u64::from(DEFAULTS.workers))?;
+    let conflicts = number_or(given, "conflicts", 0, 4_294_967_295, DEFAULTS.conflicts)?;
+    let steps = number_or(given, "steps", 0, 4_294_967_295, DEFAULTS.steps)?;
+    let skeletons = number_or(given, "skeletons", 0, 65_536, u64::from(DEFAULTS.skeletons))?;
+    let request = SolveRequest {
+        property: property as u32,
+        workers: workers as u32,
+        conflicts,
+        steps,
+        skeletons: skeletons as u32,
+    };
+    Some(Asked::Solve { model, request })
+}

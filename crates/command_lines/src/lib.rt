@@ -1,0 +1,23 @@
+//! The command lines of the program: what the words that it is called with ask for.
+//!
+//! | Call | What it does |
+//! |---|---|
+//! | `asked_of` | tells what the words ask for, where they are a command and its values a request of it |
+//!
+//! | Word | Means |
+//! |---|---|
+//! | `Asked` | a command with its values: names of texts, a number of a property, or a request |
+//! | `SolveRequest`, `GenRequest` with `GenKind`, `DemoRequest` | what `solve`, `gen` and `demo` are asked for; `DEFAULTS`: of `solve`, where only a model is named |
+//! | `WordsEnd` | why the words ask for nothing |
+//! | `USAGE` | a line for each command, for words that are none |
+//!
+//! Nothing is run here: that does `fair_top`. A command has files of its own, as `specs/Check.antt` and
+//! `src/commands/checking.rt` are, and a line, or a case, in each list of the files that `src/commands.rt` names.
+#![tactic(auto)]
+
+mod commands;
+mod words;
+
+pub use commands::{
+    Asked, DEFAULTS, DemoRequest, GenKind, GenRequest, SolveRequest, USAGE, WordsEnd, asked_of,
+};

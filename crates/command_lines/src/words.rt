@@ -1,0 +1,110 @@
+//! The words of the command line: the options that commands share, and the values that `clap` found for them.
+
+ghost use Rattle.std.specs.Prelude.{◌≡◌, ◌≤◌, ℕ, Some, option_map, IfSome, IfNone, false};
+ghost use Rattle.clap.specs.Walk.{rows_of, rule_of, first_of};
+ghost use Rattle.clap.specs.Matches.{found_of};
+ghost use Rattle.command_lines.specs.Words.{flag, flag_in, number_option, wanted, wanted_number, IsNumberIn, IsNumberGiven, IsNumberOr};
+
+use clap::builder::ValueParser;
+use clap::{Arg, ArgAction, ArgMatches};
+use std::alloc::Global;
+
+/// A value that has to be given.
+pub(crate) fn required<'a>(alloc: Global, name: &'a str) -> Arg<'a>
+    ensures rule { rule_of result ≡ wanted name.now }
+    ensures local { result.global ≡ false }
+{
+    Arg::new(alloc, name).required(true)
+}
+
+/// A number that has to be given.
+pub(crate) fn required_number<'a>(alloc: Global, name: &'a str, low: u64, high: u64) -> Arg<'a>
+    ensures rule { rule_of result ≡ wanted_number name.now low high }
+    ensures local { result.global ≡ false }
+{
+    Arg::new(alloc, name)
+        .required(true)
+        .value_parser(ValueParser::unsigned(low, high))
+}
+
+/// An option without a value.
+pub(crate) fn flag<'a>(alloc: Global, name: &'a str) -> Arg<'a>
+    ensures rule { rule_of result ≡ flag name.now }
+    ensures local { result.global ≡ false }
+{
+    Arg::new(alloc, name).long(name).action(ArgAction::SetTrue)
+}
+
+/// An option that has a number.
+pub(crate) fn number_option<'a>(alloc: Global, name: &'a str, low: u64, high: u64) -> Arg<'a>
+    ensures rule { rule_of result ≡ number_option name.now low high }
+    ensures local { result.global ≡ false }
+{
+    Arg::new(alloc, name)
+        .long(name)
+        .value_parser(ValueParser::unsigned(low, high))
+}
+
+/// The number that is given for a name, if it is from the low one to the high one, or the default where none is given.
+pub(crate) fn number_or(
+    given: &ArgMatches,
+    name: &str,
+    low: u64,
+    high: u64,
+    default: u64,
+) -> Option<u64>
+    ensures found { IfSome result (IsNumberOr (rows_of (found_of given.now)) name.now low high default) }
+    ensures none { IfNone result ((n : ℕ) → IsNumberOr (rows_of (found_of given.now)) name.now low high default n → ⊥) }
+{
+    match value_of(given, name) {
+        Some(text) => number_in(text, low, high),
+        None => Some(default),
+    }
+}
+
+/// The number that is given for a name, if it is from the low one to the high one.
+pub(crate) fn number_of(given: &ArgMatches, name: &str, low: u64, high: u64) -> Option<u64>
+    ensures found { IfSome result (IsNumberGiven (rows_of (found_of given.now)) name.now low high) }
+    ensures none { IfNone result ((n : ℕ) → IsNumberGiven (rows_of (found_of given.now)) name.now low high n → ⊥) }
+{
+    number_in(value_of(given, name)?, low, high)
+}
+
+/// The number that the text is, if it is from the low one to the high one.
+fn number_in(text: &str, low: u64, high: u64) -> Option<u64>
+    ensures found { IfSome result (IsNumberIn low high text.now) }
+    ensures exactly { (n : ℕ) → IsNumberIn low high text.now n → result ≡ Some n }
+{
+    match text.parse::<u64>() {
+        Ok(number) => within(number, low, high),
+        Err(_) => None,
+    }
+}
+
+fn within(number: u64, low: u64, high: u64) -> Option<u64>
+    ensures found { IfSome result (λ n. (n ≡ number) × (low ≤ n) × (n ≤ high)) }
+    ensures exactly { low ≤ number → number ≤ high → result ≡ Some number }
+{
+    if low <= number && number <= high {
+        Some(number)
+    } else {
+        None
+    }
+}
+
+/// Whether the flag was given.
+pub(crate) fn flag_of(given: &ArgMatches, name: &str) -> bool
+    ensures { result ≡ flag_in (rows_of (found_of given.now)) name.now }
+{
+    match value_of(given, name) {
+        Some(text) => text == "true",
+        None => false,
+    }
+}
+
+/// The text that was given for a name.
+pub(crate) fn value_of<'a>(given: &ArgMatches<'a>, name: &str) -> Option<&'a str>
+    ensures { option_map (λ text. text.now) result ≡ first_of name.now (rows_of (found_of given.now)) }
+{
+    given.get_str(name)
+}
