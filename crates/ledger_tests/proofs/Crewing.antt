@@ -1,9 +1,9 @@
 -- Passes that stay who they are.
-use Rattle.std.proofs.Common.{◌≡◌, ℕ, zero, suc, ◌+◌, ◌<◌, ◌≤◌, Bool, true, false, List, [], ◌∷◌, length, map, refl, sym, ap, ◌∙◌, subst, arith}
+use Rattle.std.proofs.Common.{◌≡◌, ℕ, zero, suc, ◌+◌, ◌<◌, ◌≤◌, Bool, true, false, List, [], ◌∷◌, ◌++◌, length, map, take, drop, refl, sym, ap, ◌∙◌, subst, arith, ext_get_or}
 use Rattle.std.specs.List.{Any, Contains}
 use Rattle.std.proofs.Math.ListN.{get_or, set}
 use Rattle.std.proofs.Math.Seq.{map-set_same}
-use Rattle.std.proofs.lemmas.List.{get_or-map, get_or_default, length-map}
+use Rattle.std.proofs.lemmas.List.{get_or-map, get_or_default, length-map, append-nil, drop_all, take_all}
 use Rattle.std.proofs.lemmas.List.Elements.{All-nil, All-cons, All-set}
 use Rattle.aig_semantics.specs.Circuits.{Circuit}
 use Rattle.fair_semantics.specs.Entries.{Numbered}
@@ -18,7 +18,7 @@ use Rattle.wall_store.specs.declared.outcomes.Outcome.TheVariants.{Holds}
 use Rattle.wall_store.specs.Boards.{FromWorker, Allow, plain, IsTrueOf}
 use Rattle.wall_ledger.specs.Passes.{PassState, LedgerState, MayPassPost, IsPassPost, new_pass, new_passes}
 use Rattle.wall_ledger.specs.Turns.{AreAll, AreOf, IsBegun}
-use Rattle.ledger_tests.specs.Crews.{model, properties, target, IsFindOf, IsOf, numbers, count_up}
+use Rattle.ledger_tests.specs.Crews.{model, properties, target, IsFindOf, IsOf, StayPasses, numbers, count_up}
 use Rattle.ledger_tests.proofs.Modelling.{is_skeleton}
 
 pub of_served : (two : Bool) (k : ℕ) → Any (λ (j : ℕ). IsSkeleton (model two) j (target k)) (properties two)
@@ -81,6 +81,31 @@ set_numbers ps i q d number = map-set_same (λ (p : PassState). p.number) ps i q
 pub set_own : (l : LedgerState) (ps : List PassState) (i : ℕ) (q : PassState) → q.home ≡ l.home → AreOf l ps → AreOf l (set ps i q)
 set_own l ps i q home own = All-set (λ (p : PassState). p.home ≡ l.home) ps i q home own
 
+-- ---- passes that stay
+
+-- a list that is written whole
+pub written_back : (n : ℕ) (new old : List PassState) → length old ≡ n → length new ≡ n → take n (new ++ drop (length new) old) ≡ new
+written_back n new old was is =
+    ap (λ t. take n (new ++ t)) (drop_all (length new) old (omega (arith, was, is)))
+    ∙ (ap (λ t. take n t) (append-nil new) ∙ take_all n new (omega (arith, is)))
+
+pub stay_own : (l : LedgerState) (before after : List PassState) → StayPasses before after → AreOf l before → AreOf l after
+stay_own l before after stay own = λ k d below.
+    let inside : k < length before = omega (arith, below, stay.0) in
+    (stay.1 k d inside).home ∙ own k d inside
+
+pub stay_numbers : (l : LedgerState) (before after : List PassState) → StayPasses before after → numbers after ≡ numbers before
+stay_numbers l before after stay =
+    let d : PassState = new_pass l 0 in
+    let many : length (numbers after) ≡ length after = length-map after (λ (p : PassState). p.number) in
+    let few : length (numbers before) ≡ length before = length-map before (λ (p : PassState). p.number) in
+    ext_get_or 0 (numbers after) (numbers before) (many ∙ stay.0 ∙ sym few)
+    (λ i below.
+    let inside : i < length after = omega (arith, below, many) in
+    let first : i < length before = omega (arith, inside, stay.0) in
+    get_or-map (λ (p : PassState). p.number) after i d 0 inside ∙ (stay.1 i d first).number
+    ∙ sym (get_or-map (λ (p : PassState). p.number) before i d 0 first))
+
 -- ---- new passes
 
 pub own_new : (l : LedgerState) (n more : ℕ) → AreOf l (new_passes l n more)
@@ -111,11 +136,15 @@ may_post_found two k l p e d n t list skeleton of same number turn found seen ai
     (subst (λ (m : ℕ). IsFindOf d m p.turns k e) number (subst (λ (m : ℕ). IsFindOf d n m k e) turn found)))
     (subst (λ (s : Skeleton). Allow p.list s) aimed (subst (λ (es : List CheckedEntry). Allow es skeleton) seen allowed))
 
+pub true_over : (l : LedgerState) (p : PassState) (j : ℕ) (d : Circuit) (entries : List Entry) (r : Refutation) → d ≡ l.circuit
+    → entries ≡ plain p.list → IsGoodRefutation d entries j r.uses r.proof → IsTrueOf l.circuit p.list j (Holds r)
+true_over l p j d entries r same seen good =
+    subst (λ (es : List Entry). IsGoodRefutation l.circuit es j r.uses r.proof) seen
+    (subst (λ (c : Circuit). IsGoodRefutation c entries j r.uses r.proof) same good)
+
 pub true_of : (two : Bool) (l : LedgerState) (p : PassState) (j : ℕ) (d : Circuit) (entries : List Entry) (r : Refutation) → IsOf two l
     → d ≡ model two → entries ≡ plain p.list → IsGoodRefutation d entries j r.uses r.proof → IsTrueOf l.circuit p.list j (Holds r)
-true_of two l p j d entries r of same seen good =
-    subst (λ (es : List Entry). IsGoodRefutation l.circuit es j r.uses r.proof) seen
-    (subst (λ (c : Circuit). IsGoodRefutation c entries j r.uses r.proof) (same ∙ sym of.circuit) good)
+true_of two l p j d entries r of same seen good = true_over l p j d entries r (same ∙ sym of.circuit) seen good
 
 pub among : (two : Bool) (j : ℕ) → j < length (properties two) → Contains (properties two) j
 among false zero below = (0, (omega arith), refl)

@@ -1,3 +1,4 @@
 mod Crewing
 mod Modelling
 mod Posting
+mod StuckPasses

@@ -34,7 +34,7 @@ stays : successor stuck (record { latches = true ∷ []; inputs = [] }) ≡ true
 unfolding value_beside given_value value_through values_below valuation
 stays = refl
 
-is_skeleton : IsSkeleton stuck 0 (one_situation true true)
+pub is_skeleton : IsSkeleton stuck 0 (one_situation true true)
 is_skeleton =
     let here : Situation = record { position = record { latches = true ∷ []; inputs = [] }; successor = true ∷ [] } in
     record {

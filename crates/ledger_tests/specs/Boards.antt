@@ -7,6 +7,7 @@ use Rattle.entry.specs.declared.origins.Origin.TheVariants.{Worker}
 use Rattle.entry.specs.CheckedEntries.{CheckedEntry}
 use Rattle.wall_store.specs.Boards.{BoardState, properties_of}
 use Rattle.wall_store.specs.Events.{seen_by}
+use Rattle.wall_ledger.specs.Passes.{LedgerState}
 
 -- the latch is 0 in each state that is reached: found by this worker, and the skeleton in which the latch is 1 excluded
 pub record IsFindOf (author : ℕ) (e : CheckedEntry) : Type 0 where
@@ -21,3 +22,8 @@ pub record IsUnseen (b : BoardState) (w : ℕ) : Type 0 where
   pub served : properties_of b.served ≡ 0 ∷ []
   pub worker : w < b.workers
   pub seen : seen_by b w ≡ 0
+
+-- a ledger of that circuit
+pub record IsStuckLedger (l : LedgerState) : Type 0 where
+  pub circuit : l.circuit ≡ stuck
+  pub properties : l.properties ≡ 0 ∷ []

@@ -1,5 +1,5 @@
 -- Scaffolding of tests. A ledger of a small circuit with its passes, and what is found of it.
-use Rattle.std.specs.Prelude.{◌≡◌, ℕ, zero, suc, ◌+◌, ◌==◌, Bool, true, false, List, [], ◌∷◌, map, length}
+use Rattle.std.specs.Prelude.{◌≡◌, ℕ, zero, suc, ◌+◌, ◌<◌, ◌==◌, Bool, true, false, List, [], ◌∷◌, map, length, slice_index_or}
 use Rattle.aig_semantics.specs.declared.parts.Latch.{Latch}
 use Rattle.aig_semantics.specs.declared.parts.Reset.TheVariants.{Zero}
 use Rattle.aig_semantics.specs.Circuits.{Circuit}
@@ -67,3 +67,20 @@ count_up n (suc more) = n ∷ count_up (n + 1) more
 pub record IsOf (two : Bool) (l : LedgerState) : Type 0 where
   pub circuit : l.circuit ≡ model two
   pub properties : l.properties ≡ properties two
+
+-- a pass of that ledger, with the circuit in hand
+pub record MayRace (two : Bool) (l : LedgerState) (c : Circuit) (p : PassState) : Type 0 where
+  pub of : IsOf two l
+  pub circuit : c ≡ model two
+  pub home : p.home ≡ l.home
+
+-- the pass is the same one
+pub record StaysPass (p q : PassState) : Type 0 where
+  pub home : q.home ≡ p.home
+  pub number : q.number ≡ p.number
+
+-- each of them is
+abbrev pub StayPasses : List PassState → List PassState → Type 0
+StayPasses before after =
+    (length after ≡ length before)
+    × ((k : ℕ) (d : PassState) → k < length before → StaysPass (slice_index_or before k d) (slice_index_or after k d))

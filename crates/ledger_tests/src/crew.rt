@@ -5,12 +5,15 @@ ghost use Rattle.std.specs.Arc.{arc_value};
 ghost use Rattle.wall_ledger.specs.Turns.{AreOf};
 ghost use Rattle.ledger_tests.specs.Crews.{IsOf, model, numbers, count_up};
 
+use crate::driving::Setting;
 use crate::finds::front;
 use crate::passing::{Event, Told, meet, turn};
+use crate::racing::{Notes, Race, race_listed};
 use circuit::Circuit;
 use entry::EntryEnd;
 use std::alloc::{AllocError, Global};
 use std::sync::{Arc, Wait};
+use std::thread::Threads;
 use wall_ledger::{Ledger, Pass};
 use wall_store::Board;
 
@@ -104,7 +107,8 @@ fn meet_of(
     meet(ledger, &mut front[one], &mut back[0])
 }
 
-fn meet_at(
+/// Two passes of a list meet.
+pub fn meet_at(
     ledger: &Ledger,
     passes: &mut Vec<Pass>,
     one: usize,
@@ -145,6 +149,30 @@ impl Crew {
             at,
             event,
         )
+    }
+
+    /// Each pass on a thread of its own, with events that are drawn by the seed.
+    pub fn race<R: Threads + Wait + Sync>(
+        &mut self,
+        alloc: Global,
+        rt: &R,
+        setting: Setting,
+        notes: &Notes,
+        seed: u64,
+    ) {
+        let race = Race {
+            rt,
+            alloc,
+            ledger: &self.ledger,
+            circuit: &self.circuit,
+            setting: Setting {
+                two: self.two,
+                ..setting
+            },
+            notes,
+            seed,
+        };
+        race_listed(&race, &mut self.passes);
     }
 
     /// These two passes meet, the first with the lesser number.

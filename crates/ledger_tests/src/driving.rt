@@ -45,8 +45,8 @@ impl Draws {
         self.small(count) as usize
     }
 
-    // What a pass of so many does, whose list ends with this entry.
-    fn event(&mut self, passes: u32, last: u32) -> Event {
+    /// What a pass of so many does, whose list ends with this entry.
+    pub fn event(&mut self, passes: u32, last: u32) -> Event {
         match self.below(16) {
             0..=1 => Event::Look,
             2..=7 => Event::Post(self.latch()),
@@ -79,17 +79,18 @@ impl Draws {
 /// What is driven: how many passes there are, two properties or one, how many entries may come, an entry that is given
 /// or none.
 #[derive(Clone, Copy)]
-struct Setting {
-    passes: u32,
-    two: bool,
-    limit: u32,
-    given: bool,
+pub struct Setting {
+    pub passes: u32,
+    pub two: bool,
+    pub limit: u32,
+    pub given: bool,
 }
 
 impl Setting {
-    fn drawn(draws: &mut Draws) -> Setting {
+    /// One of up to so many passes.
+    pub fn drawn(draws: &mut Draws, most: u32) -> Setting {
         Setting {
-            passes: draws.small(PASSES as u32).saturating_add(1),
+            passes: draws.small(most).saturating_add(1),
             two: draws.below(3) != 0,
             limit: draws.small(MOST as u32),
             given: draws.below(2) == 0,
@@ -201,8 +202,8 @@ fn last_of(wanted: &Wanted, at: usize) -> u32 {
     u32::try_from(count).unwrap_or(0).saturating_sub(1)
 }
 
-// What the board has of the property.
-fn outcome(board: &Board, property: u32) -> Option<By> {
+/// What the board has of the property.
+pub fn outcome(board: &Board, property: u32) -> Option<By> {
     match board.outcome(property)? {
         Outcome::Holds(r) => {
             let entry = r.uses.as_slice().first()?.entry;
@@ -257,7 +258,7 @@ fn ends_same(pair: Pair, setting: Setting) -> bool {
 /// So many events, drawn by this seed; nothing where memory was refused before them.
 pub fn drive<R: Wait>(alloc: Global, rt: &R, seed: u64, events: u32) -> Option<Driven> {
     let mut draws = Draws::new(seed);
-    let setting = Setting::drawn(&mut draws);
+    let setting = Setting::drawn(&mut draws, PASSES as u32);
     let Ok(mut pair) = pair_of(alloc, setting) else {
         return None;
     };

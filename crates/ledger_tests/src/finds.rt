@@ -309,23 +309,36 @@ fn list_of(alloc: Global, view: &[Arc<Checked>]) -> Result<Vec<Listed>, AllocErr
     Ok(list)
 }
 
-// The refutation that uses this entry; the other proof differs in the number of its line.
-fn refutation(alloc: Global, entry: u32, other: bool) -> Result<Refutation, AllocError> {
+/// The refutation that uses this entry, with a proof of this line.
+pub fn refutation(alloc: Global, entry: u32, line: &str) -> Result<Refutation, AllocError> {
     let used = Use {
         entry,
         side: Side::Any,
     };
     let mut proof = Items::new(alloc);
-    let line = if other {
-        "20 0 14 15 0"
-    } else {
-        "17 0 14 15 0"
-    };
     proof.push(Items::from_slice(alloc, line.as_bytes())?)?;
     Ok(Refutation {
         uses: Items::from_slice(alloc, &[used])?,
         proof,
     })
+}
+
+/// This refutation of the property, where it is good over the view.
+pub fn judged(
+    alloc: Global,
+    c: &Circuit,
+    view: &[Arc<Checked>],
+    property: u32,
+    r: Refutation,
+) -> Result<Option<Refutation>, AllocError>
+    requires { property < length c.now.justice }
+    ensures { IfOk result (λ found. IfSome found (λ r. IsGoodRefutation c.now (viewed view.now) property r.uses r.proof)) }
+{
+    let list = list_of(alloc, view)?;
+    match refutation_fault(alloc, c, &list, property, &r)? {
+        None => Ok(Some(r)),
+        Some(_) => Ok(None),
+    }
 }
 
 /// A refutation of the property that uses the entry of the view with this number, by the one proof or the other, where it is
@@ -340,11 +353,12 @@ pub fn refuted(
     requires { property < length c.now.justice }
     ensures { IfOk result (λ found. IfSome found (λ r. IsGoodRefutation c.now (viewed view.now) property r.uses r.proof)) }
 {
-    let list = list_of(alloc, view)?;
     let (entry, other) = by;
-    let r = refutation(alloc, entry, other)?;
-    match refutation_fault(alloc, c, &list, property, &r)? {
-        None => Ok(Some(r)),
-        Some(_) => Ok(None),
-    }
+    let line = if other {
+        "20 0 14 15 0"
+    } else {
+        "17 0 14 15 0"
+    };
+    let r = refutation(alloc, entry, line)?;
+    judged(alloc, c, view, property, r)
 }

@@ -49,6 +49,25 @@ impl Tags {
         self.count
     }
 
+    /// The tag of the entry with this number.
+    pub fn at(&self, number: usize) -> Option<Tag> {
+        if number < self.count && number < MOST {
+            Some(self.tags[number])
+        } else {
+            None
+        }
+    }
+
+    /// Whether the other list begins with this one.
+    pub fn begins(&self, other: &Tags) -> bool {
+        for number in 0..MOST {
+            if number < self.count && self.at(number) != other.at(number) {
+                return false;
+            }
+        }
+        self.count <= other.count
+    }
+
     // The entry with this number says that this latch is 0.
     fn speaks_of(&self, number: usize, latch: u32) -> bool {
         if number >= self.count || number >= MOST {
@@ -101,6 +120,17 @@ pub struct Known {
     pub stamp: u64,
     pub turns: u32,
     pub marks: [Shown; 2],
+}
+
+impl Known {
+    /// What the pass shows of property 0 or 1.
+    pub fn mark(&self, property: u32) -> Shown {
+        if property == 0 {
+            self.marks[0]
+        } else {
+            self.marks[1]
+        }
+    }
 }
 
 /// What this pass knows.

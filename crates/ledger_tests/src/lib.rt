@@ -1,5 +1,5 @@
 //! Tests of the board, on circuits of one latch, and of the ledger: scripts of events of several passes, and events that
-//! are drawn, beside a plain board; all driven by one thread.
+//! are drawn, beside a plain board, driven by one thread; and races of passes on threads of their own.
 #![tactic(auto)]
 
 #[cfg(test)]
@@ -18,5 +18,11 @@ mod knowing;
 mod passing;
 #[cfg(test)]
 mod plain;
+#[cfg(test)]
+mod races;
+#[cfg(test)]
+mod racing;
+#[cfg(test)]
+mod reading;
 #[cfg(test)]
 mod tests;

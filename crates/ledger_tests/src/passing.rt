@@ -35,7 +35,8 @@ pub enum Told {
     Nothing,
 }
 
-fn look<R: Wait>(ledger: &Ledger, rt: &R, pass: &mut Pass) -> Result<Told, AllocError>
+/// It looks.
+pub fn look<R: Wait>(ledger: &Ledger, rt: &R, pass: &mut Pass) -> Result<Told, AllocError>
     requires own { pass.old.home ≡ ledger.now.home }
     requires turns { pass.old.turns < 9999 }
     ensures home { pass.new.home ≡ pass.old.home }
@@ -45,7 +46,8 @@ fn look<R: Wait>(ledger: &Ledger, rt: &R, pass: &mut Pass) -> Result<Told, Alloc
     Ok(Told::Seen(pass.view().len()))
 }
 
-fn hand_in<R: Wait>(
+/// It posts this entry.
+pub fn hand_in<R: Wait>(
     ledger: &Ledger,
     rt: &R,
     pass: &mut Pass,
@@ -108,7 +110,8 @@ fn finish<R: Wait>(
     }
 }
 
-fn open<R: Wait>(ledger: &Ledger, rt: &R, pass: &mut Pass, from: u32) -> Told
+/// It asks for an open property.
+pub fn open<R: Wait>(ledger: &Ledger, rt: &R, pass: &mut Pass, from: u32) -> Told
     requires own { pass.old.home ≡ ledger.now.home }
     requires turns { pass.old.turns < 9999 }
     ensures home { pass.new.home ≡ pass.old.home }

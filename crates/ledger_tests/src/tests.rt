@@ -1,8 +1,10 @@
 //! What passes are told and know, event by event, and the board at the end.
 
+use crate::boards::stuck;
 use crate::crew::{Crew, closed, crew_of};
 use crate::driving::{Tally, drive, shared};
 use crate::passing::{Event, Told};
+use crate::reading::{StuckCrew, stuck_closed, stuck_crew};
 use entry::{Checked, EntryEnd, Origin};
 use std::alloc::Global;
 use std::sync::{Arc, Wait};
@@ -194,27 +196,77 @@ fn known(pass: &Pass) -> Known {
     )
 }
 
-fn row_is<R: Wait>(alloc: Global, rt: &R, crew: &mut Crew, row: &Row) -> Result<bool, EntryEnd> {
-    let (at, event, wanted, then) = row;
-    let told = crew.turn(alloc, rt, *at, *event)?;
-    Ok(told == *wanted && knows(crew, *at, *then))
+/// Passes that take turns.
+trait Team {
+    fn told<R: Wait>(
+        &mut self,
+        alloc: Global,
+        rt: &R,
+        at: usize,
+        event: Event,
+    ) -> Result<Told, EntryEnd>;
+
+    fn passes(&self) -> &[Pass];
 }
 
-fn knows(crew: &Crew, at: usize, then: Known) -> bool {
-    match crew.passes.get(at) {
+impl Team for Crew {
+    fn told<R: Wait>(
+        &mut self,
+        alloc: Global,
+        rt: &R,
+        at: usize,
+        event: Event,
+    ) -> Result<Told, EntryEnd> {
+        self.turn(alloc, rt, at, event)
+    }
+
+    fn passes(&self) -> &[Pass] {
+        self.passes.as_slice()
+    }
+}
+
+impl Team for StuckCrew {
+    fn told<R: Wait>(
+        &mut self,
+        alloc: Global,
+        rt: &R,
+        at: usize,
+        event: Event,
+    ) -> Result<Told, EntryEnd> {
+        self.turn(alloc, rt, at, event)
+    }
+
+    fn passes(&self) -> &[Pass] {
+        self.passes.as_slice()
+    }
+}
+
+fn row_is<R: Wait, T: Team>(
+    alloc: Global,
+    rt: &R,
+    team: &mut T,
+    row: &Row,
+) -> Result<bool, EntryEnd> {
+    let (at, event, wanted, then) = row;
+    let told = team.told(alloc, rt, *at, *event)?;
+    Ok(told == *wanted && knows(team.passes(), *at, *then))
+}
+
+fn knows(passes: &[Pass], at: usize, then: Known) -> bool {
+    match passes.get(at) {
         Some(pass) => known(pass) == then,
         None => false,
     }
 }
 
-fn rows_are<R: Wait>(
+fn rows_are<R: Wait, T: Team>(
     alloc: Global,
     rt: &R,
-    crew: &mut Crew,
+    team: &mut T,
     rows: &[Row],
 ) -> Result<bool, EntryEnd> {
     for row in rows {
-        if !row_is(alloc, rt, crew, row)? {
+        if !row_is(alloc, rt, team, row)? {
             return Ok(false);
         }
     }
@@ -313,6 +365,33 @@ fn scripts(rt: HostRuntime) -> Result<(), Fail> {
     assert!(rt; given_is(rt.alloc(), &rt)?);
     assert!(rt; given_no_room_is(rt.alloc(), &rt)?);
     assert!(rt; given_stale_is(rt.alloc(), &rt)?);
+    Ok(())
+}
+
+// ---- the same of the circuit whose one latch stays at 0
+
+fn stuck_is<R: Wait>(
+    alloc: Global,
+    rt: &R,
+    limit: u32,
+    rows: &[Row],
+    wanted: End,
+) -> Result<bool, EntryEnd> {
+    let Ok(c) = stuck(alloc) else {
+        return Ok(false);
+    };
+    let mut crew = stuck_crew(alloc, Arc::new(alloc, c)?, limit)?;
+    let are_right = rows_are(alloc, rt, &mut crew, rows)?;
+    Ok(are_right && is_end(&stuck_closed(crew), wanted))
+}
+
+/// Two passes look and post the same: the second is told so, and each reads back what stands there, by looks and by a
+/// meeting.
+#[test]
+fn ledger_reads_back(rt: HostRuntime) -> Result<(), Fail> {
+    assert!(rt; stuck_is(rt.alloc(), &rt, 2, &BOTH_POST, (1, Some(0), [None, None]))?);
+    assert!(rt; stuck_is(rt.alloc(), &rt, 2, &MEET, (1, Some(0), [Some(b'7'), None]))?);
+    assert!(rt; stuck_is(rt.alloc(), &rt, 0, &NO_ROOM, (0, None, [None, None]))?);
     Ok(())
 }
 
