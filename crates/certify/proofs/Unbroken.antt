@@ -1,6 +1,6 @@
 -- The obligations of a valid entry have no model, and proofs of them are the entry's.
-use Rattle.std.proofs.Common.{◌≡◌, ℕ, zero, suc, ◌<◌, Bool, true, List, [], ◌∷◌, ◌++◌, length, get_or, refl, sym, ap, subst, ◌∙◌, arith}
-use Rattle.std.specs.List.{list_all}
+use Rattle.std.proofs.Common.{◌≡◌, ℕ, zero, suc, ◌<◌, Bool, true, List, [], ◌∷◌, ◌++◌, length, get_or, refl, sym, ap, subst, ◌∙◌, arith, Result, Ok, Err, IfOk}
+use Rattle.std.specs.List.{All, list_all}
 use Rattle.std.proofs.lemmas.Bool.{and_parts, true≢false, false_from_ne_true}
 use Rattle.aig_semantics.specs.Circuits.{Circuit}
 use Rattle.proof_semantics.specs.declared.literals.Lit.{Lit}
@@ -11,9 +11,12 @@ use Rattle.fair_semantics.specs.Laws.{StandAlone}
 use Rattle.fair_semantics.proofs.Alone.{uses_stand_alone}
 use Rattle.cnf_unroll.specs.Obligations.{units, shared_clauses, broken_literals}
 use Rattle.cnf_unroll.specs.Laws.{ObligationsTell, BreaksClause, IsUnderstood, AreOver}
-use Rattle.entry.specs.Proved.{obligation_of}
+use Rattle.edge.specs.declared.solve_end.SolveEnd.{SolveEnd}
+use Rattle.proof_semantics.specs.Proofs.{Refutes}
+use Rattle.entry.specs.Proved.{obligation_of, AreProofs}
 use Rattle.entry.specs.Laws.{IsGoodList}
 use Rattle.entry.proofs.Readable.{uses_readable, own_named}
+use Rattle.certify.specs.Refuted.{AreRefuted}
 
 same_at : (xs : List (List Lit)) (i : ℕ) (d f : List Lit) → i < length xs → get_or xs i d ≡ get_or xs i f
 same_at [] i d f below = absurd (omega arith)
@@ -43,20 +46,34 @@ no_model c before e i tell good valid over below v =
     false_from_ne_true (clauses_value v (obligation_of c before e i)) (λ holds.
     unbroken c before e i valid below ((tell (used_entries before e.uses) e i known below).0 (v, holds)))
 
--- what the solver has and a clause's literals as units are the obligation of the clause
-pub obligation_is : (c : Circuit) (before : List Entry) (e : Entry) (i : ℕ) (added items : List (List Lit)) (clause d : List Lit)
-    → added ≡ shared_clauses c (used_entries before e.uses) e.uses e.clauses → items ≡ e.clauses → i < length items
-    → clause ≡ get_or items i d → added ++ units (broken_literals c clause) ≡ obligation_of c before e i
-obligation_is c before e i added items clause d shared same below is =
-    ap (λ cs. cs ++ units (broken_literals c clause)) shared
-    ∙ ap (λ x. shared_clauses c (used_entries before e.uses) e.uses e.clauses ++ units (broken_literals c x))
-    (is ∙ same_at items i d [] below ∙ ap (λ cs. get_or cs i []) same)
+-- the clauses with those that break clause i, by what the solver and the loop have
+pub broken_at : (c : Circuit) (i : ℕ) (added given items clauses : List (List Lit)) (clause d literals : List Lit) → added ≡ given → items ≡ clauses → i < length items
+    → clause ≡ get_or items i d → literals ≡ broken_literals c clause → added ++ units literals ≡ given ++ units (broken_literals c (get_or clauses i []))
+broken_at c i added given items clauses clause d literals kept same below is are =
+    ap (λ cs. cs ++ units literals) kept
+    ∙ ap (λ ls. given ++ units ls) are
+    ∙ ap (λ x. given ++ units (broken_literals c x)) (is ∙ same_at items i d [] below ∙ ap (λ cs. get_or cs i []) same)
 
-pub no_model_added : (c : Circuit) (before : List Entry) (e : Entry) (i : ℕ) (clauses : List (List Lit))
-    → ObligationsTell c → IsGoodList c before → IsValid c before e → AreOver (length c.latches) e.clauses → i < length e.clauses
-    → clauses ≡ obligation_of c before e i → IsUnsatisfiable clauses
-no_model_added c before e i clauses tell good valid over below is v =
-    ap (λ cs. clauses_value v cs) is ∙ no_model c before e i tell good valid over below v
+-- no clause of a valid entry can be broken
+pub none_broken : (c : Circuit) (before : List Entry) (e : Entry) (added : List (List Lit)) → ObligationsTell c → IsGoodList c before → IsValid c before e
+    → AreOver (length c.latches) e.clauses → added ≡ shared_clauses c (used_entries before e.uses) e.uses e.clauses
+    → All (λ clause. IsUnsatisfiable (added ++ units (broken_literals c clause))) e.clauses
+none_broken c before e added tell good valid over shared = λ i d below v.
+    ap (λ x. clauses_value v (added ++ units (broken_literals c x))) (same_at e.clauses i d [] below)
+    ∙ ap (λ cs. clauses_value v (cs ++ units (broken_literals c (get_or e.clauses i [])))) shared
+    ∙ no_model c before e i tell good valid over below v
+
+proofs_are : (c : Circuit) (before : List Entry) (e : Entry) (added : List (List Lit)) (proofs : List (List (List ℕ)))
+    → added ≡ shared_clauses c (used_entries before e.uses) e.uses e.clauses → AreRefuted c added e.clauses proofs → AreProofs c before e proofs
+proofs_are c before e added proofs shared h = record {
+  count = h.count;
+  refute = λ i below. subst (λ cs. Refutes (cs ++ units (broken_literals c (get_or e.clauses i []))) (get_or proofs i [])) shared (h.each i below);
+}
+
+pub proofs_if : (c : Circuit) (before : List Entry) (e : Entry) (added : List (List Lit)) (result : Result (List (List (List ℕ))) SolveEnd)
+    → added ≡ shared_clauses c (used_entries before e.uses) e.uses e.clauses → IfOk result (AreRefuted c added e.clauses) → IfOk result (AreProofs c before e)
+proofs_if c before e added (Ok proofs) shared h = proofs_are c before e added proofs shared h
+proofs_if c before e added (Err end) shared h = tt
 
 -- with one more a fact of each place of a list
 one_more_each : (P : ℕ → List (List ℕ) → Type 0) (xs : List (List (List ℕ))) (x : List (List ℕ))

@@ -1,11 +1,8 @@
 //! Proofs for claims. The main call is `certify`.
-ghost use Rattle.std.specs.Prelude.{◌≡◌, ◌-◌, ◌++◌, [], ◌∷◌, true, length, All, IfOk, IfErr};
+ghost use Rattle.std.specs.Prelude.{◌≡◌, ◌++◌, [], ◌∷◌, true, length, All, IfOk, IfErr};
 ghost use Rattle.std.specs.Arc.{arc_value};
 ghost use Rattle.edge.specs.Ends.{CountsConflicts, IsEnd};
-ghost use Rattle.cdcl.specs.Solving.{with_conflicts};
 ghost use Rattle.cnf_unroll.specs.Laws.{AreOver};
-ghost use Rattle.cnf_unroll.specs.Obligations.{shared_clauses};
-ghost use Rattle.fair_semantics.specs.Entries.{used_entries};
 ghost use Rattle.fair_semantics.specs.declared.entries.Kind.TheVariants.{Reach};
 ghost use Rattle.fair_semantics.specs.Skeletons.{excludes};
 ghost use Rattle.fair_semantics.specs.Validity.{IsValid};
@@ -15,9 +12,8 @@ ghost use Rattle.entry.specs.Proved.{holds_initial, AreProofs, IsProved};
 ghost use Rattle.certify.specs.Claims.{claimed, IsCertified};
 
 use crate::claims::Claim;
-use crate::refuting::{refutation_of, sized_broken};
+use crate::proving::proofs_by;
 use crate::sharing::solver_of;
-use cdcl::Solver;
 use circuit::Circuit;
 use cnf::Proof;
 use cnf_unroll::obligations_tell;
@@ -26,36 +22,6 @@ use entry::{Checked, Entry};
 use items::Items;
 use std::alloc::Global;
 use std::sync::Arc;
-
-// A proof for each clause of the claim, in their order, by a solver of what their obligations share. The meter counts what
-// the solver learns.
-fn proofs_by(
-    alloc: Global,
-    c: &Circuit,
-    _view: &[Arc<Checked>],
-    claim: &Claim,
-    solver: &mut Solver,
-    meter: &mut Meter,
-) -> Result<Items<Proof>, SolveEnd>
-    requires view { IsGoodList c.now (viewed _view.now) }
-    requires valid { IsValid c.now (viewed _view.now) (claimed claim.now) }
-    requires over { AreOver (length c.now.latches) claim.now.clauses }
-    requires shared { solver.old.added
-        ≡ shared_clauses c.now (used_entries (viewed _view.now) claim.now.uses) claim.now.uses claim.now.clauses }
-    ensures proofs { IfOk result (AreProofs c.now (viewed _view.now) (claimed claim.now)) }
-    ensures end { IfErr result (IsEnd meter.new) }
-    ensures counted { meter.new ≡ with_conflicts meter.old (length solver.new.learned - length solver.old.learned) }
-    ensures alone { CountsConflicts meter.old meter.new }
-{
-    obligations_tell(c);
-    let mut proofs = Items::new(alloc);
-    for clause in claim.clauses.as_slice() {
-        let literals = sized_broken(alloc, c, clause)?;
-        let proof = refutation_of(alloc, solver, literals.as_slice(), meter)?;
-        proofs.push(proof)?;
-    }
-    Ok(proofs)
-}
 
 // A proof for each clause of the claim, in their order.
 fn proofs_of(
@@ -72,8 +38,9 @@ fn proofs_of(
     ensures end { IfErr result (IsEnd meter.new) }
     ensures counted { CountsConflicts meter.old meter.new }
 {
+    obligations_tell(c);
     let mut solver = solver_of(alloc, c, view, claim)?;
-    let proofs = proofs_by(alloc, c, view, claim, &mut solver, meter);
+    let proofs = proofs_by(alloc, c, &claim.clauses, &mut solver, meter);
     drop(solver);
     proofs
 }

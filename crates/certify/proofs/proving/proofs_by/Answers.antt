@@ -1,37 +1,30 @@
-use Rattle.std.proofs.Common.{◌+◌, ◌<◌, ◌++◌, [], ◌∷◌, length, ap, subst, ◌∙◌}
+use Rattle.std.proofs.Common.{◌+◌, ◌<◌, ◌++◌, [], ◌∷◌, length, get_or, sym, ap, subst, ◌∙◌}
 use Rattle.std.proofs.lemmas.List.{length-append}
+use Rattle.proof_semantics.specs.Clauses.{IsUnsatisfiable}
 use Rattle.proof_semantics.specs.Proofs.{Refutes}
-use Rattle.fair_semantics.specs.Entries.{Entry}
-use Rattle.cnf_unroll.specs.Obligations.{units}
-use Rattle.entry.specs.CheckedEntries.{viewed}
-use Rattle.entry.specs.Proved.{obligation_of}
-use Rattle.certify.specs.Claims.{claimed}
+use Rattle.cnf_unroll.specs.Obligations.{units, broken_literals}
 use Rattle.certify.proofs.Ends.{counts_on, learned_on}
-use Rattle.certify.proofs.Unbroken.{obligation_is, no_model_added, pushed_each}
-use Rattle.certify.proofs.certifying.proofs_by.Goals as goal
+use Rattle.certify.proofs.Unbroken.{broken_at, pushed_each}
+use Rattle.certify.proofs.proving.proofs_by.Goals as goal
 
 pub refutation_of-requires-clause-none : goal.refutation_of-requires-clause-none
 refutation_of-requires-clause-none c =
-    let e : Entry = claimed c.args.claim.now in
     let i = c.loop-clause.clause-index in
     let same = c.as_slice-clause-items.ensures in
-    let below : i < length e.clauses = subst (λ cs. i < length cs) same c.loop-clause-test.true in
-    no_model_added c.args.c.now (viewed c.args._view.now) e i (c.loop-clause.solver.added ++ units c.as_slice.result.now)
-    c.obligations_tell.ensures c.requires.view c.requires.valid c.requires.over below
-    (ap (λ ls. c.loop-clause.solver.added ++ units ls) (c.as_slice.ensures ∙ c.in_ok-literals.ensures.value)
-    ∙ obligation_is c.args.c.now (viewed c.args._view.now) e i c.loop-clause.solver.added c.as_slice-clause-items.result.now c.clause-item.result _
-    c.loop-clause.invariant.added same c.loop-clause-test.true c.clause-item.is)
+    let below : i < length c.args.clauses.now = subst (λ cs. i < length cs) same c.loop-clause-test.true in
+    subst IsUnsatisfiable
+    (sym (broken_at c.args.c.now i c.loop-clause.solver.added c.args.solver.now.added c.as_slice-clause-items.result.now c.args.clauses.now c.clause-item.result _
+    c.as_slice.result.now c.loop-clause.invariant.added same c.loop-clause-test.true c.clause-item.is (c.as_slice.ensures ∙ c.in_ok-literals.ensures.value)))
+    (c.requires i [] below)
 
 pub loop-clause-preserved : goal.loop-clause-preserved
 loop-clause-preserved c =
-    let e : Entry = claimed c.args.claim.now in
     let i = c.loop-clause.clause-index in
     let before = c.loop-clause.invariant in
     let proof = c.in_ok-proof.proof in
     let is =
-    ap (λ ls. c.loop-clause.solver.added ++ units ls) (c.as_slice.ensures ∙ c.in_ok-literals.ensures.value)
-    ∙ obligation_is c.args.c.now (viewed c.args._view.now) e i c.loop-clause.solver.added c.as_slice-clause-items.result.now c.clause-item.result _
-    before.added c.as_slice-clause-items.ensures c.loop-clause-test.true c.clause-item.is
+    broken_at c.args.c.now i c.loop-clause.solver.added c.args.solver.now.added c.as_slice-clause-items.result.now c.args.clauses.now c.clause-item.result _
+    c.as_slice.result.now before.added c.as_slice-clause-items.ensures c.loop-clause-test.true c.clause-item.is (c.as_slice.ensures ∙ c.in_ok-literals.ensures.value)
     in
     let learned =
     learned_on c.args.meter.now c.loop-clause.meter c.refutation_of.new.meter c.loop-clause.solver.added c.args.solver.now.learned c.loop-clause.solver.learned
@@ -39,8 +32,8 @@ loop-clause-preserved c =
     in
     record {
       count = ap length c.in_ok-push.ensures.ok ∙ length-append c.loop-clause.proofs (proof ∷ []) ∙ ap (λ n. n + 1) before.count;
-      each = pushed_each (λ k p. Refutes (obligation_of c.args.c.now (viewed c.args._view.now) e k) p) c.loop-clause.proofs c.push.new.self
-          proof i before.count c.in_ok-push.ensures.ok before.each (subst (λ cs. Refutes cs proof) is c.in_ok-proof.ensures.proof);
+      each = pushed_each (λ k p. Refutes (c.args.solver.now.added ++ units (broken_literals c.args.c.now (get_or c.args.clauses.now k []))) p) c.loop-clause.proofs
+          c.push.new.self proof i before.count c.in_ok-push.ensures.ok before.each (subst (λ cs. Refutes cs proof) is c.in_ok-proof.ensures.proof);
       added = c.in_ok-proof.ensures.added ∙ before.added;
       counted = learned.0;
       longer = learned.1;

@@ -1,0 +1,13 @@
+use Rattle.entry.specs.CheckedEntries.{viewed}
+use Rattle.certify.specs.Claims.{claimed}
+use Rattle.certify.proofs.Unbroken.{none_broken, proofs_if}
+use Rattle.certify.proofs.certifying.proofs_of.Goals as goal
+
+pub proofs_by-proofs-requires : goal.proofs_by-proofs-requires
+proofs_by-proofs-requires c =
+    none_broken c.args.c.now (viewed c.args.view.now) (claimed c.args.claim.now) c.in_ok-solver.solver.added c.obligations_tell.ensures c.requires.view c.requires.valid
+    c.requires.over c.in_ok-solver.ensures
+
+pub returns-clause-proofs : goal.returns-clause-proofs
+returns-clause-proofs c =
+    proofs_if c.args.c.now (viewed c.args.view.now) (claimed c.args.claim.now) c.in_ok-solver.solver.added c.proofs_by-proofs.result c.in_ok-solver.ensures c.proofs_by-proofs.ensures.proofs
