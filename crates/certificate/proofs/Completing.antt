@@ -5,7 +5,6 @@ use Rattle.aig_semantics.specs.Circuits.{Circuit}
 use Rattle.proof_semantics.specs.declared.literals.Lit.{Lit}
 use Rattle.fair_semantics.specs.declared.entries.Use.{Use}
 use Rattle.fair_semantics.specs.Entries.{Entry, used_entries}
-use Rattle.cnf_unroll.specs.Obligations.{skeleton_clauses}
 use Rattle.stimulus.specs.Texts.{row_values, present}
 use Rattle.certificate_lines.specs.declared.words.Opening.{Opening}
 use Rattle.certificate_lines.specs.declared.words.Refutation.{Refutation as Refuting}
@@ -18,10 +17,12 @@ use Rattle.certificate_lines.specs.Uses.{uses_text, MayStand, written}
 use Rattle.certificate_lines.specs.Clauses.{clause_text}
 use Rattle.entry.specs.declared.uses.User.TheVariants as users
 use Rattle.entry.specs.Faults.{first_bad_use, fault_from, proof_fault, proofs_fault}
-use Rattle.entry.specs.Proved.{obligation_of, IsGoodRefutation}
+use Rattle.entry.specs.Proved.{obligation_of}
 use Rattle.certificate.specs.declared.limits.TheConstants.{MAX_ENTRIES}
 use Rattle.certificate.specs.declared.ends.Accepted.{Accepted}
 use Rattle.certificate.specs.Certificates.{Written, proof_lines, entry_lines, CanBeWritten, AreClausesOf, AreProvedBehind}
+use Rattle.certificate.specs.Refuted.{Refuted, refuted_clauses, IsRefutation, may_open}
+use Rattle.certificate.specs.declared.state.Refuted.TheVariants.{Skeletons}
 use Rattle.certificate.specs.Answers.{property_line}
 use Rattle.certificate.specs.Reading.{Body, Begun, Proving, Wanted, Start, EntryUses, EntryClause, EntryProof, EntryLine, RefutationUses, RefutationLine, Last, Claim, HasLasso, HasNone, State, Status, Property, Latches, Rows, Dotted, Versioned, Certified, Ended, Stepped, with_entry, begin_entry, has_base}
 use Rattle.certificate.specs.Ends.{IsGoodAtEnd}
@@ -44,13 +45,14 @@ pub record FromStart (c : Circuit) (b : Body) (left : List (List ℕ)) (a : Acce
   pub uses : List Use
   pub proof : List (List ℕ)
   pub spelled : left ≡ rest_lines more uses proof
+  pub kinds : All (λ e. may_open b.refuted e.kind ≡ true) more
   pub form : All (CanBeWritten b.version) more
   pub sizes : HasNumbers (refuting_of uses proof)
   pub signs : All (MayStand b.version) (map written uses)
   pub few : 0 < length more → length b.entries + length more ≤ MAX_ENTRIES
   pub all : List Entry
   pub proved : AreProvedBehind c b.entries more all
-  pub refuted : IsGoodRefutation c all b.property uses proof
+  pub refuted : IsRefutation c b.refuted all b.property uses proof
   pub end : IsGoodAtEnd c (Ended (record b { entries = all })) a
 
 -- the proofs of the clauses from i on, and what follows the entry
@@ -111,7 +113,7 @@ pub record FromRefuting (c : Circuit) (b : Body) (r : Refuting) (left : List (Li
   pub count : length uses ≡ r.uses
   pub lines : length proof ≡ r.proof_lines
   pub fit : first_bad_use users.Refutation b.entries uses ≡ None
-  pub passes : proof_fault (skeleton_clauses c b.property (used_entries b.entries uses)) proof ≡ None
+  pub passes : proof_fault (refuted_clauses c b.refuted b.property (used_entries b.entries uses)) proof ≡ None
   pub end : IsGoodAtEnd c (Ended b) a
 
 -- what a certificate wants next, as the text has it
@@ -142,7 +144,7 @@ pub record FromLatches (c : Circuit) (n : ℕ) (left : List (List ℕ)) (a : Acc
   pub end : IsGoodAtEnd c (Dotted n stimulus) a
 
 abbrev pub first_body : ℕ → Version → Body
-first_body n version = record { property = n; version = version; entries = [] }
+first_body n version = record { property = n; version = version; refuted = Skeletons; entries = [] }
 
 -- the version, and then the entries
 pub record FromVersion (c : Circuit) (n : ℕ) (left : List (List ℕ)) (a : Accepted) : Type 0 where

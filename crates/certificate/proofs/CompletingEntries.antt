@@ -13,7 +13,6 @@ use Rattle.fair_semantics.specs.declared.entries.Kind.TheVariants.{Reach, Wall}
 use Rattle.fair_semantics.specs.declared.entries.Use.{Use}
 use Rattle.fair_semantics.specs.States.{initial_cube}
 use Rattle.fair_semantics.specs.Entries.{Entry, used_entries}
-use Rattle.cnf_unroll.specs.Obligations.{skeleton_clauses}
 use Rattle.cnf_unroll.specs.Laws.{AreOver}
 use Rattle.certificate_lines.specs.declared.uses.WrittenUse.{WrittenUse}
 use Rattle.certificate_lines.specs.declared.words.Opening.{Opening}
@@ -35,6 +34,7 @@ use Rattle.entry.proofs.Faultless.{faultless_is_proved}
 use Rattle.certificate.specs.declared.ends.Accepted.{Accepted}
 use Rattle.certificate.specs.declared.ends.AnswerFault.TheVariants as faults
 use Rattle.certificate.specs.Certificates.{AreClausesOf}
+use Rattle.certificate.specs.Refuted.{refuted_clauses}
 use Rattle.certificate.specs.Reading.{Body, Begun, EntryUses, EntryClause, RefutationUses, Certified, Stepped, entry_fault, next_proof, next_clause, begin_proof, next_refuting_line, as_use, unless_bad, uses_step, begin_entry, with_clause, has_base, base_step, clause_step, entry_uses_step, refutation_uses_step}
 use Rattle.certificate.proofs.Completing.{end_line, ProofsTail, ClausesTail, RefutationTail, Continues, After}
 use Rattle.certificate.proofs.CompletingProofs.{heads, differs, refuting_next, refuting_from, proof_next, proof_from}
@@ -326,9 +326,9 @@ module _ (c : Circuit) (b : Body) (a : Accepted) where
       → After c (refutation_uses_step c b r number (uses_of b.version line)) left a
   refuting_uses_on r number line left h =
       let parts = heads line (uses_text (map written h.uses)) left (h.proof ++ end_line ∷ []) h.spelled in
-      let given = skeleton_clauses c b.property (used_entries b.entries h.uses) in
+      let given = refuted_clauses c b.refuted b.property (used_entries b.entries h.uses) in
       uses_on users.Refutation r.uses (λ n. Err (faults.RefuteUse n)) number line
-      (λ us. next_refuting_line b (begin_proof r.proof_lines (skeleton_clauses c b.property (used_entries b.entries us)))) left (record {
+      (λ us. next_refuting_line b (begin_proof r.proof_lines (refuted_clauses c b.refuted b.property (used_entries b.entries us)))) left (record {
         uses = h.uses;
         spelled = parts.0;
         signs = h.signs;
@@ -346,11 +346,11 @@ module _ (c : Circuit) (b : Body) (a : Accepted) where
   pub refuting_uses_back : (r : Refuting) (number : ℕ) (line : List ℕ) (left : List (List ℕ)) → After c (refutation_uses_step c b r number (uses_of b.version line)) left a
       → Continues c b (RefutationUses r) (line ∷ left) a
   refuting_uses_back r number line left h =
-      let next : List Use → Stepped = λ us. next_refuting_line b (begin_proof r.proof_lines (skeleton_clauses c b.property (used_entries b.entries us))) in
+      let next : List Use → Stepped = λ us. next_refuting_line b (begin_proof r.proof_lines (refuted_clauses c b.refuted b.property (used_entries b.entries us))) in
       let good : GoodUses users.Refutation r.uses next line left =
       uses_from users.Refutation r.uses (λ n. Err (faults.RefuteUse n)) number line next left (λ n wrong. wrong) (uses_of b.version line) refl h in
-      let tail : RefutationTail c b (begin_proof r.proof_lines (skeleton_clauses c b.property (used_entries b.entries good.uses))) left a =
-      refuting_from c b a (begin_proof r.proof_lines (skeleton_clauses c b.property (used_entries b.entries good.uses))) left good.next in
+      let tail : RefutationTail c b (begin_proof r.proof_lines (refuted_clauses c b.refuted b.property (used_entries b.entries good.uses))) left a =
+      refuting_from c b a (begin_proof r.proof_lines (refuted_clauses c b.refuted b.property (used_entries b.entries good.uses))) left good.next in
       let count : 0 + length tail.proof ≡ r.proof_lines = tail.count in
       record {
         uses = good.uses;

@@ -15,16 +15,16 @@ use Rattle.certificate_lines.specs.Words.{word_line_text, word_line_of, HasNumbe
 use Rattle.certificate_lines.specs.Uses.{uses_text, MayStand, written}
 use Rattle.certificate_lines.specs.Clauses.{clause_text}
 use Rattle.certificate_lines.proofs.WordLaws.{word_given_line, word_back}
-use Rattle.entry.specs.Proved.{IsGoodRefutation}
-use Rattle.entry.proofs.Faultless.{faultless_is_good}
 use Rattle.certificate.specs.declared.limits.TheConstants.{MAX_ENTRIES}
 use Rattle.certificate.specs.declared.ends.Accepted.{Accepted}
 use Rattle.certificate.specs.declared.ends.AnswerFault.TheVariants as faults
 use Rattle.certificate.specs.Certificates.{Written, proof_lines, opening_line, entry_lines, entry_with, CanBeWritten, AreProvedBehind}
-use Rattle.certificate.specs.Reading.{Body, Start, EntryUses, Certified, Ended, with_entry, start_step, begin_entry}
+use Rattle.certificate.specs.Refuted.{IsRefutation, may_open}
+use Rattle.certificate.specs.Reading.{Body, Start, EntryUses, Certified, Ended, with_entry, open_step, start_step, begin_entry}
 use Rattle.certificate.specs.Ends.{IsGoodAtEnd}
 use Rattle.certificate.proofs.Completing.{end_line, refuting_of, rest_lines, FromStart, ProofsTail, ClausesTail, FromUses, FromRefuting, Continues, After}
 use Rattle.certificate.proofs.CompletingProofs.{heads}
+use Rattle.certificate.proofs.StateRefutations.{faultless_refutes}
 use Rattle.certificate.proofs.CompletingEntries.{clauses_over, as_many, passes_each, proved_by_each}
 
 -- the lines of an entry behind its first two, and what follows them
@@ -40,13 +40,13 @@ module _ (c : Circuit) (b : Body) (a : Accepted) where
   -- the refutation
   start_refuting : (number : ℕ) (line : List ℕ) (left : List (List ℕ)) (uses : List Use) (proof : List (List ℕ)) (all : List Entry)
       → line ∷ left ≡ rest_lines [] uses proof → HasNumbers (refuting_of uses proof) → All (MayStand b.version) (map written uses) → all ≡ b.entries
-      → IsGoodRefutation c all b.property uses proof → IsGoodAtEnd c (Ended (record b { entries = all })) a
+      → IsRefutation c b.refuted all b.property uses proof → IsGoodAtEnd c (Ended (record b { entries = all })) a
       → After c (start_step b number (word_line_of line)) left a
   start_refuting number line left uses proof all spelled sizes signs same refuted end =
       let parts = heads line (word_line_text (refuting_of uses proof)) left (uses_text (map written uses) ∷ (proof ++ end_line ∷ [])) spelled in
       let read : word_line_of line ≡ Some (refuting_of uses proof) = word_back line (refuting_of uses proof) (record { numbers = sizes; spelled = parts.0 }) in
-      let good : IsGoodRefutation c b.entries b.property uses proof = subst (λ es. IsGoodRefutation c es b.property uses proof) same refuted in
-      let both = (faultless_is_good c b.entries b.property uses proof).1 good in
+      let good : IsRefutation c b.refuted b.entries b.property uses proof = subst (λ es. IsRefutation c b.refuted es b.property uses proof) same refuted in
+      let both = (faultless_refutes c b.refuted b.entries b.property uses proof).1 good in
       let from : FromRefuting c b (record { uses = length uses; proof_lines = length proof }) left a = record {
         uses = uses;
         proof = proof;
@@ -63,11 +63,13 @@ module _ (c : Circuit) (b : Body) (a : Accepted) where
 
   -- an entry
   start_opening : (number : ℕ) (line : List ℕ) (left : List (List ℕ)) (e : Written) (more : List Written) (uses : List Use) (proof : List (List ℕ)) (all : List Entry)
-      → line ∷ left ≡ rest_lines (e ∷ more) uses proof → All (CanBeWritten b.version) (e ∷ more) → HasNumbers (refuting_of uses proof)
+      → line ∷ left ≡ rest_lines (e ∷ more) uses proof → All (λ x. may_open b.refuted x.kind ≡ true) (e ∷ more) → All (CanBeWritten b.version) (e ∷ more)
+      → HasNumbers (refuting_of uses proof)
       → All (MayStand b.version) (map written uses) → length b.entries + suc (length more) ≤ MAX_ENTRIES
-      → AreProvedBehind c b.entries (e ∷ more) all → IsGoodRefutation c all b.property uses proof → IsGoodAtEnd c (Ended (record b { entries = all })) a
+      → AreProvedBehind c b.entries (e ∷ more) all → IsRefutation c b.refuted all b.property uses proof → IsGoodAtEnd c (Ended (record b { entries = all })) a
       → After c (start_step b number (word_line_of line)) left a
-  start_opening number line left e more uses proof all spelled form sizes signs few (clauses, are, is_proved, proved) refuted end =
+  start_opening number line left e more uses proof all spelled kinds form sizes signs few (clauses, are, is_proved, proved) refuted end =
+      let May : Written → Type 0 = λ x. may_open b.refuted x.kind ≡ true in
       let can : CanBeWritten b.version e = All-head (CanBeWritten b.version) e more form in
       let entry : Entry = entry_with e clauses in
       let refuting : List (List ℕ) = rest_lines [] uses proof in
@@ -83,6 +85,7 @@ module _ (c : Circuit) (b : Body) (a : Accepted) where
         uses = uses;
         proof = proof;
         spelled = refl;
+        kinds = All-tail May e more kinds;
         form = All-tail (CanBeWritten b.version) e more form;
         sizes = sizes;
         signs = signs;
@@ -126,20 +129,22 @@ module _ (c : Circuit) (b : Body) (a : Accepted) where
       }
       in
       subst (λ r. After c (start_step b number r) left a) (sym read)
-      (subst (λ t. After c (if t then Ok (Certified b (EntryUses o)) else Err faults.TooLong) left a) (sym room) from)
+      (subst (λ t. After c (if t then open_step b o else Err (faults.Shape number)) left a) (sym (All-head May e more kinds))
+      (subst (λ t. After c (if t then Ok (Certified b (EntryUses o)) else Err faults.TooLong) left a) (sym room) from))
 
   start_by : (number : ℕ) (line : List ℕ) (left : List (List ℕ)) (more : List Written) (uses : List Use) (proof : List (List ℕ)) (all : List Entry)
-      → line ∷ left ≡ rest_lines more uses proof → All (CanBeWritten b.version) more → HasNumbers (refuting_of uses proof)
+      → line ∷ left ≡ rest_lines more uses proof → All (λ x. may_open b.refuted x.kind ≡ true) more → All (CanBeWritten b.version) more
+      → HasNumbers (refuting_of uses proof)
       → All (MayStand b.version) (map written uses) → (0 < length more → length b.entries + length more ≤ MAX_ENTRIES)
-      → AreProvedBehind c b.entries more all → IsGoodRefutation c all b.property uses proof → IsGoodAtEnd c (Ended (record b { entries = all })) a
+      → AreProvedBehind c b.entries more all → IsRefutation c b.refuted all b.property uses proof → IsGoodAtEnd c (Ended (record b { entries = all })) a
       → After c (start_step b number (word_line_of line)) left a
-  start_by number line left [] uses proof all spelled form sizes signs few proved refuted end =
+  start_by number line left [] uses proof all spelled kinds form sizes signs few proved refuted end =
       start_refuting number line left uses proof all spelled sizes signs proved refuted end
-  start_by number line left (e ∷ more) uses proof all spelled form sizes signs few proved refuted end =
-      start_opening number line left e more uses proof all spelled form sizes signs (few (omega arith)) proved refuted end
+  start_by number line left (e ∷ more) uses proof all spelled kinds form sizes signs few proved refuted end =
+      start_opening number line left e more uses proof all spelled kinds form sizes signs (few (omega arith)) proved refuted end
 
   pub start_on : (number : ℕ) (line : List ℕ) (left : List (List ℕ)) → Continues c b Start (line ∷ left) a → After c (start_step b number (word_line_of line)) left a
-  start_on number line left h = start_by number line left h.more h.uses h.proof h.all h.spelled h.form h.sizes h.signs h.few h.proved h.refuted h.end
+  start_on number line left h = start_by number line left h.more h.uses h.proof h.all h.spelled h.kinds h.form h.sizes h.signs h.few h.proved h.refuted h.end
 
   refutation_begun : (line : List ℕ) (left : List (List ℕ)) (r : Refuting) → IsWordLine line (lines.Refutation r) → FromRefuting c b r left a
       → Continues c b Start (line ∷ left) a
@@ -152,19 +157,20 @@ module _ (c : Circuit) (b : Body) (a : Accepted) where
         uses = h.uses;
         proof = h.proof;
         spelled = λ j. text j ∷ h.spelled j;
+        kinds = All-nil (λ x. may_open b.refuted x.kind ≡ true);
         form = All-nil (CanBeWritten b.version);
         sizes = (subst IsNumber (sym h.count) numbers.0, subst IsNumber (sym h.lines) numbers.1);
         signs = h.signs;
         few = λ some. absurd (omega (arith, some));
         all = b.entries;
         proved = refl;
-        refuted = (faultless_is_good c b.entries b.property h.uses h.proof).0 (h.fit, h.passes);
+        refuted = (faultless_refutes c b.refuted b.entries b.property h.uses h.proof).0 (h.fit, h.passes);
         end = h.end;
       }
 
-  entry_begun : (line : List ℕ) (left : List (List ℕ)) (o : Opening) → IsWordLine line (lines.Opening o) → length b.entries < MAX_ENTRIES → FromUses c b o left a
-      → Continues c b Start (line ∷ left) a
-  entry_begun line left o is room h =
+  entry_begun : (line : List ℕ) (left : List (List ℕ)) (o : Opening) → IsWordLine line (lines.Opening o) → may_open b.refuted o.kind ≡ true
+      → length b.entries < MAX_ENTRIES → FromUses c b o left a → Continues c b Start (line ∷ left) a
+  entry_begun line left o is may room h =
       let cl : ClausesTail c b (begin_entry o h.uses) h.rest a = h.clauses in
       let pr : ProofsTail c b (record { kind = o.kind; clauses = cl.clauses; uses = h.uses }) 0 cl.rest a = cl.proofs in
       let entry : Entry = record { kind = o.kind; clauses = cl.clauses; uses = h.uses } in
@@ -198,6 +204,7 @@ module _ (c : Circuit) (b : Body) (a : Accepted) where
         uses = others.uses;
         proof = others.proof;
         spelled = λ j. text j ∷ under j;
+        kinds = All-cons (λ x. may_open b.refuted x.kind ≡ true) e others.more may others.kinds;
         form = All-cons (CanBeWritten b.version) e others.more can others.form;
         sizes = others.sizes;
         signs = others.signs;
@@ -208,15 +215,22 @@ module _ (c : Circuit) (b : Body) (a : Accepted) where
         end = others.end;
       }
 
-  start_opened : (line : List ℕ) (left : List (List ℕ)) (o : Opening) → IsWordLine line (lines.Opening o) → (t : Bool) → nat_lt (length b.entries) MAX_ENTRIES ≡ t
+  start_opened : (line : List ℕ) (left : List (List ℕ)) (o : Opening) → IsWordLine line (lines.Opening o) → may_open b.refuted o.kind ≡ true
+      → (t : Bool) → nat_lt (length b.entries) MAX_ENTRIES ≡ t
       → After c (if t then Ok (Certified b (EntryUses o)) else Err faults.TooLong) left a → Continues c b Start (line ∷ left) a
-  start_opened line left o is true test h = entry_begun line left o is (ltb-true (length b.entries) MAX_ENTRIES test) h
-  start_opened line left o is false test h = absurd h
+  start_opened line left o is may true test h = entry_begun line left o is may (ltb-true (length b.entries) MAX_ENTRIES test) h
+  start_opened line left o is may false test h = absurd h
+
+  start_allowed : (number : ℕ) (line : List ℕ) (left : List (List ℕ)) (o : Opening) → IsWordLine line (lines.Opening o)
+      → (t : Bool) → may_open b.refuted o.kind ≡ t
+      → After c (if t then open_step b o else Err (faults.Shape number)) left a → Continues c b Start (line ∷ left) a
+  start_allowed number line left o is true test h = start_opened line left o is test (nat_lt (length b.entries) MAX_ENTRIES) refl h
+  start_allowed number line left o is false test h = absurd h
 
   start_from : (number : ℕ) (line : List ℕ) (left : List (List ℕ)) (r : Option WordLine) → word_line_of line ≡ r → After c (start_step b number r) left a
       → Continues c b Start (line ∷ left) a
   start_from number line left (Some (lines.Opening o)) is h =
-      start_opened line left o (word_given_line line (lines.Opening o) is) (nat_lt (length b.entries) MAX_ENTRIES) refl h
+      start_allowed number line left o (word_given_line line (lines.Opening o) is) (may_open b.refuted o.kind) refl h
   start_from number line left (Some (lines.Refutation r)) is h = refutation_begun line left r (word_given_line line (lines.Refutation r) is) h
   start_from number line left (Some (lines.Version v)) is h = absurd h
   start_from number line left (Some (lines.Proof n)) is h = absurd h

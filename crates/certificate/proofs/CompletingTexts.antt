@@ -17,7 +17,7 @@ use Rattle.certificate_lines.proofs.WordLaws.{word_given_line, word_back}
 use Rattle.certificate.specs.declared.ends.Accepted.{Accepted}
 use Rattle.certificate.specs.declared.ends.AnswerFault.TheVariants as faults
 use Rattle.certificate.specs.Answers.{property_line}
-use Rattle.certificate.specs.Reading.{Claim, HasLasso, HasNone, Status, Property, Rows, Dotted, Stepped, status_step, property_in, claimed, property_step, version_step, with_value, values_in, latches_step, row_step, step}
+use Rattle.certificate.specs.Reading.{Claim, HasLasso, HasNone, Status, Property, Rows, Dotted, Stepped, opens_rounds, other_status, status_step, property_in, claimed, property_step, version_step, with_value, values_in, latches_step, row_step, step}
 use Rattle.certificate.specs.Ends.{IsGoodAtEnd}
 use Rattle.certificate.proofs.Completing.{FromRows, FromLatches, FromVersion, Claims, FromProperty, Completes, After}
 use Rattle.certificate.proofs.CompletingProofs.{heads}
@@ -188,7 +188,7 @@ name_by byte digits n true test e =
     (read.0, λ j. first j ∷ read.1 j)
 name_by byte digits n false test e = absurd (none-some n e)
 
-name_of : (line : List ℕ) (n : ℕ) → property_in line ≡ Some n → (n < 2 ^ 63) × (line ≡ property_line n)
+pub name_of : (line : List ℕ) (n : ℕ) → property_in line ≡ Some n → (n < 2 ^ 63) × (line ≡ property_line n)
 name_of [] n e = absurd (none-some n e)
 name_of (byte ∷ digits) n e = name_by byte digits n (eqb byte 106) refl e
 
@@ -243,18 +243,22 @@ module _ (c : Circuit) (a : Accepted) where
       let parts = heads line (codes "0") left h.rest h.spelled in
       subst (λ l. After c (status_step number l) left a) (sym parts.0) (subst (λ ls. FromProperty c HasNone ls a) (sym parts.1) h.others)
 
-  unknown_status : (number : ℕ) (left : List (List ℕ)) (t : Bool) → After c (if t then Err faults.UnknownStatus else Err (faults.Shape number)) left a → ⊥
-  unknown_status number left true h = h
-  unknown_status number left false h = h
+  no_status : (number : ℕ) (left : List (List ℕ)) (t : Bool) → After c (other_status number t) left a → ⊥
+  no_status number left true h = h
+  no_status number left false h = h
+
+  unknown_status : (number : ℕ) (left : List (List ℕ)) (t rounds : Bool) → After c (if t then Err faults.UnknownStatus else other_status number rounds) left a → ⊥
+  unknown_status number left true rounds h = h
+  unknown_status number left false rounds h = no_status number left rounds h
 
   zero_status : (number : ℕ) (line : List ℕ) (left : List (List ℕ)) (t : Bool) → bytes_eq line (codes "0") ≡ t
-      → After c (if t then Ok (Property HasNone) else if bytes_eq line (codes "2") then Err faults.UnknownStatus else Err (faults.Shape number)) left a
+      → After c (if t then Ok (Property HasNone) else if bytes_eq line (codes "2") then Err faults.UnknownStatus else other_status number (opens_rounds line)) left a
       → Completes c Status (line ∷ left) a
   zero_status number line left true is h = inr (record { rest = left; spelled = ap (λ l. l ∷ left) ((bytes_eq-Decides line (codes "0")).0 is); others = h })
-  zero_status number line left false is h = absurd (unknown_status number left (bytes_eq line (codes "2")) h)
+  zero_status number line left false is h = absurd (unknown_status number left (bytes_eq line (codes "2")) (opens_rounds line) h)
 
   one_status : (number : ℕ) (line : List ℕ) (left : List (List ℕ)) (t : Bool) → bytes_eq line (codes "1") ≡ t
-      → After c (if t then Ok (Property HasLasso) else if bytes_eq line (codes "0") then Ok (Property HasNone) else if bytes_eq line (codes "2") then Err faults.UnknownStatus else Err (faults.Shape number)) left a
+      → After c (if t then Ok (Property HasLasso) else if bytes_eq line (codes "0") then Ok (Property HasNone) else if bytes_eq line (codes "2") then Err faults.UnknownStatus else other_status number (opens_rounds line)) left a
       → Completes c Status (line ∷ left) a
   one_status number line left true is h = inl (record { rest = left; spelled = ap (λ l. l ∷ left) ((bytes_eq-Decides line (codes "1")).0 is); others = h })
   one_status number line left false is h = zero_status number line left (bytes_eq line (codes "0")) refl h

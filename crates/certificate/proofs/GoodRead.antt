@@ -30,7 +30,7 @@ all_readable text short =
 
 -- ---- certificates
 
-behind_version : (es : List Written) (uses : List Use) (proof : List (List ℕ)) (version : Version)
+pub behind_version : (es : List Written) (uses : List Use) (proof : List (List ℕ)) (version : Version)
     → lines_of_certificate (record { version = version; entries = es; uses = uses; proof = proof }) ≡ word_line_text (lines.Version version) ∷ rest_lines es uses proof
 behind_version es uses proof version =
     let certificate : Certificate = record { version = version; entries = es; uses = uses; proof = proof } in
@@ -43,7 +43,7 @@ all_proved c before (e ∷ es) all (clauses, are, is, others) =
     let n = all_proved c (before ++ entry_with e clauses ∷ []) es all others in
     omega (arith, n, length-append before (entry_with e clauses ∷ []))
 
-few_all : (es : List Written) (limit : ℕ) → (0 < length es → 0 + length es ≤ limit) → length es ≤ limit
+pub few_all : (es : List Written) (limit : ℕ) → (0 < length es → 0 + length es ≤ limit) → length es ≤ limit
 few_all [] limit h = omega arith
 few_all (e ∷ es) limit h = let n : 0 + suc (length es) ≤ limit = h (omega arith) in omega (arith, n)
 
@@ -108,6 +108,7 @@ module _ (c : Circuit) (text : List ℕ) (short : length text ≤ most_bytes) wh
         uses = certificate.uses;
         proof = certificate.proof;
         spelled = refl;
+        kinds = λ k d inside. refl;
         form = good.form;
         sizes = good.sizes;
         signs = good.signs;

@@ -72,7 +72,7 @@ rows_are_read c n s (line ∷ lines) (row ∷ rows) (values ∷ inputs) e f =
     (rows_are_read c n next lines rows inputs parts.1 both.1
     ∙ ap (λ (xs : List (List Bool)). Ok (Dotted n (with_inputs s xs))) (append_assoc s.inputs (values ∷ []) inputs))
 
-latches_are_read : (c : Circuit) (n : ℕ) (s : Stimulus) (lines : List Numbered) (rows : List (List ℕ)) → bare lines ≡ rows ++ codes "." ∷ []
+pub latches_are_read : (c : Circuit) (n : ℕ) (s : Stimulus) (lines : List Numbered) (rows : List (List ℕ)) → bare lines ≡ rows ++ codes "." ∷ []
     → row_values rows ≡ present (s.latches ∷ s.inputs) → read_lines c (Latches n) lines ≡ Ok (Dotted n s)
 unfolding with_inputs
 latches_are_read c n s lines [] e f = absurd (cc f)

@@ -8,20 +8,21 @@ pub mod CompletingEntries
 pub mod CompletingProofs
 pub mod CompletingStarts
 pub mod CompletingTexts
+mod StateRefutations
 mod Ended
 pub mod GoodRead
 pub mod GoodTrue
 pub mod Judged
 pub mod OneEnd
-mod Reached
-mod Readable
+pub mod Reached
+pub mod Readable
 pub mod WrittenGood
 pub mod EachEnd
 mod Staying
 mod Playing
 mod AddedLines
-mod PlainLines
-mod WrittenCertificates
+pub mod PlainLines
+pub mod WrittenCertificates
 pub mod Kept
 pub mod Taken
 pub mod TakenBack

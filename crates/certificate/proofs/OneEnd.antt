@@ -74,6 +74,7 @@ replayed c n s (faults.Refutation k fault) h = absurd h
 replayed c n s faults.TooLong h = absurd h
 replayed c n s (faults.Trailing line) h = absurd h
 replayed c n s faults.UnknownStatus h = absurd h
+replayed c n s (faults.FewRounds rounds) h = absurd h
 
 one_replay : (c : Circuit) (n : ℕ) (s : Stimulus) (f g : AnswerFault) → IsReplayFault c n s f → IsReplayFault c n s g → f ≡ g
 one_replay c n s f g h k =

@@ -11,7 +11,6 @@ use Rattle.proof_semantics.specs.declared.faults.LratFault.TheVariants.{Unfinish
 use Rattle.proof_semantics.specs.Proofs.{ProofState, judge}
 use Rattle.fair_semantics.specs.declared.entries.Use.{Use}
 use Rattle.fair_semantics.specs.Entries.{Entry, used_entries}
-use Rattle.cnf_unroll.specs.Obligations.{skeleton_clauses}
 use Rattle.stimulus.specs.declared.ends.ReplayFault.{ReplayFault}
 use Rattle.stimulus.specs.declared.ends.ReplayFault.TheVariants as replays
 use Rattle.stimulus.specs.Faults.{HasReplayFault}
@@ -32,7 +31,8 @@ use Rattle.certificate.specs.declared.limits.TheConstants.{MAX_ENTRIES}
 use Rattle.certificate.specs.declared.ends.AnswerFault.{AnswerFault}
 use Rattle.certificate.specs.declared.ends.AnswerFault.TheVariants as faults
 use Rattle.certificate.specs.Lines.{Numbered, end_of, kept_readable}
-use Rattle.certificate.specs.Reading.{Body, Begun, Proving, Wanted, Start, EntryUses, EntryClause, EntryProof, EntryLine, RefutationUses, RefutationLine, Last, Claim, HasLasso, HasNone, State, Status, Property, Latches, Rows, Dotted, Versioned, Certified, Ended, Stepped, with_entry, entry_fault, next_proof, next_clause, next_line, next_refuting_line, begin_proof, with_line, start_step, as_use, unless_bad, uses_step, begin_entry, with_clause, has_base, base_step, clause_step, proof_step, line_step, refuting_step, last_step, certificate_step, version_step, status_step, property_in, claimed, property_step, values_in, latches_step, row_step, step, and_then, read_lines}
+use Rattle.certificate.specs.Refuted.{refuted_clauses, may_open}
+use Rattle.certificate.specs.Reading.{Body, Begun, Proving, Wanted, Start, EntryUses, EntryClause, EntryProof, EntryLine, RefutationUses, RefutationLine, Last, Claim, HasLasso, HasNone, State, Status, Property, Latches, Rows, Dotted, Versioned, Certified, Ended, Stepped, with_entry, entry_fault, next_proof, next_clause, next_line, next_refuting_line, begin_proof, with_line, open_step, start_step, as_use, unless_bad, uses_step, begin_entry, with_clause, has_base, base_step, clause_step, proof_step, line_step, refuting_step, last_step, certificate_step, version_step, other_status, opens_rounds, status_step, property_in, claimed, property_step, values_in, latches_step, row_step, step, and_then, read_lines}
 use Rattle.certificate.specs.Ends.{IsFaultAtEnd, IsFirstFault}
 use Rattle.certificate.specs.Laws.{JudgedBefore}
 
@@ -75,7 +75,9 @@ module _ (c : Circuit) where
 
   start_keeps : (b : Body) (number : ℕ) (line : Option WordLine) → Keeps c (start_step b number line)
   start_keeps b number None = tt
-  start_keeps b number (Some (lines.Opening o)) = by_test (nat_lt (length b.entries) MAX_ENTRIES) (Ok (Certified b (EntryUses o))) (Err faults.TooLong) tt tt
+  start_keeps b number (Some (lines.Opening o)) =
+      by_test (may_open b.refuted o.kind) (open_step b o) (Err (faults.Shape number))
+      (by_test (nat_lt (length b.entries) MAX_ENTRIES) (Ok (Certified b (EntryUses o))) (Err faults.TooLong) tt tt) tt
   start_keeps b number (Some (lines.Refutation r)) = tt
   start_keeps b number (Some (lines.Version version)) = tt
   start_keeps b number (Some (lines.Proof count)) = tt
@@ -136,8 +138,8 @@ module _ (c : Circuit) where
   certificate_keeps b (EntryLine e i p) number line = judged_keeps b e i p (judge p.state line)
   certificate_keeps b (RefutationUses r) number line =
       uses_keep b users.Refutation r.uses (λ n. Err (faults.RefuteUse n)) number (uses_of b.version line)
-      (λ us. next_refuting_line b (begin_proof r.proof_lines (skeleton_clauses c b.property (used_entries b.entries us))))
-      (λ n. tt) (λ us. refuting_keeps b (begin_proof r.proof_lines (skeleton_clauses c b.property (used_entries b.entries us))))
+      (λ us. next_refuting_line b (begin_proof r.proof_lines (refuted_clauses c b.refuted b.property (used_entries b.entries us))))
+      (λ n. tt) (λ us. refuting_keeps b (begin_proof r.proof_lines (refuted_clauses c b.refuted b.property (used_entries b.entries us))))
   certificate_keeps b (RefutationLine p) number line = refuted_keeps b p (judge p.state line)
   certificate_keeps b Last number line = last_keeps b number (word_line_of line)
 
@@ -151,13 +153,17 @@ module _ (c : Circuit) where
   version_keeps n number (Some (lines.Proof count)) = tt
   version_keeps n number (Some lines.End) = tt
 
+  other_keeps : (number : ℕ) (rounds : Bool) → Keeps c (other_status number rounds)
+  other_keeps number true = tt
+  other_keeps number false = tt
+
   status_keeps : (number : ℕ) (line : List ℕ) → Keeps c (status_step number line)
   status_keeps number line =
-      let unknown : Stepped = if bytes_eq line (codes "2") then Err faults.UnknownStatus else Err (faults.Shape number) in
+      let unknown : Stepped = if bytes_eq line (codes "2") then Err faults.UnknownStatus else other_status number (opens_rounds line) in
       let none : Stepped = if bytes_eq line (codes "0") then Ok (Property HasNone) else unknown in
       by_test (bytes_eq line (codes "1")) (Ok (Property HasLasso)) none tt
       (by_test (bytes_eq line (codes "0")) (Ok (Property HasNone)) unknown tt
-      (by_test (bytes_eq line (codes "2")) (Err faults.UnknownStatus) (Err (faults.Shape number)) tt tt))
+      (by_test (bytes_eq line (codes "2")) (Err faults.UnknownStatus) (other_status number (opens_rounds line)) tt (other_keeps number (opens_rounds line))))
 
   claimed_keeps : (claim : Claim) (n : ℕ) → n < length c.justice → IsThere c (claimed claim n)
   claimed_keeps HasLasso n h = h

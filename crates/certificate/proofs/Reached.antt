@@ -62,7 +62,7 @@ spelled_more given line =
 lack_more : (given : List (List ℕ)) (line : List ℕ) → All (λ line. Lacks line 10) given → Lacks line 10 → All (λ line. Lacks line 10) (given ++ line ∷ [])
 lack_more given line lack lacks = All-append (λ line. Lacks line 10) given (line ∷ []) lack (All-cons (λ line. Lacks line 10) line [] lacks (All-nil _))
 
-spells_fed : (last : Bool) (given : List (List ℕ)) (front : List ℕ) → last ≡ false → Spells last given front → front ≡ ended_lines given
+pub spells_fed : (last : Bool) (given : List (List ℕ)) (front : List ℕ) → last ≡ false → Spells last given front → front ≡ ended_lines given
 spells_fed last given front is spells = subst (λ (b : Bool). Spells b given front) is spells
 
 pass_line : (told : Option (List ℕ)) (old new : Reading) (given : List (List ℕ)) → Passed told old given → old.last ≡ false → TookLine told old new → Lacks new.line 10 → Passed told new (given ++ new.line ∷ [])
@@ -109,7 +109,7 @@ kept_by : (skip : Bool) (n : ℕ) (line : List ℕ) (front all rest : List Numbe
 kept_by true n line front all rest is = is
 kept_by false n line front all rest is = ap (λ (ls : List Numbered). (n, line) ∷ ls) is
 
-kept_more : (n : ℕ) (lines more : List (List ℕ)) → kept_from n (lines ++ more) ≡ kept_from n lines ++ kept_from (n + length lines) more
+pub kept_more : (n : ℕ) (lines more : List (List ℕ)) → kept_from n (lines ++ more) ≡ kept_from n lines ++ kept_from (n + length lines) more
 kept_more n [] more =
     let e : n ≡ n + 0 = omega arith in
     ap (λ (k : ℕ). kept_from k more) e
@@ -158,7 +158,7 @@ next_given c told old new s t number reached goes_on took lacks read = refl
 -- ---- a text that the shelf may hold
 
 -- of what is left, where it is told, this is so, and else it may be
-said : (told : Option (List ℕ)) (front : List ℕ) (left : List ℕ → List ℕ) (Q P : List ℕ → Type 0) → ((rest : List ℕ) × Q rest) → IfTold told (λ text. text ≡ front ++ left text) → IfTold told (λ text. Q (left text)) → ((rest : List ℕ) → Q rest → P (front ++ rest)) → (text : List ℕ) × MayBe told text × P text
+pub said : (told : Option (List ℕ)) (front : List ℕ) (left : List ℕ → List ℕ) (Q P : List ℕ → Type 0) → ((rest : List ℕ) × Q rest) → IfTold told (λ text. text ≡ front ++ left text) → IfTold told (λ text. Q (left text)) → ((rest : List ℕ) → Q rest → P (front ++ rest)) → (text : List ℕ) × MayBe told text × P text
 said None front left Q P some split is all = (front ++ some.0, λ x e. absurd (cc e), all some.0 some.1)
 said (Some text) front left Q P some split is all =
     (text, λ x e. cc e, subst P (sym (split text refl)) (all (left text) (is text refl)))
@@ -170,21 +170,21 @@ some_bytes (suc n) =
     let others = some_bytes n in
     (97 ∷ others.0, ap suc others.1, All-cons (λ b. b ≢ 10) 97 others.0 (λ e. absurd (cc e)) others.2)
 
-too_long_bytes : (n : ℕ) → (rest : List ℕ) × IsTooLong n rest
+pub too_long_bytes : (n : ℕ) → (rest : List ℕ) × IsTooLong n rest
 too_long_bytes n =
     let bytes = some_bytes (suc n) in
     (bytes.0, record { longer = omega (arith, bytes.1); unended = All-take (λ b. b ≢ 10) n bytes.0 bytes.2 })
 
 -- ---- what is readable of a text with such a front
 
-front_only : (front rest : List ℕ) → rest ≡ [] → front ++ rest ≡ front
+pub front_only : (front rest : List ℕ) → rest ≡ [] → front ++ rest ≡ front
 front_only front rest empty = ap (λ (bytes : List ℕ). front ++ bytes) empty ∙ append-nil front
 
-front_lines : (last : Bool) (given : List (List ℕ)) (front : List ℕ) → All (λ line. Lacks line 10) given → Spells last given front → lines_of front ≡ given
+pub front_lines : (last : Bool) (given : List (List ℕ)) (front : List ℕ) → All (λ line. Lacks line 10) given → Spells last given front → lines_of front ≡ given
 front_lines false given front lack spells = ap lines_of spells ∙ reads_written_lines given lack
 front_lines true given front lack spells = spells
 
-front_readable : (front rest : List ℕ) (given : List (List ℕ)) → length front ≤ most_bytes → rest ≡ [] → lines_of front ≡ given → readable (front ++ rest) ≡ given
+pub front_readable : (front rest : List ℕ) (given : List (List ℕ)) → length front ≤ most_bytes → rest ≡ [] → lines_of front ≡ given → readable (front ++ rest) ≡ given
 front_readable front rest given within empty lines =
     ap readable (front_only front rest empty) ∙ all_readable most_bytes front within ∙ lines
 
@@ -197,7 +197,7 @@ front_fault c f given front rest false lack spells none within read =
     ∙ ap (λ (ls : List (List ℕ)). read_lines c Status (kept_from 1 ls)) begun.1
     ∙ fault_stays c f given begun.0 read
 
-long_front : (given : List (List ℕ)) (front rest : List ℕ) (taken : ℕ) → All (λ line. Lacks line 10) given → front ≡ ended_lines given → taken ≡ length front → taken ≤ most_bytes → IsTooLong (most_bytes - taken) rest → readable (front ++ rest) ≡ given
+pub long_front : (given : List (List ℕ)) (front rest : List ℕ) (taken : ℕ) → All (λ line. Lacks line 10) given → front ≡ ended_lines given → taken ≡ length front → taken ≤ most_bytes → IsTooLong (most_bytes - taken) rest → readable (front ++ rest) ≡ given
 long_front given front rest taken lack fed size most is =
     let taken_is : taken ≡ length (ended_lines given) = size ∙ ap length fed in
     let within : length (ended_lines given) ≤ most_bytes = omega (arith, taken_is, most) in

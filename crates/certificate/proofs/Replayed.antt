@@ -14,7 +14,7 @@ use Rattle.unless_memory.specs.Answers.{Gives, GivesSome}
 use Rattle.certificate.specs.declared.ends.Accepted.{Accepted}
 use Rattle.certificate.specs.declared.ends.Accepted.TheVariants.{Lasso, Holds}
 use Rattle.certificate.specs.declared.ends.AnswerFault.{AnswerFault}
-use Rattle.certificate.specs.declared.ends.AnswerFault.TheVariants.{Shape, NoProperty, Replay, Entry, RefuteUse, Refutation, TooLong, Trailing, UnknownStatus}
+use Rattle.certificate.specs.declared.ends.AnswerFault.TheVariants.{Shape, NoProperty, Replay, Entry, RefuteUse, Refutation, TooLong, Trailing, UnknownStatus, FewRounds}
 use Rattle.certificate.specs.declared.ends.AnswerEnd.TheVariants.{Refused}
 use Rattle.certificate.specs.Reading.{Dotted}
 use Rattle.certificate.specs.Ends.{IsReplayFault, IsGoodAtEnd}
@@ -59,6 +59,7 @@ of_replay c j s P each (Refutation n f) d = absurd d
 of_replay c j s P each TooLong d = absurd d
 of_replay c j s P each (Trailing n) d = absurd d
 of_replay c j s P each UnknownStatus d = absurd d
+of_replay c j s P each (FewRounds n) d = absurd d
 
 -- and only a lasso is what it may stand for
 of_lasso : (c : Circuit) (j : ℕ) (s : Stimulus) (P : Accepted → Type 0)

@@ -78,6 +78,7 @@ module _ (c : Circuit) (lines : List (List ℕ)) (rest : List ℕ) (lack : All (
   of_stimulus n s faults.TooLong h = absurd h
   of_stimulus n s (faults.Trailing line) h = absurd h
   of_stimulus n s faults.UnknownStatus h = absurd h
+  of_stimulus n s (faults.FewRounds rounds) h = absurd h
 
   wanted : (fault : AnswerFault) → fault ≡ faults.Shape (end_of front) → IsOfTheEnd front fault
   wanted fault e = subst (λ f. IsOfTheEnd front f) (sym e) refl

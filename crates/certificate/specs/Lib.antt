@@ -1,6 +1,7 @@
 -- What answers are, which of them are good, and the first fault of the others.
 pub mod Lines
 pub mod Certificates
+pub mod Refuted
 pub mod Answers
 pub mod Writing
 pub mod Reading

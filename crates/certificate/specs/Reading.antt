@@ -1,6 +1,6 @@
 -- The first fault of an answer, by its lines from the first on: what the next line has to be, and what each line makes of
 -- that. The order of the tests is this program's own.
-use Rattle.std.specs.Prelude.{ℕ, ◌+◌, Bool, true, List, [], ◌∷◌, ◌++◌, map, length, Option, Some, None, Result, Ok, Err, codes, if◌then◌else◌, ◌==◌, nat_lt}
+use Rattle.std.specs.Prelude.{ℕ, ◌+◌, Bool, true, false, List, [], ◌∷◌, ◌++◌, map, length, take, Option, Some, None, Result, Ok, Err, codes, if◌then◌else◌, ◌==◌, nat_lt}
 use Rattle.std.specs.List.{list_any}
 use Rattle.std.specs.Str.{bytes_eq}
 use Rattle.aig_semantics.specs.declared.traces.Stimulus.{Stimulus}
@@ -15,7 +15,6 @@ use Rattle.fair_semantics.specs.declared.entries.Kind.TheVariants.{Reach, Wall}
 use Rattle.fair_semantics.specs.declared.entries.Use.{Use}
 use Rattle.fair_semantics.specs.States.{initial_cube}
 use Rattle.fair_semantics.specs.Entries.{Entry, used_entries}
-use Rattle.cnf_unroll.specs.Obligations.{skeleton_clauses}
 use Rattle.stimulus.specs.Texts.{value_of}
 use Rattle.certificate_lines.specs.declared.uses.WrittenUse.{WrittenUse}
 use Rattle.certificate_lines.specs.declared.words.Opening.{Opening}
@@ -37,14 +36,18 @@ use Rattle.entry.specs.Proved.{obligation_of}
 use Rattle.certificate.specs.declared.limits.TheConstants.{MAX_ENTRIES}
 use Rattle.certificate.specs.declared.ends.AnswerFault.{AnswerFault}
 use Rattle.certificate.specs.declared.ends.AnswerFault.TheVariants as faults
+use Rattle.certificate.specs.declared.state.Refuted.TheVariants.{Skeletons}
 use Rattle.certificate.specs.Lines.{Numbered}
+use Rattle.certificate.specs.Refuted.{Refuted, refuted_clauses, may_open}
 
 -- What the next line has to be.
 
--- what was read of a certificate: its property and version, and the entries, each of which has passed
+-- what was read of a certificate: its property and version, what its refutation is to refute, and the entries, each of which
+-- has passed
 pub record Body : Type 0 where
   pub property : ℕ
   pub version : Version
+  pub refuted : Refuted
   pub entries : List Entry
 
 -- an entry of which some clauses were read, and how many it has
@@ -139,10 +142,13 @@ begin_proof count given = record { count = count; read = 0; state = start given 
 abbrev pub with_line : Proving → ProofState → Proving
 with_line p s = record { count = p.count; read = p.read + 1; state = s }
 
--- an entry's first line, while there is room for one more, or the refutation's
+abbrev pub open_step : Body → Opening → Stepped
+open_step b o = if nat_lt (length b.entries) MAX_ENTRIES then Ok (Certified b (EntryUses o)) else Err faults.TooLong
+
+-- an entry's first line, where its kind may stand, while there is room for one more; or the refutation's
 abbrev pub start_step : Body → ℕ → Option WordLine → Stepped
 start_step b number (Some (lines.Opening o)) =
-    if nat_lt (length b.entries) MAX_ENTRIES then Ok (Certified b (EntryUses o)) else Err faults.TooLong
+    if may_open b.refuted o.kind then open_step b o else Err (faults.Shape number)
 start_step b number (Some (lines.Refutation r)) = Ok (Certified b (RefutationUses r))
 start_step b number _ = Err (faults.Shape number)
 
@@ -207,11 +213,11 @@ abbrev pub entry_uses_step : Body → Opening → ℕ → Option (List WrittenUs
 entry_uses_step b o number uses =
     uses_step b (users.Entry o.kind) o.uses (λ n. entry_fault b (BadUse n)) number uses (λ us. next_clause b (begin_entry o us))
 
--- the uses of the refutation, and then its proof, which refutes the skeleton clauses of the property
+-- the uses of the refutation, and then its proof, which refutes the clauses that are to be refuted
 abbrev pub refutation_uses_step : Circuit → Body → Refuting → ℕ → Option (List WrittenUse) → Stepped
 refutation_uses_step c b r number uses =
     uses_step b users.Refutation r.uses (λ n. Err (faults.RefuteUse n)) number uses
-    (λ us. next_refuting_line b (begin_proof r.proof_lines (skeleton_clauses c b.property (used_entries b.entries us))))
+    (λ us. next_refuting_line b (begin_proof r.proof_lines (refuted_clauses c b.refuted b.property (used_entries b.entries us))))
 
 -- a line of a certificate
 abbrev pub certificate_step : Circuit → Body → Wanted → ℕ → List ℕ → Stepped
@@ -226,15 +232,23 @@ certificate_step c b Last number line = last_step b number (word_line_of line)
 
 abbrev pub version_step : ℕ → ℕ → Option WordLine → Stepped
 version_step n number (Some (lines.Version version)) =
-    Ok (Certified (record { property = n; version = version; entries = [] }) Start)
+    Ok (Certified (record { property = n; version = version; refuted = Skeletons; entries = [] }) Start)
 version_step n number _ = Err (faults.Shape number)
+
+-- the line is the first of a text about rounds, which is no answer
+abbrev pub opens_rounds : List ℕ → Bool
+opens_rounds line = bytes_eq (take 6 line) (codes "rounds")
+
+abbrev pub other_status : ℕ → Bool → Stepped
+other_status number true = Err faults.UnknownStatus
+other_status number false = Err (faults.Shape number)
 
 abbrev pub status_step : ℕ → List ℕ → Stepped
 status_step number line =
     if bytes_eq line (codes "1") then Ok (Property HasLasso)
     else if bytes_eq line (codes "0") then Ok (Property HasNone)
     else if bytes_eq line (codes "2") then Err faults.UnknownStatus
-    else Err (faults.Shape number)
+    else other_status number (opens_rounds line)
 
 -- the number of the property that a line names
 abbrev pub property_in : List ℕ → Option ℕ

@@ -2,6 +2,7 @@
 use Rattle.std.specs.Prelude.{◌≡◌, ℕ, ◌<◌, ◌≤◌, List, length}
 use Rattle.std.specs.List.{All}
 use Rattle.aig_semantics.specs.Circuits.{Circuit}
+use Rattle.proof_semantics.specs.Proofs.{ProofState}
 use Rattle.fair_semantics.specs.declared.entries.Use.{Use}
 use Rattle.fair_semantics.specs.Entries.{Entry, used_entries}
 use Rattle.cnf_unroll.specs.Blocks.{step_clauses}
@@ -10,6 +11,8 @@ use Rattle.entry.specs.declared.list.Listed.{Listed}
 use Rattle.entry.specs.LatchTables.{AreNumbersOf}
 use Rattle.entry.specs.Listing.{entry_of, entries_of}
 use Rattle.certificate.specs.declared.limits.TheConstants.{MAX_ENTRIES}
+use Rattle.certificate.specs.declared.state.Refuted.{Refuted}
+use Rattle.certificate.specs.declared.state.Refuted.TheVariants.{Skeletons, States}
 use Rattle.certificate.specs.declared.state.Body.{Body as BodyInCode}
 use Rattle.certificate.specs.declared.state.Begun.{Begun as BegunInCode}
 use Rattle.certificate.specs.declared.state.Proving.{Proving as ProvingInCode}
@@ -22,7 +25,7 @@ use Rattle.certificate.specs.declared.state.State.TheVariants as states
 use Rattle.certificate.specs.Reading.{Body, Begun, Proving, Wanted, Start, EntryUses, EntryClause, EntryProof, EntryLine, RefutationUses, RefutationLine, Last, Claim, HasLasso, HasNone, State, Status, Property, Latches, Rows, Dotted, Versioned, Certified, Ended}
 
 abbrev pub seen_body : BodyInCode → Body
-seen_body b = record { property = b.property; version = b.version; entries = entries_of b.list }
+seen_body b = record { property = b.property; version = b.version; refuted = b.refuted; entries = entries_of b.list }
 
 abbrev pub seen_begun : BegunInCode → Begun
 seen_begun begun =
@@ -32,6 +35,10 @@ seen_begun begun =
 abbrev pub seen_proving : BodyInCode → ProvingInCode → Proving
 seen_proving b p = record { count = p.count; read = p.read; state = b.judge.proof }
 
+-- or where a checker does
+abbrev pub state_proving : ProofState → ProvingInCode → Proving
+state_proving checker p = record { count = p.count; read = p.read; state = checker }
+
 abbrev pub seen_wanted : BodyInCode → WantedInCode → Wanted
 seen_wanted b wanted.Start = Start
 seen_wanted b (wanted.EntryUses opening) = EntryUses opening
@@ -40,6 +47,7 @@ seen_wanted b (wanted.EntryProof e i) = EntryProof (entry_of e) i
 seen_wanted b (wanted.EntryLine e i p) = EntryLine (entry_of e) i (seen_proving b p)
 seen_wanted b (wanted.RefutationUses refuting) = RefutationUses refuting
 seen_wanted b (wanted.RefutationLine p) = RefutationLine (seen_proving b p)
+seen_wanted b (wanted.StateLine checker p) = RefutationLine (state_proving checker p)
 seen_wanted b wanted.Last = Last
 
 abbrev pub seen_claim : ClaimInCode → Claim
@@ -64,14 +72,19 @@ IsEntered c b e = b.judge.shared ≡ shared_clauses c (used_entries (entries_of 
 abbrev pub ArePresent : BodyInCode → List Use → Type 0
 ArePresent b uses = All (λ u. u.entry < length b.list) uses
 
--- the property is one of the circuit's, and there are no more entries than a certificate may have
+-- a property whose skeletons are to be refuted is one of the circuit's
+abbrev pub HasRefuted : Circuit → Refuted → ℕ → Type 0
+HasRefuted c Skeletons n = n < length c.justice
+HasRefuted c (States literal) n = Unit {0}
+
+-- that is so, and there are no more entries than a certificate may have
 pub record IsBody (c : Circuit) (b : BodyInCode) : Type 0 where
-  pub property : b.property < length c.justice
+  pub property : HasRefuted c b.refuted b.property
   pub few : length b.list ≤ MAX_ENTRIES
 
 -- and there is room for one more; the judge keeps the circuit's clauses, and the table is one of its latches
 pub record IsOpen (c : Circuit) (b : BodyInCode) : Type 0 where
-  pub property : b.property < length c.justice
+  pub property : HasRefuted c b.refuted b.property
   pub room : length b.list < MAX_ENTRIES
   pub block : b.judge.block ≡ step_clauses c
   pub latches : AreNumbersOf c b.latches
@@ -91,6 +104,7 @@ IsAhead c b (wanted.EntryProof e i) = IsAtClause c b e i
 IsAhead c b (wanted.EntryLine e i p) = IsAtClause c b e i × (p.read < p.count)
 IsAhead c b (wanted.RefutationUses refuting) = IsBody c b
 IsAhead c b (wanted.RefutationLine p) = IsBody c b × (p.read < p.count)
+IsAhead c b (wanted.StateLine checker p) = IsBody c b × (p.read < p.count)
 IsAhead c b wanted.Last = IsBody c b
 
 -- what the code keeps of a state; a property is one of the circuit's

@@ -12,13 +12,14 @@ ghost use Rattle.certificate_lines.specs.Clauses.{clause_of};
 ghost use Rattle.entry.specs.Listing.{entry_of, entries_of};
 ghost use Rattle.entry.specs.Proved.{obligation_of};
 ghost use Rattle.certificate.specs.declared.ends.AnswerFault.TheVariants.{Entry};
-ghost use Rattle.certificate.specs.Reading.{start_step, entry_uses_step, next_clause, has_base, base_step, clause_step, next_proof, next_line, begin_proof, proof_step, line_step};
+ghost use Rattle.certificate.specs.Refuted.{may_open};
+ghost use Rattle.certificate.specs.Reading.{open_step, start_step, entry_uses_step, next_clause, has_base, base_step, clause_step, next_proof, next_line, begin_proof, proof_step, line_step};
 ghost use Rattle.certificate.specs.Seen.{seen_body, seen_begun, seen_proving, IsAhead, IsBody, IsOpen, IsEntered, IsAtClause, ArePresent};
 ghost use Rattle.certificate.specs.Steps.{TellsWanted};
 
 use crate::ends::{AnswerEnd, AnswerFault, misplaced};
 use crate::limits::MAX_ENTRIES;
-use crate::state::{Begun, Body, Proving, Wanted};
+use crate::state::{Begun, Body, Proving, Refuted, Wanted};
 use crate::uses::{UsesEnd, read_uses};
 use certificate_lines::{Opening, WordLine, clause_of, word_line_of};
 use circuit::Circuit;
@@ -37,15 +38,41 @@ fn entry_fault(body: &Body, fault: EntryFault) -> AnswerEnd
     AnswerEnd::Refused(AnswerFault::Entry(body.list.len() as u64, fault))
 }
 
+// Whether an entry of this kind may stand before the refutation.
+fn may_open(refuted: Refuted, kind: Kind) -> bool
+    ensures { result ≡ may_open refuted kind }
+{
+    match (refuted, kind) {
+        (Refuted::States(_), Kind::Wall) => false,
+        _ => true,
+    }
+}
+
 // Behind an entry's first line, where there is room for one more.
 fn open_entry(_circuit: &Circuit, body: &Body, opening: Opening) -> Result<Wanted, AnswerEnd>
     requires { IsAhead _circuit.now body.now Wanted.Start }
-    ensures { (number : ℕ) → TellsWanted _circuit.now (start_step (seen_body body.now) number (Some (WordLine.Opening opening))) body.now result }
+    ensures { TellsWanted _circuit.now (open_step (seen_body body.now) opening) body.now result }
 {
     if (body.list.len() as u64) < MAX_ENTRIES {
         return Ok(Wanted::EntryUses(opening));
     }
     Err(AnswerEnd::Refused(AnswerFault::TooLong))
+}
+
+// Behind an entry's first line.
+fn opening_step(
+    circuit: &Circuit,
+    body: &Body,
+    opening: Opening,
+    number: u64,
+) -> Result<Wanted, AnswerEnd>
+    requires { IsAhead circuit.now body.now Wanted.Start }
+    ensures { TellsWanted circuit.now (start_step (seen_body body.now) number (Some (WordLine.Opening opening))) body.now result }
+{
+    if !may_open(body.refuted, opening.kind) {
+        return Err(misplaced(number));
+    }
+    open_entry(circuit, body, opening)
 }
 
 /// Behind the first line of an entry or of the refutation.
@@ -59,7 +86,7 @@ pub(crate) fn start_step(
     ensures { TellsWanted circuit.now (start_step (seen_body body.now) number (word_line_of line.now)) body.now result }
 {
     match word_line_of(line) {
-        Some(WordLine::Opening(opening)) => open_entry(circuit, body, opening),
+        Some(WordLine::Opening(opening)) => opening_step(circuit, body, opening, number),
         Some(WordLine::Refutation(refuting)) => Ok(Wanted::RefutationUses(refuting)),
         _ => Err(misplaced(number)),
     }

@@ -7,16 +7,17 @@ ghost use Rattle.cnf_unroll.specs.Blocks.{step_clauses};
 ghost use Rattle.entry.specs.LatchTables.{AreNumbersOf};
 ghost use Rattle.certificate_lines.specs.Fields.{number_in};
 ghost use Rattle.certificate_lines.specs.Words.{word_line_of};
-ghost use Rattle.certificate.specs.Reading.{status_step, property_in, claimed, property_step, version_step};
+ghost use Rattle.certificate.specs.Reading.{opens_rounds, other_status, status_step, property_in, claimed, property_step, version_step, Certified, Start};
 ghost use Rattle.certificate.specs.Seen.{seen, seen_claim, IsKept};
 ghost use Rattle.certificate.specs.Steps.{Tells};
 
 use crate::ends::{AnswerEnd, AnswerFault, misplaced};
-use crate::state::{Body, Claim, State, Wanted};
+use crate::state::{Body, Claim, Refuted, State, Wanted};
 use certificate_lines::{Version, WordLine, word_line_of};
 use circuit::Circuit;
 use entry::{Judge, LatchNumbers};
 use items::Items;
+use proof_semantics::Lit;
 use std::alloc::{AllocError, Global};
 use text_grammar::read_number;
 
@@ -28,6 +29,24 @@ pub(crate) fn is_word(line: &[u8], word: &[u8]) -> bool
     ensures { result ≡ bytes_eq line.now word.now }
 {
     line == word
+}
+
+/// Whether the line is the first of a text about rounds.
+pub fn opens_rounds(line: &[u8]) -> bool
+    ensures { result ≡ opens_rounds line.now }
+{
+    let front = if line.len() < 6 { line } else { &line[..6] };
+    is_word(front, b"rounds")
+}
+
+// Behind a line that is no status.
+fn other_status(number: u64, line: &[u8]) -> Result<State, AnswerEnd>
+    ensures { (c : CircuitOf) → Tells c (other_status number (opens_rounds line.now)) result }
+{
+    if opens_rounds(line) {
+        return Err(AnswerEnd::Refused(AnswerFault::UnknownStatus));
+    }
+    Err(misplaced(number))
 }
 
 /// Behind the line of the status.
@@ -43,11 +62,11 @@ pub(crate) fn status_step(_circuit: &Circuit, number: u64, line: &[u8]) -> Resul
     if is_word(line, b"2") {
         return Err(AnswerEnd::Refused(AnswerFault::UnknownStatus));
     }
-    Err(misplaced(number))
+    other_status(number, line)
 }
 
-// The number that is the whole field.
-fn number_in(field: &[u8]) -> Option<u64>
+/// The number, below 2^63, that is the whole field.
+pub fn number_in(field: &[u8]) -> Option<u64>
     ensures { result ≡ number_in field.now }
 {
     let (number, rest) = read_number(field, GREATEST)?;
@@ -57,8 +76,8 @@ fn number_in(field: &[u8]) -> Option<u64>
     Some(number)
 }
 
-// The number of the property that a line names.
-fn property_in(line: &[u8]) -> Option<u64>
+/// The number of the property that a line names.
+pub fn property_in(line: &[u8]) -> Option<u64>
     ensures { result ≡ property_in line.now }
 {
     let (byte, digits) = line.split_first()?;
@@ -69,8 +88,8 @@ fn property_in(line: &[u8]) -> Option<u64>
     }
 }
 
-// The property with this number, counted from 0, if the circuit has it.
-fn property_of(circuit: &Circuit, number: u64) -> Option<u32>
+/// The property with this number, counted from 0, if the circuit has it.
+pub fn property_of(circuit: &Circuit, number: u64) -> Option<u32>
     ensures found { IfSome result (λ property. (property ≡ number) × (number < length circuit.now.justice)) }
     ensures none { IfNone result (length circuit.now.justice ≤ number) }
 {
@@ -111,15 +130,17 @@ pub(crate) fn property_step(
     }
 }
 
-// A certificate before its first entry.
+// A certificate before its first entry, whose refutation is to refute this.
 fn body_of(
     alloc: Global,
     circuit: &Circuit,
     property: u32,
     version: Version,
+    refuted: Refuted,
 ) -> Result<Body, AllocError>
     ensures property { IfOk result (λ b. b.property ≡ property) }
     ensures version { IfOk result (λ b. b.version ≡ version) }
+    ensures refuted { IfOk result (λ b. b.refuted ≡ refuted) }
     ensures list { IfOk result (λ b. b.list ≡ []) }
     ensures block { IfOk result (λ b. b.judge.block ≡ step_clauses circuit.now) }
     ensures latches { IfOk result (λ b. AreNumbersOf circuit.now b.latches) }
@@ -129,6 +150,7 @@ fn body_of(
     Ok(Body {
         property,
         version,
+        refuted,
         list: Items::new(alloc),
         judge,
         latches,
@@ -148,9 +170,31 @@ pub(crate) fn version_step(
 {
     match word_line_of(line) {
         Some(WordLine::Version(version)) => {
-            let body = body_of(alloc, circuit, property, version)?;
+            let body = body_of(alloc, circuit, property, version, Refuted::Skeletons)?;
             Ok(State::Certified(body, Wanted::Start))
         }
         _ => Err(misplaced(number)),
     }
+}
+
+/// The state before the first entry of a certificate of version 2 whose refutation is to refute the states that have this
+/// literal over latch numbers. It names property `property`, which is no property of the circuit's.
+pub fn states_refuted(
+    alloc: Global,
+    circuit: &Circuit,
+    property: u32,
+    literal: Lit,
+) -> Result<State, AllocError>
+    ensures state { IfOk result (λ s. seen s ≡ Certified
+        (record { property = property; version = Version.Two; refuted = Refuted.States literal; entries = [] }) Start) }
+    ensures kept { IfOk result (IsKept circuit.now) }
+{
+    let body = body_of(
+        alloc,
+        circuit,
+        property,
+        Version::Two,
+        Refuted::States(literal),
+    )?;
+    Ok(State::Certified(body, Wanted::Start))
 }

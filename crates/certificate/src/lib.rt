@@ -7,6 +7,9 @@
 //! | `load` | judges it as `check_answer` does, and holds what was accepted |
 //! | `print` | writes the answer that is held, a certificate in version 2 |
 //! | `write` | writes the answer with the certificate of checked entries and a refutation |
+//! | `step` | goes on from a state of the reading by a line, for other texts that have runs or entries |
+//! | `number_in`, `property_in`, `property_of`, `opens_rounds` | read a number that is a field, the line of a property, and whether a text is about rounds |
+//! | `states_refuted` | the state before the entries of a certificate that refutes states which have a literal |
 //! | `answers_are_read_as_good` | a law: what is read as a good answer is one, and every good answer is so read |
 //! | `good_answers_are_true` | a law: a good answer shows a fair lasso, or that there is none |
 //! | `good_answers_agree` | a law: no property has a good answer of each status |
@@ -31,6 +34,7 @@ mod printing;
 mod refuting;
 mod rows;
 mod state;
+mod states;
 mod steps;
 mod taking;
 mod uses;
@@ -38,6 +42,7 @@ mod writing;
 
 pub use checking::{check_answer, check_with_lasso};
 pub use ends::{Accepted, AnswerEnd, AnswerFault};
+pub use heads::{number_in, opens_rounds, property_in, property_of, states_refuted};
 pub use laws::{
     answers_are_read_as_good, answers_have_one_end, first_faults_stay, good_answers_agree,
     good_answers_are_true, printed_answers_hold_the_same, written_certificates_are_good,
@@ -47,4 +52,6 @@ pub use limits::MAX_ENTRIES;
 pub use loaded::{Certificate, Loaded, Written};
 pub use loading::load;
 pub use printing::print;
+pub use state::{Begun, Body, Claim, Proving, Refuted, State, Wanted};
+pub use steps::step;
 pub use writing::write;

@@ -5,22 +5,24 @@ ghost use Rattle.std.specs.List.{All};
 ghost use Rattle.proof_semantics.specs.Proofs.{start, judge};
 ghost use Rattle.fair_semantics.specs.Entries.{used_entries};
 ghost use Rattle.cnf_unroll.specs.Obligations.{skeleton_clauses};
+ghost use Rattle.certificate.specs.Refuted.{refuted_clauses, state_clauses};
 ghost use Rattle.certificate_lines.specs.Words.{word_line_of};
 ghost use Rattle.certificate_lines.specs.Uses.{uses_of};
 ghost use Rattle.entry.specs.Listing.{entries_of};
 ghost use Rattle.certificate.specs.Reading.{refutation_uses_step, next_refuting_line, begin_proof, refuting_step, last_step};
-ghost use Rattle.certificate.specs.Seen.{seen_body, seen_proving, IsAhead, IsKept, IsBody, ArePresent};
+ghost use Rattle.certificate.specs.Seen.{seen_body, seen_proving, state_proving, IsAhead, IsKept, IsBody, ArePresent};
 ghost use Rattle.certificate.specs.Steps.{Tells, TellsWanted};
 
 use crate::ends::{AnswerEnd, AnswerFault, misplaced};
-use crate::state::{Body, Proving, State, Wanted};
+use crate::state::{Body, Proving, Refuted, State, Wanted};
+use crate::states::state_cnf;
 use crate::uses::{UsesEnd, read_uses};
 use certificate_lines::{Refutation, WordLine, word_line_of};
 use circuit::Circuit;
 use entry::{Judge, Listed, User, used};
 use fair_semantics::Use;
-use lrat::LratEnd;
-use proof_semantics::LratFault;
+use lrat::{Checker, LratEnd};
+use proof_semantics::{Lit, LratFault};
 use std::alloc::{AllocError, Global};
 
 // A judge of the refutation, before its first line.
@@ -59,6 +61,80 @@ fn next_refuting_line(
     Ok(Wanted::Last)
 }
 
+// Behind the uses, each of which may stand, where skeletons are to be refuted.
+fn begin_skeletons(
+    alloc: Global,
+    circuit: &Circuit,
+    body: &mut Body,
+    uses: &[Use],
+    count: u64,
+) -> Result<Wanted, AnswerEnd>
+    requires body { IsBody circuit.now body.old }
+    requires property { body.old.property < length circuit.now.justice }
+    requires present { ArePresent body.old uses.now }
+    ensures { TellsWanted circuit.now (next_refuting_line (seen_body body.old) (begin_proof count
+        (skeleton_clauses circuit.now body.old.property (used_entries (entries_of body.old.list) uses.now)))) body.new result }
+{
+    let judge = judge_of(alloc, circuit, body.property, body.list.as_slice(), uses)?;
+    body.judge = judge;
+    next_refuting_line(circuit, body, Proving { count, read: 0 })
+}
+
+// Behind some lines of the proof that states with a literal are refuted by, which the checker judges.
+fn next_state_line(
+    _circuit: &Circuit,
+    _body: &Body,
+    checker: Checker,
+    proving: Proving,
+) -> Result<Wanted, AnswerEnd>
+    requires body { IsBody _circuit.now _body.now }
+    requires read { proving.read ≤ proving.count }
+    ensures { TellsWanted _circuit.now (next_refuting_line (seen_body _body.now) (state_proving checker proving)) _body.now result }
+{
+    if proving.read != proving.count {
+        return Ok(Wanted::StateLine(checker, proving));
+    }
+    if !checker.proved_empty() {
+        let fault = AnswerFault::Refutation(proving.count, LratFault::Unfinished);
+        return Err(AnswerEnd::Refused(fault));
+    }
+    Ok(Wanted::Last)
+}
+
+// A checker of the proof that no state that the used entries hold has the literal, before its first line.
+fn checker_of(
+    alloc: Global,
+    circuit: &Circuit,
+    literal: Lit,
+    list: &[Listed],
+    uses: &[Use],
+) -> Result<Checker, AllocError>
+    requires { All (λ u. u.entry < length list.now) uses.now }
+    ensures { IfOk result (λ checker. checker ≡ start (state_clauses circuit.now literal (used_entries (entries_of list.now) uses.now))) }
+{
+    let used = used(alloc, list, uses)?;
+    let clauses = state_cnf(alloc, circuit, literal, used.as_slice())?;
+    Ok(Checker::new(alloc, clauses)?)
+}
+
+// The same where states that have the literal are to be refuted.
+fn begin_states(
+    alloc: Global,
+    circuit: &Circuit,
+    body: &Body,
+    literal: Lit,
+    uses: &[Use],
+    count: u64,
+) -> Result<Wanted, AnswerEnd>
+    requires body { IsBody circuit.now body.now }
+    requires present { ArePresent body.now uses.now }
+    ensures { TellsWanted circuit.now (next_refuting_line (seen_body body.now) (begin_proof count
+        (state_clauses circuit.now literal (used_entries (entries_of body.now.list) uses.now)))) body.now result }
+{
+    let checker = checker_of(alloc, circuit, literal, body.list.as_slice(), uses)?;
+    next_state_line(circuit, body, checker, Proving { count, read: 0 })
+}
+
 // Behind the uses, each of which may stand.
 fn begin_refutation(
     alloc: Global,
@@ -70,11 +146,12 @@ fn begin_refutation(
     requires body { IsBody circuit.now body.old }
     requires present { ArePresent body.old uses.now }
     ensures { TellsWanted circuit.now (next_refuting_line (seen_body body.old) (begin_proof count
-        (skeleton_clauses circuit.now body.old.property (used_entries (entries_of body.old.list) uses.now)))) body.new result }
+        (refuted_clauses circuit.now body.old.refuted body.old.property (used_entries (entries_of body.old.list) uses.now)))) body.new result }
 {
-    let judge = judge_of(alloc, circuit, body.property, body.list.as_slice(), uses)?;
-    body.judge = judge;
-    next_refuting_line(circuit, body, Proving { count, read: 0 })
+    match body.refuted {
+        Refuted::Skeletons => begin_skeletons(alloc, circuit, body, uses, count),
+        Refuted::States(literal) => begin_states(alloc, circuit, &*body, literal, uses, count),
+    }
 }
 
 /// Behind the uses of the refutation.
@@ -114,6 +191,33 @@ pub(crate) fn refuting_step(
                 read: proving.read + 1,
             };
             next_refuting_line(circuit, body, later)
+        }
+        Err(LratEnd::Fault(fault)) => {
+            Err(AnswerEnd::Refused(AnswerFault::Refutation(proving.read, fault)))
+        }
+        Err(LratEnd::Memory) => Err(AnswerEnd::Memory),
+    }
+}
+
+/// Behind a line of the proof that states with a literal are refuted by.
+pub(crate) fn state_step(
+    circuit: &Circuit,
+    body: &Body,
+    checker: Checker,
+    proving: Proving,
+    line: &[u8],
+) -> Result<Wanted, AnswerEnd>
+    requires { IsAhead circuit.now body.now (Wanted.StateLine checker proving) }
+    ensures { TellsWanted circuit.now (refuting_step (seen_body body.now) (state_proving checker proving) (judge checker line.now)) body.now result }
+{
+    let mut checker = checker;
+    match checker.step(line) {
+        Ok(()) => {
+            let later = Proving {
+                count: proving.count,
+                read: proving.read + 1,
+            };
+            next_state_line(circuit, body, checker, later)
         }
         Err(LratEnd::Fault(fault)) => {
             Err(AnswerEnd::Refused(AnswerFault::Refutation(proving.read, fault)))

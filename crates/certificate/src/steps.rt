@@ -15,7 +15,7 @@ use crate::ending::end_in;
 use crate::ends::{Accepted, AnswerEnd, AnswerFault};
 use crate::entries::{clause_step, entry_uses_step, line_step, proof_step, start_step};
 use crate::heads::{property_step, status_step, version_step};
-use crate::refuting::{last_step, refutation_uses_step, refuting_step};
+use crate::refuting::{last_step, refutation_uses_step, refuting_step, state_step};
 use crate::rows::{latches_step, row_step};
 use crate::state::{Body, State, Wanted};
 use aig_semantics::Lasso;
@@ -76,6 +76,10 @@ fn certificate_step(
             let next = refuting_step(circuit, &mut body, proving, line);
             certified(body, next)
         }
+        Wanted::StateLine(checker, proving) => {
+            let next = state_step(circuit, &body, checker, proving, line);
+            certified(body, next)
+        }
         Wanted::Last => last_step(circuit, body, number, line),
     }
 }
@@ -108,8 +112,9 @@ fn step_in(
     }
 }
 
-/// The state behind a line with this number, which is not skipped, or the line's fault.
-pub(crate) fn step(
+/// The state behind a line with this number, which is not skipped, or the line's fault. Other texts that have runs or entries
+/// go on by it from a state of theirs.
+pub fn step(
     alloc: Global,
     circuit: &Circuit,
     state: State,

@@ -84,6 +84,7 @@ refusal_text (answers.Refutation line fault) = proof_fault_text (codes "refused 
 refusal_text answers.TooLong = codes "refused too long\n"
 refusal_text (answers.Trailing line) = line_with (codes "refused trailing line ") line
 refusal_text answers.UnknownStatus = codes "refused unknown status\n"
+refusal_text (answers.FewRounds n) = line_with (codes "refused rounds ") n
 
 -- what `check` writes of an accepted answer
 abbrev pub done_text : Done → List ℕ

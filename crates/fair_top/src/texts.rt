@@ -108,6 +108,7 @@ fn text_of_answer(alloc: Global, fault: &AnswerFault) -> Result<Vec<u8>, AllocEr
         AnswerFault::TooLong => words(alloc, "refused too long\n"),
         AnswerFault::Trailing(line) => numbered(alloc, "refused trailing line ", *line),
         AnswerFault::UnknownStatus => words(alloc, "refused unknown status\n"),
+        AnswerFault::FewRounds(count) => numbered(alloc, "refused rounds ", *count),
     }
 }
 

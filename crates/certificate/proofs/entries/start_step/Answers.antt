@@ -12,5 +12,5 @@ pub returns-in-Some-Opening : goal.returns-in-Some-Opening
 returns-in-Some-Opening c =
     let is : Some (lines.Opening c.in-Some-Opening.opening) ≡ word_line_of c.args.line.now =
     ap (λ (l : WordLine). Some l) (sym c.in-Some-Opening.field-0-is) ∙ sym c.in-Some-Opening.is ∙ c.word_line_of.ensures.value in
-    subst (λ (l : Option WordLine). TellsWanted c.args.circuit.now (start_step (seen_body c.args.body.now) c.args.number l) c.args.body.now c.open_entry.result) is
-    (c.open_entry.ensures c.args.number)
+    subst (λ (l : Option WordLine). TellsWanted c.args.circuit.now (start_step (seen_body c.args.body.now) c.args.number l) c.args.body.now c.opening_step.result) is
+    c.opening_step.ensures

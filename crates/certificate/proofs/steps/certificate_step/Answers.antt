@@ -39,3 +39,8 @@ pub returns-in-RefutationLine : goal.returns-in-RefutationLine
 returns-in-RefutationLine c =
     subst (λ (w : Wanted). Tells c.args.circuit.now (certificate_step c.args.circuit.now (seen_body c.args.body) (seen_wanted c.args.body w) c.args.number c.args.line.now) c.certified-in-RefutationLine.result)
     (sym c.in-RefutationLine.is) (c.certified-in-RefutationLine.ensures c.args.circuit.now _ c.refuting_step-next.ensures)
+
+pub returns-in-StateLine : goal.returns-in-StateLine
+returns-in-StateLine c =
+    subst (λ (w : Wanted). Tells c.args.circuit.now (certificate_step c.args.circuit.now (seen_body c.args.body) (seen_wanted c.args.body w) c.args.number c.args.line.now) c.certified-in-StateLine.result)
+    (sym c.in-StateLine.is) (c.certified-in-StateLine.ensures c.args.circuit.now _ c.state_step-next.ensures)
