@@ -1,0 +1,3 @@
+mod Variables
+mod Adding
+mod Full
