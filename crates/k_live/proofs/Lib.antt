@@ -1,0 +1,5 @@
+mod Paths
+mod Claiming
+mod Refuting
+mod Counts
+mod Telling

@@ -1,0 +1,21 @@
+//! Whether some run has k rounds of a property: k-liveness, after Claessen, Sörensson, A Liveness Checking Algorithm that
+//! Counts (FMCAD 2012), by one search for a path over the property's monitor.
+//!
+//! | Call | What it gives |
+//! |---|---|
+//! | `decide` | a run with so many rounds; or, exactly where there is none, a proved set of the monitor's states that shows it |
+//! | `Rounds`, `RoundsEnd` | what it answers, and why it answers nothing |
+#![tactic(auto)]
+
+mod answers;
+mod closing;
+mod deciding;
+mod ends;
+mod running;
+mod searching;
+mod states;
+mod watched;
+
+pub use answers::Rounds;
+pub use deciding::decide;
+pub use ends::RoundsEnd;
