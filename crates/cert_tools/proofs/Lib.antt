@@ -1,0 +1,17 @@
+pub mod KeptLaws
+pub mod TrimmedGood
+pub mod ReachedLaws
+pub mod TrimmingLaws
+pub mod EmptyClauses
+pub mod Places
+pub mod SameClauses
+pub mod TrimmedCertificates
+pub mod GoodTrimmed
+pub mod TrimmedAgain
+pub mod EntryNodes
+pub mod EntryPlaces
+pub mod EntryProofs
+pub mod TrimmedLassos
+pub mod TrimmedLaws
+pub mod TrimmedOne
+pub mod HeldOne
