@@ -1,0 +1,143 @@
+//! What is decided, against what was worked out. The main calls are `row_is` and `agrees`.
+
+use crate::counting::{most_rounds, steps_of};
+use crate::properties::{property_drawn, text_with};
+use circuit::Circuit;
+use drawn_circuits::circuit_drawn;
+use edge::Meter;
+use k_live::{Rounds, RoundsEnd, decide};
+use std::alloc::{AllocError, Global};
+use std::test::*;
+
+// What is answered: no run has so many rounds; one has; a budget was spent; nothing of these.
+#[derive(Clone, Copy, PartialEq, Eq)]
+enum Told {
+    Fewer,
+    Reached,
+    Unsettled,
+    Nothing,
+}
+
+// What is decided of the first property.
+fn told_by(alloc: Global, c: &Circuit, k: u32, meter: &mut Meter) -> Told {
+    if c.property_count() == 0 || k == 0 {
+        return Told::Nothing;
+    }
+    match decide(alloc, c, 0, k, meter) {
+        Ok(Rounds::Fewer { .. }) => Told::Fewer,
+        Ok(Rounds::Reached { .. }) => Told::Reached,
+        Err(RoundsEnd::Unsettled(_)) => Told::Unsettled,
+        Err(RoundsEnd::TooLarge(_) | RoundsEnd::Memory) => Told::Nothing,
+    }
+}
+
+fn told_within(alloc: Global, c: &Circuit, k: u32, steps: u64) -> Told {
+    let mut meter = Meter::new(4_294_967_295, steps);
+    told_by(alloc, c, k, &mut meter)
+}
+
+fn told_of(alloc: Global, text: &[u8], k: u32, steps: u64) -> Told {
+    match aiger_ascii::read(alloc, text) {
+        Ok(model) => told_within(alloc, model.circuit(), k, steps),
+        Err(_) => Told::Nothing,
+    }
+}
+
+// ---- rows
+
+const TOGGLES: &str = "aag 1 0 1 0 0 0 0 1\n2 3\n1\n2\n";
+
+const STAYS: &str = "aag 1 0 1 0 0 0 0 1\n2 2\n1\n2\n";
+// The latch is 1 from the second position on, where the constraint is false.
+const ENDS: &str = "aag 1 0 1 0 0 0 1 1\n2 1\n3\n1\n3\n";
+
+// A text, a number of rounds, a limit of steps, and what is told.
+type Row = (&'static str, u32, u64, Told);
+
+fn row(number: u8) -> Row {
+    match number {
+        0 => (TOGGLES, 1, 4_294_967_295, Told::Reached),
+        1 => (TOGGLES, 2, 4_294_967_295, Told::Reached),
+        2 => (STAYS, 1, 4_294_967_295, Told::Fewer),
+        3 => (ENDS, 1, 4_294_967_295, Told::Reached),
+        4 => (ENDS, 2, 4_294_967_295, Told::Fewer),
+        _ => (TOGGLES, 2, 0, Told::Unsettled),
+    }
+}
+
+fn row_is(alloc: Global, number: u8) -> bool {
+    let (text, k, steps, wanted) = row(number);
+    told_of(alloc, text.as_bytes(), k, steps) == wanted
+}
+
+#[test]
+fn rows(rt: HostRuntime) -> Result<(), Fail> {
+    for number in 0..6 {
+        assert!(rt; row_is(rt.alloc(), number));
+    }
+    Ok(())
+}
+
+// ---- drawn circuits
+
+// Whether of so many rounds what is told agrees with the most that a run has.
+fn agrees_at(alloc: Global, c: &Circuit, k: u32, most: u32) -> bool {
+    let wanted = if k <= most {
+        Told::Reached
+    } else {
+        Told::Fewer
+    };
+    told_within(alloc, c, k, 4_294_967_295) == wanted
+}
+
+fn agrees_with(alloc: Global, c: &Circuit, most: u32) -> bool {
+    for k in 1..7_u32 {
+        if !agrees_at(alloc, c, k, most) {
+            return false;
+        }
+    }
+    true
+}
+
+fn text_agrees(alloc: Global, text: &[u8], most: u32) -> bool {
+    match aiger_ascii::read(alloc, text) {
+        Ok(model) => agrees_with(alloc, model.circuit(), most),
+        Err(_) => false,
+    }
+}
+
+// The most rounds, up to six, that a run of the circuit with a number has, where what is told of 1 to 6 agrees.
+fn most_agreed(alloc: Global, number: u64) -> Result<Option<u32>, AllocError> {
+    let d = circuit_drawn(alloc, number)?;
+    let p = property_drawn(alloc, &d, number)?;
+    let steps = steps_of(alloc, &d, &p)?;
+    let most = most_rounds(alloc, &d, &steps)?;
+    let text = text_with(alloc, &d, &p)?;
+    if text_agrees(alloc, text.as_slice(), most) {
+        Ok(Some(most))
+    } else {
+        Ok(None)
+    }
+}
+
+// How many of the first drawn circuits have a run with a round, but none with six; nothing where one does not agree.
+fn telling(alloc: Global, circuits: u64) -> Result<Option<u64>, AllocError> {
+    let mut count: u64 = 0;
+    for number in 0..circuits {
+        let Some(most) = most_agreed(alloc, number)? else {
+            return Ok(None);
+        };
+        if most > 0 && most < 6 {
+            count = count.saturating_add(1);
+        }
+    }
+    Ok(Some(count))
+}
+
+/// Of 60 drawn circuits, and 1 to 6 rounds, it is decided as a search of all states has it.
+#[test]
+fn drawn_circuits_are_decided(rt: HostRuntime) -> Result<(), Fail> {
+    let told = telling(rt.alloc(), 60)?.unwrap_or(0);
+    assert!(rt; told >= 5);
+    Ok(())
+}
