@@ -10,7 +10,7 @@ use Rattle.command_lines.specs.Solve.{MeansSolve}
 use Rattle.command_lines.specs.Demo.{MeansDemo}
 use Rattle.command_lines.specs.Slice.{MeansSlice}
 use Rattle.command_lines.specs.Safety.{MeansSafety}
-use Rattle.command_lines.specs.Commands.{Asked, Solve, Check, Gen, Demo, Wave, Slice, Convert, Safety, Means}
+use Rattle.command_lines.specs.Commands.{Asked, Solve, Check, Gen, Demo, Wave, Slice, Convert, Safety, Trim, Means}
 use Rattle.command_lines.proofs.Values.{SomeOrNone, Asks, solve_or_none, names_or_none, request_or_none, demo_or_none, one_solve, one_pair, one_request, one_demo, Wants, safety_or_none, one_wanted}
 
 -- what the values of a command ask for, if they do
@@ -29,7 +29,8 @@ request_in name rows =
     (cond (bytes_eq name (codes "slice")) (asked_from (λ (wants : Wants). Slice wants.0 wants.1) (safety_or_none rows))
     (cond (bytes_eq name (codes "convert")) (asked_from (λ (names : List ℕ × List ℕ). Convert names.0 names.1) (names_or_none rows))
     (cond (bytes_eq name (codes "safety")) (asked_from (λ (wants : Wants). Safety wants.0 wants.1) (safety_or_none rows))
-    None)))))))
+    (cond (bytes_eq name (codes "trim")) (asked_from (λ (names : List ℕ × List ℕ). Trim names.0 names.1) (names_or_none rows))
+    None))))))))
 
 is_picked : (name own : List ℕ) (rows : List Row) (asked : Asked) (this other : Option Asked) → (name ≡ own → this ≡ Some asked → Means asked name rows)
     → (other ≡ Some asked → Means asked name rows) → cond (bytes_eq name own) this other ≡ Some asked → Means asked name rows
@@ -60,7 +61,8 @@ reads_means name rows asked =
     (is_picked name (codes "slice") rows asked _ _ (λ is. from_means name rows asked (λ (wants : Wants). Slice wants.0 wants.1) (safety_or_none rows) (λ t h. (is, h)))
     (is_picked name (codes "convert") rows asked _ _ (λ is. from_means name rows asked (λ (names : List ℕ × List ℕ). Convert names.0 names.1) (names_or_none rows) (λ t h. (is, h)))
     (is_picked name (codes "safety") rows asked _ _ (λ is. from_means name rows asked (λ (wants : Wants). Safety wants.0 wants.1) (safety_or_none rows) (λ t h. (is, h)))
-    (none_asked name rows asked))))))))
+    (is_picked name (codes "trim") rows asked _ _ (λ is. from_means name rows asked (λ (names : List ℕ × List ℕ). Trim names.0 names.1) (names_or_none rows) (λ t h. (is, h)))
+    (none_asked name rows asked)))))))))
 
 -- the values of a command that ask for something ask for nothing else
 from_found : {T : Type 0} {P : T → Type 0} (form : T → Asked) (either : SomeOrNone P) (t : T) → P t
@@ -95,6 +97,9 @@ means_reads name rows (Convert model answer) h =
 means_reads name rows (Safety model property) h =
     ap (λ (n : List ℕ). request_in n rows) h.0
     ∙ from_found (λ (wants : Wants). Safety wants.0 wants.1) (safety_or_none rows) (model, property) h.1 (one_wanted rows (λ m p. Safety m p))
+means_reads name rows (Trim model answer) h =
+    ap (λ (n : List ℕ). request_in n rows) h.0
+    ∙ from_found (λ (names : List ℕ × List ℕ). Trim names.0 names.1) (names_or_none rows) (model, answer) h.1 (one_pair rows (λ m a. Trim m a))
 
 -- the values are of one request at most
 pub one_meant : (name : List ℕ) (rows : List Row) (a b : Asked) → Means a name rows → Means b name rows → a ≡ b

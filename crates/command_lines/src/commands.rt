@@ -23,6 +23,7 @@ mod generating;
 mod slicing;
 mod solving;
 mod translating;
+mod trimming;
 mod waving;
 
 use checking::{check_of, with_check};
@@ -38,6 +39,7 @@ pub use solving::{DEFAULTS, SolveRequest};
 use solving::{solve_of, with_solve};
 use std::alloc::{AllocError, Global};
 use translating::{safety_of, with_safety};
+use trimming::{trim_of, with_trim};
 use waving::{wave_of, with_wave};
 
 /// A command with its values.
@@ -77,11 +79,16 @@ pub enum Asked<'a> {
         model: &'a str,
         property: u32,
     },
+    /// Write the answer without what it does not need.
+    Trim {
+        model: &'a str,
+        answer: &'a str,
+    },
 }
 
 /// What is written where the words are no command: a line for each command.
 pub const USAGE: &str =
-    "usage: fairlive solve MODEL [--property N] [--workers W] [--conflicts C] [--steps S] [--skeletons K]\n       fairlive check MODEL ANSWER\n       fairlive gen KIND SEED SIZE [--binary]\n       fairlive demo SEED SIZE\n       fairlive wave MODEL ANSWER\n       fairlive slice MODEL [--property N]\n       fairlive convert MODEL ANSWER\n       fairlive safety MODEL [--property N]\n";
+    "usage: fairlive solve MODEL [--property N] [--workers W] [--conflicts C] [--steps S] [--skeletons K]\n       fairlive check MODEL ANSWER\n       fairlive gen KIND SEED SIZE [--binary]\n       fairlive demo SEED SIZE\n       fairlive wave MODEL ANSWER\n       fairlive slice MODEL [--property N]\n       fairlive convert MODEL ANSWER\n       fairlive safety MODEL [--property N]\n       fairlive trim MODEL ANSWER\n";
 
 /// Why the words ask for nothing.
 #[derive(Drop)]
@@ -143,7 +150,8 @@ fn program<'a>(alloc: Global) -> Result<Command<'a>, AllocError>
     let program = with_wave(alloc, program)?;
     let program = with_slice(alloc, program)?;
     let program = with_convert(alloc, program)?;
-    with_safety(alloc, program)
+    let program = with_safety(alloc, program)?;
+    with_trim(alloc, program)
 }
 
 /// What the command that was met asks for, if it is one of the program's and its values are a request.
@@ -178,6 +186,7 @@ fn asked_as<'a>(name: &str, given: &ArgMatches<'a>) -> Option<Asked<'a>>
         "slice" => slice_of(given),
         "convert" => convert_of(given),
         "safety" => safety_of(given),
+        "trim" => trim_of(given),
         _ => None,
     }
 }

@@ -24,4 +24,6 @@ mod tests;
 #[cfg(test)]
 mod translating;
 #[cfg(test)]
+mod trimming;
+#[cfg(test)]
 mod waving;

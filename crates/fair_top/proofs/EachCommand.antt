@@ -5,7 +5,8 @@ use Rattle.edge.specs.Writes.{Writes}
 use Rattle.fair_top.specs.declared.status.Status.{Status}
 use Rattle.fair_top.specs.declared.status.Status.TheVariants as statuses
 use Rattle.fair_top.specs.Convert.{IsConversion}
-use Rattle.command_lines.specs.Commands.{Asked, Solve, Check, Gen, Demo, Wave, Slice, Convert, Safety}
+use Rattle.fair_top.specs.Trim.{IsTrimming}
+use Rattle.command_lines.specs.Commands.{Asked, Solve, Check, Gen, Demo, Wave, Slice, Convert, Safety, Trim}
 use Rattle.fair_top.specs.Commands.{CommandGives}
 use Rattle.fair_top.specs.Solved.{SolvesAsked}
 use Rattle.fair_top.specs.Headline.{HasWritten}
@@ -26,6 +27,7 @@ memory_solves held (Wave model answer) result e = tt
 memory_solves held (Slice model property) result e = tt
 memory_solves held (Convert model answer) result e = tt
 memory_solves held (Safety model property) result e = tt
+memory_solves held (Trim model answer) result e = tt
 
 -- ---- what a sink saw
 
@@ -47,3 +49,5 @@ of_command Write held (Convert model answer) status text old new gives writes =
     of_remade Write IsConversion (held model) (held answer) status text old new gives writes
 of_command Write held (Safety model property) status text old new gives writes =
     of_safety Write (held model) property status text old new gives writes
+of_command Write held (Trim model answer) status text old new gives writes =
+    of_remade Write IsTrimming (held model) (held answer) status text old new gives writes

@@ -5,6 +5,7 @@ mod Sinks
 mod Dumped
 mod Remaking
 mod Converted
+mod Trimmed
 mod Translated
 mod Sliced
 mod EachCommand

@@ -2,7 +2,7 @@
 -- definition.
 use Rattle.std.specs.Prelude.{ℕ, List, Option}
 use Rattle.certificate.specs.declared.ends.Accepted.{Accepted}
-use Rattle.command_lines.specs.Commands.{Asked, Solve, Check, Gen, Demo, Wave, Slice, Convert, Safety}
+use Rattle.command_lines.specs.Commands.{Asked, Solve, Check, Gen, Demo, Wave, Slice, Convert, Safety, Trim}
 use Rattle.fair_top.specs.declared.status.Status.{Status}
 use Rattle.fair_top.specs.Solve.{GivesSolve, DecidesSolve, ShownBySolve}
 use Rattle.fair_top.specs.Check.{GivesCheck, DecidesCheck, ShownByCheck}
@@ -13,6 +13,7 @@ use Rattle.fair_top.specs.Slice.{GivesSlice, DecidesSlice}
 use Rattle.fair_top.specs.Remade.{DecidesRemade}
 use Rattle.fair_top.specs.Convert.{GivesConvert}
 use Rattle.fair_top.specs.Safety.{GivesSafety, DecidesSafety}
+use Rattle.fair_top.specs.Trim.{GivesTrim}
 
 -- What is so of the texts that the shelf tells where a run that asks for this ends with this status, and writes this text.
 abbrev pub CommandGives : (List ℕ → Option (List ℕ)) → Asked → Status → List ℕ → Type 0
@@ -24,6 +25,7 @@ CommandGives held (Wave model answer) status text = GivesWave (held model) (held
 CommandGives held (Slice model property) status text = GivesSlice (held model) property status text
 CommandGives held (Convert model answer) status text = GivesConvert (held model) (held answer) status text
 CommandGives held (Safety model property) status text = GivesSafety (held model) property status text
+CommandGives held (Trim model answer) status text = GivesTrim (held model) (held answer) status text
 
 -- the status is the only right one, by what is asked for and by the texts that the shelf tells; of `demo` none is
 abbrev pub Decides : (List ℕ → Option (List ℕ)) → Asked → Status → Type 0
@@ -35,9 +37,10 @@ Decides held (Wave model answer) status = DecidesWave (held model) (held answer)
 Decides held (Slice model property) status = DecidesSlice (held model) property status
 Decides held (Convert model answer) status = DecidesRemade (held model) (held answer) status
 Decides held (Safety model property) status = DecidesSafety (held model) property status
+Decides held (Trim model answer) status = DecidesRemade (held model) (held answer) status
 
 -- what is so of the texts on the shelf where a run that asks for this accepts an answer; `gen`, `demo`, `wave`,
--- `slice`, `convert` and `safety` never do
+-- `slice`, `convert`, `safety` and `trim` never do
 abbrev pub ShownBy : (List ℕ → Option (List ℕ)) → Asked → Accepted → Type 0
 ShownBy held (Solve model request) accepted = ShownBySolve (held model) accepted
 ShownBy held (Check model answer) accepted = ShownByCheck (held model) accepted
@@ -47,3 +50,4 @@ ShownBy held (Wave model answer) accepted = ⊥
 ShownBy held (Slice model property) accepted = ⊥
 ShownBy held (Convert model answer) accepted = ⊥
 ShownBy held (Safety model property) accepted = ⊥
+ShownBy held (Trim model answer) accepted = ⊥

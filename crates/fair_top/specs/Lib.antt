@@ -9,6 +9,7 @@ pub mod Waved
 pub mod Remade
 pub mod Remaking
 pub mod Convert
+pub mod Trim
 pub mod Safety
 pub mod Slice
 pub mod Commands

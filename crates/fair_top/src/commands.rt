@@ -28,6 +28,7 @@ mod remaking;
 mod slicing;
 mod solving;
 mod translating;
+mod trimming;
 mod waving;
 
 use crate::status::Status;
@@ -47,6 +48,7 @@ use solving::solve;
 use std::alloc::Global;
 use std::sync::Arc;
 use translating::safety;
+use trimming::Trimming;
 use waving::wave;
 
 /// The status with which a run ends and the text that it writes, but for its writing; or the status of a run that
@@ -119,5 +121,6 @@ fn outcome_for<S: Fn(&Arc<Circuit>, SolveRequest) -> Result<Report, Ended>, H: S
         Asked::Slice { model, property } => write_slice(alloc, shelf, model, property),
         Asked::Convert { model, answer } => remake(alloc, shelf, model, answer, &Conversion {}),
         Asked::Safety { model, property } => safety(alloc, shelf, model, property),
+        Asked::Trim { model, answer } => remake(alloc, shelf, model, answer, &Trimming {}),
     }
 }

@@ -9,6 +9,7 @@ use Rattle.command_lines.specs.Wave.{wave_command}
 use Rattle.command_lines.specs.Slice.{slice_command}
 use Rattle.command_lines.specs.Convert.{convert_command}
 use Rattle.command_lines.specs.Safety.{safety_command}
+use Rattle.command_lines.specs.Trim.{trim_command}
 use Rattle.command_lines.proofs.commands.program.Goals as goal
 
 -- the program with its first commands
@@ -21,11 +22,13 @@ with_waves =
 pub returns : goal.returns
 returns c =
     let first : app_of c.in_ok-program-5.program ≡ with_waves = search rules in
-    IfOk-weaker c.with_safety.result _ _
+    IfOk-weaker c.with_trim.result _ _
     (λ command h.
     h
+    ∙ ap (λ (a : App). with_subcommand a trim_command.top)
+    (c.in_ok-program-8.ensures
     ∙ ap (λ (a : App). with_subcommand a safety_command.top)
     (c.in_ok-program-7.ensures
     ∙ ap (λ (a : App). with_subcommand a convert_command.top)
-    (c.in_ok-program-6.ensures ∙ ap (λ (a : App). with_subcommand a slice_command.top) first)))
-    c.with_safety.ensures
+    (c.in_ok-program-6.ensures ∙ ap (λ (a : App). with_subcommand a slice_command.top) first))))
+    c.with_trim.ensures

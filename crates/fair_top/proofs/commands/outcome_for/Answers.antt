@@ -74,3 +74,7 @@ returns-in-Safety-clause-exactly g c = λ verdict d.
 pub returns-in-Slice-clause-exactly : goal.returns-in-Slice-clause-exactly
 returns-in-Slice-clause-exactly g c = λ verdict d.
     c.write_slice.ensures.exactly verdict (subst (λ (a : AskedInCode). Decides (g.H.Shelf.held c.args.shelf.now) (meant a) verdict) c.in-Slice.is d)
+
+pub returns-in-Trim-clause-exactly : goal.returns-in-Trim-clause-exactly
+returns-in-Trim-clause-exactly g c = λ verdict d.
+    c.remake-in-Trim.ensures.exactly verdict (subst (λ (a : AskedInCode). Decides (g.H.Shelf.held c.args.shelf.now) (meant a) verdict) c.in-Trim.is d)

@@ -1,0 +1,120 @@
+//! Runs of `trim` over texts in memory.
+
+use crate::certificates::{RISES, WALL};
+use crate::runs::{ends_so, is_end, run_words};
+use crate::tests::TOGGLE;
+use std::alloc::{AllocError, Global};
+use std::sync::Wait;
+use std::test::Fail;
+use std::thread::Threads;
+
+const WORDS: [&str; 4] = ["fairlive", "trim", "m", "a"];
+
+const CHECK: [&str; 4] = ["fairlive", "check", "m", "a"];
+
+const ONE_WALL: &str =
+    "0\nj0\nversion 2\nwall 1 0\n\n2 0\nproof 1\n6 0 1 3 5 0\nrefute 1 1\n0\n11 0 1 3 4 9 10 5 0\nend\n";
+
+/// A model and an answer, the text that must be written, and the number that the run must end with.
+type Row = (&'static str, &'static str, &'static str, u8);
+
+const ROWS: [Row; 10] = [
+    (RISES, WALL, ONE_WALL, 0),
+    // An entry that the refutation does not reach.
+    (
+        RISES,
+        "0\nj0\nversion 2\nwall 1 0\n\n2 0\nproof 1\n6 0 1 3 5 0\nwall 1 1\n0-\n3 0\nproof 1\n13 0 1 3 10 9 8 0\nrefute 1 1\n0\n11 0 1 3 4 9 10 5 0\nend\n",
+        ONE_WALL,
+        0,
+    ),
+    // An addition without use, and a deletion; ids stay.
+    (
+        RISES,
+        "0\nj0\nversion 2\nwall 1 0\n\n2 0\nproof 3\n6 4 0 1 3 0\n7 0 1 3 5 0\n8 d 6 0\nrefute 1 1\n0\n11 0 1 3 4 9 10 5 0\nend\n",
+        "0\nj0\nversion 2\nwall 1 0\n\n2 0\nproof 1\n7 0 1 3 5 0\nrefute 1 1\n0\n11 0 1 3 4 9 10 5 0\nend\n",
+        0,
+    ),
+    // An addition that the empty one reaches, and one behind it.
+    (
+        RISES,
+        "0\nj0\nversion 2\nwall 1 0\n\n2 0\nproof 3\n6 4 0 1 3 0\n7 0 6 5 0\n8 0 1 3 5 0\nrefute 1 1\n0\n11 0 1 3 4 9 10 5 0\nend\n",
+        "0\nj0\nversion 2\nwall 1 0\n\n2 0\nproof 2\n6 4 0 1 3 0\n7 0 6 5 0\nrefute 1 1\n0\n11 0 1 3 4 9 10 5 0\nend\n",
+        0,
+    ),
+    // The entry that is needed stands behind one that is not.
+    (
+        RISES,
+        "0\nj0\nversion 2\nwall 1 0\n\n2 0\nproof 1\n6 0 1 3 5 0\nwall 1 0\n\n2 0\nproof 1\n6 0 1 3 5 0\nrefute 1 1\n1\n11 0 1 3 4 9 10 5 0\nend\n",
+        ONE_WALL,
+        0,
+    ),
+    // So do two, of which one names a side of the other.
+    (
+        RISES,
+        "0\nj0\nversion 2\nwall 1 0\n\n2 0\nproof 1\n6 0 1 3 5 0\nwall 1 0\n\n2 0\nproof 1\n6 0 1 3 5 0\nwall 1 1\n1-\n3 0\nproof 1\n13 0 1 3 10 9 8 0\nrefute 2 1\n1 2\n18 0 1 3 4 9 10 5 0\nend\n",
+        "0\nj0\nversion 2\nwall 1 0\n\n2 0\nproof 1\n6 0 1 3 5 0\nwall 1 1\n0-\n3 0\nproof 1\n13 0 1 3 10 9 8 0\nrefute 2 1\n0 1\n18 0 1 3 4 9 10 5 0\nend\n",
+        0,
+    ),
+    // An empty clause is given.
+    (
+        RISES,
+        "0\nj0\nversion 2\nwall 1 0\n\n0\nproof 1\n5 4 0 1 3 0\nwall 1 0\n\n2 0\nproof 1\n6 0 1 3 5 0\nrefute 2 1\n0 1\n15 0 1 3 4 13 14 9 0\nend\n",
+        "0\nj0\nversion 2\nwall 1 0\n\n0\nproof 0\nwall 1 0\n\n2 0\nproof 1\n6 0 1 3 5 0\nrefute 2 1\n0 1\n15 0 1 3 4 13 14 9 0\nend\n",
+        0,
+    ),
+    // A stimulus that goes on behind its lasso.
+    (TOGGLE, "1\nj0\nx\n\n\n\n.", "1\nj0\n0\n\n\n.\n", 0),
+    (TOGGLE, "1\nj0\n0\n\n.\n", "refused no fair loop\n", 1),
+    (TOGGLE, "2\nj0\n.\n", "refused unknown status\n", 1),
+];
+
+fn rows() -> &'static [Row] {
+    &ROWS
+}
+
+/// The place of the first row that is not answered so, from 0, by reads of three bytes.
+fn wrong_row<R: Threads + Wait + Sync>(rt: &R, alloc: Global) -> Result<Option<usize>, AllocError> {
+    for (k, (model, answer, text, number)) in rows().iter().enumerate() {
+        let ran = run_words(rt, alloc, &WORDS, model.as_bytes(), answer, 3, &[], &[])?;
+        if !is_end(&ran, text.as_bytes(), *number) {
+            return Ok(Some(k));
+        }
+    }
+    Ok(None)
+}
+
+fn is_accepted<R: Threads + Wait + Sync>(
+    rt: &R,
+    alloc: Global,
+    model: &[u8],
+    text: &str,
+) -> Result<bool, AllocError> {
+    let ran = run_words(rt, alloc, &CHECK, model, text, 1000, &[], &[])?;
+    Ok(ran.status.number() == 0)
+}
+
+/// The place of the first row whose printed text changes when it is trimmed, or is not accepted by `check`.
+fn unstable_row<R: Threads + Wait + Sync>(
+    rt: &R,
+    alloc: Global,
+) -> Result<Option<usize>, AllocError> {
+    for (k, (model, _answer, text, number)) in rows().iter().enumerate() {
+        let model = model.as_bytes();
+        let printed = *number == 0;
+        if printed && !ends_so(rt, alloc, &WORDS, model, text, text.as_bytes(), 0)? {
+            return Ok(Some(k));
+        }
+        if printed && !is_accepted(rt, alloc, model, text)? {
+            return Ok(Some(k));
+        }
+    }
+    Ok(None)
+}
+
+/// What is not needed goes, ids stay; what was printed stays as it is, and `check` accepts it.
+#[test]
+fn trims(rt: HostRuntime) -> Result<(), Fail> {
+    assert_eq!(rt; wrong_row(&rt, rt.alloc())?, None);
+    assert_eq!(rt; unstable_row(&rt, rt.alloc())?, None);
+    Ok(())
+}
