@@ -46,8 +46,13 @@ fn each_ends_with(
 // A judge that went to an entry without uses.
 fn judge_of(alloc: Global, c: &Circuit, set: &ClauseSet) -> Result<Judge, AllocError> {
     let mut judge = Judge::new(alloc, c)?;
-    judge.enter(alloc, c, &[], &[], set)?;
-    Ok(judge)
+    match judge.enter(alloc, c, &[], &[], set) {
+        Ok(_) => Ok(judge),
+        Err(refused) => {
+            drop(judge);
+            Err(refused)
+        }
+    }
 }
 
 // Whether the clauses of the set have this proof, each by itself, and are not all proved without a line.
@@ -58,7 +63,9 @@ fn clauses_end_with(
     line: &str,
 ) -> Result<bool, AllocError> {
     let mut judge = judge_of(alloc, c, set)?;
-    each_ends_with(alloc, c, &mut judge, set, line)
+    let ends = each_ends_with(alloc, c, &mut judge, set, line);
+    drop(judge);
+    ends
 }
 
 // A judge of the refutation over the first entry, where there is one, and a property.
@@ -78,7 +85,9 @@ fn refutation_ends_with(
     line: &str,
 ) -> Result<bool, AllocError> {
     let mut judge = refuting(alloc, c, list)?;
-    Ok(ends_with(&mut judge, line))
+    let ends = ends_with(&mut judge, line);
+    drop(judge);
+    Ok(ends)
 }
 
 // The latch begins with 0, so no clause of the entry holds an initial literal.
@@ -116,7 +125,9 @@ fn parts_agree(alloc: Global, c: &Circuit) -> Result<bool, EntryEnd> {
 
 fn parts_of(alloc: Global, text: &str) -> Result<bool, Fail> {
     let model = aiger_ascii::read(alloc, text.as_bytes())?;
-    Ok(parts_agree(alloc, model.circuit())?)
+    let agree = parts_agree(alloc, model.circuit());
+    drop(model);
+    Ok(agree?)
 }
 
 #[test]

@@ -97,7 +97,9 @@ fn entry_is(
         Some(fault) => Err(EntryEnd::Fault(fault)),
         None => Ok(()),
     };
-    Ok(entry_answer(alloc, model.circuit(), claims, claim, lines) == wanted)
+    let answer = entry_answer(alloc, model.circuit(), claims, claim, lines);
+    drop(model);
+    Ok(answer == wanted)
 }
 
 #[test]
@@ -203,7 +205,9 @@ fn is_refuted_so(
     fault: Option<RefutationFault>,
 ) -> Result<bool, Fail> {
     let model = aiger_ascii::read(alloc, text.as_bytes())?;
-    Ok(refutation_is(alloc, model.circuit(), claims, uses, line, fault)?)
+    let is_so = refutation_is(alloc, model.circuit(), claims, uses, line, fault);
+    drop(model);
+    Ok(is_so?)
 }
 
 #[test]

@@ -73,7 +73,10 @@ fn is_written_and_accepted(alloc: Global, shared: &Arc<Circuit>) -> Result<bool,
 // Whether the text is what is written, and is accepted.
 fn is_written(alloc: Global) -> Result<bool, Fail> {
     let model = aiger_ascii::read(alloc, RISES.as_bytes())?;
-    Ok(is_written_and_accepted(alloc, &Arc::new(alloc, model.into_circuit())?)?)
+    let c = Arc::new(alloc, model.into_circuit())?;
+    let written = is_written_and_accepted(alloc, &c);
+    drop(c);
+    Ok(written?)
 }
 
 #[test]

@@ -1,7 +1,7 @@
 use Rattle.std.proofs.Common.{◌++◌, sym, ap}
 use Rattle.entry.specs.CheckedEntries.{viewed}
-use Rattle.skeleton_tests.proofs.asking.answers_are.Goals as goal
+use Rattle.entry_tests.proofs.asking.answers_are.Goals as goal
 
-pub next_is-requires-clause-on : goal.next_is-requires-clause-on
-next_is-requires-clause-on c =
+pub query_answers-told-requires-clause-on : goal.query_answers-told-requires-clause-on
+query_answers-told-requires-clause-on c =
     (viewed c.args.view.now, ap (λ query. query.seen ++ viewed c.args.view.now) (sym c.in_ok-query.ensures))

@@ -130,6 +130,28 @@ fn begin_at_both(
     Ok((low, high))
 }
 
+// Whether the query answers so.
+fn query_answers(
+    alloc: Global,
+    c: &Circuit,
+    query: &mut Query,
+    view: &[Arc<Checked>],
+    list: &[Listed],
+    wanted: Wanted,
+    firsts: (bool, bool),
+) -> Result<bool, SolveEnd>
+    requires property { 0 < length c.now.justice }
+    requires on { GoesOnFrom query.old.seen (viewed view.now) }
+    requires good { IsGoodList query.old.circuit (viewed view.now) }
+    requires few { length view.now ≤ 1 }
+    requires one { length query.old.circuit.latches ≡ 1 }
+{
+    let mut meter = Meter::new(u64::MAX, u64::MAX);
+    let as_wanted = next_is(alloc, c, query, view, list, wanted, &mut meter)?;
+    let (low, high) = begin_at_both(alloc, query, view, &mut meter)?;
+    Ok(as_wanted && low == Some(firsts.0) && high == Some(firsts.1))
+}
+
 /// Whether the answers of property 0 are these: what is found, and whether a skeleton begins where the latch is 0 and
 /// where it is 1.
 pub(crate) fn answers_are(
@@ -147,9 +169,8 @@ pub(crate) fn answers_are(
     if c.latches().len() != 1 {
         return Ok(false);
     }
-    let mut meter = Meter::new(u64::MAX, u64::MAX);
     let mut query = Query::new(alloc, c, 0, 0)?;
-    let as_wanted = next_is(alloc, &**c, &mut query, view, list, wanted, &mut meter)?;
-    let (low, high) = begin_at_both(alloc, &mut query, view, &mut meter)?;
-    Ok(as_wanted && low == Some(firsts.0) && high == Some(firsts.1))
+    let told = query_answers(alloc, &**c, &mut query, view, list, wanted, firsts);
+    drop(query);
+    told
 }
