@@ -122,7 +122,13 @@ pub(crate) fn with_proofs(entry: Listed, proofs: Items<Proof>) -> Entry {
     }
 }
 
-fn entry_of(alloc: Global, c: &Circuit, claim: &Claim, lines: &[&str]) -> Result<Entry, EntryEnd> {
+/// The entry of a claim, with a proof of at most one line for each of its clauses.
+pub(crate) fn entry_of(
+    alloc: Global,
+    c: &Circuit,
+    claim: &Claim,
+    lines: &[&str],
+) -> Result<Entry, EntryEnd> {
     let proofs = proofs_of(alloc, lines)?;
     Ok(with_proofs(listed(alloc, c, claim)?, proofs))
 }
@@ -163,7 +169,12 @@ pub(crate) fn entry_answer(
     judged_of(alloc, c, list.as_slice(), claim, lines)
 }
 
-fn refutation_of(alloc: Global, uses: &[Use], line: &str) -> Result<Refutation, AllocError> {
+/// The refutation over these uses with a proof of one line.
+pub(crate) fn refutation_of(
+    alloc: Global,
+    uses: &[Use],
+    line: &str,
+) -> Result<Refutation, AllocError> {
     let uses = Items::from_slice(alloc, uses)?;
     Ok(Refutation {
         uses,

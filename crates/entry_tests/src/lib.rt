@@ -13,6 +13,8 @@ mod parts;
 #[cfg(test)]
 mod queries;
 #[cfg(test)]
+mod rounds;
+#[cfg(test)]
 mod tests;
 #[cfg(test)]
 mod views;

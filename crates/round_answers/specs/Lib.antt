@@ -1,5 +1,11 @@
--- Texts about rounds: their first line, how one is written, and the law of what they show.
+-- Texts about rounds: what they are, which of them are good, the first fault of the others, and how one is written.
 pub mod Texts
 pub mod Answers
+pub mod Reading
+pub mod Ends
 pub mod Writing
 pub mod Laws
+pub mod Telling
+pub mod Seen
+pub mod Running
+pub mod First

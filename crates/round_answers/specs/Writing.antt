@@ -1,11 +1,13 @@
 -- What is known of the rounds of a property as code holds it, and its text. Literals are those of AIGER 1.9 (Biere, Heljanko,
 -- Wieringa, 2011); the format is this program's own.
-use Rattle.std.specs.Prelude.{◌≡◌, ◌≤◌, ℕ, Bool, All, List, [], ◌∷◌, ◌++◌, map, length, codes}
+use Rattle.std.specs.Prelude.{◌≡◌, ◌≤◌, ℕ, Bool, true, false, All, List, [], ◌∷◌, ◌++◌, map, length, codes}
 use Rattle.aig_semantics.specs.declared.traces.Position.{Position}
 use Rattle.aig_semantics.specs.Circuits.{Circuit}
+use Rattle.aig_semantics.specs.Runs.{IsInitialRun}
 use Rattle.text_grammar.specs.Lines.{ended_lines}
 use Rattle.fair_semantics.specs.declared.entries.Kind.TheVariants.{Reach}
 use Rattle.fair_semantics.specs.Entries.{Entry}
+use Rattle.fair_semantics.specs.Rounds.{HasRounds}
 use Rattle.stimulus.specs.Texts.{digit_of}
 use Rattle.certificate_lines.specs.declared.words.Version.TheVariants.{Two}
 use Rattle.entry.specs.declared.entries.Entry.{Entry as WithProofs}
@@ -74,3 +76,13 @@ pub record AreFull (t : Circuit) (entries : List WithProofs) (refutation : Refut
   pub reach : All (λ e. e.kind ≡ Reach) entries
   pub proved : AreProvedInOrder t [] entries
   pub refuted : IsStateRefutation t (last_latch t) (map said entries) refutation.uses refutation.proof
+
+-- It is so of property n and k rounds: no initial run has them, by entries of the monitor; or this one has.
+abbrev pub IsSo : Circuit → ℕ → ℕ → Rounds → Type 0
+IsSo c n k (Fewer entries refutation) = AreFull (monitor_circuit c n k) entries refutation
+IsSo c n k (Reached run) = IsInitialRun c run × HasRounds c n k run
+
+-- an initial run has them
+abbrev pub is_reached : Rounds → Bool
+is_reached (Fewer entries refutation) = false
+is_reached (Reached run) = true

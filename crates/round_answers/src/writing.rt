@@ -1,6 +1,6 @@
 //! The text of what is known of a property's rounds, written. The main call is `write`.
 
-ghost use Rattle.std.specs.Prelude.{◌≡◌, ◌≤◌, ◌<◌, ◌^◌, [], ◌∷◌, ◌++◌, map, drop, length, slice_get, codes, IfOk, OnOk};
+ghost use Rattle.std.specs.Prelude.{◌≡◌, ◌≤◌, ◌<◌, ◌^◌, false, [], ◌∷◌, ◌++◌, map, drop, length, slice_get, codes, IfOk, OnOk};
 ghost use Rattle.answer_lines.specs.Left.{most_bytes};
 ghost use Rattle.stimulus.specs.Texts.{digit_of};
 ghost use Rattle.certificate.specs.Adding.{Adds};
@@ -8,9 +8,11 @@ ghost use Rattle.certificate.specs.Answers.{property_line};
 ghost use Rattle.certificate.specs.Writing.{variable_of_latch, literal_in_model, certificate_text};
 ghost use Rattle.round_monitor.specs.Ends.{IsMonitorable};
 ghost use Rattle.round_monitor.specs.Monitor.{monitor_circuit};
+ghost use Rattle.round_answers.specs.declared.limits.TheConstants.{MAX_ROUNDS};
 ghost use Rattle.round_answers.specs.declared.rounds.Rounds.TheVariants.{Fewer};
 ghost use Rattle.round_answers.specs.Texts.{rounds_line};
-ghost use Rattle.round_answers.specs.Writing.{written_entry, certificate_of, start_of, run_lines, rounds_text};
+ghost use Rattle.round_answers.specs.Answers.{IsGoodAbout};
+ghost use Rattle.round_answers.specs.Writing.{written_entry, certificate_of, start_of, run_lines, rounds_text, AreFull, IsSo, is_reached};
 
 use crate::rounds::Rounds;
 use aig_semantics::Position;
@@ -29,8 +31,9 @@ use std::alloc::{AllocError, Global};
 use text_grammar::push_number;
 
 /// Writes the text about `k` rounds of property `j`, counted from 0, of a circuit: that no initial run has them, by entries of
-/// the property's monitor, each literal as the monitor's model numbers it, in version 2; or the run that has them. Nothing is
-/// checked; what is so makes a good text. The error is want of memory.
+/// the property's monitor, each literal as the monitor's model numbers it, in version 2; or the run that has them, the latches
+/// of its first position and the inputs of each. Nothing is checked; of up to `MAX_ROUNDS` rounds what is so makes a good text.
+/// The error is want of memory.
 pub fn write(
     alloc: Global,
     c: &Circuit,
@@ -43,6 +46,8 @@ pub fn write(
     ensures text { IfOk result (λ text. text.items ≡ rounds_text c.now j k rounds.now) }
     // The text is within the limit on the length of an answer.
     ensures within { IfOk result (λ text. length text.items ≤ most_bytes) }
+    // Where it is so, the text is a good one.
+    ensures good { IfOk result (λ text. k ≤ MAX_ROUNDS → IsSo c.now j k rounds.now → IsGoodAbout c.now text.items j k (is_reached rounds.now)) }
 {
     match rounds {
         Rounds::Fewer {
@@ -65,10 +70,13 @@ fn fewer_text(
 ) -> Result<Vec<u8>, AllocError>
     requires some { 1 ≤ k }
     requires able { IsMonitorable c.now j k }
-    ensures { IfOk result (λ text. text.items ≡ rounds_text c.now j k (Fewer entries.now refutation.now)) }
+    ensures text { IfOk result (λ text. text.items ≡ rounds_text c.now j k (Fewer entries.now refutation.now)) }
+    ensures good { IfOk result (λ text. k ≤ MAX_ROUNDS → AreFull (monitor_circuit c.now j k) entries.now refutation.now → IsGoodAbout c.now text.items j k false) }
 {
     let model = monitor_of(alloc, c, j, k)?;
-    let answer = printed(alloc, model.circuit(), j, entries, refutation)?;
+    let t = model.circuit();
+    let _within_limits = t.max();
+    let answer = printed(alloc, t, j, entries, refutation)?;
     with_first_line(alloc, k, answer.as_slice())
 }
 
@@ -108,7 +116,8 @@ fn printed(
 // The same text with the line of the rounds in the place of the status.
 fn with_first_line(alloc: Global, k: u32, answer: &[u8]) -> Result<Vec<u8>, AllocError>
     requires { 2 ≤ length answer.now }
-    ensures { IfOk result (λ text. text.items ≡ rounds_line k ++ 10 ∷ drop 2 answer.now) }
+    ensures text { IfOk result (λ text. text.items ≡ rounds_line k ++ 10 ∷ drop 2 answer.now) }
+    ensures within { IfOk result (λ text. length text.items ≤ most_bytes) }
 {
     let mut text = Vec::new(alloc);
     push_first_line(&mut text, k)?;
@@ -222,7 +231,8 @@ fn lines_again(alloc: Global, lines: &Proof) -> Result<Proof, AllocError>
 // ---- a run has them
 
 fn reached_text(alloc: Global, j: u32, k: u32, run: &[Position]) -> Result<Vec<u8>, AllocError>
-    ensures { IfOk result (λ text. Adds [] text.items (rounds_line k ∷ property_line j ∷ codes "run" ∷ run_lines run.now)) }
+    ensures text { IfOk result (λ text. Adds [] text.items (rounds_line k ∷ property_line j ∷ codes "run" ∷ run_lines run.now)) }
+    ensures within { IfOk result (λ text. length text.items ≤ most_bytes) }
 {
     let mut text = Vec::new(alloc);
     push_first_line(&mut text, k)?;
