@@ -1,6 +1,6 @@
 -- Over an entry whose last clause is that the last latch is false, the clauses that this latch is true have no model; and the
 -- entry and a refutation of them are an answer.
-use Rattle.std.proofs.Common.{◌≡◌, ℕ, ◌-◌, ◌<◌, Bool, true, false, not, ◌||◌, List, [], ◌∷◌, ◌++◌, map, length, get_or, refl, sym, ap, ◌∙◌, subst, arith}
+use Rattle.std.proofs.Common.{◌≡◌, ℕ, ◌-◌, ◌<◌, ◌≤◌, Bool, true, false, not, ◌||◌, List, [], ◌∷◌, ◌++◌, map, length, get_or, refl, sym, ap, ◌∙◌, subst, arith}
 use Rattle.std.specs.List.{All, list_all}
 use Rattle.std.proofs.lemmas.Bool.{and_parts, false≢true, false_from_ne_true}
 use Rattle.std.proofs.lemmas.List.Folds.{list_all-append}
@@ -16,9 +16,11 @@ use Rattle.cnf_unroll.specs.Numbers.{state_place, clause_at_place}
 use Rattle.entry.specs.declared.entries.Entry.{Entry as WithProofs}
 use Rattle.entry.specs.Entries.{said}
 use Rattle.entry.specs.Proved.{IsProved}
-use Rattle.k_live.specs.declared.answers.Rounds.{Rounds}
-use Rattle.k_live.specs.declared.answers.Rounds.TheVariants.{Fewer}
-use Rattle.k_live.specs.Answers.{last_latch, state_clauses, AreFull}
+use Rattle.round_answers.specs.declared.rounds.Rounds.{Rounds}
+use Rattle.round_answers.specs.declared.rounds.Rounds.TheVariants.{Fewer}
+use Rattle.certificate.specs.Refuted.{state_clauses}
+use Rattle.round_answers.specs.Answers.{last_latch}
+use Rattle.round_answers.specs.Writing.{AreFull}
 use Rattle.k_live.specs.Asking.{reach_entry, last_false, first_use, refuted_clauses, IsClaim, IsShown}
 
 -- ---- no model
@@ -57,7 +59,7 @@ pub full : (t : Circuit) (set : List (List Lit)) (e : WithProofs) (clauses : Lis
     → said e ≡ reach_entry set → IsProved t [] (said e) e.proofs → clauses ≡ refuted_clauses t set → Refutes clauses proof
     → AreFull t (e ∷ []) (record { uses = first_use ∷ []; proof = proof })
 full t set e clauses proof is proved over refutes = record {
-  few = omega arith;
+  few = (let one : 1 ≤ 65536 = omega arith in one);
   reach = All-cons (λ x. x.kind ≡ Reach) e [] (ap (λ x. x.kind) is) (All-nil _);
   proved = (proved, tt);
   refuted = record {

@@ -17,11 +17,11 @@ use Rattle.ic3_semantics.specs.Searching.{MeetsLiteral, IsPathToLiteral, IsReach
 use Rattle.fair_semantics.specs.Validity.{set_behind}
 use Rattle.round_monitor.specs.Counting.{HasRunOfRounds, own_position}
 use Rattle.edge.specs.Units.{Spendings}
-use Rattle.k_live.specs.declared.answers.Rounds.{Rounds}
-use Rattle.k_live.specs.declared.answers.Rounds.TheVariants.{Fewer, Reached}
-use Rattle.k_live.specs.Answers.{AreFull, IsSo}
+use Rattle.round_answers.specs.declared.rounds.Rounds.{Rounds}
+use Rattle.round_answers.specs.declared.rounds.Rounds.TheVariants.{Fewer, Reached}
+use Rattle.round_answers.specs.Writing.{AreFull, IsSo}
 use Rattle.k_live.specs.declared.ends.RoundsEnd.{RoundsEnd}
-use Rattle.k_live.specs.declared.ends.RoundsEnd.TheVariants.{Memory}
+use Rattle.k_live.specs.declared.ends.RoundsEnd.TheVariants.{TooLarge, Memory}
 use Rattle.k_live.specs.Deciding.{Decides, EndsSearch}
 use Rattle.k_live.specs.Asking.{next_of_last, question, last_false, closed_set, IsMonitorOf, LeadsThere, IsClosedSet, IsAnswered, IsClaim, IsShown}
 use Rattle.k_live.proofs.Paths.{some-latch, last-zero, path-latches, path-decides, none-decides}
@@ -106,3 +106,7 @@ set-decided c j k t clauses uses (Err end) m h shown = tt
 pub memory-told : (meter : Spendings) (result : Result Rounds RoundsEnd) → IfErr result (λ end. end ≡ Memory) → IfErr result (EndsSearch meter)
 memory-told meter (Ok r) h = tt
 memory-told meter (Err end) h = subst (EndsSearch meter) (sym h) tt
+
+-- a search does not tell that there is no monitor
+pub never-large : (meter : Spendings) (result : Result Rounds RoundsEnd) (n : ℕ) → IfErr result (EndsSearch meter) → result ≡ Err (TooLarge n) → ⊥
+never-large meter result n h e = subst (λ r. IfErr r (EndsSearch meter)) e h

@@ -21,9 +21,11 @@ use Rattle.ic3_semantics.specs.Searching.{Question, MeetsLiteral, IsPathToLitera
 use Rattle.round_monitor.specs.Counting.{HasFullRun, HasRunOfRounds, WatchesRounds}
 use Rattle.round_monitor.specs.Ends.{IsMonitorable}
 use Rattle.round_monitor.specs.Monitor.{monitor_circuit}
-use Rattle.k_live.specs.declared.answers.Rounds.{Rounds}
-use Rattle.k_live.specs.declared.answers.Rounds.TheVariants.{Fewer, Reached}
-use Rattle.k_live.specs.Answers.{last_latch, state_clauses, AreFull}
+use Rattle.round_answers.specs.declared.rounds.Rounds.{Rounds}
+use Rattle.round_answers.specs.declared.rounds.Rounds.TheVariants.{Fewer, Reached}
+use Rattle.certificate.specs.Refuted.{state_clauses}
+use Rattle.round_answers.specs.Answers.{last_latch}
+use Rattle.round_answers.specs.Writing.{AreFull}
 
 -- t is the monitor of property j for k rounds
 pub record IsMonitorOf (c : Circuit) (j k : ℕ) (t : Circuit) : Type 0 where

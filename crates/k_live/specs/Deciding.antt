@@ -7,8 +7,8 @@ use Rattle.fair_semantics.specs.Rounds.{HasRounds}
 use Rattle.round_monitor.specs.Counting.{HasRunOfRounds}
 use Rattle.round_monitor.specs.Ends.{IsMonitorable, IsTooLarge}
 use Rattle.round_monitor.specs.Numbers.{sizes_of, greatest}
-use Rattle.k_live.specs.declared.answers.Rounds.{Rounds}
-use Rattle.k_live.specs.declared.answers.Rounds.TheVariants.{Fewer, Reached}
+use Rattle.round_answers.specs.declared.rounds.Rounds.{Rounds}
+use Rattle.round_answers.specs.declared.rounds.Rounds.TheVariants.{Fewer, Reached}
 use Rattle.k_live.specs.declared.ends.RoundsEnd.{RoundsEnd}
 use Rattle.k_live.specs.declared.ends.RoundsEnd.TheVariants.{Unsettled, TooLarge, Memory}
 

@@ -7,10 +7,9 @@ ghost use Rattle.edge.specs.Ends.{CountsConflicts, IsEnd};
 ghost use Rattle.entry.specs.Entries.{said};
 ghost use Rattle.entry.specs.Proved.{IsProved};
 ghost use Rattle.k_live.specs.Deciding.{EndsSearch};
-ghost use Rattle.k_live.specs.declared.answers.Rounds.TheVariants as answers;
+ghost use Rattle.round_answers.specs.declared.rounds.Rounds.TheVariants as answers;
 ghost use Rattle.k_live.specs.Asking.{last_false, reach_entry, first_use, refuted_clauses, IsClaim, IsShown};
 
-use crate::answers::Rounds;
 use crate::ends::{RoundsEnd, end_of_solving};
 use crate::states::state_cnf;
 use cdcl::{Refuted, Solver};
@@ -21,6 +20,7 @@ use cnf_unroll::{ClauseSet, Used};
 use edge::{Meter, SolveEnd};
 use entry::{Entry, Kind, Listed, Refutation, Side, Use, good_lists_grow};
 use items::Items;
+use round_answers::Rounds;
 use std::alloc::{AllocError, Global};
 
 /// A closed set from which no position makes the last latch true, with the clause that this latch is false, as an answer.

@@ -1,18 +1,17 @@
 //! One search of a monitor, and what it tells. The main call is `decide`.
 
-ghost use Rattle.std.specs.Prelude.{◌≡◌, ◌≤◌, ◌<◌, length, map, All, IfOk, IfErr, OnOk};
+ghost use Rattle.std.specs.Prelude.{◌≡◌, ℕ, ◌≤◌, ◌<◌, length, map, All, Err, IfOk, IfErr, OnOk};
 ghost use Rattle.edge.specs.Ends.{CountsConflicts};
 ghost use Rattle.ic3_semantics.specs.Searching.{CountsSearch};
 ghost use Rattle.round_monitor.specs.Counting.{own_position};
 ghost use Rattle.round_monitor.specs.Ends.{IsMonitorable};
 ghost use Rattle.round_monitor.specs.Monitor.{monitor_circuit};
-ghost use Rattle.k_live.specs.declared.answers.Rounds.TheVariants as rounds;
+ghost use Rattle.round_answers.specs.declared.rounds.Rounds.TheVariants as rounds;
 ghost use Rattle.k_live.specs.declared.ends.RoundsEnd.TheVariants as ends;
-ghost use Rattle.k_live.specs.Answers.{IsSo};
+ghost use Rattle.round_answers.specs.Writing.{IsSo};
 ghost use Rattle.k_live.specs.Deciding.{Decides, EndsRounds, EndsSearch};
 ghost use Rattle.k_live.specs.Asking.{IsMonitorOf, IsAnswered};
 
-use crate::answers::Rounds;
 use crate::closing::fewer;
 use crate::ends::{RoundsEnd, end_of_search};
 use crate::running::own_run;
@@ -23,6 +22,7 @@ use edge::Meter;
 use fair_semantics::steps_and_initial_states;
 use ic3::Reached;
 use live_to_safe::TranslateEnd;
+use round_answers::Rounds;
 use round_monitor::monitor;
 use std::alloc::Global;
 
@@ -47,6 +47,8 @@ pub fn decide(
     ensures able { OnOk result (IsMonitorable c.now j k) }
     ensures end { IfErr result (EndsRounds c.now j k meter.new) }
     ensures counted { CountsSearch (length (monitor_circuit c.now j k).latches) meter.old meter.new }
+    // Where there is no monitor nothing is counted.
+    ensures untouched { (n : ℕ) → result ≡ Err (ends.TooLarge n) → meter.new ≡ meter.old }
 {
     match monitor(alloc, c, j, k) {
         Ok(model) => decided(

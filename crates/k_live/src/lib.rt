@@ -5,9 +5,9 @@
 //! |---|---|
 //! | `decide` | a run with so many rounds; or, exactly where there is none, a proved set of the monitor's states that shows it |
 //! | `Rounds`, `RoundsEnd` | what it answers, and why it answers nothing |
+//! | `monitor`, `write`, `check_answer` | handed on: the monitor of a property, the text of what is known, and the judge of such texts |
 #![tactic(auto)]
 
-mod answers;
 mod closing;
 mod deciding;
 mod ends;
@@ -16,6 +16,7 @@ mod searching;
 mod states;
 mod watched;
 
-pub use answers::Rounds;
 pub use deciding::decide;
 pub use ends::RoundsEnd;
+pub use round_answers::{JudgeEnd, Judged, Rounds, check_answer, write};
+pub use round_monitor::monitor;

@@ -4,7 +4,7 @@ ghost use Rattle.std.specs.Prelude.{◌≡◌, [], ◌∷◌, ◌++◌, OnOk, If
 ghost use Rattle.std.specs.List.{flat_map};
 ghost use Rattle.cnf_unroll.specs.Numbers.{state_place, literal_at_place, clause_at_place, set_at_place};
 ghost use Rattle.cnf_unroll.specs.Lending.{lent_all};
-ghost use Rattle.k_live.specs.Answers.{state_clauses};
+ghost use Rattle.certificate.specs.Refuted.{state_clauses};
 
 use circuit::Circuit;
 use cnf::{Clause, Db};

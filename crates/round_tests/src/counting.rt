@@ -1,5 +1,5 @@
 //! How many rounds some run of a drawn circuit has, by a search of all its states with the literals that were seen since the
-//! last round. The main call is `reached`.
+//! last round. The main calls are `steps_of` and `most_rounds`.
 
 use crate::properties::Property;
 use drawn_circuits::{Drawn, may_begin, next_of, power, value, values_of};

@@ -59,7 +59,7 @@ fn push_property(text: &mut Vec<u8>, p: &Property) -> Result<(), AllocError> {
     push_lines(text, p.fairness.as_slice())
 }
 
-// The lines of a text, where those of its property, two of them, have another place's.
+// The text, with the property's lines in place of the two from line `first` on.
 fn replaced(alloc: Global, plain: &[u8], first: u64, p: &Property) -> Result<Vec<u8>, AllocError> {
     let mut text = Vec::new(alloc);
     let mut line: u64 = 0;

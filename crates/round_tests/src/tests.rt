@@ -1,20 +1,22 @@
-//! What is decided, against what was worked out. The main calls are `row_is` and `agrees`.
+//! What is decided, against what was worked out. The main calls are `row_is`, `is_written` and `most_agreed`.
 
 use crate::counting::{most_rounds, steps_of};
 use crate::properties::{property_drawn, text_with};
 use circuit::Circuit;
 use drawn_circuits::circuit_drawn;
 use edge::Meter;
-use k_live::{Rounds, RoundsEnd, decide};
+use k_live::{Rounds, RoundsEnd, decide, write};
 use std::alloc::{AllocError, Global};
 use std::test::*;
 
-// What is answered: no run has so many rounds; one has; a budget was spent; nothing of these.
+// What is answered: no run has so many rounds; one has; a budget was spent; the monitor would have this greatest variable;
+// nothing of these.
 #[derive(Clone, Copy, PartialEq, Eq)]
 enum Told {
     Fewer,
     Reached,
     Unsettled,
+    TooLarge(u64),
     Nothing,
 }
 
@@ -27,7 +29,8 @@ fn told_by(alloc: Global, c: &Circuit, k: u32, meter: &mut Meter) -> Told {
         Ok(Rounds::Fewer { .. }) => Told::Fewer,
         Ok(Rounds::Reached { .. }) => Told::Reached,
         Err(RoundsEnd::Unsettled(_)) => Told::Unsettled,
-        Err(RoundsEnd::TooLarge(_) | RoundsEnd::Memory) => Told::Nothing,
+        Err(RoundsEnd::TooLarge(most)) => Told::TooLarge(most),
+        Err(RoundsEnd::Memory) => Told::Nothing,
     }
 }
 
@@ -51,6 +54,9 @@ const STAYS: &str = "aag 1 0 1 0 0 0 0 1\n2 2\n1\n2\n";
 // The latch is 1 from the second position on, where the constraint is false.
 const ENDS: &str = "aag 1 0 1 0 0 0 1 1\n2 1\n3\n1\n3\n";
 
+// A monitor of one round has 5 variables more.
+const LARGE: &str = "aag 16777216 0 1 0 0 0 0 1 0\n2 2\n1\n2\n";
+
 // A text, a number of rounds, a limit of steps, and what is told.
 type Row = (&'static str, u32, u64, Told);
 
@@ -61,6 +67,7 @@ fn row(number: u8) -> Row {
         2 => (STAYS, 1, 4_294_967_295, Told::Fewer),
         3 => (ENDS, 1, 4_294_967_295, Told::Reached),
         4 => (ENDS, 2, 4_294_967_295, Told::Fewer),
+        5 => (LARGE, 1, 4_294_967_295, Told::TooLarge(16_777_221)),
         _ => (TOGGLES, 2, 0, Told::Unsettled),
     }
 }
@@ -72,9 +79,47 @@ fn row_is(alloc: Global, number: u8) -> bool {
 
 #[test]
 fn rows(rt: HostRuntime) -> Result<(), Fail> {
-    for number in 0..6 {
+    for number in 0..7 {
         assert!(rt; row_is(rt.alloc(), number));
     }
+    Ok(())
+}
+
+// ---- texts of what is decided
+
+// The text of what is decided of the first property.
+fn written_of(alloc: Global, c: &Circuit, k: u32) -> Option<Vec<u8>> {
+    if c.property_count() == 0 || k == 0 {
+        return None;
+    }
+    let mut meter = Meter::new(4_294_967_295, 4_294_967_295);
+    match decide(alloc, c, 0, k, &mut meter) {
+        Ok(rounds) => write(alloc, c, 0, k, &rounds).ok(),
+        Err(_) => None,
+    }
+}
+
+fn written(alloc: Global, model: &[u8], k: u32) -> Option<Vec<u8>> {
+    match aiger_ascii::read(alloc, model) {
+        Ok(model) => written_of(alloc, model.circuit(), k),
+        Err(_) => None,
+    }
+}
+
+// Whether the text begins so.
+fn is_written(alloc: Global, model: &[u8], k: u32, wanted: &[u8]) -> bool {
+    match written(alloc, model, k) {
+        Some(text) => text.as_slice().starts_with(wanted),
+        None => false,
+    }
+}
+
+#[test]
+fn what_is_decided_is_written(rt: HostRuntime) -> Result<(), Fail> {
+    let fewer = b"rounds 1\nj0\nversion 2\nreach ";
+    assert!(rt; is_written(rt.alloc(), STAYS.as_bytes(), 1, fewer));
+    let reached = b"rounds 2\nj0\nrun\n0\n\n\n\n\n.\n";
+    assert!(rt; is_written(rt.alloc(), TOGGLES.as_bytes(), 2, reached));
     Ok(())
 }
 
