@@ -150,7 +150,7 @@ uses_bare c es all proved (u ∷ uses) low =
     ap₂ (λ a b. a || b) (used_bare c es all proved u.entry (All-head (λ (v : Use). v.entry < length es) u uses low))
     (uses_bare c es all proved uses (All-tail (λ (v : Use). v.entry < length es) u uses low))
 
-get_below : (es : List Written) (k : ℕ) (e : Written) → slice_get es k ≡ Some e → k < length es
+pub get_below : (es : List Written) (k : ℕ) (e : Written) → slice_get es k ≡ Some e → k < length es
 get_below [] k e at = absurd (cc at)
 get_below (x ∷ es) zero e at = omega arith
 get_below (x ∷ es) (suc k) e at = (let h = get_below es k e at in omega (arith, h))

@@ -15,3 +15,7 @@ pub mod TrimmedLassos
 pub mod TrimmedLaws
 pub mod TrimmedOne
 pub mod HeldOne
+pub mod Bounds
+pub mod FreeNumbers
+pub mod ListedEntries
+pub mod ItemLaws

@@ -56,7 +56,7 @@ renumbered_within kept (u ∷ uses) most size (suc k) d below = renumbered_withi
 
 -- ---- one list of entries
 
-ok_same : (a b : List (List Lit)) → ◌≡◌ {A = List (Result (List Lit) EntryFault)} (map Ok a) (map Ok b) → a ≡ b
+pub ok_same : (a b : List (List Lit)) → ◌≡◌ {A = List (Result (List Lit) EntryFault)} (map Ok a) (map Ok b) → a ≡ b
 ok_same [] [] e = refl
 ok_same [] (y ∷ b) e = absurd (cc e)
 ok_same (x ∷ a) [] e = absurd (cc e)

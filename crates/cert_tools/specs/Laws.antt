@@ -14,7 +14,8 @@ TrimmedIsGood c =
 
 -- a trimmed answer stays as it is when it is trimmed
 abbrev pub TrimmedStays : Circuit → Type 0
-TrimmedStays c = (text : List ℕ) (loaded trimmed : Loaded) → HoldsAnswer c text loaded → IsTrimmed c loaded trimmed → IsTrimmed c trimmed trimmed
+TrimmedStays c =
+    (text : List ℕ) (loaded trimmed : Loaded) → HoldsAnswer c text loaded → IsTrimmed c loaded trimmed → IsTrimmed c trimmed trimmed
 
 -- an answer is trimmed to one thing
 abbrev pub OneTrimmed : Circuit → Type 0

@@ -7,3 +7,6 @@ pub mod Reaching
 pub mod TrimmingProofs
 pub mod TrimmingEntries
 pub mod Empty
+pub mod Dimacs
+pub mod Exported
+pub mod Exporting

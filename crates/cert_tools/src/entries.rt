@@ -29,8 +29,10 @@ pub(crate) struct NeededEntries {
 pub(crate) fn needed(alloc: Global, certificate: &Certificate) -> Result<NeededEntries, AllocError>
     requires few { length certificate.now.entries < 2 ^ 32 }
     requires proved { (c : CircuitOf) × (all : List EntryOf) × AreProvedBehind c [] certificate.now.entries all }
-    ensures exact { IfOk result (λ needed. (n : ℕ) → (is_in needed.numbers n ≡ true) ↔ IsReachedFrom (entry_nodes 0 certificate.now.entries) (numbers_of certificate.now.uses) n) }
-    ensures places { IfOk result (λ needed. ArePlaces (needed_entries needed.numbers certificate.now.entries) (length certificate.now.entries) needed.places.items) }
+    ensures exact { IfOk result (λ needed. (n : ℕ) → (is_in needed.numbers n ≡ true)
+        ↔ IsReachedFrom (entry_nodes 0 certificate.now.entries) (numbers_of certificate.now.uses) n) }
+    ensures places { IfOk result (λ needed. ArePlaces (needed_entries needed.numbers certificate.now.entries)
+        (length certificate.now.entries) needed.places.items) }
 {
     let numbers = needed_numbers(alloc, certificate)?;
     let places = places(alloc, certificate.entries.as_slice(), &numbers)?;
@@ -39,7 +41,8 @@ pub(crate) fn needed(alloc: Global, certificate: &Certificate) -> Result<NeededE
 
 fn needed_numbers(alloc: Global, certificate: &Certificate) -> Result<Numbers, AllocError>
     requires { (c : CircuitOf) × (all : List EntryOf) × AreProvedBehind c [] certificate.now.entries all }
-    ensures { IfOk result (λ numbers. (n : ℕ) → (is_in numbers n ≡ true) ↔ IsReachedFrom (entry_nodes 0 certificate.now.entries) (numbers_of certificate.now.uses) n) }
+    ensures { IfOk result (λ numbers. (n : ℕ) → (is_in numbers n ≡ true)
+        ↔ IsReachedFrom (entry_nodes 0 certificate.now.entries) (numbers_of certificate.now.uses) n) }
 {
     let nodes = entry_nodes(alloc, certificate.entries.as_slice())?;
     let from = numbers_of(alloc, certificate.uses.as_slice())?;

@@ -122,7 +122,8 @@ pub(crate) fn kept_proofs(
     given_empty: bool,
     proofs: &[Proof],
 ) -> Result<Items<Proof>, AllocError>
-    requires { (obligation : ℕ → List (List LitOf)) × AreRefuted obligation 0 proofs.now × ((i : ℕ) → list_any is_empty (obligation i) ≡ given_empty) }
+    requires { (obligation : ℕ → List (List LitOf)) × AreRefuted obligation 0 proofs.now
+        × ((i : ℕ) → list_any is_empty (obligation i) ≡ given_empty) }
     ensures { IfOk result (λ kept. (obligation : ℕ → List (List LitOf)) → AreRefuted obligation 0 proofs.now
         → ((i : ℕ) → list_any is_empty (obligation i) ≡ given_empty) → AreTrimmedProofs obligation 0 proofs.now kept) }
 {
@@ -138,8 +139,8 @@ fn needed_lines(alloc: Global, lines: &[ProofLine], numbers: &Numbers) -> Result
 {
     let mut kept = Items::new(alloc);
     for line in lines {
-        let is = is_needed(alloc, line.as_slice(), numbers)?;
-        keep_if(alloc, &mut kept, is, line)?;
+        let is_kept = is_needed(alloc, line.as_slice(), numbers)?;
+        keep_if(alloc, &mut kept, is_kept, line)?;
     }
     Ok(kept)
 }
@@ -147,12 +148,12 @@ fn needed_lines(alloc: Global, lines: &[ProofLine], numbers: &Numbers) -> Result
 fn keep_if(
     alloc: Global,
     kept: &mut Items<ProofLine>,
-    is: bool,
+    is_kept: bool,
     line: &ProofLine,
 ) -> Result<(), AllocError>
-    ensures { OnOk result (GetsLine is line.now kept.old kept.new) }
+    ensures { OnOk result (GetsLine is_kept line.now kept.old kept.new) }
 {
-    if !is {
+    if !is_kept {
         return Ok(());
     }
     kept.push(line.try_copy(alloc)?)
@@ -160,7 +161,7 @@ fn keep_if(
 
 #[tactic(auto, unfolding(crate::specs::TrimmingProofs::is_needed))]
 fn is_needed(alloc: Global, line: &[u8], numbers: &Numbers) -> Result<bool, AllocError>
-    ensures { IfOk result (λ is. is ≡ is_needed numbers.now line.now) }
+    ensures { IfOk result (λ needed. needed ≡ is_needed numbers.now line.now) }
 {
     let mut literals = Vec::new(alloc);
     let mut hints = Vec::new(alloc);

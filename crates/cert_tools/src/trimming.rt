@@ -20,12 +20,14 @@ use std::alloc::{AllocError, Global};
 
 /// Of a certificate what its refutation needs: the entries that it reaches through uses, in their order and renumbered, and
 /// of each proof the additions that its first empty addition reaches through hints, and none where an empty clause was
-/// given. Of a stimulus the lasso that it stands for. Asked for is an answer of the circuit, as `load` gives it.
+/// given. Of a stimulus the lasso that it stands for. The answer is one of the circuit's, as `load` gives it. The error is
+/// want of memory.
 pub fn trim(alloc: Global, circuit: &Circuit, loaded: &Loaded) -> Result<Loaded, AllocError>
     requires { IsHeld circuit.now loaded.now }
     ensures trimmed { IfOk result (IsTrimmed circuit.now loaded.now) }
     // What is printed of it is a good answer that has it, where it is within the limit on its length,
-    ensures good { IfOk result (λ trimmed. length (printed_text trimmed) ≤ most_bytes → HoldsAnswer circuit.now (printed_text trimmed) trimmed) }
+    ensures good { IfOk result (λ trimmed. length (printed_text trimmed) ≤ most_bytes
+        → HoldsAnswer circuit.now (printed_text trimmed) trimmed) }
     // and it is what it is trimmed to.
     ensures again { IfOk result (λ trimmed. IsTrimmed circuit.now trimmed trimmed) }
 {
@@ -74,7 +76,8 @@ fn copied(alloc: Global, lasso: &Lasso) -> Result<Lasso, AllocError>
 
 // The lasso, with its own stimulus.
 fn trimmed_lasso(alloc: Global, property: u32, lasso: &Lasso) -> Result<Loaded, AllocError>
-    ensures { IfOk result (λ trimmed. trimmed ≡ LassoOf property (record { latches = lasso.now.start; inputs = lasso.now.inputs }) lasso.now) }
+    ensures { IfOk result (λ trimmed. trimmed
+        ≡ LassoOf property (record { latches = lasso.now.start; inputs = lasso.now.inputs }) lasso.now) }
 {
     let inputs = copied_rows(alloc, lasso.inputs.as_slice())?;
     let latches = lasso.start.try_copy(alloc)?;
