@@ -10,8 +10,9 @@ use Rattle.command_lines.specs.Solve.{MeansSolve}
 use Rattle.command_lines.specs.Demo.{MeansDemo}
 use Rattle.command_lines.specs.Slice.{MeansSlice}
 use Rattle.command_lines.specs.Safety.{MeansSafety}
-use Rattle.command_lines.specs.Commands.{Asked, Solve, Check, Gen, Demo, Wave, Slice, Convert, Safety, Trim, Means}
-use Rattle.command_lines.proofs.Values.{SomeOrNone, Asks, solve_or_none, names_or_none, request_or_none, demo_or_none, one_solve, one_pair, one_request, one_demo, Wants, safety_or_none, one_wanted}
+use Rattle.command_lines.specs.Rounds.{MeansRounds}
+use Rattle.command_lines.specs.Commands.{Asked, Solve, Check, Gen, Demo, Wave, Slice, Convert, Safety, Rounds, Trim, Means}
+use Rattle.command_lines.proofs.Values.{SomeOrNone, Asks, solve_or_none, names_or_none, request_or_none, demo_or_none, one_solve, one_pair, one_request, one_demo, Wants, safety_or_none, one_wanted, AsksRounds, rounds_or_none, one_rounds}
 
 -- what the values of a command ask for, if they do
 asked_from : {T : Type 0} {P : T → Type 0} → (T → Asked) → SomeOrNone P → Option Asked
@@ -29,8 +30,9 @@ request_in name rows =
     (cond (bytes_eq name (codes "slice")) (asked_from (λ (wants : Wants). Slice wants.0 wants.1) (safety_or_none rows))
     (cond (bytes_eq name (codes "convert")) (asked_from (λ (names : List ℕ × List ℕ). Convert names.0 names.1) (names_or_none rows))
     (cond (bytes_eq name (codes "safety")) (asked_from (λ (wants : Wants). Safety wants.0 wants.1) (safety_or_none rows))
+    (cond (bytes_eq name (codes "rounds")) (asked_from (λ (asks : AsksRounds). Rounds asks.0 asks.1) (rounds_or_none rows))
     (cond (bytes_eq name (codes "trim")) (asked_from (λ (names : List ℕ × List ℕ). Trim names.0 names.1) (names_or_none rows))
-    None))))))))
+    None)))))))))
 
 is_picked : (name own : List ℕ) (rows : List Row) (asked : Asked) (this other : Option Asked) → (name ≡ own → this ≡ Some asked → Means asked name rows)
     → (other ≡ Some asked → Means asked name rows) → cond (bytes_eq name own) this other ≡ Some asked → Means asked name rows
@@ -61,8 +63,9 @@ reads_means name rows asked =
     (is_picked name (codes "slice") rows asked _ _ (λ is. from_means name rows asked (λ (wants : Wants). Slice wants.0 wants.1) (safety_or_none rows) (λ t h. (is, h)))
     (is_picked name (codes "convert") rows asked _ _ (λ is. from_means name rows asked (λ (names : List ℕ × List ℕ). Convert names.0 names.1) (names_or_none rows) (λ t h. (is, h)))
     (is_picked name (codes "safety") rows asked _ _ (λ is. from_means name rows asked (λ (wants : Wants). Safety wants.0 wants.1) (safety_or_none rows) (λ t h. (is, h)))
+    (is_picked name (codes "rounds") rows asked _ _ (λ is. from_means name rows asked (λ (asks : AsksRounds). Rounds asks.0 asks.1) (rounds_or_none rows) (λ t h. (is, h)))
     (is_picked name (codes "trim") rows asked _ _ (λ is. from_means name rows asked (λ (names : List ℕ × List ℕ). Trim names.0 names.1) (names_or_none rows) (λ t h. (is, h)))
-    (none_asked name rows asked)))))))))
+    (none_asked name rows asked))))))))))
 
 -- the values of a command that ask for something ask for nothing else
 from_found : {T : Type 0} {P : T → Type 0} (form : T → Asked) (either : SomeOrNone P) (t : T) → P t
@@ -97,6 +100,9 @@ means_reads name rows (Convert model answer) h =
 means_reads name rows (Safety model property) h =
     ap (λ (n : List ℕ). request_in n rows) h.0
     ∙ from_found (λ (wants : Wants). Safety wants.0 wants.1) (safety_or_none rows) (model, property) h.1 (one_wanted rows (λ m p. Safety m p))
+means_reads name rows (Rounds model request) h =
+    ap (λ (n : List ℕ). request_in n rows) h.0
+    ∙ from_found (λ (asks : AsksRounds). Rounds asks.0 asks.1) (rounds_or_none rows) (model, request) h.1 (λ a b. one_rounds rows a.0 b.0 a.1 b.1)
 means_reads name rows (Trim model answer) h =
     ap (λ (n : List ℕ). request_in n rows) h.0
     ∙ from_found (λ (names : List ℕ × List ℕ). Trim names.0 names.1) (names_or_none rows) (model, answer) h.1 (one_pair rows (λ m a. Trim m a))
@@ -138,3 +144,7 @@ no_slice rows none = none_read (codes "slice") rows (from_none (λ (wants : Want
 pub no_demo : (rows : List Row) → ((request : DemoRequest) → MeansDemo rows request → ⊥) → (asked : Asked) → Means asked (codes "demo") rows → ⊥
 unfolding request_in
 no_demo rows none = none_read (codes "demo") rows (from_none (λ (request : DemoRequest). Demo request) (demo_or_none rows) none)
+
+pub no_rounds : (rows : List Row) → ((asks : AsksRounds) → MeansRounds rows asks.0 asks.1 → ⊥) → (asked : Asked) → Means asked (codes "rounds") rows → ⊥
+unfolding request_in
+no_rounds rows none = none_read (codes "rounds") rows (from_none (λ (asks : AsksRounds). Rounds asks.0 asks.1) (rounds_or_none rows) none)

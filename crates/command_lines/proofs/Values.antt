@@ -15,13 +15,15 @@ use Rattle.command_lines.specs.declared.commands.generating.GenKind.TheVariants.
 use Rattle.command_lines.specs.declared.commands.generating.GenRequest.{GenRequest}
 use Rattle.command_lines.specs.declared.commands.solving.SolveRequest.{SolveRequest}
 use Rattle.command_lines.specs.declared.commands.demonstrating.DemoRequest.{DemoRequest}
-use Rattle.command_lines.specs.Commands.{Asked, Solve}
+use Rattle.command_lines.specs.declared.commands.counting.RoundsRequest.{RoundsRequest}
+use Rattle.command_lines.specs.Commands.{Asked, Solve, Rounds}
 use Rattle.command_lines.specs.Words.{IsGiven, IsNumberIn, IsNumberGiven, IsNumberOr, flag_in}
 use Rattle.command_lines.specs.Check.{MeansCheck}
 use Rattle.command_lines.specs.Solve.{MeansSolve}
 use Rattle.command_lines.specs.Gen.{name_of_kind, MeansGen}
 use Rattle.command_lines.specs.Demo.{MeansDemo}
 use Rattle.command_lines.specs.Safety.{MeansSafety}
+use Rattle.command_lines.specs.Rounds.{MeansRounds}
 
 -- something has the property, or nothing
 abbrev pub SomeOrNone : {A : Type 0} → (A → Type 0) → Type 0
@@ -224,3 +226,40 @@ pub one_wanted : (rows : List Row) (form : List ℕ → ℕ → Asked) (a b : Wa
 one_wanted rows form a b h k =
     ap₂ form (one_text (first_of (codes "MODEL") rows) a.0 b.0 h.model_name k.model_name)
     (one_number_or rows (codes "property") 0 4294967295 0 a.1 b.1 h.number k.number)
+
+-- ---- `rounds`
+
+-- the name and the request of `rounds`
+abbrev pub AsksRounds : Type 0
+AsksRounds = List ℕ × RoundsRequest
+
+pub rounds_or_none : (rows : List Row) → SomeOrNone (λ (asks : AsksRounds). MeansRounds rows asks.0 asks.1)
+rounds_or_none rows =
+    by (first_of (codes "MODEL") rows) refl (number_given_or_none rows (codes "K") 1 64 (omega arith))
+    (number_or_none_given rows (codes "property") 0 4294967295 0 (omega arith)) (number_or_none_given rows (codes "conflicts") 0 4294967295 1000000 (omega arith))
+    (number_or_none_given rows (codes "steps") 0 4294967295 100000 (omega arith))
+  where
+    by : (m : Option (List ℕ)) → first_of (codes "MODEL") rows ≡ m → SomeOrNone (IsNumberGiven rows (codes "K") 1 64)
+        → SomeOrNone (IsNumberOr rows (codes "property") 0 4294967295 0) → SomeOrNone (IsNumberOr rows (codes "conflicts") 0 4294967295 1000000)
+        → SomeOrNone (IsNumberOr rows (codes "steps") 0 4294967295 100000) → SomeOrNone (λ (asks : AsksRounds). MeansRounds rows asks.0 asks.1)
+    by (Some model) e (inl k) (inl p) (inl c) (inl s) = inl (
+      (model, record { k = k.0; property = p.0; conflicts = c.0; steps = s.0 }),
+      record { model_name = e; rounds = k.1; property = p.1; conflicts = c.1; steps = s.1 },
+    )
+    by None e k p c s = inr (λ asks h. (let wrong : None ≡ Some asks.0 = sym e ∙ h.model_name in cc))
+    by (Some model) e (inr none) p c s = inr (λ asks h. none asks.1.k h.rounds)
+    by (Some model) e (inl k) (inr none) c s = inr (λ asks h. none asks.1.property h.property)
+    by (Some model) e (inl k) (inl p) (inr none) s = inr (λ asks h. none asks.1.conflicts h.conflicts)
+    by (Some model) e (inl k) (inl p) (inl c) (inr none) = inr (λ asks h. none asks.1.steps h.steps)
+
+same_rounds : (m n : List ℕ) (a b : RoundsRequest) → m ≡ n → a.k ≡ b.k → a.property ≡ b.property → a.conflicts ≡ b.conflicts
+    → a.steps ≡ b.steps → Rounds m a ≡ Rounds n b
+same_rounds m n a b e k p c s = λ i. Rounds (e i) (record { k = k i; property = p i; conflicts = c i; steps = s i })
+
+pub one_rounds : (rows : List Row) (m n : List ℕ) (a b : RoundsRequest) → MeansRounds rows m a → MeansRounds rows n b → Rounds m a ≡ Rounds n b
+one_rounds rows m n a b h k =
+    same_rounds m n a b (one_text (first_of (codes "MODEL") rows) m n h.model_name k.model_name)
+    (one_number rows (codes "K") 1 64 a.k b.k h.rounds k.rounds)
+    (one_number_or rows (codes "property") 0 4294967295 0 a.property b.property h.property k.property)
+    (one_number_or rows (codes "conflicts") 0 4294967295 1000000 a.conflicts b.conflicts h.conflicts k.conflicts)
+    (one_number_or rows (codes "steps") 0 4294967295 100000 a.steps b.steps h.steps k.steps)

@@ -7,6 +7,7 @@ pub mod Wave
 pub mod Slice
 pub mod Convert
 pub mod Safety
+pub mod Rounds
 pub mod Trim
 pub mod Commands
 pub mod Asking

@@ -18,6 +18,7 @@ ghost use Rattle.command_lines.specs.Met.{MetFor, IsRead};
 
 mod checking;
 mod converting;
+mod counting;
 mod demonstrating;
 mod generating;
 mod slicing;
@@ -30,6 +31,8 @@ use checking::{check_of, with_check};
 use clap::error::ErrorKind;
 use clap::{ArgMatches, Command, Error};
 use converting::{convert_of, with_convert};
+pub use counting::RoundsRequest;
+use counting::{rounds_of, with_rounds};
 pub use demonstrating::DemoRequest;
 use demonstrating::{demo_of, with_demo};
 pub use generating::{GenKind, GenRequest};
@@ -79,6 +82,11 @@ pub enum Asked<'a> {
         model: &'a str,
         property: u32,
     },
+    /// Decide whether some run has so many rounds of a property of the model.
+    Rounds {
+        model: &'a str,
+        request: RoundsRequest,
+    },
     /// Write the answer without what it does not need.
     Trim {
         model: &'a str,
@@ -88,7 +96,7 @@ pub enum Asked<'a> {
 
 /// What is written where the words are no command: a line for each command.
 pub const USAGE: &str =
-    "usage: fairlive solve MODEL [--property N] [--workers W] [--conflicts C] [--steps S] [--skeletons K]\n       fairlive check MODEL ANSWER\n       fairlive gen KIND SEED SIZE [--binary]\n       fairlive demo SEED SIZE\n       fairlive wave MODEL ANSWER\n       fairlive slice MODEL [--property N]\n       fairlive convert MODEL ANSWER\n       fairlive safety MODEL [--property N]\n       fairlive trim MODEL ANSWER\n";
+    "usage: fairlive solve MODEL [--property N] [--workers W] [--conflicts C] [--steps S] [--skeletons K]\n       fairlive check MODEL ANSWER\n       fairlive gen KIND SEED SIZE [--binary]\n       fairlive demo SEED SIZE\n       fairlive wave MODEL ANSWER\n       fairlive slice MODEL [--property N]\n       fairlive convert MODEL ANSWER\n       fairlive safety MODEL [--property N]\n       fairlive rounds MODEL K [--property N] [--conflicts C] [--steps S]\n       fairlive trim MODEL ANSWER\n";
 
 /// Why the words ask for nothing.
 #[derive(Drop)]
@@ -100,7 +108,7 @@ pub enum WordsEnd {
 }
 
 /// What the words ask for, of which the first is the program's own name: where `clap` takes them, and their values are such
-/// as the command takes.
+/// as the command takes. `Usage` comes exactly where they are no command, unless memory is wanted; `Memory` where it is.
 pub fn asked_of<'a>(alloc: Global, words: &'a [String]) -> Result<Asked<'a>, WordsEnd>
     // What is told is asked for; and whatever is asked for is told, unless memory is refused.
     ensures found { IfOk result (λ asked. AsksFor (bytes_of words.now) (meant asked)) }
@@ -151,6 +159,7 @@ fn program<'a>(alloc: Global) -> Result<Command<'a>, AllocError>
     let program = with_slice(alloc, program)?;
     let program = with_convert(alloc, program)?;
     let program = with_safety(alloc, program)?;
+    let program = with_rounds(alloc, program)?;
     with_trim(alloc, program)
 }
 
@@ -186,6 +195,7 @@ fn asked_as<'a>(name: &str, given: &ArgMatches<'a>) -> Option<Asked<'a>>
         "slice" => slice_of(given),
         "convert" => convert_of(given),
         "safety" => safety_of(given),
+        "rounds" => rounds_of(given),
         "trim" => trim_of(given),
         _ => None,
     }

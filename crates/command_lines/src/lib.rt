@@ -7,7 +7,8 @@
 //! | Word | Means |
 //! |---|---|
 //! | `Asked` | a command with its values: names of texts, a number of a property, or a request |
-//! | `SolveRequest`, `GenRequest` with `GenKind`, `DemoRequest` | what `solve`, `gen` and `demo` are asked for; `DEFAULTS`: of `solve`, where only a model is named |
+//! | `SolveRequest` | what `solve` is asked for; `DEFAULTS`: where only a model is named |
+//! | `GenRequest` with `GenKind`, `DemoRequest`, `RoundsRequest` | what `gen`, `demo` and `rounds` are asked for |
 //! | `WordsEnd` | why the words ask for nothing |
 //! | `USAGE` | a line for each command, for words that are none |
 //!
@@ -19,5 +20,6 @@ mod commands;
 mod words;
 
 pub use commands::{
-    Asked, DEFAULTS, DemoRequest, GenKind, GenRequest, SolveRequest, USAGE, WordsEnd, asked_of,
+    Asked, DEFAULTS, DemoRequest, GenKind, GenRequest, RoundsRequest, SolveRequest, USAGE,
+    WordsEnd, asked_of,
 };

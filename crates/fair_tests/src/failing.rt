@@ -1,6 +1,7 @@
 //! Runs of each command in which one read or one write fails: each in turn, until none is left to fail.
 
 use crate::certificates::{RISES, WALL};
+use crate::counting::REACHED;
 use crate::runs::{Outcome, USAGE, run_words};
 use crate::tests::{COUNTER, CYCLE, STUCK, TOGGLE, TWO_FROM_0, TWO_POSITIONS};
 use std::alloc::{AllocError, Global};
@@ -19,7 +20,7 @@ type Row = (
     &'static str,
 );
 
-const ROWS: [Row; 18] = [
+const ROWS: [Row; 20] = [
     (&["fairlive", "solve", "m"], TOGGLE, "", 1, 0, TWO_POSITIONS),
     (
         &["fairlive", "solve", "m"],
@@ -149,6 +150,22 @@ const ROWS: [Row; 18] = [
         0,
         "demo scramble 0 4\nverdict 1\n",
     ),
+    (
+        &["fairlive", "rounds", "m", "1"],
+        STUCK,
+        "",
+        1,
+        0,
+        "rounds 1\nj0\nversion 2\n",
+    ),
+    (
+        &["fairlive", "check", "m", "a"],
+        TOGGLE,
+        REACHED,
+        2,
+        0,
+        "accepted rounds 2 j0 reached\n",
+    ),
     (&["fairlive"], TOGGLE, TWO_POSITIONS, 0, 64, USAGE),
 ];
 
@@ -263,13 +280,24 @@ fn calls(len: usize, most: u64) -> u64 {
     }
 }
 
+// How many calls read the first line of a text about rounds, of nine bytes: the text is then read again, from its start.
+fn first_calls(answer: &str, most: u64) -> u64 {
+    if answer.starts_with("rounds") {
+        most.saturating_add(8).checked_div(most).unwrap_or(0)
+    } else {
+        0
+    }
+}
+
 // How many calls read the texts that the row says.
 fn calls_of(row: &Row, most: u64) -> u64 {
     let (_, model, answer, read, _, _) = row;
     match *read {
         0 => 0,
         1 => calls(model.len(), most),
-        _ => calls(model.len(), most).saturating_add(calls(answer.len(), most)),
+        _ => calls(model.len(), most)
+            .saturating_add(first_calls(answer, most))
+            .saturating_add(calls(answer.len(), most)),
     }
 }
 

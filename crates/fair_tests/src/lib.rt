@@ -6,6 +6,8 @@ mod certificates;
 #[cfg(test)]
 mod converting;
 #[cfg(test)]
+mod counting;
+#[cfg(test)]
 mod demonstrated;
 #[cfg(test)]
 mod dumps;

@@ -164,8 +164,8 @@ fn is_accepted<R: Threads + Wait + Sync>(
     Ok(checked.status.number() == 0 && checked.text.as_slice().starts_with(b"accepted "))
 }
 
-// Whether `check` accepts what was printed of the model.
-fn is_printed_accepted<R: Threads + Wait + Sync>(
+/// Whether `check` accepts what was printed of the model.
+pub(crate) fn is_printed_accepted<R: Threads + Wait + Sync>(
     rt: &R,
     alloc: Global,
     model: &[u8],

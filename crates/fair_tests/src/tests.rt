@@ -454,7 +454,7 @@ fn first_line_is_judged_as_it_is_read(rt: HostRuntime) -> Result<(), Fail> {
     Ok(())
 }
 
-const NO_COMMANDS: [&[&str]; 21] = [
+const NO_COMMANDS: [&[&str]; 25] = [
     &[],
     &["fairlive"],
     &["fairlive", "check"],
@@ -469,6 +469,10 @@ const NO_COMMANDS: [&[&str]; 21] = [
     &["fairlive", "safety"],
     &["fairlive", "safety", "m", "a"],
     &["fairlive", "safety", "m", "--property", "4294967296"],
+    &["fairlive", "rounds", "m"],
+    &["fairlive", "rounds", "m", "0"],
+    &["fairlive", "rounds", "m", "65"],
+    &["fairlive", "rounds", "m", "1", "--steps", "4294967296"],
     &["fairlive", "check", "-m", "a"],
     &["fairlive", "check", "m", "--a"],
     &["fairlive", "check", "m", "a", "--help"],

@@ -4,9 +4,11 @@ use Rattle.std.specs.Prelude.{Option, Result, IfOk, IfErr}
 use Rattle.std.proofs.lemmas.List.{map-append, append_assoc, length-map}
 use Rattle.aig_semantics.specs.Circuits.{Circuit}
 use Rattle.aiger_grammar.specs.Models.{Model}
-use Rattle.certificate.specs.declared.ends.Accepted.{Accepted}
 use Rattle.certificate.specs.declared.ends.Accepted.TheVariants as accepted
-use Rattle.certificate.specs.Answers.{IsGood, Shows}
+use Rattle.round_answers.specs.declared.ends.Judged.{Judged}
+use Rattle.round_answers.specs.declared.ends.Judged.TheVariants as found_as
+use Rattle.round_answers.specs.Answers.{ShowsText}
+use Rattle.certificate.specs.Answers.{IsGood}
 use Rattle.certificate.specs.Writing.{AreProvedInOrder, IsRefutedBy, certificate_of, certificate_text}
 use Rattle.certificate.specs.Laws.{GoodIsTrue, WrittenIsGood, WrittenCertificatesAreGood}
 use Rattle.answer_lines.specs.Left.{most_bytes}
@@ -26,7 +28,7 @@ use Rattle.command_lines.specs.declared.commands.solving.SolveRequest.{SolveRequ
 use Rattle.fair_top.specs.declared.status.Status.{Status}
 use Rattle.fair_top.specs.declared.status.Status.TheVariants as statuses
 use Rattle.fair_top.specs.declared.texts.Outcome.{Outcome}
-use Rattle.fair_top.specs.Check.{done_of}
+use Rattle.fair_top.specs.Check.{done_by}
 use Rattle.certificate.specs.Writing.{written_entry}
 use Rattle.fair_top.specs.Solve.{task_of, IsWrittenAs, HasAsked, GivesSolve, ShownBySolve, IsStimulusOf}
 use Rattle.fair_top.specs.Solved.{IsPrinted, EndsFor, SolvesUnlessCut}
@@ -53,11 +55,11 @@ proved_in_order c entries sound = proved_from c entries [] entries refl sound
 
 -- What it comes to for the circuit of a model.
 
-shows : (c : Circuit) (request : SolveRequest) (status : Status) (text : List ℕ) (found : Accepted) → EndsFor c request status text
-    → status ≡ statuses.Done (done_of found) → Shows c found
-shows c request status text found (inl (without, e)) is = let wrong : statuses.NoProperty request.property ≡ statuses.Done (done_of found) = sym without.0 ∙ is in cc
-shows c request status text found (inr (inl p)) is = subst (λ (a : Accepted). Shows c a) (same_accepted p.0 found (sym p.1 ∙ is)) p.6
-shows c request status text found (inr (inr (r, e))) is = let wrong : statuses.Unknown r.0 ≡ statuses.Done (done_of found) = sym r.1 ∙ is in cc
+shows : (c : Circuit) (request : SolveRequest) (status : Status) (text : List ℕ) (found : Judged) → EndsFor c request status text
+    → status ≡ statuses.Done (done_by found) → ShowsText c found
+shows c request status text found (inl (without, e)) is = let wrong : statuses.NoProperty request.property ≡ statuses.Done (done_by found) = sym without.0 ∙ is in cc
+shows c request status text found (inr (inl p)) is = subst (λ (a : Judged). ShowsText c a) (same_accepted (found_as.Answer p.0) found (sym p.1 ∙ is)) p.6
+shows c request status text found (inr (inr (r, e))) is = let wrong : statuses.Unknown r.0 ≡ statuses.Done (done_by found) = sym r.1 ∙ is in cc
 
 gives : (c : Circuit) (m : Model) (told : Option (List ℕ)) (request : SolveRequest) (status : Status) (text : List ℕ) → c ≡ m.circuit → IsModelOf told m
     → EndsFor c request status text → GivesSolve told request status text
@@ -100,10 +102,10 @@ solved_gives c m told request (Ok outcome) same h ends = gives c m told request 
 
 pub solved_shown : (c : Circuit) (m : Model) (told : Option (List ℕ)) (request : SolveRequest) (result : Result Outcome Status) → c ≡ m.circuit → IsModelOf told m
     → IfOk result (λ outcome. EndsFor c request outcome.status outcome.text.items) → IfErr result (λ status. status ≡ statuses.Memory)
-    → (found : Accepted) → status_in result ≡ statuses.Done (done_of found) → ShownBySolve told found
-solved_shown c m told request (Err status) same h ends ended found e = let wrong : statuses.Memory ≡ statuses.Done (done_of found) = sym ended ∙ e in cc
+    → (found : Judged) → status_in result ≡ statuses.Done (done_by found) → ShownBySolve told found
+solved_shown c m told request (Err status) same h ends ended found e = let wrong : statuses.Memory ≡ statuses.Done (done_by found) = sym ended ∙ e in cc
 solved_shown c m told request (Ok outcome) same h ends ended found e =
-    (h.text.0, h.text.1, (m, h.text.2, subst (λ (k : Circuit). Shows k found) same (shows c request outcome.status outcome.text.items found ends e)))
+    (h.text.0, h.text.1, (m, h.text.2, subst (λ (k : Circuit). ShowsText k found) same (shows c request outcome.status outcome.text.items found ends e)))
 
 -- Completeness.
 
@@ -141,6 +143,7 @@ without_asked told request statuses.Usage result ends (inl same) asked = absurd 
 without_asked told request (statuses.Unknown report) result ends (inl same) asked = absurd ends
 without_asked told request (statuses.NoProperty n) result ends (inl same) asked = absurd ends
 without_asked told request (statuses.TooLarge n) result ends (inl same) asked = absurd ends
+without_asked told request (statuses.OpenRounds n spent) result ends (inl same) asked = absurd ends
 
 -- What is printed.
 

@@ -11,6 +11,8 @@ use Rattle.edge.specs.Reads.{ReadsOf, Reads}
 use Rattle.edge.specs.Writes.{Writes}
 use Rattle.certificate.specs.declared.ends.Accepted.{Accepted}
 use Rattle.certificate.specs.declared.ends.Accepted.TheVariants.{Lasso, Holds}
+use Rattle.round_answers.specs.declared.ends.Judged.{Judged}
+use Rattle.round_answers.specs.declared.ends.Judged.TheVariants as found_as
 use Rattle.certificate.specs.declared.ends.AnswerEnd.TheVariants as ends
 use Rattle.certificate.specs.declared.ends.AnswerFault.{AnswerFault}
 use Rattle.certificate.specs.declared.ends.AnswerFault.TheVariants.{UnknownStatus}
@@ -23,7 +25,7 @@ use Rattle.fair_top.specs.declared.status.Status.TheVariants as statuses
 use Rattle.fair_top.specs.declared.status.Done.TheVariants.{Printed}
 use Rattle.fair_top.specs.declared.texts.Outcome.{Outcome}
 use Rattle.fair_top.specs.ModelGiven.{OfSomeText}
-use Rattle.fair_top.specs.Check.{done_of}
+use Rattle.fair_top.specs.Check.{done_by}
 use Rattle.fair_top.specs.Wave.{EndsWave, GivesWave, wave_status, DecidesWave}
 use Rattle.fair_top.specs.Waved.{CarriesLasso, IsWritten, IsWaved}
 use Rattle.fair_top.specs.Statuses.{is_read_fault, ends_silently, status_in}
@@ -163,6 +165,7 @@ without_gives model answer statuses.Usage (Ok outcome) h text aloud = absurd h
 without_gives model answer (statuses.Unknown report) (Ok outcome) h text aloud = absurd h
 without_gives model answer (statuses.NoProperty n) (Ok outcome) h text aloud = absurd h
 without_gives model answer (statuses.TooLarge n) (Ok outcome) h text aloud = absurd h
+without_gives model answer (statuses.OpenRounds n spent) (Ok outcome) h text aloud = absurd h
 
 bad_exact : (model answer : Option (List ℕ)) (fault : ModelFault) → IsFaultOf model fault
     → (verdict : Status) → DecidesWave model answer verdict → IsAnswered verdict (statuses.BadModel fault)
@@ -182,6 +185,7 @@ no_model_exact model answer statuses.Usage h verdict d = absurd h
 no_model_exact model answer (statuses.Unknown report) h verdict d = absurd h
 no_model_exact model answer (statuses.NoProperty n) h verdict d = absurd h
 no_model_exact model answer (statuses.TooLarge n) h verdict d = absurd h
+no_model_exact model answer (statuses.OpenRounds n spent) h verdict d = absurd h
 
 pub without_exact : (model answer : Option (List ℕ)) (status result : Status) → EndsWithoutModel model status → (result ≡ status) ⊎ (result ≡ statuses.Memory)
     → (verdict : Status) → DecidesWave model answer verdict → IsAnswered verdict result
@@ -194,10 +198,11 @@ accepts (statuses.Done Printed) = false
 accepts (statuses.Done done) = true
 accepts _ = false
 
-accepts_done : (a : Accepted) → accepts (statuses.Done (done_of a)) ≡ true
+accepts_done : (a : Judged) → accepts (statuses.Done (done_by a)) ≡ true
 unfolding accepts
-accepts_done (Lasso n positions from) = refl
-accepts_done (Holds n entries) = refl
+accepts_done (found_as.Answer (Lasso n positions from)) = refl
+accepts_done (found_as.Answer (Holds n entries)) = refl
+accepts_done (found_as.Rounds n k r) = refl
 
 waves_accept_none : (end : End) → accepts (wave_status end) ≡ false
 unfolding accepts
@@ -219,23 +224,24 @@ no_model_accepts_none model statuses.Usage h = refl
 no_model_accepts_none model (statuses.Unknown report) h = refl
 no_model_accepts_none model (statuses.NoProperty n) h = refl
 no_model_accepts_none model (statuses.TooLarge n) h = refl
+no_model_accepts_none model (statuses.OpenRounds n spent) h = refl
 
 memory_accepts_none : accepts statuses.Memory ≡ false
 unfolding accepts
 memory_accepts_none = refl
 
-pub not_both : (a : Accepted) (status result : Status) → accepts status ≡ false → (result ≡ status) ⊎ (result ≡ statuses.Memory) → result ≡ statuses.Done (done_of a) → ⊥
+pub not_both : (a : Judged) (status result : Status) → accepts status ≡ false → (result ≡ status) ⊎ (result ≡ statuses.Memory) → result ≡ statuses.Done (done_by a) → ⊥
 not_both a status result none (inl e) is =
     let wrong : true ≡ false = sym (accepts_done a) ∙ sym (ap accepts is) ∙ ap accepts e ∙ none in cc wrong
 not_both a status result none (inr e) is =
     let wrong : true ≡ false = sym (accepts_done a) ∙ sym (ap accepts is) ∙ ap accepts e ∙ memory_accepts_none in cc wrong
 
 pub waves_shown : (m : Model) (end : End) (kept : Option LassoOf) (result : Result Outcome Status) → CarriesLasso m end kept → IsWaved m end kept result
-    → (a : Accepted) → status_in result ≡ statuses.Done (done_of a) → ⊥
+    → (a : Judged) → status_in result ≡ statuses.Done (done_by a) → ⊥
 waves_shown m end kept result carried w a is = not_both a (wave_status end) (status_in result) (waves_accept_none end) (waved_status m end kept result carried w) is
 
 pub without_shown : (model : Option (List ℕ)) (status result : Status) → EndsWithoutModel model status → (result ≡ status) ⊎ (result ≡ statuses.Memory)
-    → (a : Accepted) → result ≡ statuses.Done (done_of a) → ⊥
+    → (a : Judged) → result ≡ statuses.Done (done_by a) → ⊥
 without_shown model status result h either a is = not_both a status result (no_model_accepts_none model status h) either is
 
 -- Reads and silence.

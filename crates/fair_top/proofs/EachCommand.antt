@@ -5,12 +5,12 @@ use Rattle.edge.specs.Writes.{Writes}
 use Rattle.fair_top.specs.declared.status.Status.{Status}
 use Rattle.fair_top.specs.declared.status.Status.TheVariants as statuses
 use Rattle.fair_top.specs.Convert.{IsConversion}
+use Rattle.command_lines.specs.Commands.{Asked, Solve, Check, Gen, Demo, Wave, Slice, Convert, Safety, Rounds, Trim}
 use Rattle.fair_top.specs.Trim.{IsTrimming}
-use Rattle.command_lines.specs.Commands.{Asked, Solve, Check, Gen, Demo, Wave, Slice, Convert, Safety, Trim}
 use Rattle.fair_top.specs.Commands.{CommandGives}
 use Rattle.fair_top.specs.Solved.{SolvesAsked}
 use Rattle.fair_top.specs.Headline.{HasWritten}
-use Rattle.fair_top.proofs.Sinks.{of_check, of_solve, of_demo}
+use Rattle.fair_top.proofs.Sinks.{of_check, of_solve, of_demo, of_rounds}
 use Rattle.fair_top.proofs.Dumped.{of_wave}
 use Rattle.fair_top.proofs.Remaking.{of_remade}
 use Rattle.fair_top.proofs.Translated.{of_safety}
@@ -27,6 +27,7 @@ memory_solves held (Wave model answer) result e = tt
 memory_solves held (Slice model property) result e = tt
 memory_solves held (Convert model answer) result e = tt
 memory_solves held (Safety model property) result e = tt
+memory_solves held (Rounds model request) result e = tt
 memory_solves held (Trim model answer) result e = tt
 
 -- ---- what a sink saw
@@ -49,5 +50,7 @@ of_command Write held (Convert model answer) status text old new gives writes =
     of_remade Write IsConversion (held model) (held answer) status text old new gives writes
 of_command Write held (Safety model property) status text old new gives writes =
     of_safety Write (held model) property status text old new gives writes
+of_command Write held (Rounds model request) status text old new gives writes =
+    of_rounds Write (held model) request status text old new gives writes
 of_command Write held (Trim model answer) status text old new gives writes =
     of_remade Write IsTrimming (held model) (held answer) status text old new gives writes

@@ -9,22 +9,28 @@ use Rattle.edge.specs.Faults.{Rose}
 use Rattle.edge.specs.Reads.{ReadsOf, Reads}
 use Rattle.certificate.specs.declared.ends.Accepted.{Accepted}
 use Rattle.certificate.specs.declared.ends.Accepted.TheVariants as accepted
-use Rattle.certificate.specs.Answers.{Shows}
 use Rattle.certificate.specs.declared.ends.AnswerEnd.{AnswerEnd}
-use Rattle.certificate.specs.declared.ends.AnswerEnd.TheVariants as ends
+use Rattle.certificate.specs.declared.ends.AnswerEnd.TheVariants as answers
+use Rattle.round_answers.specs.declared.ends.Judged.{Judged}
+use Rattle.round_answers.specs.declared.ends.Judged.TheVariants as found_as
+use Rattle.round_answers.specs.declared.ends.JudgeEnd.{JudgeEnd}
+use Rattle.round_answers.specs.declared.ends.JudgeEnd.TheVariants as ends
+use Rattle.round_answers.specs.Answers.{ShowsText}
+use Rattle.round_answers.specs.Ends.{Decides, JudgeSays, EndsWith, has_unread, read_fault}
 use Rattle.fair_top.specs.declared.status.Status.{Status}
 use Rattle.fair_top.specs.declared.status.Status.TheVariants as statuses
-use Rattle.certificate.specs.Ends.{DecidesEnd}
 use Rattle.fair_top.specs.ModelTexts.{IsModelText}
 use Rattle.fair_top.specs.ModelGiven.{OfSomeText}
-use Rattle.fair_top.specs.Check.{done_of, status_of, JudgesAs, DecidesCheck, ShownByCheck}
+use Rattle.fair_top.specs.Check.{done_of, done_by, status_of, JudgesAs, DecidesCheck, ShownByCheck}
 use Rattle.fair_top.specs.Statuses.{is_read_fault}
 use Rattle.fair_top.specs.Headline.{IsSilent, IsAnswered, HoldsModel, ReadsModel, ReadsModelFirst}
 use Rattle.fair_top.specs.Judged.{IsModelOf, IsFaultOf, EndsWithoutModel}
-use Rattle.certificate.specs.Ends.{CheckSays, EndsWith, has_unread}
 
 abbrev pub End : Type 0
 End = Result Accepted AnswerEnd
+
+abbrev TextEnd : Type 0
+TextEnd = Result Judged JudgeEnd
 
 -- Where the model was read.
 
@@ -32,42 +38,43 @@ End = Result Accepted AnswerEnd
 pub told_form : (told : Option (List ℕ)) (m : Model) → IsModelOf told m → (text : List ℕ) → told ≡ Some text → IsModelText m text
 told_form told m h text e = subst (IsModelText m) (sym (h.text.1 text e)) h.text.2
 
-says : (m : Model) (model answer : Option (List ℕ)) (end : End) → IsModelOf model m → CheckSays m.circuit answer end
+says : (m : Model) (model answer : Option (List ℕ)) (end : TextEnd) → IsModelOf model m → JudgeSays m.circuit answer end
     → JudgesAs OfSomeText model answer (status_of end) ⊎ IsSilent (status_of end)
 says m model answer end h (inl (inl e)) = inr (inl (ap status_of e))
 says m model answer end h (inl (inr r)) = inl (inr (end, refl, (h.text.0, h.text.1, (r.0, r.1, (m, h.text.2, r.2)))))
 says m model answer end h (inr e) = inr (inr (ap status_of e))
 
-pub judged : (c : Circuit) (m : Model) (model now answer : Option (List ℕ)) (end : End) → c ≡ m.circuit → now ≡ answer
-    → IsModelOf model m → CheckSays c now end → JudgesAs OfSomeText model answer (status_of end) ⊎ IsSilent (status_of end)
+pub judged : (c : Circuit) (m : Model) (model now answer : Option (List ℕ)) (end : TextEnd) → c ≡ m.circuit → now ≡ answer
+    → IsModelOf model m → JudgeSays c now end → JudgesAs OfSomeText model answer (status_of end) ⊎ IsSilent (status_of end)
 judged c m model now answer end same kept h r =
-    says m model answer end h (subst (λ (x : Circuit). CheckSays x answer end) same (subst (λ (told : Option (List ℕ)). CheckSays c told end) kept r))
+    says m model answer end h (subst (λ (x : Circuit). JudgeSays x answer end) same (subst (λ (told : Option (List ℕ)). JudgeSays c told end) kept r))
 
-as_status : (end verdict : End) → EndsWith end verdict → IsAnswered (status_of verdict) (status_of end)
+as_status : (end verdict : TextEnd) → EndsWith end verdict → IsAnswered (status_of verdict) (status_of end)
 as_status end verdict h = elim h [
   | inl other ↦ elim other [ inl e ↦ inl (inl (inl (ap status_of e))) | inr e ↦ inl (inr (inl (ap status_of e))) ]
   | inr e ↦ inr (ap status_of e)
 ]
 
-exact_by : (m : Model) (model answer : Option (List ℕ)) (end : End) → IsModelOf model m
-    → ((text : List ℕ) (verdict : End) → answer ≡ Some text → DecidesEnd m.circuit text verdict → EndsWith end verdict)
+exact_by : (m : Model) (model answer : Option (List ℕ)) (end : TextEnd) → IsModelOf model m
+    → ((text : List ℕ) (verdict : TextEnd) → answer ≡ Some text → Decides m.circuit text verdict → EndsWith end verdict)
     → (verdict : Status) → DecidesCheck model answer verdict → IsAnswered verdict (status_of end)
 exact_by m model answer end h exact verdict (inl (fault, e, (text, told, bad))) = absurd (h.faultless text fault told bad)
 exact_by m model answer end h exact verdict (inr (other, e, (text, told, (claimed, claim_told, (n, form, said))))) =
-    let decided : DecidesEnd m.circuit claimed other = subst (λ (x : Model). DecidesEnd x.circuit claimed other) (sym (h.one text n told form)) said in
+    let decided : Decides m.circuit claimed other = subst (λ (x : Model). Decides x.circuit claimed other) (sym (h.one text n told form)) said in
     subst (λ (v : Status). IsAnswered v (status_of end)) (sym e) (as_status end other (exact claimed other claim_told decided))
 
-pub judged_exact : (c : Circuit) (m : Model) (model now answer : Option (List ℕ)) (end : End) → c ≡ m.circuit → now ≡ answer → IsModelOf model m
-    → ((text : List ℕ) (verdict : End) → now ≡ Some text → DecidesEnd c text verdict → EndsWith end verdict)
+pub judged_exact : (c : Circuit) (m : Model) (model now answer : Option (List ℕ)) (end : TextEnd) → c ≡ m.circuit → now ≡ answer → IsModelOf model m
+    → ((text : List ℕ) (verdict : TextEnd) → now ≡ Some text → Decides c text verdict → EndsWith end verdict)
     → (verdict : Status) → DecidesCheck model answer verdict → IsAnswered verdict (status_of end)
 judged_exact c m model now answer end same kept h exact =
-    exact_by m model answer end h (λ text verdict e d. exact text verdict (kept ∙ e) (subst (λ (x : Circuit). DecidesEnd x text verdict) (sym same) d))
+    exact_by m model answer end h (λ text verdict e d. exact text verdict (kept ∙ e) (subst (λ (x : Circuit). Decides x text verdict) (sym same) d))
 
-pub read_failed : (end : End) → status_of end ≡ statuses.ReadFault → end ≡ Err ends.ReadFault
+pub read_failed : (end : TextEnd) → status_of end ≡ statuses.ReadFault → end ≡ read_fault
 read_failed (Ok found) e = cc
-read_failed (Err (ends.Refused fault)) e = cc
-read_failed (Err ends.ReadFault) e = refl
-read_failed (Err ends.Memory) e = cc
+read_failed (Err (ends.Answer (answers.Refused fault))) e = cc
+read_failed (Err (ends.Answer answers.ReadFault)) e = refl
+read_failed (Err (ends.Answer answers.Memory)) e = cc
+read_failed (Err (ends.TooLarge n)) e = cc
 
 -- Where it was not.
 
@@ -82,6 +89,7 @@ without_model model answer statuses.Usage h = absurd h
 without_model model answer (statuses.Unknown report) h = absurd h
 without_model model answer (statuses.NoProperty n) h = absurd h
 without_model model answer (statuses.TooLarge n) h = absurd h
+without_model model answer (statuses.OpenRounds n spent) h = absurd h
 
 pub same_bad : (f g : ModelFault) → SameFault f g → IsAnswered (statuses.BadModel g) (statuses.BadModel f)
 same_bad f g h = elim h [
@@ -107,35 +115,46 @@ without_model_exact model answer statuses.Usage h verdict d = absurd h
 without_model_exact model answer (statuses.Unknown report) h verdict d = absurd h
 without_model_exact model answer (statuses.NoProperty n) h verdict d = absurd h
 without_model_exact model answer (statuses.TooLarge n) h verdict d = absurd h
+without_model_exact model answer (statuses.OpenRounds n spent) h verdict d = absurd h
 
 -- What is shown.
 
-pub same_accepted : (a b : Accepted) → ◌≡◌ {A = Status} (statuses.Done (done_of a)) (statuses.Done (done_of b)) → a ≡ b
-same_accepted (accepted.Lasso j p f) (accepted.Lasso k q g) e = cc
-same_accepted (accepted.Lasso j p f) (accepted.Holds k n) e = cc
-same_accepted (accepted.Holds j n) (accepted.Lasso k q g) e = cc
-same_accepted (accepted.Holds j n) (accepted.Holds k o) e = cc
+same_answer : (a b : Accepted) → ◌≡◌ {A = Status} (statuses.Done (done_of a)) (statuses.Done (done_of b)) → a ≡ b
+same_answer (accepted.Lasso j p f) (accepted.Lasso k q g) e = cc
+same_answer (accepted.Lasso j p f) (accepted.Holds k n) e = cc
+same_answer (accepted.Holds j n) (accepted.Lasso k q g) e = cc
+same_answer (accepted.Holds j n) (accepted.Holds k o) e = cc
 
-pub judged_shown : (c : Circuit) (m : Model) (model : Option (List ℕ)) (end : End) (status : Status) → c ≡ m.circuit → IsModelOf model m
-    → IfOk end (Shows c) → status ≡ status_of end → (a : Accepted) → status ≡ statuses.Done (done_of a) → ShownByCheck model a
+pub same_accepted : (a b : Judged) → ◌≡◌ {A = Status} (statuses.Done (done_by a)) (statuses.Done (done_by b)) → a ≡ b
+same_accepted (found_as.Answer a) (found_as.Answer b) e = ap found_as.Answer (same_answer a b e)
+same_accepted (found_as.Answer (accepted.Lasso j p f)) (found_as.Rounds n k r) e = cc
+same_accepted (found_as.Answer (accepted.Holds j m)) (found_as.Rounds n k r) e = cc
+same_accepted (found_as.Rounds n k r) (found_as.Answer (accepted.Lasso j p f)) e = cc
+same_accepted (found_as.Rounds n k r) (found_as.Answer (accepted.Holds j m)) e = cc
+same_accepted (found_as.Rounds n k r) (found_as.Rounds m l s) e = cc
+
+pub judged_shown : (c : Circuit) (m : Model) (model : Option (List ℕ)) (end : TextEnd) (status : Status) → c ≡ m.circuit → IsModelOf model m
+    → IfOk end (ShowsText c) → status ≡ status_of end → (a : Judged) → status ≡ statuses.Done (done_by a) → ShownByCheck model a
 judged_shown c m model (Ok found) status same h shows is a e =
-    let shown : Shows c a = subst (λ (x : Accepted). Shows c x) (same_accepted found a (sym is ∙ e)) shows in
-    (h.text.0, h.text.1, (m, h.text.2, subst (λ (k : Circuit). Shows k a) same shown))
-judged_shown c m model (Err (ends.Refused fault)) status same h shows is a e = let wrong : statuses.Refused fault ≡ statuses.Done (done_of a) = sym is ∙ e in cc
-judged_shown c m model (Err ends.ReadFault) status same h shows is a e = let wrong : statuses.ReadFault ≡ statuses.Done (done_of a) = sym is ∙ e in cc
-judged_shown c m model (Err ends.Memory) status same h shows is a e = let wrong : statuses.Memory ≡ statuses.Done (done_of a) = sym is ∙ e in cc
+    let shown : ShowsText c a = subst (λ (x : Judged). ShowsText c x) (same_accepted found a (sym is ∙ e)) shows in
+    (h.text.0, h.text.1, (m, h.text.2, subst (λ (k : Circuit). ShowsText k a) same shown))
+judged_shown c m model (Err (ends.Answer (answers.Refused fault))) status same h shows is a e = let wrong : statuses.Refused fault ≡ statuses.Done (done_by a) = sym is ∙ e in cc
+judged_shown c m model (Err (ends.Answer answers.ReadFault)) status same h shows is a e = let wrong : statuses.ReadFault ≡ statuses.Done (done_by a) = sym is ∙ e in cc
+judged_shown c m model (Err (ends.Answer answers.Memory)) status same h shows is a e = let wrong : statuses.Memory ≡ statuses.Done (done_by a) = sym is ∙ e in cc
+judged_shown c m model (Err (ends.TooLarge n)) status same h shows is a e = let wrong : statuses.TooLarge n ≡ statuses.Done (done_by a) = sym is ∙ e in cc
 
 -- Reads and faults.
 
-status_failed : (end : End) → is_read_fault (status_of end) ≡ has_unread end
+status_failed : (end : TextEnd) → is_read_fault (status_of end) ≡ has_unread end
 status_failed (Ok found) = refl
-status_failed (Err (ends.Refused fault)) = refl
-status_failed (Err ends.ReadFault) = refl
-status_failed (Err ends.Memory) = refl
+status_failed (Err (ends.Answer (answers.Refused fault))) = refl
+status_failed (Err (ends.Answer answers.ReadFault)) = refl
+status_failed (Err (ends.Answer answers.Memory)) = refl
+status_failed (Err (ends.TooLarge n)) = refl
 
 -- ANSWER was read after a model
 pub both_read : {Shelf : Type 0} (Read : ReadsOf Shelf) (held : List ℕ → Option (List ℕ)) (model answer : List ℕ)
-    (end : End) (old mid new : Shelf) → ReadsModel Read model false old mid → HoldsModel held model → Reads Read answer (has_unread end) mid new
+    (end : TextEnd) (old mid new : Shelf) → ReadsModel Read model false old mid → HoldsModel held model → Reads Read answer (has_unread end) mid new
     → ReadsModelFirst Read held (model ∷ answer ∷ []) (is_read_fault (status_of end)) old new
 both_read Read held model answer end old mid new first holds second =
     inr (mid, first, holds, inl (subst (λ (failed : Bool). Reads Read answer failed mid new) (sym (status_failed end)) second))

@@ -7,6 +7,7 @@ mod Remaking
 mod Converted
 mod Trimmed
 mod Translated
+mod Counted
 mod Sliced
 mod EachCommand
 mod Ending

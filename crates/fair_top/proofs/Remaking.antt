@@ -6,10 +6,10 @@ use Rattle.aiger_grammar.specs.Models.{Model}
 use Rattle.circuit.specs.declared.faults.ModelFault.{ModelFault}
 use Rattle.edge.specs.Reads.{ReadsOf, Reads}
 use Rattle.edge.specs.Writes.{Writes}
-use Rattle.certificate.specs.declared.ends.Accepted.{Accepted}
 use Rattle.certificate.specs.declared.ends.AnswerEnd.{AnswerEnd}
 use Rattle.certificate.specs.declared.ends.AnswerEnd.TheVariants as ends
 use Rattle.certificate.specs.declared.loaded.Loaded.{Loaded}
+use Rattle.round_answers.specs.declared.ends.Judged.{Judged}
 use Rattle.certificate.specs.Ends.{DecidesEnd, CheckSays, EndsWith, has_unread}
 use Rattle.certificate.specs.Loading.{IsHeld, IsHeldOf, accepted_in}
 use Rattle.fair_top.specs.declared.status.Status.{Status}
@@ -17,7 +17,7 @@ use Rattle.fair_top.specs.declared.status.Status.TheVariants as statuses
 use Rattle.fair_top.specs.declared.status.Done.TheVariants.{Printed}
 use Rattle.fair_top.specs.declared.texts.Outcome.{Outcome}
 use Rattle.fair_top.specs.ModelGiven.{OfSomeText}
-use Rattle.fair_top.specs.Check.{done_of}
+use Rattle.fair_top.specs.Check.{done_by}
 use Rattle.fair_top.specs.Remade.{EndsRemade, GivesRemade, remade_status, DecidesRemade}
 use Rattle.fair_top.specs.Remaking.{IsMadeOf, IsMade, IsRemade}
 use Rattle.fair_top.specs.Statuses.{is_read_fault, ends_silently, status_in}
@@ -115,6 +115,7 @@ without_gives M model answer statuses.Usage (Ok outcome) h text aloud = absurd h
 without_gives M model answer (statuses.Unknown report) (Ok outcome) h text aloud = absurd h
 without_gives M model answer (statuses.NoProperty n) (Ok outcome) h text aloud = absurd h
 without_gives M model answer (statuses.TooLarge n) (Ok outcome) h text aloud = absurd h
+without_gives M model answer (statuses.OpenRounds n spent) (Ok outcome) h text aloud = absurd h
 
 bad_exact : (model answer : Option (List ℕ)) (fault : ModelFault) → IsFaultOf model fault
     → (verdict : Status) → DecidesRemade model answer verdict → IsAnswered verdict (statuses.BadModel fault)
@@ -134,6 +135,7 @@ no_model_exact model answer statuses.Usage h verdict d = absurd h
 no_model_exact model answer (statuses.Unknown report) h verdict d = absurd h
 no_model_exact model answer (statuses.NoProperty n) h verdict d = absurd h
 no_model_exact model answer (statuses.TooLarge n) h verdict d = absurd h
+no_model_exact model answer (statuses.OpenRounds n spent) h verdict d = absurd h
 
 pub without_exact : (model answer : Option (List ℕ)) (status result : Status) → EndsWithoutModel model status → (result ≡ status) ⊎ (result ≡ statuses.Memory)
     → (verdict : Status) → DecidesRemade model answer verdict → IsAnswered verdict result
@@ -149,7 +151,7 @@ remade_accepts_none (Err ends.ReadFault) = refl
 remade_accepts_none (Err ends.Memory) = refl
 
 pub remade_shown : (M : Made) (c : Circuit) (end : Held) (result : Result Outcome Status) → IsRemade M c end result
-    → (a : Accepted) → status_in result ≡ statuses.Done (done_of a) → ⊥
+    → (a : Judged) → status_in result ≡ statuses.Done (done_by a) → ⊥
 remade_shown M c end result r a is = not_both a (remade_status (accepted_in end)) (status_in result) (remade_accepts_none (accepted_in end)) (remade_ends M c end result r) is
 
 -- Reads and silence.

@@ -4,6 +4,8 @@ use Rattle.std.specs.Prelude.{Result, IfOk, IfErr}
 use Rattle.aig_semantics.specs.Circuits.{Circuit}
 use Rattle.certificate.specs.declared.ends.Accepted.{Accepted}
 use Rattle.certificate.specs.declared.ends.Accepted.TheVariants as accepted
+use Rattle.round_answers.specs.declared.ends.Judged.{Judged}
+use Rattle.round_answers.specs.declared.ends.Judged.TheVariants as found_as
 use Rattle.certificate.specs.declared.ends.AnswerEnd.{AnswerEnd}
 use Rattle.certificate.specs.declared.ends.AnswerEnd.TheVariants as ends
 use Rattle.certificate.specs.declared.ends.AnswerFault.{AnswerFault}
@@ -17,7 +19,7 @@ use Rattle.fair_top.specs.declared.status.Status.{Status}
 use Rattle.fair_top.specs.declared.status.Status.TheVariants as statuses
 use Rattle.fair_top.specs.declared.status.Done.TheVariants as dones
 use Rattle.fair_top.specs.declared.texts.Outcome.{Outcome}
-use Rattle.fair_top.specs.Check.{done_of}
+use Rattle.fair_top.specs.Check.{done_by}
 use Rattle.fair_top.specs.Statuses.{status_in, is_read_fault}
 use Rattle.fair_top.specs.Demo.{SumsUp, IsSummedUp}
 use Rattle.fair_top.proofs.Judging.{End}
@@ -47,13 +49,14 @@ no_fault : (status : Status) → IsSummedUp status → is_read_fault status ≡ 
 no_fault status (inl (board, e)) = ap is_read_fault e
 no_fault status (inr (report, e)) = ap is_read_fault e
 
-not_accepted : (board : BoardState) (found : Accepted) → ◌≡◌ {A = Status} (statuses.Done (dones.Demo board)) (statuses.Done (done_of found)) → ⊥
-not_accepted board (accepted.Lasso j p f) e = absurd (cc)
-not_accepted board (accepted.Holds j n) e = absurd (cc)
+not_accepted : (board : BoardState) (found : Judged) → ◌≡◌ {A = Status} (statuses.Done (dones.Demo board)) (statuses.Done (done_by found)) → ⊥
+not_accepted board (found_as.Answer (accepted.Lasso j p f)) e = absurd (cc)
+not_accepted board (found_as.Answer (accepted.Holds j n)) e = absurd (cc)
+not_accepted board (found_as.Rounds j k r) e = absurd (cc)
 
-no_answer : (status : Status) → IsSummedUp status → (found : Accepted) → status ≡ statuses.Done (done_of found) → ⊥
+no_answer : (status : Status) → IsSummedUp status → (found : Judged) → status ≡ statuses.Done (done_by found) → ⊥
 no_answer status (inl (board, e)) found is = not_accepted board found (sym e ∙ is)
-no_answer status (inr (report, e)) found is = let wrong : statuses.Unknown report ≡ statuses.Done (done_of found) = sym e ∙ is in absurd (cc)
+no_answer status (inr (report, e)) found is = let wrong : statuses.Unknown report ≡ statuses.Done (done_by found) = sym e ∙ is in absurd (cc)
 
 pub loud : (c : Circuit) (request : DemoRequest) (result : Result Outcome Status)
     → IfOk result (λ outcome. SumsUp c request outcome.status outcome.text.items)
@@ -69,6 +72,6 @@ unread c request (Err status) summed ended = ap is_read_fault ended
 
 pub hidden : (c : Circuit) (request : DemoRequest) (result : Result Outcome Status)
     → IfOk result (λ outcome. SumsUp c request outcome.status outcome.text.items) → IfErr result (λ status. status ≡ statuses.Memory)
-    → (found : Accepted) → status_in result ≡ statuses.Done (done_of found) → ⊥
+    → (found : Judged) → status_in result ≡ statuses.Done (done_by found) → ⊥
 hidden c request (Ok outcome) summed ended found e = no_answer outcome.status (sums_up c request outcome.status outcome.text.items summed) found e
-hidden c request (Err status) summed ended found e = let wrong : statuses.Memory ≡ statuses.Done (done_of found) = sym ended ∙ e in absurd (cc)
+hidden c request (Err status) summed ended found e = let wrong : statuses.Memory ≡ statuses.Done (done_by found) = sym ended ∙ e in absurd (cc)

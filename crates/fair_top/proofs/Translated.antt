@@ -5,8 +5,9 @@ use Rattle.aig_semantics.specs.Circuits.{Circuit}
 use Rattle.aiger_grammar.specs.Models.{Model}
 use Rattle.circuit.specs.declared.faults.ModelFault.{ModelFault}
 use Rattle.edge.specs.Writes.{Writes}
-use Rattle.certificate.specs.declared.ends.Accepted.{Accepted}
 use Rattle.certificate.specs.declared.ends.Accepted.TheVariants as accepted
+use Rattle.round_answers.specs.declared.ends.Judged.{Judged}
+use Rattle.round_answers.specs.declared.ends.Judged.TheVariants as found_as
 use Rattle.aig_semantics.specs.declared.limits.TheConstants.{MAX_MODEL_BYTES}
 use Rattle.aiger_grammar.specs.Spelling.{ascii_text, HasAsciiForm}
 use Rattle.aiger_grammar.specs.AsciiTexts.{IsAsciiTextOf}
@@ -18,7 +19,7 @@ use Rattle.fair_top.specs.declared.status.Status.{Status}
 use Rattle.fair_top.specs.declared.status.Status.TheVariants as statuses
 use Rattle.fair_top.specs.declared.status.Done.TheVariants.{Printed}
 use Rattle.fair_top.specs.declared.texts.Outcome.{Outcome}
-use Rattle.fair_top.specs.Check.{done_of}
+use Rattle.fair_top.specs.Check.{done_by}
 use Rattle.fair_top.specs.Safety.{DecidesFor, EndsSafety, GivesSafety, DecidesSafety}
 use Rattle.fair_top.specs.Statuses.{is_read_fault, ends_silently, status_in}
 use Rattle.fair_top.specs.Texts.{text_of}
@@ -78,16 +79,17 @@ translated_exact c m told j (Ok outcome) same h ends ended verdict (inr (text, i
     (subst (λ (k : Circuit). DecidesFor k j verdict) circuits d))))
 
 -- no answer is accepted
-not_accepted : (c : Circuit) (j : ℕ) (status : Status) (a : Accepted) → DecidesFor c j status → status ≡ statuses.Done (done_of a) → ⊥
-not_accepted c j status a (inl (e, h)) is = let wrong : statuses.NoProperty j ≡ statuses.Done (done_of a) = sym e ∙ is in cc
-not_accepted c j status a (inr (inl (e, h))) is = let wrong : statuses.TooLarge (greatest (sizes_of c j)) ≡ statuses.Done (done_of a) = sym e ∙ is in cc
-not_accepted c j status (accepted.Lasso n positions from) (inr (inr (e, h))) is = let wrong : statuses.Done Printed ≡ statuses.Done (done_of (accepted.Lasso n positions from)) = sym e ∙ is in cc
-not_accepted c j status (accepted.Holds n entries) (inr (inr (e, h))) is = let wrong : statuses.Done Printed ≡ statuses.Done (done_of (accepted.Holds n entries)) = sym e ∙ is in cc
+not_accepted : (c : Circuit) (j : ℕ) (status : Status) (a : Judged) → DecidesFor c j status → status ≡ statuses.Done (done_by a) → ⊥
+not_accepted c j status a (inl (e, h)) is = let wrong : statuses.NoProperty j ≡ statuses.Done (done_by a) = sym e ∙ is in cc
+not_accepted c j status a (inr (inl (e, h))) is = let wrong : statuses.TooLarge (greatest (sizes_of c j)) ≡ statuses.Done (done_by a) = sym e ∙ is in cc
+not_accepted c j status (found_as.Answer (accepted.Lasso n positions from)) (inr (inr (e, h))) is = let wrong : statuses.Done Printed ≡ statuses.Done (done_by (found_as.Answer (accepted.Lasso n positions from))) = sym e ∙ is in cc
+not_accepted c j status (found_as.Answer (accepted.Holds n entries)) (inr (inr (e, h))) is = let wrong : statuses.Done Printed ≡ statuses.Done (done_by (found_as.Answer (accepted.Holds n entries))) = sym e ∙ is in cc
+not_accepted c j status (found_as.Rounds n k r) (inr (inr (e, h))) is = let wrong : statuses.Done Printed ≡ statuses.Done (done_by (found_as.Rounds n k r)) = sym e ∙ is in cc
 
 pub translated_shown : (c : Circuit) (j : ℕ) (result : Result Outcome Status)
     → IfOk result (λ outcome. EndsSafety c j outcome.status outcome.text.items) → IfErr result (λ status. status ≡ statuses.Memory)
-    → (a : Accepted) → status_in result ≡ statuses.Done (done_of a) → ⊥
-translated_shown c j (Err status) ends ended a is = let wrong : statuses.Memory ≡ statuses.Done (done_of a) = sym ended ∙ is in cc
+    → (a : Judged) → status_in result ≡ statuses.Done (done_by a) → ⊥
+translated_shown c j (Err status) ends ended a is = let wrong : statuses.Memory ≡ statuses.Done (done_by a) = sym ended ∙ is in cc
 translated_shown c j (Ok outcome) ends ended a is = not_accepted c j outcome.status a (decided c j outcome.status outcome.text.items ends) is
 
 unread : (c : Circuit) (j : ℕ) (status : Status) → DecidesFor c j status → is_read_fault status ≡ false
@@ -117,6 +119,7 @@ without_gives model j statuses.Usage (Ok outcome) h text aloud = absurd h
 without_gives model j (statuses.Unknown report) (Ok outcome) h text aloud = absurd h
 without_gives model j (statuses.NoProperty n) (Ok outcome) h text aloud = absurd h
 without_gives model j (statuses.TooLarge n) (Ok outcome) h text aloud = absurd h
+without_gives model j (statuses.OpenRounds n spent) (Ok outcome) h text aloud = absurd h
 
 bad_exact : (model : Option (List ℕ)) (j : ℕ) (fault : ModelFault) → IsFaultOf model fault
     → (verdict : Status) → DecidesSafety model j verdict → IsAnswered verdict (statuses.BadModel fault)
@@ -136,6 +139,7 @@ no_model_exact model j statuses.Usage h verdict d = absurd h
 no_model_exact model j (statuses.Unknown report) h verdict d = absurd h
 no_model_exact model j (statuses.NoProperty n) h verdict d = absurd h
 no_model_exact model j (statuses.TooLarge n) h verdict d = absurd h
+no_model_exact model j (statuses.OpenRounds n spent) h verdict d = absurd h
 
 pub without_exact : (model : Option (List ℕ)) (j : ℕ) (status result : Status) → EndsWithoutModel model status → (result ≡ status) ⊎ (result ≡ statuses.Memory)
     → (verdict : Status) → DecidesSafety model j verdict → IsAnswered verdict result

@@ -2,14 +2,17 @@
 use Rattle.std.specs.Prelude.{◌≡◌, ◌⊎◌, ℕ, List, Option, Result, Ok, Err}
 use Rattle.certificate.specs.declared.ends.Accepted.{Accepted}
 use Rattle.certificate.specs.declared.ends.Accepted.TheVariants as accepted
-use Rattle.certificate.specs.declared.ends.AnswerEnd.{AnswerEnd}
-use Rattle.certificate.specs.declared.ends.AnswerEnd.TheVariants as ends
+use Rattle.certificate.specs.declared.ends.AnswerEnd.TheVariants as answers
+use Rattle.round_answers.specs.declared.ends.Judged.{Judged}
+use Rattle.round_answers.specs.declared.ends.Judged.TheVariants as judged
+use Rattle.round_answers.specs.declared.ends.JudgeEnd.{JudgeEnd}
+use Rattle.round_answers.specs.declared.ends.JudgeEnd.TheVariants as ends
+use Rattle.round_answers.specs.Answers.{ShowsText}
+use Rattle.round_answers.specs.Ends.{Decides as DecidesText}
 use Rattle.fair_top.specs.declared.status.Status.{Status}
 use Rattle.fair_top.specs.declared.status.Status.TheVariants as statuses
 use Rattle.fair_top.specs.declared.status.Done.{Done}
 use Rattle.fair_top.specs.declared.status.Done.TheVariants as done
-use Rattle.certificate.specs.Answers.{Shows}
-use Rattle.certificate.specs.Ends.{DecidesEnd}
 use Rattle.fair_top.specs.ModelTexts.{OfModel}
 use Rattle.fair_top.specs.ModelGiven.{Taking, OfText, OfSomeText, SaysBadModel}
 use Rattle.fair_top.specs.Texts.{text_of}
@@ -19,19 +22,26 @@ abbrev pub done_of : Accepted → Done
 done_of (accepted.Lasso property positions from) = done.Lasso property positions from
 done_of (accepted.Holds property entries) = done.Holds property entries
 
--- the status for the end of the check of an answer
-abbrev pub status_of : Result Accepted AnswerEnd → Status
-status_of (Ok found) = statuses.Done (done_of found)
-status_of (Err (ends.Refused fault)) = statuses.Refused fault
-status_of (Err ends.ReadFault) = statuses.ReadFault
-status_of (Err ends.Memory) = statuses.Memory
+-- what was done where a text was accepted: an answer, or a text about rounds
+abbrev pub done_by : Judged → Done
+done_by (judged.Answer found) = done_of found
+done_by (judged.Rounds property k reached) = done.Rounds property k reached
 
--- MODEL is bad; or ANSWER is accepted or refused for the circuit of MODEL. There is no other status.
+-- the status for the end of the check of a text
+abbrev pub status_of : Result Judged JudgeEnd → Status
+status_of (Ok found) = statuses.Done (done_by found)
+status_of (Err (ends.Answer (answers.Refused fault))) = statuses.Refused fault
+status_of (Err (ends.Answer answers.ReadFault)) = statuses.ReadFault
+status_of (Err (ends.Answer answers.Memory)) = statuses.Memory
+status_of (Err (ends.TooLarge variable)) = statuses.TooLarge variable
+
+-- MODEL is bad; or ANSWER is accepted or refused for the circuit of MODEL, or is about rounds of a property whose monitor would
+-- be too large. There is no other status.
 abbrev pub JudgesAs : Taking → Option (List ℕ) → Option (List ℕ) → Status → Type 0
 JudgesAs Of model answer status =
     SaysBadModel Of model status
-    ⊎ ((end : Result Accepted AnswerEnd) × (status ≡ status_of end)
-    × Of model (λ text. Of answer (λ claimed. OfModel text (λ c. DecidesEnd c claimed end))))
+    ⊎ ((end : Result Judged JudgeEnd) × (status ≡ status_of end)
+    × Of model (λ text. Of answer (λ claimed. OfModel text (λ c. DecidesText c claimed end))))
 
 -- what is so of the texts that the shelf tells where `check` ends with this status, and writes this text
 abbrev pub GivesCheck : Option (List ℕ) → Option (List ℕ) → Status → List ℕ → Type 0
@@ -41,7 +51,7 @@ GivesCheck model answer status text = JudgesAs OfSomeText model answer status ×
 abbrev pub DecidesCheck : Option (List ℕ) → Option (List ℕ) → Status → Type 0
 DecidesCheck model answer status = JudgesAs OfText model answer status
 
--- MODEL is the text of a model, and of its circuit what the accepted answer shows is true: there is such a fair lasso of
--- the property, or there is none
-abbrev pub ShownByCheck : Option (List ℕ) → Accepted → Type 0
-ShownByCheck model accepted = OfSomeText model (λ text. OfModel text (λ c. Shows c accepted))
+-- MODEL is the text of a model, and of its circuit what the accepted text shows is true: there is such a fair lasso of the
+-- property, or there is none; or some initial run has so many rounds of it, or none has
+abbrev pub ShownByCheck : Option (List ℕ) → Judged → Type 0
+ShownByCheck model found = OfSomeText model (λ text. OfModel text (λ c. ShowsText c found))

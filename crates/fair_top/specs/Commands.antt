@@ -1,8 +1,8 @@
 -- The commands, each of which has a file of its own: what a run that asks for one gives. Here is a line for each in every
 -- definition.
 use Rattle.std.specs.Prelude.{ℕ, List, Option}
-use Rattle.certificate.specs.declared.ends.Accepted.{Accepted}
-use Rattle.command_lines.specs.Commands.{Asked, Solve, Check, Gen, Demo, Wave, Slice, Convert, Safety, Trim}
+use Rattle.round_answers.specs.declared.ends.Judged.{Judged}
+use Rattle.command_lines.specs.Commands.{Asked, Solve, Check, Gen, Demo, Wave, Slice, Convert, Safety, Rounds, Trim}
 use Rattle.fair_top.specs.declared.status.Status.{Status}
 use Rattle.fair_top.specs.Solve.{GivesSolve, DecidesSolve, ShownBySolve}
 use Rattle.fair_top.specs.Check.{GivesCheck, DecidesCheck, ShownByCheck}
@@ -13,6 +13,7 @@ use Rattle.fair_top.specs.Slice.{GivesSlice, DecidesSlice}
 use Rattle.fair_top.specs.Remade.{DecidesRemade}
 use Rattle.fair_top.specs.Convert.{GivesConvert}
 use Rattle.fair_top.specs.Safety.{GivesSafety, DecidesSafety}
+use Rattle.fair_top.specs.Rounds.{GivesRounds, DecidesRounds, ShownByRounds}
 use Rattle.fair_top.specs.Trim.{GivesTrim}
 
 -- What is so of the texts that the shelf tells where a run that asks for this ends with this status, and writes this text.
@@ -25,6 +26,7 @@ CommandGives held (Wave model answer) status text = GivesWave (held model) (held
 CommandGives held (Slice model property) status text = GivesSlice (held model) property status text
 CommandGives held (Convert model answer) status text = GivesConvert (held model) (held answer) status text
 CommandGives held (Safety model property) status text = GivesSafety (held model) property status text
+CommandGives held (Rounds model request) status text = GivesRounds (held model) request status text
 CommandGives held (Trim model answer) status text = GivesTrim (held model) (held answer) status text
 
 -- the status is the only right one, by what is asked for and by the texts that the shelf tells; of `demo` none is
@@ -37,11 +39,12 @@ Decides held (Wave model answer) status = DecidesWave (held model) (held answer)
 Decides held (Slice model property) status = DecidesSlice (held model) property status
 Decides held (Convert model answer) status = DecidesRemade (held model) (held answer) status
 Decides held (Safety model property) status = DecidesSafety (held model) property status
+Decides held (Rounds model request) status = DecidesRounds (held model) request status
 Decides held (Trim model answer) status = DecidesRemade (held model) (held answer) status
 
--- what is so of the texts on the shelf where a run that asks for this accepts an answer; `gen`, `demo`, `wave`,
--- `slice`, `convert`, `safety` and `trim` never do
-abbrev pub ShownBy : (List ℕ → Option (List ℕ)) → Asked → Accepted → Type 0
+-- what is so of the texts on the shelf where a run that asks for this accepts an answer or a text about rounds; `gen`, `demo`,
+-- `wave`, `slice`, `convert`, `safety` and `trim` never do
+abbrev pub ShownBy : (List ℕ → Option (List ℕ)) → Asked → Judged → Type 0
 ShownBy held (Solve model request) accepted = ShownBySolve (held model) accepted
 ShownBy held (Check model answer) accepted = ShownByCheck (held model) accepted
 ShownBy held (Gen request) accepted = ⊥
@@ -50,4 +53,5 @@ ShownBy held (Wave model answer) accepted = ⊥
 ShownBy held (Slice model property) accepted = ⊥
 ShownBy held (Convert model answer) accepted = ⊥
 ShownBy held (Safety model property) accepted = ⊥
+ShownBy held (Rounds model request) accepted = ShownByRounds (held model) accepted
 ShownBy held (Trim model answer) accepted = ⊥

@@ -7,11 +7,11 @@ use Rattle.edge.specs.Faults.{Rose}
 use Rattle.edge.specs.Reads.{ReadsOf, Within, Reads}
 use Rattle.edge.specs.Writes.{Adds, AddsPart, Writes}
 use Rattle.unless_memory.specs.Answers.{GivesSome}
-use Rattle.certificate.specs.declared.ends.Accepted.{Accepted}
+use Rattle.round_answers.specs.declared.ends.Judged.{Judged}
 use Rattle.fair_top.specs.declared.status.Status.{Status}
 use Rattle.fair_top.specs.declared.status.Status.TheVariants as statuses
 use Rattle.fair_top.specs.ModelTexts.{OfModel}
-use Rattle.fair_top.specs.Check.{done_of}
+use Rattle.fair_top.specs.Check.{done_by}
 use Rattle.command_lines.specs.Commands.{Asked, names_in, usage_text}
 use Rattle.command_lines.specs.Asking.{AsksFor, IsUsage}
 use Rattle.fair_top.specs.Commands.{CommandGives, Decides, ShownBy}
@@ -71,11 +71,11 @@ IsAnswered verdict result = GivesSome statuses.Memory (λ status. SameVerdict ve
 
 -- What is true.
 
--- where the status is that of an accepted answer, the words ask for its check or for its search, and what the answer shows
--- is true
+-- where the status is that of an accepted answer, or text about rounds, the words ask for its check or for its search, and
+-- what it shows is true
 abbrev pub IsShown : (List ℕ → Option (List ℕ)) → List (List ℕ) → Status → Type 0
 IsShown held words status =
-    (accepted : Accepted) → status ≡ statuses.Done (done_of accepted)
+    (accepted : Judged) → status ≡ statuses.Done (done_by accepted)
     → (asked : Asked) × AsksFor words asked × ShownBy held asked accepted
 
 -- What a run reads.

@@ -11,6 +11,7 @@ pub mod Remaking
 pub mod Convert
 pub mod Trim
 pub mod Safety
+pub mod Rounds
 pub mod Slice
 pub mod Commands
 pub mod Statuses

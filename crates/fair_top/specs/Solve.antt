@@ -10,6 +10,7 @@ use Rattle.certificate_lines.specs.declared.words.Version.TheVariants.{Two}
 use Rattle.certificate.specs.declared.ends.Accepted.{Accepted}
 use Rattle.certificate.specs.declared.ends.Accepted.TheVariants as accepted
 use Rattle.certificate.specs.Answers.{IsGood}
+use Rattle.round_answers.specs.declared.ends.Judged.{Judged}
 use Rattle.certificate.specs.declared.loaded.Certificate.{Certificate}
 use Rattle.certificate.specs.Writing.{certificate_of, certificate_text}
 use Rattle.entry.specs.CheckedEntries.{CheckedEntry}
@@ -127,5 +128,5 @@ RunsAgree c =
     → PrintsAnswer (Some bytes) a status text → PrintsAnswer (Some bytes) b other written → take 2 text ≡ take 2 written
 
 -- what is true where `solve` prints an answer, as where `check` accepts it
-abbrev pub ShownBySolve : Option (List ℕ) → Accepted → Type 0
+abbrev pub ShownBySolve : Option (List ℕ) → Judged → Type 0
 ShownBySolve model found = ShownByCheck model found

@@ -1,5 +1,5 @@
 -- What each status writes, and the number with which the program ends.
-use Rattle.std.specs.Prelude.{ℕ, ◌+◌, List, [], ◌∷◌, ◌++◌, length, Option, None, Some, decimal, codes}
+use Rattle.std.specs.Prelude.{ℕ, false, true, Bool, ◌+◌, List, [], ◌∷◌, ◌++◌, length, Option, None, Some, decimal, codes}
 use Rattle.edge.specs.Units.{Spendings}
 use Rattle.wall_store.specs.declared.outcomes.Served.{Served}
 use Rattle.fair_workers.specs.declared.limits.Report.{Report}
@@ -15,7 +15,7 @@ use Rattle.command_lines.specs.declared.commands.TheConstants.{USAGE}
 use Rattle.fair_top.specs.declared.status.Status.{Status}
 use Rattle.fair_top.specs.declared.status.Status.TheVariants as statuses
 use Rattle.fair_top.specs.declared.status.Done.{Done}
-use Rattle.fair_top.specs.declared.status.Done.TheVariants.{Lasso, Holds, Printed, Demo}
+use Rattle.fair_top.specs.declared.status.Done.TheVariants.{Lasso, Holds, Rounds, Printed, Demo}
 use Rattle.certificate.specs.declared.ends.AnswerFault.{AnswerFault}
 use Rattle.certificate.specs.declared.ends.AnswerFault.TheVariants as answers
 
@@ -23,6 +23,7 @@ abbrev pub exit_number : Status → ℕ
 exit_number (statuses.Done done) = 0
 exit_number (statuses.Refused fault) = 1
 exit_number (statuses.Unknown report) = 2
+exit_number (statuses.OpenRounds property spent) = 2
 exit_number (statuses.BadModel fault) = 3
 exit_number statuses.ReadFault = 4
 exit_number statuses.WriteFault = 5
@@ -86,12 +87,19 @@ refusal_text (answers.Trailing line) = line_with (codes "refused trailing line "
 refusal_text answers.UnknownStatus = codes "refused unknown status\n"
 refusal_text (answers.FewRounds n) = line_with (codes "refused rounds ") n
 
--- what `check` writes of an accepted answer
+-- how a line about rounds ends
+abbrev pub ending_word : Bool → List ℕ
+ending_word true = codes " reached\n"
+ending_word false = codes " fewer\n"
+
+-- what `check` writes of an accepted answer, or of a text about rounds
 abbrev pub done_text : Done → List ℕ
 done_text (Lasso property positions from) =
     codes "accepted lasso j" ++ decimal property ++ codes " positions " ++ decimal positions ++ codes " loop " ++ decimal from ++ codes "\n"
 done_text (Holds property entries) =
     codes "accepted certificate j" ++ decimal property ++ codes " entries " ++ decimal entries ++ codes "\n"
+done_text (Rounds property k reached) =
+    codes "accepted rounds " ++ decimal k ++ codes " j" ++ decimal property ++ ending_word reached
 done_text Printed = []
 done_text (Demo board) = []
 
@@ -124,12 +132,18 @@ unknown_text report =
     codes "2\nj" ++ decimal (first_property report.board.served) ++ codes "\nc entries " ++ decimal (length report.board.entries)
     ++ codes " of " ++ decimal report.board.limit ++ codes "\n" ++ workers_text 0 report.workers ++ codes ".\n"
 
+-- the same of a search for rounds of a property, by one worker whose list has no entries
+abbrev pub open_text : ℕ → Spendings → List ℕ
+open_text property spent =
+    codes "2\nj" ++ decimal property ++ codes "\nc entries 0 of 65536\n" ++ worker_text 0 spent ++ codes ".\n"
+
 -- The text that a status tells, where the command has none of its own: `solve` writes the answer for a verdict, `gen` the
 -- model, and `demo` its summary. The usage text is the code's constant here, and `Ends` has it word for word.
 abbrev pub text_of : Status → List ℕ
 text_of (statuses.Done done) = done_text done
 text_of (statuses.Refused fault) = refusal_text fault
 text_of (statuses.Unknown report) = unknown_text report
+text_of (statuses.OpenRounds property spent) = open_text property spent
 text_of (statuses.BadModel fault) = bad_model_text fault
 text_of statuses.ReadFault = []
 text_of statuses.WriteFault = []

@@ -9,9 +9,9 @@
 ghost use Rattle.std.specs.Prelude.{◌≡◌, ◌⊎◌, List, ℕ, false, IfOk, IfErr};
 ghost use Rattle.edge.specs.Faults.{NoneFell};
 ghost use Rattle.edge.specs.Reads.{KeepsTexts};
-ghost use Rattle.certificate.specs.declared.ends.Accepted.{Accepted as AcceptedOf};
+ghost use Rattle.round_answers.specs.declared.ends.Judged.{Judged as JudgedOf};
 ghost use Rattle.command_lines.specs.Words.{bytes_of};
-ghost use Rattle.fair_top.specs.Check.{done_of};
+ghost use Rattle.fair_top.specs.Check.{done_by};
 ghost use Rattle.command_lines.specs.Commands.{Asked as AskedFor, names_in, meant};
 ghost use Rattle.fair_top.specs.Commands.{CommandGives, Decides, ShownBy};
 ghost use Rattle.command_lines.specs.Asking.{AsksFor, IsUsage, IsTakenOrUsage};
@@ -22,6 +22,7 @@ ghost use Rattle.fair_top.specs.Statuses.{status_in, is_read_fault};
 
 mod checking;
 mod converting;
+mod counting;
 mod demonstrating;
 mod generating;
 mod remaking;
@@ -37,6 +38,7 @@ use checking::check;
 use circuit::Circuit;
 use command_lines::{Asked, SolveRequest, WordsEnd, asked_of};
 use converting::Conversion;
+use counting::count_rounds;
 use demonstrating::demonstrate;
 use edge::Shelf;
 use fair_workers::{Ended, Report};
@@ -105,7 +107,7 @@ fn outcome_for<S: Fn(&Arc<Circuit>, SolveRequest) -> Result<Report, Ended>, H: S
     ensures silent { IfErr result IsSilent }
     ensures aloud { IfOk result (λ outcome. is_read_fault outcome.status ≡ false) }
     ensures exactly { (verdict : Status) → Decides (H.held shelf.old) (meant asked.entry) verdict → IsAnswered verdict (status_in result) }
-    ensures shown { (accepted : AcceptedOf) → status_in result ≡ Status.Done (done_of accepted) → ShownBy (H.held shelf.old) (meant asked.entry) accepted }
+    ensures shown { (accepted : JudgedOf) → status_in result ≡ Status.Done (done_by accepted) → ShownBy (H.held shelf.old) (meant asked.entry) accepted }
     ensures solved { SolvesAsked (H.held shelf.old) (meant asked.entry) (status_in result) }
     ensures read { status_in result ≡ Status.ReadFault → FailedOf (H.held shelf.old) (names_in (meant asked.entry)) (H.faults shelf.old) (H.faults shelf.new) }
     ensures reads { ReadsModelFirst H.reads (H.held shelf.old) (names_in (meant asked.entry)) (is_read_fault (status_in result)) shelf.old shelf.new }
@@ -121,6 +123,7 @@ fn outcome_for<S: Fn(&Arc<Circuit>, SolveRequest) -> Result<Report, Ended>, H: S
         Asked::Slice { model, property } => write_slice(alloc, shelf, model, property),
         Asked::Convert { model, answer } => remake(alloc, shelf, model, answer, &Conversion {}),
         Asked::Safety { model, property } => safety(alloc, shelf, model, property),
+        Asked::Rounds { model, request } => count_rounds(alloc, shelf, model, &request),
         Asked::Trim { model, answer } => remake(alloc, shelf, model, answer, &Trimming {}),
     }
 }

@@ -1,7 +1,7 @@
-//! The text of a search that ends with a report: a stated budget is spent. The main call is `text_of_report`.
+//! The texts of searches of which a stated budget is spent. The main calls are `text_of_report` and `text_of_open`.
 
 ghost use Rattle.std.specs.Prelude.{◌≡◌, ◌++◌, OnOk, IfOk, codes, decimal};
-ghost use Rattle.fair_top.specs.Texts.{limit_number, worker_text, workers_text, first_property, unknown_text};
+ghost use Rattle.fair_top.specs.Texts.{limit_number, worker_text, workers_text, first_property, unknown_text, open_text};
 
 use edge::Spending;
 use fair_workers::Report;
@@ -21,6 +21,22 @@ pub(crate) fn text_of_report(alloc: Global, report: &Report) -> Result<Vec<u8>, 
     push_number(&mut text, u64::from(report.board.limit()))?;
     text.extend_from_slice(b"\n")?;
     push_workers(&mut text, report.workers.as_slice())?;
+    text.extend_from_slice(b".\n")?;
+    Ok(text)
+}
+
+/// The same of a search for rounds of a property, which counts as one worker whose list has no entries.
+pub(crate) fn text_of_open(
+    alloc: Global,
+    property: u32,
+    spent: &Spending,
+) -> Result<Vec<u8>, AllocError>
+    ensures { IfOk result (λ text. text.items ≡ open_text property spent.now) }
+{
+    let mut text = Vec::from_slice(alloc, b"2\nj")?;
+    push_number(&mut text, u64::from(property))?;
+    text.extend_from_slice(b"\nc entries 0 of 65536\n")?;
+    push_worker(&mut text, 0, spent)?;
     text.extend_from_slice(b".\n")?;
     Ok(text)
 }

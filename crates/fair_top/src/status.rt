@@ -5,7 +5,7 @@ ghost use Rattle.fair_top.specs.Texts.{exit_number};
 
 use certificate::AnswerFault;
 use circuit::ModelFault;
-use edge::ReadEnd;
+use edge::{ReadEnd, Spending};
 use fair_workers::{Board, Report};
 
 /// How a run of the program ended.
@@ -18,6 +18,9 @@ pub enum Status {
     /// `solve` and `demo`: a stated budget is spent, of entries of the list or of each worker, as the report shows: a board
     /// without an outcome, and what each worker has spent.
     Unknown(Report),
+    /// `rounds`: the count of conflicts or that of steps is at its limit, and this was spent; nothing is known of the rounds of
+    /// this property, counted from 0.
+    OpenRounds { property: u32, spent: Spending },
     /// The bytes of MODEL are the text of no model, and this is their first fault.
     BadModel(ModelFault),
     /// A read of MODEL or ANSWER failed. Nothing was written.
@@ -26,9 +29,10 @@ pub enum Status {
     WriteFault,
     /// Memory was refused. Nothing was written.
     Memory,
-    /// `solve` and `safety`: the model has no property with this number, counted from 0.
+    /// `solve`, `safety`, `slice` and `rounds`: the model has no property with this number, counted from 0.
     NoProperty(u32),
-    /// `safety`: the translation's greatest variable would be this one, above the limit on models.
+    /// `safety`, `rounds`, and `check` of a text about rounds: the greatest variable of the translation, or of the property's
+    /// monitor, would be this one, above the limit on models.
     TooLarge(u64),
     /// The words are no command, or their values are no request of it. Nothing was read.
     Usage,
@@ -50,6 +54,13 @@ pub enum Done {
         property: u32,
         entries: u32,
     },
+    /// The text about rounds, judged or printed, shows of this property, counted from 0, that an initial run has `k` rounds, or
+    /// more, where they are reached; and else that none has.
+    Rounds {
+        property: u32,
+        k: u32,
+        reached: bool,
+    },
     /// `gen` and `safety`: the text of the model was written; `wave`: that of the waves.
     Printed,
     /// `demo`: property 0 of the generated model was decided, and this is a board with its outcome.
@@ -66,7 +77,7 @@ impl Status {
         match self {
             Status::Done(_) => 0,
             Status::Refused(_) => 1,
-            Status::Unknown(_) => 2,
+            Status::Unknown(_) | Status::OpenRounds { .. } => 2,
             Status::BadModel(_) => 3,
             Status::ReadFault => 4,
             Status::WriteFault => 5,

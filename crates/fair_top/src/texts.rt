@@ -2,9 +2,9 @@
 
 ghost use Rattle.std.specs.Prelude.{◌≡◌, ◌⊎◌, ◌++◌, true, false, IfOk, IfErr, OnOk, codes, decimal};
 ghost use Rattle.fair_top.specs.Statuses.{ends_silently, status_in, is_read_fault};
-ghost use Rattle.fair_top.specs.Texts.{text_of, line_with, bad_model_text, replay_text, proof_fault_text, entry_fault_text, refusal_text, done_text};
+ghost use Rattle.fair_top.specs.Texts.{text_of, line_with, bad_model_text, replay_text, proof_fault_text, entry_fault_text, refusal_text, ending_word, done_text};
 
-use crate::reports::text_of_report;
+use crate::reports::{text_of_open, text_of_report};
 use crate::status::{Done, Status};
 use certificate::AnswerFault;
 use circuit::ModelFault;
@@ -54,6 +54,7 @@ fn status_text(alloc: Global, status: &Status) -> Result<Vec<u8>, AllocError>
         Status::Done(done) => text_of_done(alloc, done),
         Status::Refused(fault) => text_of_answer(alloc, fault),
         Status::Unknown(report) => text_of_report(alloc, report),
+        Status::OpenRounds { property, spent } => text_of_open(alloc, *property, spent),
         Status::BadModel(fault) => text_of_model(alloc, fault),
         Status::NoProperty(n) => numbered(alloc, "no property ", u64::from(*n)),
         Status::TooLarge(n) => numbered(alloc, "too large ", *n),
@@ -198,6 +199,11 @@ fn text_of_done(alloc: Global, done: &Done) -> Result<Vec<u8>, AllocError>
             from,
         } => text_of_lasso(alloc, property, positions, from),
         Done::Holds { property, entries } => text_of_certificate(alloc, property, entries),
+        Done::Rounds {
+            property,
+            k,
+            reached,
+        } => text_of_rounds(alloc, property, k, reached),
         Done::Printed | Done::Demo(_) => Ok(Vec::new(alloc)),
     }
 }
@@ -229,4 +235,26 @@ fn text_of_certificate(alloc: Global, property: u32, entries: u32) -> Result<Vec
     push_number(&mut line, u64::from(entries))?;
     line.push(b'\n')?;
     Ok(line)
+}
+
+fn text_of_rounds(
+    alloc: Global,
+    property: u32,
+    k: u32,
+    reached: bool,
+) -> Result<Vec<u8>, AllocError>
+    ensures { IfOk result (λ line. line.items ≡ done_text (Done.Rounds property k reached)) }
+{
+    let mut line = words(alloc, "accepted rounds ")?;
+    push_number(&mut line, u64::from(k))?;
+    line.extend_from_slice(b" j")?;
+    push_number(&mut line, u64::from(property))?;
+    line.extend_from_slice(ending_word(reached).as_bytes())?;
+    Ok(line)
+}
+
+fn ending_word(reached: bool) -> &'static str
+    ensures { result.now ≡ ending_word reached }
+{
+    if reached { " reached\n" } else { " fewer\n" }
 }

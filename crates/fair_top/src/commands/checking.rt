@@ -1,25 +1,26 @@
-//! The command `check`: reads MODEL and ANSWER, and judges the answer. Writes nothing.
+//! The command `check`: reads MODEL and ANSWER, and judges the answer, or the text about rounds. Writes nothing.
 
 ghost use Rattle.std.specs.Prelude.{◌≡◌, ◌⊎◌, [], ◌∷◌};
 ghost use Rattle.edge.specs.Faults.{NoneFell};
 ghost use Rattle.edge.specs.Reads.{KeepsTexts};
-ghost use Rattle.certificate.specs.declared.ends.Accepted.{Accepted as AcceptedOf};
+ghost use Rattle.round_answers.specs.declared.ends.Judged.{Judged as JudgedOf};
 ghost use Rattle.fair_top.specs.ModelGiven.{OfSomeText};
-ghost use Rattle.fair_top.specs.Check.{status_of, done_of, JudgesAs, DecidesCheck, ShownByCheck};
+ghost use Rattle.fair_top.specs.Check.{status_of, JudgesAs, DecidesCheck, ShownByCheck, done_by, done_of};
 ghost use Rattle.fair_top.specs.Headline.{IsSilent, IsAnswered, FailedOf, ReadsModelFirst};
 ghost use Rattle.fair_top.specs.Statuses.{is_read_fault};
 
 use crate::models::model_of;
 use crate::status::{Done, Status};
-use certificate::{Accepted, AnswerEnd, check_answer};
+use certificate::{Accepted, AnswerEnd};
 use edge::Shelf;
+use round_answers::{JudgeEnd, Judged, check_answer};
 use std::alloc::Global;
 
 /// Reads the texts under both names and judges the answer: the status with which the command ends, but for its writing.
 pub(crate) fn check<H: Shelf>(alloc: Global, shelf: &mut H, model: &str, answer: &str) -> Status
     ensures found { JudgesAs OfSomeText (H.held shelf.old model.now) (H.held shelf.old answer.now) result ⊎ IsSilent result }
     ensures exactly { (verdict : Status) → DecidesCheck (H.held shelf.old model.now) (H.held shelf.old answer.now) verdict → IsAnswered verdict result }
-    ensures shown { (accepted : AcceptedOf) → result ≡ Status.Done (done_of accepted) → ShownByCheck (H.held shelf.old model.now) accepted }
+    ensures shown { (accepted : JudgedOf) → result ≡ Status.Done (done_by accepted) → ShownByCheck (H.held shelf.old model.now) accepted }
     ensures read { result ≡ Status.ReadFault → FailedOf (H.held shelf.old) (model.now ∷ answer.now ∷ []) (H.faults shelf.old) (H.faults shelf.new) }
     ensures reads { ReadsModelFirst H.reads (H.held shelf.old) (model.now ∷ answer.now ∷ []) (is_read_fault result) shelf.old shelf.new }
     ensures counts { NoneFell (H.faults shelf.old) (H.faults shelf.new) }
@@ -31,15 +32,34 @@ pub(crate) fn check<H: Shelf>(alloc: Global, shelf: &mut H, model: &str, answer:
     }
 }
 
-/// The status of a run that checked an answer.
-fn checked(end: Result<Accepted, AnswerEnd>) -> Status
+/// The status of a run that checked a text.
+fn checked(end: Result<Judged, JudgeEnd>) -> Status
     ensures { result ≡ status_of end }
 {
     match end {
-        Ok(found) => Status::Done(done_of(found)),
-        Err(AnswerEnd::Refused(fault)) => Status::Refused(fault),
-        Err(AnswerEnd::ReadFault) => Status::ReadFault,
-        Err(AnswerEnd::Memory) => Status::Memory,
+        Ok(found) => Status::Done(done_by(found)),
+        Err(JudgeEnd::Answer(AnswerEnd::Refused(fault))) => Status::Refused(fault),
+        Err(JudgeEnd::Answer(AnswerEnd::ReadFault)) => Status::ReadFault,
+        Err(JudgeEnd::Answer(AnswerEnd::Memory)) => Status::Memory,
+        Err(JudgeEnd::TooLarge(variable)) => Status::TooLarge(variable),
+    }
+}
+
+/// What was done where a text was accepted.
+fn done_by(found: Judged) -> Done
+    ensures { result ≡ done_by found }
+{
+    match found {
+        Judged::Answer(accepted) => done_of(accepted),
+        Judged::Rounds {
+            property,
+            k,
+            reached,
+        } => Done::Rounds {
+            property,
+            k,
+            reached,
+        },
     }
 }
 

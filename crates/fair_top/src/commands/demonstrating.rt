@@ -4,10 +4,11 @@
 ghost use Rattle.std.specs.Prelude.{◌≡◌, ◌≤◌, [], Some, length, codes, false, IfOk, IfErr};
 ghost use Rattle.std.specs.Arc.{arc_value};
 ghost use Rattle.certificate.specs.declared.ends.Accepted.{Accepted as AcceptedOf};
+ghost use Rattle.round_answers.specs.declared.ends.Judged.{Judged as JudgedOf};
 ghost use Rattle.certificate.specs.Answers.{IsGood};
 ghost use Rattle.wall_store.specs.Boards.{outcome_of};
 ghost use Rattle.fair_workers.specs.Runs.{IsAnswered as IsAnsweredBy, IsAnswer, IsReport};
-ghost use Rattle.fair_top.specs.Check.{done_of};
+ghost use Rattle.fair_top.specs.Check.{done_by};
 ghost use Rattle.fair_top.specs.Demo.{demo_task, verdict_text, summary_text, SumsUpAnswer, SumsUpBoard, SumsUpReport, SumsUp, GivesDemo};
 ghost use Rattle.fair_top.specs.Solve.{IsTextOfOutcome};
 ghost use Rattle.fair_top.specs.Statuses.{status_in, is_read_fault};
@@ -41,7 +42,7 @@ pub(crate) fn demonstrate(alloc: Global, request: &DemoRequest) -> Result<Outcom
     ensures ended { IfErr result (λ status. status ≡ Status.Memory) }
     ensures aloud { IfOk result (λ outcome. is_read_fault outcome.status ≡ false) }
     ensures unread { is_read_fault (status_in result) ≡ false }
-    ensures hidden { (accepted : AcceptedOf) → status_in result ≡ Status.Done (done_of accepted) → ⊥ }
+    ensures hidden { (accepted : JudgedOf) → status_in result ≡ Status.Done (done_by accepted) → ⊥ }
 {
     match scramble(alloc, request.seed, request.size) {
         Ok(model) => summed_up(alloc, request, model.into_circuit()),

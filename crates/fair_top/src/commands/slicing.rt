@@ -4,10 +4,10 @@
 ghost use Rattle.std.specs.Prelude.{◌≡◌, ◌<◌, ◌∷◌, [], ◌↔◌, length, false, IfOk, IfErr};
 ghost use Rattle.edge.specs.Faults.{NoneFell};
 ghost use Rattle.edge.specs.Reads.{KeepsTexts};
-ghost use Rattle.certificate.specs.declared.ends.Accepted.{Accepted as AcceptedOf};
+ghost use Rattle.round_answers.specs.declared.ends.Judged.{Judged as JudgedOf};
 ghost use Rattle.live_to_safe.specs.BadRuns.{HasFairLasso};
 ghost use Rattle.slice.specs.Slicing.{IsSlice};
-ghost use Rattle.fair_top.specs.Check.{done_of};
+ghost use Rattle.fair_top.specs.Check.{done_by};
 ghost use Rattle.fair_top.specs.Slice.{EndsSlice, GivesSlice, DecidesSlice};
 ghost use Rattle.fair_top.specs.Headline.{IsSilent, IsAnswered, FailedOf, ReadsModelFirst};
 ghost use Rattle.fair_top.specs.Statuses.{status_in, is_read_fault};
@@ -32,7 +32,7 @@ pub(crate) fn write_slice<H: Shelf>(
     ensures silent { IfErr result IsSilent }
     ensures aloud { IfOk result (λ outcome. is_read_fault outcome.status ≡ false) }
     ensures exactly { (verdict : Status) → DecidesSlice (H.held shelf.old model.now) property verdict → IsAnswered verdict (status_in result) }
-    ensures shown { (accepted : AcceptedOf) → status_in result ≡ Status.Done (done_of accepted) → ⊥ }
+    ensures shown { (accepted : JudgedOf) → status_in result ≡ Status.Done (done_by accepted) → ⊥ }
     ensures read { status_in result ≡ Status.ReadFault → FailedOf (H.held shelf.old) (model.now ∷ []) (H.faults shelf.old) (H.faults shelf.new) }
     ensures reads { ReadsModelFirst H.reads (H.held shelf.old) (model.now ∷ []) (is_read_fault (status_in result)) shelf.old shelf.new }
     ensures counts { NoneFell (H.faults shelf.old) (H.faults shelf.new) }

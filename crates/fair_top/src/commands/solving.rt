@@ -6,12 +6,12 @@ ghost use Rattle.std.specs.Arc.{arc_value};
 ghost use Rattle.aig_semantics.specs.Stimuli.{IsFairLassoOf};
 ghost use Rattle.edge.specs.Faults.{NoneFell};
 ghost use Rattle.edge.specs.Reads.{KeepsTexts};
-ghost use Rattle.certificate.specs.declared.ends.Accepted.{Accepted as AcceptedOf};
+ghost use Rattle.round_answers.specs.declared.ends.Judged.{Judged as JudgedOf};
 ghost use Rattle.certificate.specs.Writing.{certificate_of, certificate_text};
 ghost use Rattle.entry.specs.Proved.{IsGoodRefutation};
 ghost use Rattle.fair_workers.specs.Runs.{IsAnswered as IsAnsweredBy, IsAnswer, IsEnded};
 ghost use Rattle.wall_store.specs.Boards.{outcome_of, plain};
-ghost use Rattle.fair_top.specs.Check.{done_of};
+ghost use Rattle.fair_top.specs.Check.{done_by};
 ghost use Rattle.fair_top.specs.Solve.{limits_of, task_of, HasAsked, GivesSolve, DecidesSolve, ShownBySolve, IsStimulusOf, IsTextOfOutcome};
 ghost use Rattle.fair_top.specs.Solved.{AreWithin, IsSearch, EndsFor, IsPrinted, SolvesUnlessCut};
 ghost use Rattle.fair_top.specs.Headline.{IsSilent, IsAnswered, FailedOf, ReadsModelFirst};
@@ -49,7 +49,7 @@ pub(crate) fn solve<S: Fn(&Arc<Circuit>, SolveRequest) -> Result<Report, Ended>,
     ensures silent { IfErr result IsSilent }
     ensures aloud { IfOk result (λ outcome. is_read_fault outcome.status ≡ false) }
     ensures exactly { (verdict : Status) → DecidesSolve (H.held shelf.old model.now) request.now verdict → IsAnswered verdict (status_in result) }
-    ensures shown { (accepted : AcceptedOf) → status_in result ≡ Status.Done (done_of accepted) → ShownBySolve (H.held shelf.old model.now) accepted }
+    ensures shown { (accepted : JudgedOf) → status_in result ≡ Status.Done (done_by accepted) → ShownBySolve (H.held shelf.old model.now) accepted }
     ensures solved { HasAsked (H.held shelf.old model.now) request.now → SolvesUnlessCut (status_in result) }
     ensures read { status_in result ≡ Status.ReadFault → FailedOf (H.held shelf.old) (model.now ∷ []) (H.faults shelf.old) (H.faults shelf.new) }
     ensures reads { ReadsModelFirst H.reads (H.held shelf.old) (model.now ∷ []) (is_read_fault (status_in result)) shelf.old shelf.new }

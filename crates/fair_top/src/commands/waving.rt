@@ -4,8 +4,8 @@
 ghost use Rattle.std.specs.Prelude.{◌≡◌, ◌∷◌, [], false, IfOk, IfErr};
 ghost use Rattle.edge.specs.Faults.{NoneFell};
 ghost use Rattle.edge.specs.Reads.{KeepsTexts};
-ghost use Rattle.certificate.specs.declared.ends.Accepted.{Accepted as AcceptedOf};
-ghost use Rattle.fair_top.specs.Check.{done_of};
+ghost use Rattle.round_answers.specs.declared.ends.Judged.{Judged as JudgedOf};
+ghost use Rattle.fair_top.specs.Check.{done_by};
 ghost use Rattle.fair_top.specs.Wave.{GivesWave, DecidesWave};
 ghost use Rattle.fair_top.specs.Waved.{CarriesLasso, IsGoodLasso, IsWritten, IsWaved};
 ghost use Rattle.fair_top.specs.Texts.{text_of};
@@ -36,7 +36,7 @@ pub(crate) fn wave<H: Shelf>(
     ensures silent { IfErr result IsSilent }
     ensures aloud { IfOk result (λ outcome. is_read_fault outcome.status ≡ false) }
     ensures exactly { (verdict : Status) → DecidesWave (H.held shelf.old model.now) (H.held shelf.old answer.now) verdict → IsAnswered verdict (status_in result) }
-    ensures shown { (accepted : AcceptedOf) → status_in result ≡ Status.Done (done_of accepted) → ⊥ }
+    ensures shown { (accepted : JudgedOf) → status_in result ≡ Status.Done (done_by accepted) → ⊥ }
     ensures read { status_in result ≡ Status.ReadFault → FailedOf (H.held shelf.old) (model.now ∷ answer.now ∷ []) (H.faults shelf.old) (H.faults shelf.new) }
     ensures reads { ReadsModelFirst H.reads (H.held shelf.old) (model.now ∷ answer.now ∷ []) (is_read_fault (status_in result)) shelf.old shelf.new }
     ensures counts { NoneFell (H.faults shelf.old) (H.faults shelf.new) }

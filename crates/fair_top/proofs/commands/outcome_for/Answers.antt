@@ -75,6 +75,29 @@ pub returns-in-Slice-clause-exactly : goal.returns-in-Slice-clause-exactly
 returns-in-Slice-clause-exactly g c = λ verdict d.
     c.write_slice.ensures.exactly verdict (subst (λ (a : AskedInCode). Decides (g.H.Shelf.held c.args.shelf.now) (meant a) verdict) c.in-Slice.is d)
 
+pub returns-in-Rounds-clause-exactly : goal.returns-in-Rounds-clause-exactly
+returns-in-Rounds-clause-exactly g c = λ verdict d.
+    c.count_rounds.ensures.exactly verdict (subst (λ (a : AskedInCode). Decides (g.H.Shelf.held c.args.shelf.now) (meant a) verdict) c.in-Rounds.is d)
+
+pub returns-in-Rounds-clause-found : goal.returns-in-Rounds-clause-found
+returns-in-Rounds-clause-found g c =
+    subst (λ (a : AskedInCode). IfOk c.count_rounds.result (λ outcome. CommandGives (g.H.Shelf.held c.args.shelf.now) (meant a) outcome.status outcome.text.items))
+    (sym c.in-Rounds.is) c.count_rounds.ensures.found
+
+pub returns-in-Rounds-clause-shown : goal.returns-in-Rounds-clause-shown
+returns-in-Rounds-clause-shown g c = λ accepted e.
+    subst (λ (a : AskedInCode). ShownBy (g.H.Shelf.held c.args.shelf.now) (meant a) accepted) (sym c.in-Rounds.is) (c.count_rounds.ensures.shown accepted e)
+
+pub returns-in-Rounds-clause-solved : goal.returns-in-Rounds-clause-solved
+returns-in-Rounds-clause-solved g c =
+    subst (λ (a : AskedInCode). SolvesAsked (g.H.Shelf.held c.args.shelf.now) (meant a) (status_in c.count_rounds.result)) (sym c.in-Rounds.is) tt
+
+pub returns-in-Rounds-clause-reads : goal.returns-in-Rounds-clause-reads
+returns-in-Rounds-clause-reads g c =
+    subst (λ (a : AskedInCode).
+    ReadsModelFirst g.H.Shelf.reads (g.H.Shelf.held c.args.shelf.now) (names_in (meant a)) (is_read_fault (status_in c.count_rounds.result)) c.args.shelf.now c.count_rounds.new.shelf)
+    (sym c.in-Rounds.is) c.count_rounds.ensures.reads
+
 pub returns-in-Trim-clause-exactly : goal.returns-in-Trim-clause-exactly
 returns-in-Trim-clause-exactly g c = λ verdict d.
     c.remake-in-Trim.ensures.exactly verdict (subst (λ (a : AskedInCode). Decides (g.H.Shelf.held c.args.shelf.now) (meant a) verdict) c.in-Trim.is d)

@@ -1,0 +1,68 @@
+//! The words of the command `rounds`.
+
+ghost use Rattle.std.specs.Prelude.{◌≡◌, codes, false, IfOk, IfSome, IfNone};
+ghost use Rattle.clap.specs.Simple.{app_of, with_subcommand};
+ghost use Rattle.clap.specs.Walk.{rows_of};
+ghost use Rattle.clap.specs.Matches.{found_of};
+ghost use Rattle.clap.specs.declared.builder.command.Command.TheViews.{out-Command as fields_of};
+ghost use Rattle.command_lines.specs.Commands.{Asked as AskedFor, meant, Means};
+ghost use Rattle.command_lines.specs.Rounds.{rounds_command};
+
+use crate::commands::{Asked, DEFAULTS};
+use crate::words::{number_of, number_option, number_or, required, required_number, value_of};
+use clap::{ArgMatches, Command};
+use std::alloc::{AllocError, Global};
+
+/// How many rounds are asked for, of which property, and what may be spent on the search.
+#[derive(Clone, Copy)]
+pub struct RoundsRequest {
+    /// How many rounds, 1 to 64.
+    pub k: u32,
+    /// The number of the property, counted from 0.
+    pub property: u32,
+    /// How many conflicts may be counted, 0 to 4,294,967,295; the last value means no limit.
+    pub conflicts: u64,
+    /// How many steps may be counted, 0 to 4,294,967,295; the last value means no limit.
+    pub steps: u64,
+}
+
+fn rounds_command<'a>(alloc: Global) -> Result<Command<'a>, AllocError>
+    ensures shape { IfOk result (λ command. app_of command ≡ rounds_command) }
+    ensures local { IfOk result (λ command. (fields_of command).has_globals ≡ false) }
+{
+    Command::new(alloc, "rounds")
+        .arg(required(alloc, "MODEL"))?
+        .arg(required_number(alloc, "K", 1, 64))?
+        .arg(number_option(alloc, "property", 0, 4_294_967_295))?
+        .arg(number_option(alloc, "conflicts", 0, 4_294_967_295))?
+        .arg(number_option(alloc, "steps", 0, 4_294_967_295))
+}
+
+/// The program with this command.
+pub(crate) fn with_rounds<'a>(
+    alloc: Global,
+    program: Command<'a>,
+) -> Result<Command<'a>, AllocError>
+    ensures { IfOk result (λ more. app_of more ≡ with_subcommand (app_of program.entry) rounds_command.top) }
+{
+    program.subcommand(rounds_command(alloc)?)
+}
+
+/// The name and the numbers that `rounds` is given, with the defaults of `solve`.
+pub(crate) fn rounds_of<'a>(given: &ArgMatches<'a>) -> Option<Asked<'a>>
+    ensures found { IfSome result (λ asked. Means (meant asked) (codes "rounds") (rows_of (found_of given.now))) }
+    ensures none { IfNone result ((asked : AskedFor) → Means asked (codes "rounds") (rows_of (found_of given.now)) → ⊥) }
+{
+    let model = value_of(given, "MODEL")?;
+    let k = number_of(given, "K", 1, 64)?;
+    let property = number_or(given, "property", 0, 4_294_967_295, 0)?;
+    let conflicts = number_or(given, "conflicts", 0, 4_294_967_295, DEFAULTS.conflicts)?;
+    let steps = number_or(given, "steps", 0, 4_294_967_295, DEFAULTS.steps)?;
+    let request = RoundsRequest {
+        k: k as u32,
+        property: property as u32,
+        conflicts,
+        steps,
+    };
+    Some(Asked::Rounds { model, request })
+}
