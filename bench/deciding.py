@@ -1,0 +1,151 @@
+"""The tables of models that are decided: those of bench/models and bench/big, beside ABC, and by several workers."""
+import os
+import shutil
+import statistics
+import sys
+import time
+
+from measuring import ABC, BENCH, known_of, limited, make, program, run_once
+
+NO_LIMITS = ("--conflicts", "4294967295", "--steps", "4294967295", "--skeletons", "65536")
+
+
+def measure_solving_models(folder, seconds):
+    """Deciding each property of bench/models within so many processor seconds, one worker, no other limit."""
+    return solved_rows(folder, seconds, "models")
+
+
+def measure_solving_designs(folder, seconds):
+    """The same of bench/big."""
+    return solved_rows(folder, seconds, "big")
+
+
+def solved_rows(folder, seconds, place):
+    rows = [solved_row(folder, seconds, place, row) for row in known_of(place)]
+    times = sorted(float(row["solve, s"]) for row in rows if row["answer"] in VERDICTS.values())
+    if times:
+        within = sum(time <= 2 for time in times)
+        said = f"{len(times)} of {len(rows)} decided, {within} within two seconds"
+        print(f"{said}; median {statistics.median(times):.2f} s, 90 % {nine_tenths_of(times):.2f} s\n")
+    return rows
+
+
+def nine_tenths_of(times):
+    return times[len(times) * 9 // 10]
+
+
+VERDICTS = {"1": "fails", "0": "holds"}
+
+
+def verdict_of(text, model, known):
+    """The verdict that an answer gives, or nothing; the bench ends where it is another one than is known."""
+    said = VERDICTS.get(text[:1], "")
+    if said and known["verdict"] not in (said, said + "?", "open"):
+        sys.exit(f"{model} {known['property']}: {said}, and it is known that it {known['verdict']}")
+    return said
+
+
+def solve_words(model, known, workers):
+    return [program("fair_main"), "solve", model, "--property", known["property"], "--workers", str(workers), *NO_LIMITS]
+
+
+def check_answer(folder, model, known, text):
+    """What check says of an answer, and its processor seconds; the bench ends where it is not accepted."""
+    answer = os.path.join(folder, "answer")
+    with open(answer, "w") as file:
+        file.write(text)
+    judged, _, checked = run_once([program("fair_main"), "check", model, answer])
+    if not judged.startswith("accepted"):
+        sys.exit(f"{model} {known['property']}: check printed {judged}")
+    return judged, checked.ru_utime
+
+
+def solved_row(folder, seconds, place, known):
+    model = os.path.join(BENCH, place, known["name"] + ".aag")
+    out, _, usage = run_once(limited(seconds, solve_words(model, known, 1)))
+    said = verdict_of(out, model, known)
+    row = {
+        "model": known["name"],
+        "property": known["property"],
+        "latches": known["latches"],
+        "gates": known["gates"],
+        "known": known["verdict"],
+        "answer": said or "none in time",
+        "solve, s": f"{usage.ru_utime:.2f}",
+        "memory, MB": f"{usage.ru_maxrss * 1024 / 1e6:.0f}",
+        "entries": "",
+        "check, s": "",
+        **beside_abc(folder, seconds, model, known),
+        "prototype, s": known["prototype_s"],
+    }
+    if said:
+        judged, spent = check_answer(folder, model, known, out)
+        row["entries"] = judged.split()[-1] if said == "holds" else ""
+        row["check, s"] = f"{spent:.2f}"
+    return row
+
+
+# How many workers the table of workers has, by column.
+CREWS = (1, 2, 4)
+
+
+def measure_workers(folder, seconds):
+    """Deciding each property of bench/models within so many seconds of wall time, by one, two and four workers."""
+    rows, walls = [], {crew: {} for crew in CREWS}
+    for known in known_of("models"):
+        rows.append(workers_row(folder, seconds, known, walls))
+    for crew in CREWS:
+        times = sorted(walls[crew].values())
+        if times:
+            said = f"workers {crew}: {len(times)} of {len(rows)} decided"
+            print(f"{said}; median {statistics.median(times):.3f} s, 90 % {nine_tenths_of(times):.3f} s of wall time")
+    for crew in CREWS[1:]:
+        ratios = [walls[crew][key] / walls[1][key] for key in walls[crew] if walls[1].get(key, 0) > 0.1]
+        if ratios:
+            slower = sum(ratio > 1.2 for ratio in ratios)
+            mean = statistics.geometric_mean(ratios)
+            print(f"workers {crew}: {mean:.2f} of one worker's time over {len(ratios)} above 0.1 s; {slower} above 1.2")
+    print()
+    return rows
+
+
+def workers_row(folder, seconds, known, walls):
+    model = os.path.join(BENCH, "models", known["name"] + ".aag")
+    row = {"model": known["name"], "property": known["property"], "latches": known["latches"]}
+    for crew in CREWS:
+        begun = time.monotonic()
+        out, _, usage = run_once(["timeout", str(seconds), *solve_words(model, known, crew)])
+        spent = time.monotonic() - begun
+        said = verdict_of(out, model, known)
+        entries = ""
+        if said:
+            walls[crew][model, known["property"]] = spent
+            judged, _ = check_answer(folder, model, known, out)
+            entries = judged.split()[-1] if said == "holds" else ""
+        row[f"{crew}: answer"] = said or "none in time"
+        row[f"{crew}: s"] = f"{spent:.3f}"
+        row[f"{crew}: entries"] = entries
+        row[f"{crew}: MB"] = f"{usage.ru_maxrss * 1024 / 1e6:.0f}"
+    return row
+
+
+# What ABC is asked of a safety model, by the method of the index; of the others by what is known of the property.
+ABC_WORDS = {"l2s+bmc3": "bmc3", "l2s+pdr": "pdr", "l2s+sc+pdr": "scorr; pdr"}
+ABC_BY_VERDICT = {"fails": "bmc3", "holds": "scorr; pdr", "open": "pdr"}
+ABC_SAYS = {"was asserted in frame": "fails", "Property proved": "holds"}
+
+
+def beside_abc(folder, seconds, model, known):
+    """What ABC takes for the property, made a safety model (bench/l2s.py), where it is there; and by the index, whose best
+    method may be another."""
+    row = {"ABC, s": "", "index: ABC, s": known.get("abc_cpu_s", "")}
+    if shutil.which(ABC):
+        safety = os.path.join(folder, "safety.aig")
+        make("l2s.py", model, known["property"], safety)
+        words = ABC_WORDS.get(known.get("abc_method"), ABC_BY_VERDICT[known["verdict"].rstrip("?")])
+        out, _, usage = run_once(limited(seconds, [ABC, "-q", f"read {safety}; {words}"]))
+        said = next((verdict for words, verdict in ABC_SAYS.items() if words in out), "")
+        if said and known["verdict"] not in (said, said + "?", "open"):
+            sys.exit(f"{model} {known['property']}: ABC says {said}, and it is known that it {known['verdict']}")
+        row["ABC, s"] = f"{usage.ru_utime:.2f}" if said else "none in time"
+    return row
