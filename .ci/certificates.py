@@ -66,8 +66,6 @@ KNOWN = [
     (RISING, SIDED.replace("0-", "0") + END, "refused entry 1 clause 0 proof line 0 not unit 9"),
     (RISING, SIDED.replace("version 2", "version 1") + END, "refused shape line 10"),
     (RISING, SIDED + END.replace("\n0\n", "\n1\n"), "refused refutation use 1"),
-    (RISING, "rounds 1\nj0\n", "refused unknown status"),
-    (RISING, "c a\nrounds", "refused unknown status"),
     (RISING, "round 1\n", "refused shape line 1"),
     *[(RISING, "".join((WALL + END).splitlines(True)[:n]), f"refused shape line {n + 1}") for n in range(12)],
     (CHANGING, "1\nj0\nc hello\nx\n\n\n\n.\n", "accepted lasso j0 positions 2 loop 0"),

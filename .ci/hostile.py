@@ -1,7 +1,7 @@
 #!/usr/bin/env python3
-"""Models and certificates that are cut off anywhere, and such that would make a careless reader crash, recurse deeply,
-wait or take memory: the program must answer each as stated, within 60 seconds and 1 GB of address space; the longest
-texts and the most inputs that there may be, within 4 GB. A short text must be answered within 20 MB, which is less than
+"""Models, certificates and texts about rounds that are cut off anywhere, and such that would make a careless reader crash,
+recurse deeply, wait or take memory: the program must answer each as stated, within 60 seconds and 1 GB of address space; the
+longest texts and the most inputs that there may be, within 4 GB. A short text must be answered within 20 MB, which is less than
 the latches or gates take that its header may announce, and than what a certificate announces; but for inputs, which
 have no bytes in the binary form."""
 import itertools
@@ -293,13 +293,215 @@ def cut_certificates():
         yield f"the first {length} bytes of a certificate", LITTLE, text, judge.judge(circuit, text.encode())[0]
 
 
+# ---- texts about rounds
+
+# latches that stay 0, that change at each step, and that begin with either value and have to be 0; and an input
+STUCK, CHANGING = (f"aag 1 0 1 0 0 0 0 1 0\n2 {step}\n1\n2\n" for step in (2, 3))
+FREE = "aag 1 0 1 0 0 0 1 1 0\n2 2 2\n3\n1\n2\n"
+GIVEN = "aag 1 1 0 0 0 0 0 1 0\n2\n1\n2\n"
+# as many variables as there may be, so that there is no room for those that count
+LARGE = f"aag {VARIABLES} 0 1 0 0 0 0 1 0\n2 2\n1\n2\n"
+ABOUT = "rounds 1\nj0\n"
+LIST = ABOUT + "version 2\n"
+COUNTED = """reach 3 0
+
+3 0
+5 0
+7 0
+proof 1
+21 0 17 11 20 0
+proof 1
+21 0 20 13 5 6 0
+proof 1
+21 0 20 15 18 17 4 19 10 0
+"""
+NEVER = "refute 1 1\n0\n5 0 3 4 0\nend\n"
+FEWER = LIST + COUNTED + NEVER
+REACHED = "rounds 2\nj0\nrun\n0\n\n\n\n\n.\n"
+RUN = ABOUT + "run\n"
+IS_FEWER, IS_REACHED = "accepted rounds 1 j0 fewer\n", "accepted rounds 2 j0 reached\n"
+MANY = 1_000_000
+
+
+def cut_rounds(name, text, accepted):
+    """The text, whose numbers have one digit where they end a line of another kind than a proof's, cut off behind each byte."""
+    lines = text.split("\n")[:-1]
+    proofs = places_of_proofs(lines)
+    for length in range(len(text)):
+        whole, part = text[:length].count("\n"), text[:length].rpartition("\n")[2]
+        wanted = f"refused shape line {whole + 1}\n"
+        if part and part == lines[whole]:
+            wanted = f"refused shape line {whole + 2}\n" if whole + 1 < len(lines) else accepted
+        elif part and whole in proofs:
+            wanted = f"refused {proofs[whole]} bad line\n"
+        yield f"the first {length} bytes of {name}", LITTLE, text[:length], wanted
+
+
+def places_of_proofs(lines):
+    """How a fault in each line of a proof is told, by the places of these lines; there is one entry, and each proof has one line."""
+    behind = [place + 1 for place, line in enumerate(lines) if line.startswith("proof ")]
+    refuting = [place + 2 for place, line in enumerate(lines) if line.startswith("refute ")]
+    told = {place: f"entry 0 clause {clause} proof line 0" for clause, place in enumerate(behind)}
+    return told | {place: "refutation line 0" for place in refuting}
+
+
+def instead(old, new):
+    """The text that is accepted, with this in place of that, which stands there once."""
+    assert FEWER.count(old) == 1, old
+    return FEWER.replace(old, new)
+
+
+# the first two lines and the one behind them; what is wanted
+OPENED = [
+    *[(f"rounds {k}\nj0\n", "shape line 1") for k in ("0", "65", "01", "+1", "-1", "1 ", " 1", "", "x", "1 1", "1\r", "1\0")],
+    *[(f"rounds {k}\nj0\n", "shape line 1") for k in (GREATEST, 2**63 - 1, 2**63, 2**64 + 1, 2**128)],
+    *[(f"{word}\nj0\nversion 2\n", "shape line 1") for word in ("rounds", "rounds1", "roundsx", "Rounds 1", " rounds 1", "round 1")],
+    ("rounds 64\n", "shape line 2"),
+    *[(f"rounds 1\n{line}\n", "shape line 2") for line in ("0", "j", "j00", "J0", "j-1", "jx", "j0 ", "b0", "", f"j{2**63}", f"j{2**64}")],
+    *[(f"rounds 1\nj{n}\nwall\n", f"property {n}") for n in (1, GREATEST, GREATEST + 1, 2**63 - 1)],
+    *[(ABOUT + f"{line}\n", "shape line 3") for line in ("version 1", "version 3", "version", "version 02", "version 2 ", "Run", "run ")],
+    *[(ABOUT + f"{line}\n", "shape line 3") for line in ("", ".", "end", "0", "1", "2", "j0", "rounds 1", "holds j0", "wall 1 0")],
+    (ABOUT + COUNTED + NEVER, "shape line 3"),
+    (ABOUT + "refute 0 0\n\nend\n", "shape line 3"),
+]
+
+# entries and the refutation; what is wanted
+LISTED = [
+    (FEWER.replace("reach 3", "wall 3"), "shape line 4"),
+    (LIST + "wall 0 0\n\n" + COUNTED + NEVER, "shape line 4"),
+    (LIST + COUNTED + "wall 0 0\n\n", "shape line 15"),
+    (LIST + EMPTY.replace("wall", "reach") * 65536 + "wall 0 0\n\n", f"shape line {4 + 2 * 65536}"),
+    (LIST + EMPTY.replace("wall", "reach") * 65537, "too long"),
+    (LIST + f"reach {GREATEST_ID} 0\n\n", "shape line 6"),
+    (LIST + f"reach {GREATEST_ID} {GREATEST_ID}\n", "shape line 5"),
+    (LIST + f"reach {GREATEST_ID + 1} 0\n\n", "shape line 4"),
+    (LIST + f"reach 0 1\n{GREATEST_ID}\n", f"entry 0 use {GREATEST_ID}"),
+    (LIST + f"reach 0 1\n{GREATEST_ID + 1}\n", "shape line 5"),
+    (LIST + "reach 0 1\n0\n", "entry 0 use 0"),
+    (LIST + "reach 0 0\n\nreach 0 1\n0+\n", "entry 1 use 0"),
+    # of the monitor the latches are the variables 1 to 3, and the gates 4 to 6
+    *[(LIST + f"reach 1 0\n\n{literal} 0\n", f"entry 0 literal {literal}") for literal in (0, 8, 13, 14, 15, GREATEST, GREATEST_ID)],
+    (LIST + "reach 1 0\n\n18446744073709551618 0\n", "shape line 6"),
+    *[(LIST + f"reach 1 0\n\n{literal} 0\n", "entry 0 base 0") for literal in (2, 4, 6)],
+    (LIST + "reach 1 0\n\n0\n", "entry 0 base 0"),
+    (LIST + f"reach 1 0\n\n3 0\nproof {GREATEST_ID}\n", "shape line 8"),
+    (LIST + f"refute 0 {GREATEST_ID}\n\n", "shape line 6"),
+    (LIST + f"refute {GREATEST_ID} 0\n\n", "shape line 5"),
+    (LIST + "refute 0 0\n\nend\n", "refutation line 0 unfinished"),
+    # without entries the counter alone is asked for
+    (LIST + "refute 0 1\n\n2 0 1 0\nend\n", "refutation line 0 no conflict"),
+    (LIST + f"refute 0 1\n\n{GREATEST_ID} 0 {GREATEST_ID} 0\n", f"refutation line 0 no clause {GREATEST_ID}"),
+    (instead("20 13 5 6 0", "20 5 13 6 0"), "entry 0 clause 1 proof line 0 not unit 5"),
+    (instead("21 0 17 11 20 0", "20 0 17 11 20 0"), "entry 0 clause 0 proof line 0 id order"),
+    (instead("21 0 17 11 20 0", "21 0 17 11 21 0"), "entry 0 clause 0 proof line 0 no clause 21"),
+    (instead("21 0 17 11 20 0", "21 0 -17 11 20 0"), "entry 0 clause 0 proof line 0 rat"),
+    (instead("21 0 17 11 20 0", "22 9 0 17 11 20 0"), "entry 0 clause 0 proof line 1 unfinished"),
+    (instead("refute 1 1\n0\n", "refute 1 1\n1\n"), "refutation use 1"),
+    (instead("refute 1 1\n0\n", "refute 1 1\n0+\n"), "refutation use 0"),
+    (instead("5 0 3 4 0", "5 0 2 4 0"), "refutation line 0 no conflict"),
+    (instead("5 0 3 4 0", "4 0 3 4 0"), "refutation line 0 id order"),
+    (instead("5 0 3 4 0", "5 0 3 5 0"), "refutation line 0 no clause 5"),
+    (FEWER + FEWER, "trailing line 19"),
+    (FEWER + TITLE + WALL + END, "trailing line 19"),
+    (FEWER + "\n", "trailing line 19"),
+    (FEWER + "c said\n" + REACHED, "trailing line 20"),
+]
+
+# the model, a run, and what is wanted
+RUNS = [
+    *[(CHANGING, RUN + "0\n\n" + line + "\n", "shape line 6") for line in ("2", "0 0", "01\r", "X", "-", "run", "version 2", "\0")],
+    *[(CHANGING, RUN + line + "\n", "shape line 4") for line in (".", "2", "0 ", "j0")],
+    *[(CHANGING, RUN + line + "\n\n\n.\n", "width item 0") for line in ("", "00", "x0")],
+    *[(CHANGING, RUN + "0\n\n\n" + line + "\n.\n", "width item 3") for line in ("0", "x", "0101")],
+    (GIVEN, RUN + "\n1\n\n.\n", "width item 2"),
+    (GIVEN, RUN + "1\n1\n11\n.\n", "width item 0"),
+    (CHANGING, RUN + "1\n\n.\n", "initial latch 0"),
+    (CHANGING, RUN + "1\n0\n.\n", "width item 1"),
+    (FREE, RUN + "1\n\n.\n", "constraint position 0"),
+    (FREE, RUN + "0\n\n.\n", "rounds 0"),
+    (CHANGING, RUN + "0\n.\n", "rounds 0"),
+    (STUCK, RUN + "0\n\n\n\n.\n", "rounds 0"),
+    (CHANGING, REACHED.replace("rounds 2", "rounds 3"), "rounds 2"),
+    (CHANGING, REACHED.replace("rounds 2", "rounds 64"), "rounds 2"),
+    (CHANGING, REACHED.replace("0\n\n", "0\n"), "rounds 1"),
+    (CHANGING, REACHED.replace("j0", "j1"), "property 1"),
+    # a line behind the end comes before what is wrong in the run
+    *[(CHANGING, RUN + line + "\n\n.\n\n", "trailing line 7") for line in ("1", "00")],
+    (CHANGING, REACHED + REACHED, "trailing line 10"),
+    (CHANGING, REACHED + FEWER, "trailing line 10"),
+    (RISING, TITLE + WALL + END + FEWER, "trailing line 13"),
+    (LARGE, "rounds 1\nj1\n", "property 1"),
+]
+
+
+def long_rounds():
+    """Each with its model, name, memory and what is wanted; they are made one after another, since they are long."""
+    yield STUCK, "a first line of 100 MB about rounds", MEMORY, "rounds " + "1" * LENGTHY, "refused shape line 1\n"
+    yield STUCK, "a word of 100 MB in the third line", MEMORY, ABOUT + "r" * LENGTHY, "refused shape line 3\n"
+    yield STUCK, "a property of 100 MB", MEMORY, "rounds 1\nj" + "1" * LENGTHY, "refused shape line 2\n"
+    yield STUCK, "skipped lines of 100 MB", MEMORY, "u" * LENGTHY + "\n" + FEWER, IS_FEWER
+    yield STUCK, "a proof line of 100 MB about rounds", MEMORY, instead("5 0 3", "5" * LENGTHY), "refused refutation line 0 bad line\n"
+    wide = instead("5 0\n7", "5 " * MANY + "0\n7").replace("21 0 20 13", f"{MANY + 20} 0 20 13")
+    yield STUCK, "a clause of a million literals", MEMORY, wide, IS_FEWER
+    yield CHANGING, "values of 100 MB", MEMORY, RUN + "0" * LENGTHY + "\n.\n", "refused width item 0\n"
+    yield CHANGING, "a million positions", MEMORY, REACHED.replace(".", "\n" * MANY + "."), IS_REACHED
+    yield STUCK, "a million positions without a round", MEMORY, RUN + "0\n" + "\n" * MANY + ".\n", "refused rounds 0\n"
+    for name, beginning, piece, memory, wanted in LONG_ROUNDS:
+        yield STUCK, name, memory, beginning + piece * (LENGTHY // len(piece)), wanted
+
+
+# as ENDLESS, but each is 100 MB long: such a text is read again behind its first line, which no pipe allows
+LONG_ROUNDS = [
+    ("many words about rounds", "", "rounds\n", LITTLE, "refused shape line 1\n"),
+    ("many lines behind the property", ABOUT, "rounds 1\n", LITTLE, "refused shape line 3\n"),
+    ("many walls", LIST, EMPTY, LITTLE, "refused shape line 4\n"),
+    ("many reach entries", LIST, "reach 0 0\n\n", SOME, "refused too long\n"),
+    ("many proof lines about rounds", LIST + "refute 0 9\n\n", "2 0 1 0\n", LITTLE, "refused refutation line 0 no conflict\n"),
+    ("many lines behind the end of entries", FEWER, "\n", LITTLE, "refused trailing line 19\n"),
+    ("many lines behind the dot", REACHED, ".\n", LITTLE, "refused trailing line 10\n"),
+    ("many words in a run", RUN + "0\n", "run\n", LITTLE, "refused shape line 5\n"),
+    # what takes all memory: status 6, and nothing is printed
+    ("many positions", RUN + "0\n", "\n", SOME, ""),
+    ("a long number of rounds", "rounds ", "1", SOME, ""),
+    ("many values", RUN, "0", SOME, ""),
+]
+
+
+def rounds_cases():
+    """The model, the name, the memory, the text, and what is wanted."""
+    good = [
+        (STUCK, FEWER, IS_FEWER),
+        (CHANGING, REACHED, IS_REACHED),
+        (CHANGING, REACHED.replace("\n0\n", "\nx\n"), IS_REACHED),
+        (STUCK, "c\nu 0\n" + FEWER.replace("\n", "\nc\n") + "u\nc", IS_FEWER),
+        (GIVEN, RUN + "\n1\n.\n", "accepted rounds 1 j0 reached\n"),
+        # the last of the variables that count is M + 5
+        *[(LARGE, ABOUT + text, f"too large {VARIABLES + 5}\n") for text in ("", "wall\n", "run\n.\n")],
+    ]
+    refused = [(STUCK, text, wanted) for text, wanted in OPENED + LISTED] + RUNS
+    for model, text, wanted in good + [(model, text, f"refused {wanted}\n") for model, text, wanted in refused]:
+        # (as many entries as there may be take more than a short text may, and the largest model more than these)
+        memory = MUCH if model == LARGE else LITTLE if len(text) < 100_000 else SOME
+        yield model, f"{text[:60]!r} about rounds", memory, text, wanted
+    yield from ((STUCK, *case) for case in cut_rounds("entries of a monitor", FEWER, IS_FEWER))
+    yield from ((CHANGING, *case) for case in cut_rounds("a run", REACHED, IS_REACHED))
+    yield from ((STUCK, *junk(byte)) for byte in range(256))
+    yield from long_rounds()
+
+
+def junk(byte):
+    """A text with this byte where the word behind the property stands: a line that begins with c or u is skipped."""
+    text = ABOUT.encode() + bytes([byte]) * 9 + b"\nversion 2\n"
+    return f"byte {byte} in a text about rounds", LITTLE, text, f"refused shape line {5 if byte in b'cu' else 3}\n"
+
+
 # ---- runs
 
 
-def check(name, model, answer, memory, wanted, status=None):
+def check(name, model, answer, memory, wanted, status=None, word="check"):
     """Whether the program prints what begins so; or, where a status is given, just that, and ends with the status."""
     limited = ["bash", "-c", 'ulimit -v "$0" && exec "$@"', str(memory)]
-    command = [*limited, PROGRAM, "check", model, answer]
+    command = [*limited, PROGRAM, word, model, answer]
     try:
         ran = subprocess.run(command, stdout=subprocess.PIPE, timeout=60, text=True)
     except subprocess.TimeoutExpired:
@@ -372,15 +574,40 @@ def check_certificates(folder):
     return check("an endless line of a proof", model, inner, SOME, "", 6) and good, count + len(ENDLESS) + 2
 
 
+# the status by the first word that is printed, where it is not 0
+STATUSES = {"refused": 1, "too": 9, "": 6}
+
+
+def check_rounds(folder):
+    """Whether each text about rounds is answered as it must be, and how many they are."""
+    model, answer = os.path.join(folder, "counted"), os.path.join(folder, "rounds")
+    good, count = True, 0
+    for text_of_model, name, memory, text, wanted in rounds_cases():
+        write(model, text_of_model)
+        write(answer, text)
+        good = check(name, model, answer, memory, wanted, STATUSES.get(wanted.split(" ")[0], 0)) and good
+        count += 1
+    write(model, CHANGING)
+    pipe = endless(folder, "a pipe with a text about rounds", REACHED, "c\n")
+    good = check("a pipe with a text about rounds", model, pipe, LITTLE, "", 4) and good
+    # other commands work with answers alone
+    write(answer, REACHED)
+    for word in ("convert", "wave"):
+        good = check(f"{word} of a run about rounds", model, answer, LITTLE, "refused unknown status\n", 1, word) and good
+    return good, count + 3
+
+
 def main():
     # a first run without limits, which builds the program where it is not built
     subprocess.run([os.path.join(TOP, "fairlive")], stdout=subprocess.DEVNULL)
     with tempfile.TemporaryDirectory() as folder:
         models, models_count = check_models(folder)
         certificates, certificates_count = check_certificates(folder)
-    if models and certificates:
-        print(f"hostile texts: {models_count} models and {certificates_count} certificates answered as they must be")
-    return 0 if models and certificates else 1
+        rounds, rounds_count = check_rounds(folder)
+    if models and certificates and rounds:
+        counts = f"{models_count} models, {certificates_count} certificates and {rounds_count} texts about rounds"
+        print(f"hostile texts: {counts} answered as they must be")
+    return 0 if models and certificates and rounds else 1
 
 
 if __name__ == "__main__":
