@@ -11,8 +11,11 @@ use Rattle.command_lines.specs.Demo.{MeansDemo}
 use Rattle.command_lines.specs.Slice.{MeansSlice}
 use Rattle.command_lines.specs.Safety.{MeansSafety}
 use Rattle.command_lines.specs.Rounds.{MeansRounds}
-use Rattle.command_lines.specs.Commands.{Asked, Solve, Check, Gen, Demo, Wave, Slice, Convert, Safety, Rounds, Trim, Means}
+use Rattle.command_lines.specs.Commands.{Asked, Solve, Check, Gen, Demo, Wave, Slice, Convert, Safety, Rounds, Trim, Export, Means}
 use Rattle.command_lines.proofs.Values.{SomeOrNone, Asks, solve_or_none, names_or_none, request_or_none, demo_or_none, one_solve, one_pair, one_request, one_demo, Wants, safety_or_none, one_wanted, AsksRounds, rounds_or_none, one_rounds}
+use Rattle.command_lines.specs.Export.{IsItemGiven}
+use Rattle.command_lines.specs.declared.commands.exporting.ExportRequest.{ExportRequest}
+use Rattle.command_lines.proofs.Exports.{Exports, export_or_none, one_export}
 
 -- what the values of a command ask for, if they do
 asked_from : {T : Type 0} {P : T → Type 0} → (T → Asked) → SomeOrNone P → Option Asked
@@ -32,7 +35,8 @@ request_in name rows =
     (cond (bytes_eq name (codes "safety")) (asked_from (λ (wants : Wants). Safety wants.0 wants.1) (safety_or_none rows))
     (cond (bytes_eq name (codes "rounds")) (asked_from (λ (asks : AsksRounds). Rounds asks.0 asks.1) (rounds_or_none rows))
     (cond (bytes_eq name (codes "trim")) (asked_from (λ (names : List ℕ × List ℕ). Trim names.0 names.1) (names_or_none rows))
-    None)))))))))
+    (cond (bytes_eq name (codes "export")) (asked_from (λ (exports : Exports). Export exports.0 exports.1 exports.2) (export_or_none rows))
+    None))))))))))
 
 is_picked : (name own : List ℕ) (rows : List Row) (asked : Asked) (this other : Option Asked) → (name ≡ own → this ≡ Some asked → Means asked name rows)
     → (other ≡ Some asked → Means asked name rows) → cond (bytes_eq name own) this other ≡ Some asked → Means asked name rows
@@ -65,7 +69,8 @@ reads_means name rows asked =
     (is_picked name (codes "safety") rows asked _ _ (λ is. from_means name rows asked (λ (wants : Wants). Safety wants.0 wants.1) (safety_or_none rows) (λ t h. (is, h)))
     (is_picked name (codes "rounds") rows asked _ _ (λ is. from_means name rows asked (λ (asks : AsksRounds). Rounds asks.0 asks.1) (rounds_or_none rows) (λ t h. (is, h)))
     (is_picked name (codes "trim") rows asked _ _ (λ is. from_means name rows asked (λ (names : List ℕ × List ℕ). Trim names.0 names.1) (names_or_none rows) (λ t h. (is, h)))
-    (none_asked name rows asked))))))))))
+    (is_picked name (codes "export") rows asked _ _ (λ is. from_means name rows asked (λ (exports : Exports). Export exports.0 exports.1 exports.2) (export_or_none rows) (λ t h. (is, h)))
+    (none_asked name rows asked)))))))))))
 
 -- the values of a command that ask for something ask for nothing else
 from_found : {T : Type 0} {P : T → Type 0} (form : T → Asked) (either : SomeOrNone P) (t : T) → P t
@@ -106,6 +111,9 @@ means_reads name rows (Rounds model request) h =
 means_reads name rows (Trim model answer) h =
     ap (λ (n : List ℕ). request_in n rows) h.0
     ∙ from_found (λ (names : List ℕ × List ℕ). Trim names.0 names.1) (names_or_none rows) (model, answer) h.1 (one_pair rows (λ m a. Trim m a))
+means_reads name rows (Export model answer request) h =
+    ap (λ (n : List ℕ). request_in n rows) h.0
+    ∙ from_found (λ (exports : Exports). Export exports.0 exports.1 exports.2) (export_or_none rows) (model, answer, request) h.1 (one_export rows)
 
 -- the values are of one request at most
 pub one_meant : (name : List ℕ) (rows : List Row) (a b : Asked) → Means a name rows → Means b name rows → a ≡ b
@@ -148,3 +156,8 @@ no_demo rows none = none_read (codes "demo") rows (from_none (λ (request : Demo
 pub no_rounds : (rows : List Row) → ((asks : AsksRounds) → MeansRounds rows asks.0 asks.1 → ⊥) → (asked : Asked) → Means asked (codes "rounds") rows → ⊥
 unfolding request_in
 no_rounds rows none = none_read (codes "rounds") rows (from_none (λ (asks : AsksRounds). Rounds asks.0 asks.1) (rounds_or_none rows) none)
+
+pub no_export : (rows : List Row) → ((request : ExportRequest) → IsItemGiven rows request → ⊥) → (asked : Asked) → Means asked (codes "export") rows → ⊥
+unfolding request_in
+no_export rows none =
+    none_read (codes "export") rows (from_none (λ (exports : Exports). Export exports.0 exports.1 exports.2) (export_or_none rows) (λ exports h. none exports.2 h.1))

@@ -1,4 +1,5 @@
 mod Globals
 mod Values
+mod Exports
 mod EachCommand
 pub mod Taken

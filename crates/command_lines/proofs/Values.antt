@@ -63,7 +63,7 @@ given_or_none P (Some text) each = by (each text)
     by (inl found) = inl (found.0, (text, refl, found.1))
     by (inr none) = inr (λ x h. (let same : h.0 ≡ text = cc in none x (subst (λ (t : List ℕ). P t x) same h.2)))
 
-number_given_or_none : (rows : List Row) (name : List ℕ) (low high : ℕ) → high < 2 ^ 64 → SomeOrNone (IsNumberGiven rows name low high)
+pub number_given_or_none : (rows : List Row) (name : List ℕ) (low high : ℕ) → high < 2 ^ 64 → SomeOrNone (IsNumberGiven rows name low high)
 number_given_or_none rows name low high small =
     given_or_none (λ text n. IsNumberIn low high text n) (first_of name rows) (λ text. number_or_none low high text small)
 
@@ -87,7 +87,7 @@ request_or_none rows =
 apart : (a b : List ℕ) → bytes_eq a b ≡ false → a ≡ b → ⊥
 apart a b e same = false≢true (sym e ∙ (bytes_eq-Decides a b).1 same)
 
-one_text : (o : Option (List ℕ)) (a b : List ℕ) → o ≡ Some a → o ≡ Some b → a ≡ b
+pub one_text : (o : Option (List ℕ)) (a b : List ℕ) → o ≡ Some a → o ≡ Some b → a ≡ b
 one_text o a b e f = let same : Some a ≡ Some b = sym e ∙ f in cc
 
 one_kind : (a b : GenKind) → name_of_kind a ≡ name_of_kind b → a ≡ b
@@ -96,7 +96,7 @@ one_kind Scramble Scramble e = refl
 one_kind Ring Scramble e = absurd (apart (codes "ring") (codes "scramble") refl e)
 one_kind Scramble Ring e = absurd (apart (codes "scramble") (codes "ring") refl e)
 
-one_number : (rows : List Row) (name : List ℕ) (low high n m : ℕ) → IsNumberGiven rows name low high n → IsNumberGiven rows name low high m → n ≡ m
+pub one_number : (rows : List Row) (name : List ℕ) (low high n m : ℕ) → IsNumberGiven rows name low high n → IsNumberGiven rows name low high m → n ≡ m
 one_number rows name low high n m a b =
     let same : a.0 ≡ b.0 = one_text (first_of name rows) a.0 b.0 a.1 b.1 in
     sym a.2.value ∙ ap (λ (text : List ℕ). digits_value 10 (without_leading_plus text)) same ∙ b.2.value

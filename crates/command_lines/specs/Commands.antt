@@ -9,6 +9,7 @@ use Rattle.command_lines.specs.declared.commands.solving.SolveRequest.{SolveRequ
 use Rattle.command_lines.specs.declared.commands.generating.GenRequest.{GenRequest}
 use Rattle.command_lines.specs.declared.commands.demonstrating.DemoRequest.{DemoRequest}
 use Rattle.command_lines.specs.declared.commands.counting.RoundsRequest.{RoundsRequest}
+use Rattle.command_lines.specs.declared.commands.exporting.ExportRequest.{ExportRequest}
 use Rattle.command_lines.specs.Solve.{solve_command, MeansSolve}
 use Rattle.command_lines.specs.Check.{check_command, MeansCheck}
 use Rattle.command_lines.specs.Gen.{gen_command, MeansGen}
@@ -19,6 +20,7 @@ use Rattle.command_lines.specs.Convert.{convert_command, MeansConvert}
 use Rattle.command_lines.specs.Safety.{safety_command, MeansSafety}
 use Rattle.command_lines.specs.Rounds.{rounds_command, MeansRounds}
 use Rattle.command_lines.specs.Trim.{trim_command, MeansTrim}
+use Rattle.command_lines.specs.Export.{export_command, MeansExport}
 
 -- what the words may ask for
 pub data Asked : Type 0 where
@@ -42,6 +44,8 @@ pub data Asked : Type 0 where
   Rounds : (model : List ℕ) (request : RoundsRequest) → Asked
   -- write the answer without what it does not need
   Trim : (model : List ℕ) (answer : List ℕ) → Asked
+  -- write the clauses of an obligation of the answer, or its proof, for other checkers
+  Export : (model : List ℕ) (answer : List ℕ) (request : ExportRequest) → Asked
 
 -- the names whose texts are read for it, in this order: MODEL's is the first
 abbrev pub names_in : Asked → List (List ℕ)
@@ -55,6 +59,7 @@ names_in (Convert model answer) = model ∷ answer ∷ []
 names_in (Safety model property) = model ∷ []
 names_in (Rounds model request) = model ∷ []
 names_in (Trim model answer) = model ∷ answer ∷ []
+names_in (Export model answer request) = model ∷ answer ∷ []
 
 -- what a value in the code asks for
 abbrev pub meant : AskedInCode → Asked
@@ -68,19 +73,20 @@ meant (code.Convert model answer) = Convert model.now answer.now
 meant (code.Safety model property) = Safety model.now property
 meant (code.Rounds model request) = Rounds model.now request
 meant (code.Trim model answer) = Trim model.now answer.now
+meant (code.Export model answer request) = Export model.now answer.now request
 
 -- what is written where the words are no command
 abbrev pub usage_text : List ℕ
-usage_text = codes "usage: fairlive solve MODEL [--property N] [--workers W] [--conflicts C] [--steps S] [--skeletons K]\n       fairlive check MODEL ANSWER\n       fairlive gen KIND SEED SIZE [--binary]\n       fairlive demo SEED SIZE\n       fairlive wave MODEL ANSWER\n       fairlive slice MODEL [--property N]\n       fairlive convert MODEL ANSWER\n       fairlive safety MODEL [--property N]\n       fairlive rounds MODEL K [--property N] [--conflicts C] [--steps S]\n       fairlive trim MODEL ANSWER\n"
+usage_text = codes "usage: fairlive solve MODEL [--property N] [--workers W] [--conflicts C] [--steps S] [--skeletons K]\n       fairlive check MODEL ANSWER\n       fairlive gen KIND SEED SIZE [--binary]\n       fairlive demo SEED SIZE\n       fairlive wave MODEL ANSWER\n       fairlive slice MODEL [--property N]\n       fairlive convert MODEL ANSWER\n       fairlive safety MODEL [--property N]\n       fairlive rounds MODEL K [--property N] [--conflicts C] [--steps S]\n       fairlive trim MODEL ANSWER\n       fairlive export MODEL ANSWER ENTRY CLAUSE [--lrat]\n"
 
 -- the program, which wants a command
 abbrev pub fairlive : App
 fairlive =
     with_subcommand (with_subcommand (with_subcommand (with_subcommand (with_subcommand
-    (with_subcommand (with_subcommand (with_subcommand (with_subcommand (with_subcommand
+    (with_subcommand (with_subcommand (with_subcommand (with_subcommand (with_subcommand (with_subcommand
     (on_top (λ s. record s { subcommand_required = true; disable_help_subcommand = true }) (new_app (codes "fairlive")))
     solve_command.top) check_command.top) gen_command.top) demo_command.top) wave_command.top)
-    slice_command.top) convert_command.top) safety_command.top) rounds_command.top) trim_command.top
+    slice_command.top) convert_command.top) safety_command.top) rounds_command.top) trim_command.top) export_command.top
 
 -- the command of this name, with the values of these rows, asks for this
 abbrev pub Means : Asked → List ℕ → List Row → Type 0
@@ -94,3 +100,4 @@ Means (Convert model answer) name rows = (name ≡ codes "convert") × MeansConv
 Means (Safety model property) name rows = (name ≡ codes "safety") × MeansSafety rows model property
 Means (Rounds model request) name rows = (name ≡ codes "rounds") × MeansRounds rows model request
 Means (Trim model answer) name rows = (name ≡ codes "trim") × MeansTrim rows model answer
+Means (Export model answer request) name rows = (name ≡ codes "export") × MeansExport rows model answer request

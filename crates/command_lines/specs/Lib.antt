@@ -9,6 +9,7 @@ pub mod Convert
 pub mod Safety
 pub mod Rounds
 pub mod Trim
+pub mod Export
 pub mod Commands
 pub mod Asking
 pub mod Met

@@ -20,6 +20,7 @@ mod checking;
 mod converting;
 mod counting;
 mod demonstrating;
+mod exporting;
 mod generating;
 mod slicing;
 mod solving;
@@ -35,6 +36,8 @@ pub use counting::RoundsRequest;
 use counting::{rounds_of, with_rounds};
 pub use demonstrating::DemoRequest;
 use demonstrating::{demo_of, with_demo};
+pub use exporting::ExportRequest;
+use exporting::{export_of, with_export};
 pub use generating::{GenKind, GenRequest};
 use generating::{gen_of, with_gen};
 use slicing::{slice_of, with_slice};
@@ -92,11 +95,17 @@ pub enum Asked<'a> {
         model: &'a str,
         answer: &'a str,
     },
+    /// Write the clauses of an obligation of the answer, or its proof, for other checkers.
+    Export {
+        model: &'a str,
+        answer: &'a str,
+        request: ExportRequest,
+    },
 }
 
 /// What is written where the words are no command: a line for each command.
 pub const USAGE: &str =
-    "usage: fairlive solve MODEL [--property N] [--workers W] [--conflicts C] [--steps S] [--skeletons K]\n       fairlive check MODEL ANSWER\n       fairlive gen KIND SEED SIZE [--binary]\n       fairlive demo SEED SIZE\n       fairlive wave MODEL ANSWER\n       fairlive slice MODEL [--property N]\n       fairlive convert MODEL ANSWER\n       fairlive safety MODEL [--property N]\n       fairlive rounds MODEL K [--property N] [--conflicts C] [--steps S]\n       fairlive trim MODEL ANSWER\n";
+    "usage: fairlive solve MODEL [--property N] [--workers W] [--conflicts C] [--steps S] [--skeletons K]\n       fairlive check MODEL ANSWER\n       fairlive gen KIND SEED SIZE [--binary]\n       fairlive demo SEED SIZE\n       fairlive wave MODEL ANSWER\n       fairlive slice MODEL [--property N]\n       fairlive convert MODEL ANSWER\n       fairlive safety MODEL [--property N]\n       fairlive rounds MODEL K [--property N] [--conflicts C] [--steps S]\n       fairlive trim MODEL ANSWER\n       fairlive export MODEL ANSWER ENTRY CLAUSE [--lrat]\n";
 
 /// Why the words ask for nothing.
 #[derive(Drop)]
@@ -160,7 +169,8 @@ fn program<'a>(alloc: Global) -> Result<Command<'a>, AllocError>
     let program = with_convert(alloc, program)?;
     let program = with_safety(alloc, program)?;
     let program = with_rounds(alloc, program)?;
-    with_trim(alloc, program)
+    let program = with_trim(alloc, program)?;
+    with_export(alloc, program)
 }
 
 /// What the command that was met asks for, if it is one of the program's and its values are a request.
@@ -197,6 +207,7 @@ fn asked_as<'a>(name: &str, given: &ArgMatches<'a>) -> Option<Asked<'a>>
         "safety" => safety_of(given),
         "rounds" => rounds_of(given),
         "trim" => trim_of(given),
+        "export" => export_of(given),
         _ => None,
     }
 }

@@ -11,6 +11,7 @@ use Rattle.command_lines.specs.Convert.{convert_command}
 use Rattle.command_lines.specs.Safety.{safety_command}
 use Rattle.command_lines.specs.Rounds.{rounds_command}
 use Rattle.command_lines.specs.Trim.{trim_command}
+use Rattle.command_lines.specs.Export.{export_command}
 use Rattle.command_lines.proofs.commands.program.Goals as goal
 
 -- the program with its first commands
@@ -23,9 +24,11 @@ with_waves =
 pub returns : goal.returns
 returns c =
     let first : app_of c.in_ok-program-5.program ≡ with_waves = search rules in
-    IfOk-weaker c.with_trim.result _ _
+    IfOk-weaker c.with_export.result _ _
     (λ command h.
     h
+    ∙ ap (λ (a : App). with_subcommand a export_command.top)
+    (c.in_ok-program-10.ensures
     ∙ ap (λ (a : App). with_subcommand a trim_command.top)
     (c.in_ok-program-9.ensures
     ∙ ap (λ (a : App). with_subcommand a rounds_command.top)
@@ -33,5 +36,5 @@ returns c =
     ∙ ap (λ (a : App). with_subcommand a safety_command.top)
     (c.in_ok-program-7.ensures
     ∙ ap (λ (a : App). with_subcommand a convert_command.top)
-    (c.in_ok-program-6.ensures ∙ ap (λ (a : App). with_subcommand a slice_command.top) first)))))
-    c.with_trim.ensures
+    (c.in_ok-program-6.ensures ∙ ap (λ (a : App). with_subcommand a slice_command.top) first))))))
+    c.with_export.ensures

@@ -1,0 +1,77 @@
+//! The words of the command `export`.
+
+ghost use Rattle.std.specs.Prelude.{◌≡◌, codes, false, IfOk, IfSome, IfNone};
+ghost use Rattle.clap.specs.Simple.{app_of, with_subcommand};
+ghost use Rattle.clap.specs.Walk.{rows_of};
+ghost use Rattle.clap.specs.Matches.{found_of};
+ghost use Rattle.clap.specs.declared.builder.command.Command.TheViews.{out-Command as fields_of};
+ghost use Rattle.command_lines.specs.declared.commands.exporting.ExportRequest.{ExportRequest as RequestOf};
+ghost use Rattle.command_lines.specs.Commands.{Asked as AskedFor, meant, Means};
+ghost use Rattle.command_lines.specs.Export.{export_command, IsItemGiven};
+
+use crate::commands::Asked;
+use crate::words::{flag, flag_of, number_of, required, required_number, value_of};
+use clap::{ArgMatches, Command};
+use std::alloc::{AllocError, Global};
+
+/// Which obligation of an answer is asked for, and in which form.
+#[derive(Clone, Copy)]
+pub struct ExportRequest {
+    /// The number of an entry, or behind the last one for the refutation.
+    pub entry: u32,
+    /// The number of the entry's clause, or 0.
+    pub clause: u32,
+    /// Its proof, else its clauses.
+    pub lrat: bool,
+}
+
+fn export_command<'a>(alloc: Global) -> Result<Command<'a>, AllocError>
+    ensures shape { IfOk result (λ command. app_of command ≡ export_command) }
+    ensures local { IfOk result (λ command. (fields_of command).has_globals ≡ false) }
+{
+    Command::new(alloc, "export")
+        .arg(required(alloc, "MODEL"))?
+        .arg(required(alloc, "ANSWER"))?
+        .arg(required_number(alloc, "ENTRY", 0, 4_294_967_295))?
+        .arg(required_number(alloc, "CLAUSE", 0, 4_294_967_295))?
+        .arg(flag(alloc, "lrat"))
+}
+
+/// The program with this command.
+pub(crate) fn with_export<'a>(
+    alloc: Global,
+    program: Command<'a>,
+) -> Result<Command<'a>, AllocError>
+    ensures { IfOk result (λ more. app_of more ≡ with_subcommand (app_of program.entry) export_command.top) }
+{
+    program.subcommand(export_command(alloc)?)
+}
+
+/// The names and the item that `export` is given.
+pub(crate) fn export_of<'a>(given: &ArgMatches<'a>) -> Option<Asked<'a>>
+    ensures found { IfSome result (λ asked. Means (meant asked) (codes "export") (rows_of (found_of given.now))) }
+    ensures none { IfNone result ((asked : AskedFor) → Means asked (codes "export") (rows_of (found_of given.now)) → ⊥) }
+{
+    let model = value_of(given, "MODEL")?;
+    let answer = value_of(given, "ANSWER")?;
+    let request = item_of(given)?;
+    Some(Asked::Export {
+        model,
+        answer,
+        request,
+    })
+}
+
+fn item_of(given: &ArgMatches) -> Option<ExportRequest>
+    ensures found { IfSome result (IsItemGiven (rows_of (found_of given.now))) }
+    ensures none { IfNone result ((request : RequestOf) → IsItemGiven (rows_of (found_of given.now)) request → ⊥) }
+{
+    let entry = number_of(given, "ENTRY", 0, 4_294_967_295)?;
+    let clause = number_of(given, "CLAUSE", 0, 4_294_967_295)?;
+    let lrat = flag_of(given, "lrat");
+    Some(ExportRequest {
+        entry: entry as u32,
+        clause: clause as u32,
+        lrat,
+    })
+}
