@@ -144,6 +144,7 @@ without_asked told request (statuses.Unknown report) result ends (inl same) aske
 without_asked told request (statuses.NoProperty n) result ends (inl same) asked = absurd ends
 without_asked told request (statuses.TooLarge n) result ends (inl same) asked = absurd ends
 without_asked told request (statuses.OpenRounds n spent) result ends (inl same) asked = absurd ends
+without_asked told request (statuses.NoItem entry clause) result ends (inl same) asked = absurd ends
 
 -- What is printed.
 

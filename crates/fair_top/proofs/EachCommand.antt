@@ -5,7 +5,7 @@ use Rattle.edge.specs.Writes.{Writes}
 use Rattle.fair_top.specs.declared.status.Status.{Status}
 use Rattle.fair_top.specs.declared.status.Status.TheVariants as statuses
 use Rattle.fair_top.specs.Convert.{IsConversion}
-use Rattle.command_lines.specs.Commands.{Asked, Solve, Check, Gen, Demo, Wave, Slice, Convert, Safety, Rounds, Trim}
+use Rattle.command_lines.specs.Commands.{Asked, Solve, Check, Gen, Demo, Wave, Slice, Convert, Safety, Rounds, Trim, Export}
 use Rattle.fair_top.specs.Trim.{IsTrimming}
 use Rattle.fair_top.specs.Commands.{CommandGives}
 use Rattle.fair_top.specs.Solved.{SolvesAsked}
@@ -15,6 +15,7 @@ use Rattle.fair_top.proofs.Dumped.{of_wave}
 use Rattle.fair_top.proofs.Remaking.{of_remade}
 use Rattle.fair_top.proofs.Translated.{of_safety}
 use Rattle.fair_top.proofs.Sliced.{of_slice}
+use Rattle.fair_top.proofs.Exported.{of_export}
 
 -- ---- where memory is refused
 
@@ -29,6 +30,7 @@ memory_solves held (Convert model answer) result e = tt
 memory_solves held (Safety model property) result e = tt
 memory_solves held (Rounds model request) result e = tt
 memory_solves held (Trim model answer) result e = tt
+memory_solves held (Export model answer request) result e = tt
 
 -- ---- what a sink saw
 
@@ -54,3 +56,5 @@ of_command Write held (Rounds model request) status text old new gives writes =
     of_rounds Write (held model) request status text old new gives writes
 of_command Write held (Trim model answer) status text old new gives writes =
     of_remade Write IsTrimming (held model) (held answer) status text old new gives writes
+of_command Write held (Export model answer request) status text old new gives writes =
+    of_export Write request (held model) (held answer) status text old new gives writes

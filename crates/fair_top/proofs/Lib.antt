@@ -6,6 +6,7 @@ mod Dumped
 mod Remaking
 mod Converted
 mod Trimmed
+mod Exported
 mod Translated
 mod Counted
 mod Sliced

@@ -2,7 +2,7 @@
 -- definition.
 use Rattle.std.specs.Prelude.{ℕ, List, Option}
 use Rattle.round_answers.specs.declared.ends.Judged.{Judged}
-use Rattle.command_lines.specs.Commands.{Asked, Solve, Check, Gen, Demo, Wave, Slice, Convert, Safety, Rounds, Trim}
+use Rattle.command_lines.specs.Commands.{Asked, Solve, Check, Gen, Demo, Wave, Slice, Convert, Safety, Rounds, Trim, Export}
 use Rattle.fair_top.specs.declared.status.Status.{Status}
 use Rattle.fair_top.specs.Solve.{GivesSolve, DecidesSolve, ShownBySolve}
 use Rattle.fair_top.specs.Check.{GivesCheck, DecidesCheck, ShownByCheck}
@@ -15,6 +15,7 @@ use Rattle.fair_top.specs.Convert.{GivesConvert}
 use Rattle.fair_top.specs.Safety.{GivesSafety, DecidesSafety}
 use Rattle.fair_top.specs.Rounds.{GivesRounds, DecidesRounds, ShownByRounds}
 use Rattle.fair_top.specs.Trim.{GivesTrim}
+use Rattle.fair_top.specs.Export.{GivesExport, DecidesExport}
 
 -- What is so of the texts that the shelf tells where a run that asks for this ends with this status, and writes this text.
 abbrev pub CommandGives : (List ℕ → Option (List ℕ)) → Asked → Status → List ℕ → Type 0
@@ -28,6 +29,7 @@ CommandGives held (Convert model answer) status text = GivesConvert (held model)
 CommandGives held (Safety model property) status text = GivesSafety (held model) property status text
 CommandGives held (Rounds model request) status text = GivesRounds (held model) request status text
 CommandGives held (Trim model answer) status text = GivesTrim (held model) (held answer) status text
+CommandGives held (Export model answer request) status text = GivesExport (held model) (held answer) request status text
 
 -- the status is the only right one, by what is asked for and by the texts that the shelf tells; of `demo` none is
 abbrev pub Decides : (List ℕ → Option (List ℕ)) → Asked → Status → Type 0
@@ -41,9 +43,10 @@ Decides held (Convert model answer) status = DecidesRemade (held model) (held an
 Decides held (Safety model property) status = DecidesSafety (held model) property status
 Decides held (Rounds model request) status = DecidesRounds (held model) request status
 Decides held (Trim model answer) status = DecidesRemade (held model) (held answer) status
+Decides held (Export model answer request) status = DecidesExport (held model) (held answer) request status
 
 -- what is so of the texts on the shelf where a run that asks for this accepts an answer or a text about rounds; `gen`, `demo`,
--- `wave`, `slice`, `convert`, `safety` and `trim` never do
+-- `wave`, `slice`, `convert`, `safety`, `trim` and `export` never do
 abbrev pub ShownBy : (List ℕ → Option (List ℕ)) → Asked → Judged → Type 0
 ShownBy held (Solve model request) accepted = ShownBySolve (held model) accepted
 ShownBy held (Check model answer) accepted = ShownByCheck (held model) accepted
@@ -55,3 +58,4 @@ ShownBy held (Convert model answer) accepted = ⊥
 ShownBy held (Safety model property) accepted = ⊥
 ShownBy held (Rounds model request) accepted = ShownByRounds (held model) accepted
 ShownBy held (Trim model answer) accepted = ⊥
+ShownBy held (Export model answer request) accepted = ⊥

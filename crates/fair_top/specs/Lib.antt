@@ -10,6 +10,8 @@ pub mod Remade
 pub mod Remaking
 pub mod Convert
 pub mod Trim
+pub mod Export
+pub mod Exporting
 pub mod Safety
 pub mod Rounds
 pub mod Slice

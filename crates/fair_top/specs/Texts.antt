@@ -30,6 +30,7 @@ exit_number statuses.WriteFault = 5
 exit_number statuses.Memory = 6
 exit_number (statuses.NoProperty n) = 8
 exit_number (statuses.TooLarge n) = 9
+exit_number (statuses.NoItem entry clause) = 10
 exit_number statuses.Usage = 64
 
 -- one line, of words, a number and a line feed
@@ -150,4 +151,5 @@ text_of statuses.WriteFault = []
 text_of statuses.Memory = []
 text_of (statuses.NoProperty n) = line_with (codes "no property ") n
 text_of (statuses.TooLarge n) = line_with (codes "too large ") n
+text_of (statuses.NoItem entry clause) = line_with (codes "no item " ++ decimal entry ++ codes " ") clause
 text_of statuses.Usage = USAGE.now

@@ -24,6 +24,7 @@ mod checking;
 mod converting;
 mod counting;
 mod demonstrating;
+mod exporting;
 mod generating;
 mod remaking;
 mod slicing;
@@ -41,6 +42,7 @@ use converting::Conversion;
 use counting::count_rounds;
 use demonstrating::demonstrate;
 use edge::Shelf;
+use exporting::export_item;
 use fair_workers::{Ended, Report};
 use generating::generate;
 use remaking::remake;
@@ -125,5 +127,10 @@ fn outcome_for<S: Fn(&Arc<Circuit>, SolveRequest) -> Result<Report, Ended>, H: S
         Asked::Safety { model, property } => safety(alloc, shelf, model, property),
         Asked::Rounds { model, request } => count_rounds(alloc, shelf, model, &request),
         Asked::Trim { model, answer } => remake(alloc, shelf, model, answer, &Trimming {}),
+        Asked::Export {
+            model,
+            answer,
+            request,
+        } => export_item(alloc, shelf, model, answer, &request),
     }
 }

@@ -34,6 +34,8 @@ pub enum Status {
     /// `safety`, `rounds`, and `check` of a text about rounds: the greatest variable of the translation, or of the property's
     /// monitor, would be this one, above the limit on models.
     TooLarge(u64),
+    /// `export`: the answer has no item with these numbers, of an entry and of one of its clauses, counted from 0.
+    NoItem(u32, u32),
     /// The words are no command, or their values are no request of it. Nothing was read.
     Usage,
 }
@@ -61,7 +63,7 @@ pub enum Done {
         k: u32,
         reached: bool,
     },
-    /// `gen` and `safety`: the text of the model was written; `wave`: that of the waves.
+    /// `gen` and `safety`: the text of the model was written; `wave`: that of the waves; `export`: that of the item.
     Printed,
     /// `demo`: property 0 of the generated model was decided, and this is a board with its outcome.
     Demo(Board),
@@ -70,7 +72,7 @@ pub enum Done {
 impl Status {
     /// The number with which the program ends: 0 for work done, 1 for a refused answer, 2 for a search of which a stated
     /// budget is spent, 3 for a bad model, 4 and 5 for failed reads and writes, 6 for want of memory, 8 for a property that
-    /// is not there, 9 for a model that would be too large, and 64 for words that are no command, or whose values are no request of it.
+    /// is not there, 9 for a model that would be too large, 10 for an item that an answer does not have, and 64 for words that are no command, or whose values are no request of it.
     pub fn number(&self) -> u8
         ensures { result ≡ exit_number self.now }
     {
@@ -84,6 +86,7 @@ impl Status {
             Status::Memory => 6,
             Status::NoProperty(_) => 8,
             Status::TooLarge(_) => 9,
+            Status::NoItem(_, _) => 10,
             Status::Usage => 64,
         }
     }

@@ -58,6 +58,7 @@ fn status_text(alloc: Global, status: &Status) -> Result<Vec<u8>, AllocError>
         Status::BadModel(fault) => text_of_model(alloc, fault),
         Status::NoProperty(n) => numbered(alloc, "no property ", u64::from(*n)),
         Status::TooLarge(n) => numbered(alloc, "too large ", *n),
+        Status::NoItem(entry, clause) => text_of_no_item(alloc, *entry, *clause),
         Status::Usage => words(alloc, USAGE),
         Status::ReadFault | Status::WriteFault | Status::Memory => Ok(Vec::new(alloc)),
     }
@@ -76,6 +77,15 @@ fn numbered(alloc: Global, text: &str, number: u64) -> Result<Vec<u8>, AllocErro
     let mut line = words(alloc, text)?;
     push_number(&mut line, number)?;
     line.push(b'\n')?;
+    Ok(line)
+}
+
+fn text_of_no_item(alloc: Global, entry: u32, clause: u32) -> Result<Vec<u8>, AllocError>
+    ensures { IfOk result (λ line. line.items ≡ text_of (Status.NoItem entry clause)) }
+{
+    let mut line = words(alloc, "no item ")?;
+    push_number(&mut line, u64::from(entry))?;
+    push_numbered(&mut line, " ", u64::from(clause))?;
     Ok(line)
 }
 

@@ -102,8 +102,8 @@ fn printed<R: MakesText>(
     }
 }
 
-// The answer is refused for this fault.
-fn refused(alloc: Global, fault: AnswerFault) -> Result<Outcome, Status>
+/// The answer is refused for this fault.
+pub(crate) fn refused(alloc: Global, fault: AnswerFault) -> Result<Outcome, Status>
     ensures { IsWritten result (Status.Refused fault) (text_of (Status.Refused fault)) }
 {
     with_text(alloc, Status::Refused(fault))

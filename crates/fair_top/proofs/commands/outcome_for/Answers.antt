@@ -1,9 +1,10 @@
-use Rattle.std.proofs.Common.{subst, sym, refl}
+use Rattle.std.proofs.Common.{◌≡◌, subst, sym, refl}
 use Rattle.std.specs.Prelude.{IfOk}
 use Rattle.command_lines.specs.declared.commands.Asked.{Asked as AskedInCode}
 use Rattle.command_lines.specs.Commands.{meant, names_in}
 use Rattle.fair_top.specs.Commands.{CommandGives, Decides, ShownBy}
-use Rattle.fair_top.specs.Headline.{ReadsModelFirst}
+use Rattle.fair_top.specs.declared.status.Status.TheVariants as statuses
+use Rattle.fair_top.specs.Headline.{FailedOf, ReadsModelFirst}
 use Rattle.fair_top.specs.Solved.{SolvesAsked}
 use Rattle.fair_top.specs.Statuses.{status_in, is_read_fault}
 use Rattle.fair_top.proofs.Ending.{still_answered}
@@ -101,3 +102,18 @@ returns-in-Rounds-clause-reads g c =
 pub returns-in-Trim-clause-exactly : goal.returns-in-Trim-clause-exactly
 returns-in-Trim-clause-exactly g c = λ verdict d.
     c.remake-in-Trim.ensures.exactly verdict (subst (λ (a : AskedInCode). Decides (g.H.Shelf.held c.args.shelf.now) (meant a) verdict) c.in-Trim.is d)
+
+pub returns-in-Export-clause-exactly : goal.returns-in-Export-clause-exactly
+returns-in-Export-clause-exactly g c = λ verdict d.
+    c.export_item.ensures.exactly verdict (subst (λ (a : AskedInCode). Decides (g.H.Shelf.held c.args.shelf.now) (meant a) verdict) c.in-Export.is d)
+
+pub returns-in-Export-clause-found : goal.returns-in-Export-clause-found
+returns-in-Export-clause-found g c =
+    subst (λ (a : AskedInCode). IfOk c.export_item.result (λ outcome. CommandGives (g.H.Shelf.held c.args.shelf.now) (meant a) outcome.status outcome.text.items))
+    (sym c.in-Export.is) c.export_item.ensures.found
+
+pub returns-in-Export-clause-read : goal.returns-in-Export-clause-read
+returns-in-Export-clause-read g c =
+    subst (λ (a : AskedInCode). status_in c.export_item.result ≡ statuses.ReadFault
+    → FailedOf (g.H.Shelf.held c.args.shelf.now) (names_in (meant a)) (g.H.Shelf.faults c.args.shelf.now) (g.H.Shelf.faults c.export_item.new.shelf))
+    (sym c.in-Export.is) c.export_item.ensures.read
