@@ -27,7 +27,7 @@ pub(crate) const WALL: &str =
 
 const REFUTED: &str = "0\nj0\nversion 1\nrefute 0 1\n\n5 0 1 4 0\nend\n";
 
-const NAMED: &str =
+pub(crate) const NAMED: &str =
     "0\nj0\nversion 2\nwall 1 0\n\n2 0\nproof 1\n6 0 1 3 5 0\nwall 1 1\n0-\n3 0\nproof 1\n13 0 1 3 10 9 8 0\nrefute 1 1\n0\n11 0 1 3 4 9 10 5 0\nend\n";
 
 /// A model and an answer, and the line that must be written.

@@ -20,7 +20,7 @@ type Row = (
     &'static str,
 );
 
-const ROWS: [Row; 20] = [
+const ROWS: [Row; 24] = [
     (&["fairlive", "solve", "m"], TOGGLE, "", 1, 0, TWO_POSITIONS),
     (
         &["fairlive", "solve", "m"],
@@ -117,6 +117,38 @@ const ROWS: [Row; 20] = [
         1,
         3,
         "model refused cycle 2\n",
+    ),
+    (
+        &["fairlive", "convert", "m", "a"],
+        RISES,
+        WALL,
+        2,
+        0,
+        "0\nj0\nversion 2\n",
+    ),
+    (
+        &["fairlive", "trim", "m", "a"],
+        RISES,
+        WALL,
+        2,
+        0,
+        "0\nj0\nversion 2\n",
+    ),
+    (
+        &["fairlive", "export", "m", "a", "1", "0"],
+        RISES,
+        WALL,
+        2,
+        0,
+        "p cnf 7 10\n",
+    ),
+    (
+        &["fairlive", "export", "m", "a", "1", "1"],
+        RISES,
+        WALL,
+        2,
+        10,
+        "no item 1 1\n",
     ),
     (
         &["fairlive", "gen", "ring", "0", "2"],

@@ -12,6 +12,8 @@ mod demonstrated;
 #[cfg(test)]
 mod dumps;
 #[cfg(test)]
+mod exporting;
+#[cfg(test)]
 mod failing;
 #[cfg(test)]
 mod generated;

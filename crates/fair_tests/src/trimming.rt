@@ -2,7 +2,7 @@
 
 use crate::certificates::{RISES, WALL};
 use crate::runs::{ends_so, is_end, run_words};
-use crate::tests::TOGGLE;
+use crate::tests::{CYCLE, STUCK, TOGGLE};
 use std::alloc::{AllocError, Global};
 use std::sync::Wait;
 use std::test::Fail;
@@ -18,7 +18,7 @@ const ONE_WALL: &str =
 /// A model and an answer, the text that must be written, and the number that the run must end with.
 type Row = (&'static str, &'static str, &'static str, u8);
 
-const ROWS: [Row; 10] = [
+const ROWS: [Row; 16] = [
     (RISES, WALL, ONE_WALL, 0),
     // An entry that the refutation does not reach.
     (
@@ -62,6 +62,40 @@ const ROWS: [Row; 10] = [
         "0\nj0\nversion 2\nwall 1 0\n\n0\nproof 0\nwall 1 0\n\n2 0\nproof 1\n6 0 1 3 5 0\nrefute 2 1\n0 1\n15 0 1 3 4 13 14 9 0\nend\n",
         0,
     ),
+    // Entries that the refutation reaches through another one's uses.
+    (
+        RISES,
+        "0\nj0\nversion 2\nwall 1 0\n\n2 0\nproof 1\n6 0 1 3 5 0\nwall 1 1\n0\n2 0\nproof 1\n12 0 1 3 11 0\nrefute 1 1\n1\n11 0 1 3 4 9 10 5 0\nend\n",
+        "0\nj0\nversion 2\nwall 1 0\n\n2 0\nproof 1\n6 0 1 3 5 0\nwall 1 1\n0\n2 0\nproof 1\n12 0 1 3 11 0\nrefute 1 1\n1\n11 0 1 3 4 9 10 5 0\nend\n",
+        0,
+    ),
+    (
+        STUCK,
+        "0\nj0\nversion 2\nreach 1 0\n\n3 0\nproof 1\n6 0 4 2 5 0\nreach 1 1\n0\n3 0\nproof 1\n8 0 5 7 0\nrefute 1 1\n1\n7 0 4 5 0\nend\n",
+        "0\nj0\nversion 2\nreach 1 0\n\n3 0\nproof 1\n6 0 4 2 5 0\nreach 1 1\n0\n3 0\nproof 1\n8 0 5 7 0\nrefute 1 1\n1\n7 0 4 5 0\nend\n",
+        0,
+    ),
+    // Lines that are skipped, within a proof too.
+    (
+        RISES,
+        "c one\n0\nj0\nversion 2\nwall 1 0\nu two\n\n2 0\nproof 2\n6 4 0 1 3 0\nc three\n7 0 1 3 5 0\nrefute 1 1\n0\nu four\n11 0 1 3 4 9 10 5 0\nend\nc five\n",
+        "0\nj0\nversion 2\nwall 1 0\n\n2 0\nproof 1\n7 0 1 3 5 0\nrefute 1 1\n0\n11 0 1 3 4 9 10 5 0\nend\n",
+        0,
+    ),
+    (
+        TOGGLE,
+        "1\nj0\nc hello\nx\n\n\n\n.\n",
+        "1\nj0\n0\n\n\n.\n",
+        0,
+    ),
+    // A clause without a literal holds none of the initial cube.
+    (
+        STUCK,
+        "0\nj0\nversion 2\nreach 1 0\n\n0\nproof 1\n6 0 4 2 5 0\nrefute 1 1\n0\n7 0 4 5 0\nend\n",
+        "refused entry 0 base 0\n",
+        1,
+    ),
+    (CYCLE, WALL, "model refused cycle 2\n", 3),
     // A stimulus that goes on behind its lasso.
     (TOGGLE, "1\nj0\nx\n\n\n\n.", "1\nj0\n0\n\n\n.\n", 0),
     (TOGGLE, "1\nj0\n0\n\n.\n", "refused no fair loop\n", 1),
