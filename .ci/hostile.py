@@ -497,11 +497,14 @@ def junk(byte):
 
 # ---- runs
 
+# the other commands that take an answer, each with the words behind it
+OTHERS = [("convert",), ("wave",), ("trim",), ("export", "0", "0"), ("export", "0", "0", "--lrat")]
 
-def check(name, model, answer, memory, wanted, status=None, word="check"):
+
+def check(name, model, answer, memory, wanted, status=None, words=("check",)):
     """Whether the program prints what begins so; or, where a status is given, just that, and ends with the status."""
     limited = ["bash", "-c", 'ulimit -v "$0" && exec "$@"', str(memory)]
-    command = [*limited, PROGRAM, word, model, answer]
+    command = [*limited, PROGRAM, words[0], model, answer, *words[1:]]
     try:
         ran = subprocess.run(command, stdout=subprocess.PIPE, timeout=60, text=True)
     except subprocess.TimeoutExpired:
@@ -509,7 +512,7 @@ def check(name, model, answer, memory, wanted, status=None, word="check"):
         return False
     good = ran.stdout.startswith(wanted) if status is None else (ran.stdout, ran.returncode) == (wanted, status)
     if not good:
-        print(f"{name}: status {ran.returncode}, printed {ran.stdout!r}")
+        print(f"{name}: {' '.join(words)}: status {ran.returncode}, printed {ran.stdout[:300]!r}")
     return good
 
 
@@ -556,6 +559,20 @@ def check_models(folder):
     return check("an endless model", "/dev/zero", answer, MUCH, wanted) and good, len(cases) + 2
 
 
+def check_made(folder, model):
+    """Whether it is as it must be what is made of a good certificate, which has a clause of a million literals."""
+    answer = os.path.join(folder, "wide")
+    write(answer, wide(MANY))
+    made = [
+        (("trim",), "0\nj0\nversion 2\nwall 1 0\n\n2 2 "),
+        (("export", "0", "0"), f"p cnf 4 {MANY + 4}\n-1 0\n-4 -1 0\n4 1 0\n2 2 "),
+        (("export", "1", "0"), f"p cnf 7 {2 * MANY + 8}\n-1 0\n-4 -1 0\n4 1 0\n-2 0\n-5 2 2 "),
+        (("export", "0", "0", "--lrat"), f"{MANY + 5} 0 4 1 3 5 0\n"),
+        (("export", str(GREATEST), str(GREATEST)), f"no item {GREATEST} {GREATEST}\n"),
+    ]
+    return all([check("a wide clause", model, answer, MEMORY, wanted, None, words) for words, wanted in made])
+
+
 def check_certificates(folder):
     """Whether each certificate is answered as it must be, and how many they are."""
     model, answer = os.path.join(folder, "rising"), os.path.join(folder, "certificate")
@@ -564,8 +581,13 @@ def check_certificates(folder):
     numbers = [("the greatest numbers", LITTLE, text, f"refused {wanted}\n") for text, wanted in NUMBERS]
     for name, memory, text, wanted in itertools.chain(cut_certificates(), numbers, long_certificates()):
         write(answer, text)
-        good = check(name, model, answer, memory, wanted, int(wanted.startswith("refused"))) and good
+        refused = wanted.startswith("refused")
+        good = check(name, model, answer, memory, wanted, int(refused)) and good
         count += 1
+        # what is refused is so by each command; of the long ones, which these keep, by check alone
+        if refused and memory == LITTLE:
+            good = check(name, model, answer, memory, wanted, 1, OTHERS[count % len(OTHERS)]) and good
+    good = check_made(folder, model) and good
     for name, beginning, piece, memory, wanted in ENDLESS:
         good = check(name, model, endless(folder, name, beginning, piece), memory, wanted, 1) and good
     # a line that never ends takes all memory: status 6, and nothing is printed
@@ -592,9 +614,9 @@ def check_rounds(folder):
     good = check("a pipe with a text about rounds", model, pipe, LITTLE, "", 4) and good
     # other commands work with answers alone
     write(answer, REACHED)
-    for word in ("convert", "wave"):
-        good = check(f"{word} of a run about rounds", model, answer, LITTLE, "refused unknown status\n", 1, word) and good
-    return good, count + 3
+    for words in OTHERS:
+        good = check("a run about rounds", model, answer, LITTLE, "refused unknown status\n", 1, words) and good
+    return good, count + 2
 
 
 def main():
