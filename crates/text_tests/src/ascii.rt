@@ -171,7 +171,11 @@ fn is_text(alloc: Global, model: &Model, wanted: &[u8]) -> Result<bool, AllocErr
 // Whether a model is read, and has this text.
 fn is_written(alloc: Global, text: &[u8], wanted: &[u8]) -> Result<bool, AllocError> {
     match model_of(alloc, text) {
-        Ok(model) => is_text(alloc, &model, wanted),
+        Ok(model) => {
+            let is_so = is_text(alloc, &model, wanted);
+            drop(model);
+            is_so
+        }
         Err(_) => Ok(false),
     }
 }

@@ -1,5 +1,6 @@
 //! Binary texts and places worked out by hand from the format.
 use aiger_binary::{binary_laws, is_ordered, read, write};
+use aiger_names::Model;
 use circuit::{ModelEnd, ModelFault};
 use std::alloc::{AllocError, Global};
 use std::test::*;
@@ -15,7 +16,9 @@ const SYMBOL_END: usize = 35;
 const ALL: usize = 100;
 
 // From where, how many bytes are replaced, by what, and the fault.
-const FAULTS: [(usize, usize, &[u8], ModelFault); 38] = [
+type Fault = (usize, usize, &'static [u8], ModelFault);
+
+const FAULTS: [Fault; 38] = [
     (4, 1, b"4", ModelFault::Header(0)),
     (4, 1, b"2", ModelFault::Header(0)),
     (1, 1, b"a", ModelFault::Header(0)),
@@ -72,8 +75,14 @@ const FAULTS: [(usize, usize, &[u8], ModelFault); 38] = [
     (35, 1, b"d", ModelFault::Trailing(35)),
 ];
 
+fn fault_rows() -> &'static [Fault] {
+    &FAULTS
+}
+
 // A text, and the text that is written of its model.
-const MODELS: [(&[u8], &[u8]); 13] = [
+type Written = (&'static [u8], &'static [u8]);
+
+const MODELS: [Written; 13] = [
     (TEXT, b"aig 3 1 1 0 1 0 0 1\n6\n1\n4\n\x02\x02l0 t\nc\nany"),
     (
         b"aig 3 1 1 0 1 0 0 1 0\n6\n1\n4\n\x02\x02l0 t\ncany",
@@ -113,6 +122,10 @@ const MODELS: [(&[u8], &[u8]); 13] = [
     ),
 ];
 
+fn written_rows() -> &'static [Written] {
+    &MODELS
+}
+
 fn edited(alloc: Global, at: usize, cut: usize, put: &[u8]) -> Result<Vec<u8>, AllocError> {
     let mut text = Vec::new(alloc);
     for (i, byte) in TEXT.iter().enumerate() {
@@ -129,7 +142,10 @@ fn edited(alloc: Global, at: usize, cut: usize, put: &[u8]) -> Result<Vec<u8>, A
 // Whether the text has this fault, or is read where there is to be none.
 fn says(alloc: Global, text: &[u8], wanted: Option<ModelFault>) -> bool {
     match read(alloc, text) {
-        Ok(_) => wanted == None,
+        Ok(model) => {
+            drop(model);
+            wanted == None
+        }
         Err(ModelEnd::Fault(fault)) => wanted == Some(fault),
         Err(ModelEnd::Memory) => false,
     }
@@ -150,25 +166,38 @@ fn says_of_front(alloc: Global, length: usize) -> bool {
     }
 }
 
-// Whether a model is read, and has this text.
-fn is_written(alloc: Global, text: &[u8], wanted: &[u8]) -> Result<bool, AllocError> {
-    let Ok(model) = read(alloc, text) else {
-        return Ok(false);
-    };
-    if !is_ordered(&model) {
+fn is_text(alloc: Global, model: &Model, wanted: &[u8]) -> Result<bool, AllocError> {
+    if !is_ordered(model) {
         return Ok(false);
     }
-    let written = write(alloc, &model)?;
+    let written = write(alloc, model)?;
     Ok(written.as_slice() == wanted)
+}
+
+// Whether a model is read, and has this text.
+fn is_written(alloc: Global, row: &Written) -> Result<bool, AllocError> {
+    let (text, wanted) = *row;
+    match read(alloc, text) {
+        Ok(model) => {
+            let is_so = is_text(alloc, &model, wanted);
+            drop(model);
+            is_so
+        }
+        Err(_) => Ok(false),
+    }
+}
+
+fn is_faulty(alloc: Global, row: &Fault) -> Result<bool, AllocError> {
+    let (at, cut, put, wanted) = *row;
+    let text = edited(alloc, at, cut, put)?;
+    Ok(says(alloc, text.as_slice(), Some(wanted)))
 }
 
 #[test]
 fn binary_faults(rt: HostRuntime) -> Result<(), Fail> {
     binary_laws();
-    for (at, cut, put, wanted) in FAULTS {
-        let text = edited(rt.alloc(), at, cut, put)?;
-        let said = says(rt.alloc(), text.as_slice(), Some(wanted));
-        assert!(rt; said, "{put:?} at {at}");
+    for (k, row) in fault_rows().iter().enumerate() {
+        assert!(rt; is_faulty(rt.alloc(), row)?, "of row {k}");
     }
     Ok(())
 }
@@ -183,8 +212,8 @@ fn cut_binary_texts(rt: HostRuntime) -> Result<(), Fail> {
 
 #[test]
 fn binary_models(rt: HostRuntime) -> Result<(), Fail> {
-    for (text, wanted) in MODELS {
-        assert!(rt; is_written(rt.alloc(), text, wanted)?, "of {text:?}");
+    for (k, row) in written_rows().iter().enumerate() {
+        assert!(rt; is_written(rt.alloc(), row)?, "of row {k}");
     }
     Ok(())
 }
