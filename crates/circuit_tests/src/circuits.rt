@@ -301,8 +301,8 @@ fn checked_models() -> &'static [Checked] {
 }
 
 fn check_steps(rt: &impl Abort, alloc: Global, c: &Circuit) -> Result<(), AllocError> {
-    for row in all_steps() {
-        assert!(rt; steps(alloc, c, row)?, "of {:?}", row.0);
+    for (k, row) in all_steps().iter().enumerate() {
+        assert!(rt; steps(alloc, c, row)?, "of row {k}");
     }
     Ok(())
 }
@@ -317,8 +317,9 @@ fn check_literals(rt: &impl Abort) {
 }
 
 fn check_beginnings(rt: &impl Abort, c: &Circuit) {
-    for (state, initial) in beginnings() {
-        assert!(rt; begins(c, state) == *initial, "of {state:?}");
+    for (k, row) in beginnings().iter().enumerate() {
+        let (state, initial) = *row;
+        assert!(rt; begins(c, state) == initial, "of row {k}");
     }
 }
 
@@ -347,14 +348,17 @@ fn is_fault(alloc: Global, model: &Model, faults: &[ModelFault]) -> bool {
 }
 
 fn check_models(rt: &impl Abort, alloc: Global) {
-    for (model, faults) in checked_models() {
-        assert!(rt; is_fault(alloc, model, faults), "of {:?}", model.gates);
+    for (k, row) in checked_models().iter().enumerate() {
+        let (model, faults) = *row;
+        assert!(rt; is_fault(alloc, model, faults), "of row {k}");
     }
 }
 
 fn check_made(rt: &impl Abort, alloc: Global) -> Result<(), Fail> {
     let c = circuit_of(alloc, &COUNTING)?;
-    Ok(check_counter(rt, alloc, &c)?)
+    let checked = check_counter(rt, alloc, &c);
+    drop(c);
+    Ok(checked?)
 }
 
 #[test]

@@ -346,13 +346,16 @@ fn gives_on(alloc: Global, c: &Circuit, row: &Row) -> Result<bool, NoFit> {
 /// Whether a row gives what it must.
 fn gives(alloc: Global, row: &Row) -> Result<bool, Fail> {
     let c = circuit_of(alloc, row.model)?;
-    Ok(gives_on(alloc, &c, row)?)
+    let gives = gives_on(alloc, &c, row);
+    drop(c);
+    Ok(gives?)
 }
 
 #[test]
 fn parts_are_joined_and_shortened(rt: HostRuntime) -> Result<(), Fail> {
-    for row in &ROWS {
-        assert!(rt; gives(rt.alloc(), row)?, "{:?}", row.wanted);
+    let rows: &[Row] = &ROWS;
+    for (k, row) in rows.iter().enumerate() {
+        assert!(rt; gives(rt.alloc(), row)?, "of row {k}");
     }
     Ok(())
 }

@@ -287,7 +287,9 @@ fn simulations() -> &'static [&'static str] {
 }
 
 // The bits of the counter, literals that are true there, and the only cube that is lifted from there.
-const LIFTS: [(&[bool], &[u64], &[(u64, bool)]); 8] = [
+type Lift = (&'static [bool], &'static [u64], &'static [(u64, bool)]);
+
+const LIFTS: [Lift; 8] = [
     (&[true, true], &[12], &[(0, true), (1, true)]),
     (&[false, false], &[10], &[(0, false), (1, false)]),
     (&[true, false], &[6], &[(0, true), (1, false)]),
@@ -307,16 +309,20 @@ fn check_simulations(rt: &impl Abort, alloc: Global, c: &Circuit) -> Result<(), 
 }
 
 fn check_lifts(rt: &impl Abort, alloc: Global, c: &Circuit) -> Result<(), AllocError> {
-    for (latches, keep, wanted) in &LIFTS {
+    let rows: &[Lift] = &LIFTS;
+    for (k, row) in rows.iter().enumerate() {
+        let (latches, keep, wanted) = *row;
         let agree = lifts(alloc, c, latches, &[], keep, wanted)?;
-        assert!(rt; agree, "of {keep:?} at {latches:?}");
+        assert!(rt; agree, "of row {k}");
     }
     Ok(())
 }
 
 fn check_lanes(rt: &impl Abort, alloc: Global, c: &Circuit) -> Result<(), AllocError> {
-    let wrong = first_wrong_lane(alloc, c, &digits_in_lanes())?;
-    assert!(rt; wrong.is_none(), "in lane {wrong:?}");
+    match first_wrong_lane(alloc, c, &digits_in_lanes())? {
+        Some(lane) => assert!(rt; false, "in lane {lane}"),
+        None => {}
+    }
     Ok(())
 }
 
@@ -356,17 +362,23 @@ fn check_wide(rt: &impl Abort, alloc: Global, c: &Circuit) -> Result<(), AllocEr
 #[test]
 fn counter_is_simulated_and_lifted(rt: HostRuntime) -> Result<(), Fail> {
     let c = circuit_of(rt.alloc(), &COUNTER)?;
-    Ok(check_counter(&rt, rt.alloc(), &c)?)
+    let checked = check_counter(&rt, rt.alloc(), &c);
+    drop(c);
+    Ok(checked?)
 }
 
 #[test]
 fn inputs_are_known(rt: HostRuntime) -> Result<(), Fail> {
     let c = circuit_of(rt.alloc(), &GUARDED)?;
-    Ok(check_guarded(&rt, rt.alloc(), &c)?)
+    let checked = check_guarded(&rt, rt.alloc(), &c);
+    drop(c);
+    Ok(checked?)
 }
 
 #[test]
 fn many_latches_are_forgotten(rt: HostRuntime) -> Result<(), Fail> {
     let c = wide(rt.alloc())?;
-    Ok(check_wide(&rt, rt.alloc(), &c)?)
+    let checked = check_wide(&rt, rt.alloc(), &c);
+    drop(c);
+    Ok(checked?)
 }

@@ -73,7 +73,11 @@ fn obligation_text(alloc: Global, c: &Circuit, set: &ClauseSet) -> Result<String
 // Whether a text of the circuit and the set is this one. A circuit that is not made has none.
 fn is_obligation(alloc: Global, wanted: &str) -> Result<bool, AllocError> {
     match circuit_of(alloc, &RISES) {
-        Ok(c) => is_obligation_on(alloc, &c, wanted),
+        Ok(c) => {
+            let is_so = is_obligation_on(alloc, &c, wanted);
+            drop(c);
+            is_so
+        }
         Err(_) => Ok(false),
     }
 }
@@ -120,12 +124,22 @@ fn stays_at_1(alloc: Global, c: &Circuit, model: &[bool]) -> Result<bool, AllocE
     )
 }
 
+fn are_told(
+    alloc: Global,
+    c: &Circuit,
+    wanted: &str,
+    model: &[bool],
+) -> Result<[bool; 2], AllocError> {
+    Ok([is_skeleton(alloc, c, wanted)?, stays_at_1(alloc, c, model)?])
+}
+
 fn is_beside_a_wall(alloc: Global, wanted: &str, model: &[bool]) -> Result<[bool; 2], AllocError> {
     match circuit_of(alloc, &RISES) {
-        Ok(c) => Ok([
-            is_skeleton(alloc, &c, wanted)?,
-            stays_at_1(alloc, &c, model)?,
-        ]),
+        Ok(c) => {
+            let told = are_told(alloc, &c, wanted, model);
+            drop(c);
+            told
+        }
         Err(_) => Ok([false; 2]),
     }
 }
@@ -134,6 +148,6 @@ fn is_beside_a_wall(alloc: Global, wanted: &str, model: &[bool]) -> Result<[bool
 fn skeleton_beside_a_wall(rt: HostRuntime) -> Result<(), Fail> {
     let wanted = "-1 0 -4 -1 0 4 1 0 -2 0 -5 2 0 -6 -2 0 5 6 0 -5 4 0 -7 -4 0 5 7 0 ";
     let model = [false, false, true, false, true];
-    assert_eq!(rt; is_beside_a_wall(rt.alloc(), wanted, &model)?, [true; 2]);
+    assert!(rt; is_beside_a_wall(rt.alloc(), wanted, &model)? == [true; 2]);
     Ok(())
 }
