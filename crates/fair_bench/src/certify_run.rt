@@ -30,7 +30,9 @@ use std::sync::Arc;
 /// error. Gives 0, the number with which the program ends.
 pub(crate) fn run_certify(rt: &HostRuntime, name: &str) -> Result<u8, Failure> {
     let shared = circuit_in(rt, name)?;
-    certify_model(rt, &shared)
+    let number = certify_model(rt, &shared);
+    drop(shared);
+    number
 }
 
 fn certify_model(rt: &HostRuntime, shared: &Arc<Circuit>) -> Result<u8, Failure> {
@@ -128,8 +130,13 @@ fn add_values(count: usize, value: bool, values: &mut Items<bool>) -> Result<(),
 fn certify_known(rt: &HostRuntime, shared: &Arc<Circuit>, known: Checked) -> Result<u8, Failure>
     requires { IsProved (arc_value shared.now) [] known.entry known.proofs }
 {
-    let claim = rising_claim(rt.alloc(), &**shared, known.listed())?;
-    certify_timed(rt, shared, known, claim)
+    match rising_claim(rt.alloc(), &**shared, known.listed()) {
+        Ok(claim) => certify_timed(rt, shared, known, claim),
+        Err(refused) => {
+            drop(known);
+            Err(Failure::from(refused))
+        }
+    }
 }
 
 // The claim of an entry for a skeleton in which the latches rise.
@@ -149,8 +156,14 @@ fn certify_timed(
     requires proved { IsProved (arc_value shared.now) [] known.entry known.proofs }
     requires same { claimed claim ≡ known.entry }
 {
-    let start = Stamp::now(rt)?;
-    certify_since(rt, shared, known, claim, start)
+    match Stamp::now(rt) {
+        Ok(start) => certify_since(rt, shared, known, claim, start),
+        Err(failed) => {
+            drop(known);
+            drop(claim);
+            Err(Failure::from(failed))
+        }
+    }
 }
 
 fn certify_since(
@@ -165,7 +178,10 @@ fn certify_since(
 {
     let mut meter = Meter::new(NO_LIMIT, 0);
     let checked = certified_alone(rt.alloc(), shared, known, claim, &mut meter)?;
-    check_certified(rt, &**shared, &checked, start, meter.spending().conflicts())
+    let conflicts = meter.spending().conflicts();
+    let number = check_certified(rt, &**shared, &checked, start, conflicts);
+    drop(checked);
+    number
 }
 
 // The claim certified, behind no entries.
@@ -202,7 +218,9 @@ fn check_again(
     conflicts: u64,
 ) -> Result<u8, Failure> {
     let e = entry_again(rt.alloc(), checked)?;
-    judge_timed(rt, c, &e, conflicts)
+    let number = judge_timed(rt, c, &e, conflicts);
+    drop(e);
+    number
 }
 
 fn judge_timed(rt: &HostRuntime, c: &Circuit, e: &Entry, conflicts: u64) -> Result<u8, Failure> {

@@ -30,7 +30,9 @@ pub(crate) fn run_lrat(rt: &HostRuntime, formula: &str, proof: &str) -> Result<u
 
 fn check_texts(rt: &HostRuntime, formula: &[u8], proof: &[u8]) -> Result<u8, Failure> {
     let mut checker = checker_of(rt.alloc(), formula)?;
-    check_proof(rt, &mut checker, proof)
+    let number = check_proof(rt, &mut checker, proof);
+    drop(checker);
+    number
 }
 
 // A checker of the clauses in a text.

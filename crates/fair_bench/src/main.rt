@@ -21,7 +21,7 @@ use crate::certify_run::run_certify;
 use crate::failure::Failure;
 use crate::lrat_run::run_lrat;
 use crate::outside::print_text;
-use crate::questions_run::{run_bringing_questions, run_questions};
+use crate::questions_run::run_questions;
 use crate::reach_run::run_reach;
 use crate::rewrite_run::run_rewrite;
 use crate::sat_run::run_sat;
@@ -91,7 +91,7 @@ fn run_two(rt: &HostRuntime, command: &str, first: &str, second: &str) -> Result
         return run_lrat(rt, first, second);
     }
     if command == "questions" {
-        return run_questions(rt, first, second);
+        return run_questions(rt, first, second, None);
     }
     print_usage(rt)
 }
@@ -105,7 +105,7 @@ fn run_three(
     third: &str,
 ) -> Result<u8, Failure> {
     if command == "questions" {
-        return run_bringing_questions(rt, first, second, third);
+        return run_questions(rt, first, second, Some(third));
     }
     print_usage(rt)
 }

@@ -1,10 +1,10 @@
-//! The subcommand `questions`: asks one solver many questions under assumptions, and measures them. The main calls
-//! are `run_questions` and `run_bringing_questions`.
+//! The subcommand `questions`: asks one solver many questions under assumptions, and measures them. The main call is
+//! `run_questions`.
 
 use crate::failure::Failure;
 use crate::formula::read_formula;
 use crate::outside::{print_text, read_file};
-use crate::sat_run::{MAX_BYTES, NO_LIMIT, add_one, solver_of};
+use crate::sat_run::{MAX_BYTES, NO_LIMIT, solver_of};
 use crate::stamps::Stamp;
 use cdcl::{Asked, Solver, are_sized, has_opposites};
 use cnf::{Clause, Db, Lit};
@@ -44,46 +44,39 @@ impl Model for Asking {
 /// Asks a solver of the clauses in one file the questions in another, whose clauses are lists of assumptions, one
 /// after another. Writes how many have a model and how many have none; what they took goes to standard error, and the
 /// reading is not in it. Gives 0, the number with which the program ends.
+///
+/// Where a third file is named, each question brings a clause of its own: the clause with its number in that file is added
+/// before it is asked. Behind the answer the clause is retired: its last literal, which stands in no other clause and whose
+/// negation is assumed, becomes a unit clause.
 pub(crate) fn run_questions(
     rt: &HostRuntime,
     clauses: &str,
     questions: &str,
+    own: Option<&str>,
 ) -> Result<u8, Failure> {
     let mut solver = solver_in(rt, clauses)?;
-    ask_file(rt, &mut solver, questions)
-}
-
-/// The same questions, each of which brings a clause of its own: the clause with its number in a third file is added before
-/// it is asked. Behind the answer the clause is retired: its last literal, which stands in no other clause and whose
-/// negation is assumed, becomes a unit clause.
-pub(crate) fn run_bringing_questions(
-    rt: &HostRuntime,
-    clauses: &str,
-    questions: &str,
-    own: &str,
-) -> Result<u8, Failure> {
-    let mut solver = solver_in(rt, clauses)?;
-    ask_file_bringing(rt, &mut solver, questions, own)
+    let number = ask_file(rt, &mut solver, questions, own);
+    drop(solver);
+    number
 }
 
 // A solver of the clauses in a file.
 fn solver_in(rt: &HostRuntime, name: &str) -> Result<Solver, Failure> {
-    solver_of(rt.alloc(), formula_in(rt, name)?)
+    let clauses = formula_in(rt, name)?;
+    Ok(solver_of(rt.alloc(), clauses)?)
 }
 
-fn ask_file(rt: &HostRuntime, solver: &mut Solver, questions: &str) -> Result<u8, Failure> {
-    let askings = askings_in(rt, questions)?;
-    ask_timed(rt, solver, &askings, &[])
-}
-
-fn ask_file_bringing(
+fn ask_file(
     rt: &HostRuntime,
     solver: &mut Solver,
     questions: &str,
-    own: &str,
+    own: Option<&str>,
 ) -> Result<u8, Failure> {
     let askings = askings_in(rt, questions)?;
-    ask_bringing(rt, solver, &askings, own)
+    match own {
+        Some(own) => ask_bringing(rt, solver, &askings, own),
+        None => ask_timed(rt, solver, &askings, &[]),
+    }
 }
 
 fn ask_bringing(
@@ -226,19 +219,21 @@ fn ask_beside(
 }
 
 fn bring(alloc: Global, solver: &mut Solver, clause: &Clause) -> Result<(), Failure> {
-    add_one(solver, Clause::from_slice(alloc, clause.as_slice())?)
+    let copy = Clause::from_slice(alloc, clause.as_slice())?;
+    Ok(solver.add_sized(copy)?)
 }
 
 // The clause of a question is true for good by its last literal.
 fn retire(alloc: Global, solver: &mut Solver, clause: &Clause) -> Result<(), Failure> {
-    let literal = *clause.as_slice().last().ok_or(Failure::BadInput)?;
-    add_one(solver, unit_of(alloc, literal)?)
+    match clause.as_slice().last() {
+        Some(literal) => Ok(add_unit(alloc, solver, *literal)?),
+        None => Err(Failure::BadInput),
+    }
 }
 
-fn unit_of(alloc: Global, literal: Lit) -> Result<Clause, AllocError> {
-    let mut unit = Clause::new(alloc);
-    unit.push(literal)?;
-    Ok(unit)
+fn add_unit(alloc: Global, solver: &mut Solver, literal: Lit) -> Result<(), AllocError> {
+    let unit = Clause::from_slice(alloc, &[literal])?;
+    solver.add_sized(unit)
 }
 
 fn ask_one(

@@ -40,7 +40,9 @@ struct Told {
 /// each search found; what it took goes to standard error. Gives 0, the number with which the program ends.
 pub(crate) fn run_reach(rt: &HostRuntime, name: &str) -> Result<u8, Failure> {
     let shared = circuit_in(rt, name)?;
-    search_circuit(rt, &shared)
+    let number = search_circuit(rt, &shared);
+    drop(shared);
+    number
 }
 
 fn search_circuit(rt: &HostRuntime, c: &Arc<Circuit>) -> Result<u8, Failure> {
@@ -241,7 +243,9 @@ fn told_at(
     requires { IsStart (arc_value c.now) from }
 {
     let mut search = Search::new(alloc, c, from)?;
-    told_by(alloc, &**c, &mut search, literal, meter)
+    let told = told_by(alloc, &**c, &mut search, literal, meter);
+    drop(search);
+    told
 }
 
 fn told_by(
@@ -273,7 +277,9 @@ fn answer_of(
     requires on { GoesOnFrom search.old.view [] }
 {
     let reached = ask_literal(alloc, c, search, literal, meter)?;
-    answer_in(alloc, &reached)
+    let answer = answer_in(alloc, &reached);
+    drop(reached);
+    answer
 }
 
 fn copy_of(alloc: Global, start: &Start) -> Result<Start, AllocError> {

@@ -79,7 +79,9 @@ fn sum_of_numbers(bytes: &[u8]) -> u64 {
 fn measure_model(rt: &HostRuntime, bytes: &[u8], plain: Measured) -> Result<Report, Failure> {
     let start = Stamp::now(rt)?;
     let model = read_model(rt.alloc(), bytes)?;
-    measure_both(rt, &model, start, plain)
+    let report = measure_both(rt, &model, start, plain);
+    drop(model);
+    report
 }
 
 // Measures the reading of a model that began at the start, and then its writing.

@@ -4,8 +4,8 @@ use crate::failure::Failure;
 use crate::formula::read_formula;
 use crate::outside::{print_text, read_file};
 use crate::stamps::{Stamp, print_time};
-use cdcl::{Answer, Asked, Solver, are_sized};
-use cnf::{Clause, Db, ProofLine, eval};
+use cdcl::{Answer, Solver};
+use cnf::{Db, ProofLine, eval};
 use edge::{Meter, SolveEnd};
 use lrat::Checker;
 use std::alloc::{AllocError, Global};
@@ -27,12 +27,16 @@ pub(crate) fn run_sat(rt: &HostRuntime, name: &str) -> Result<u8, Failure> {
 }
 
 fn solve_text(rt: &HostRuntime, text: &[u8]) -> Result<u8, Failure> {
-    let answer = solve_timed(rt, read_formula(rt.alloc(), text)?)?;
-    say_text(rt, text, &answer)
+    let clauses = read_formula(rt.alloc(), text)?;
+    let answer = solve_timed(rt, clauses)?;
+    let number = say_text(rt, text, &answer);
+    drop(answer);
+    number
 }
 
 fn say_text(rt: &HostRuntime, text: &[u8], answer: &Answer) -> Result<u8, Failure> {
-    say_answer(rt, read_formula(rt.alloc(), text)?, answer)
+    let clauses = read_formula(rt.alloc(), text)?;
+    say_answer(rt, clauses, answer)
 }
 
 fn solve_timed(rt: &HostRuntime, clauses: Db) -> Result<Answer, Failure> {
@@ -43,7 +47,9 @@ fn solve_timed(rt: &HostRuntime, clauses: Db) -> Result<Answer, Failure> {
 fn solve_since(rt: &HostRuntime, clauses: Db, start: Stamp) -> Result<Answer, Failure> {
     let mut meter = Meter::new(NO_LIMIT, 0);
     let mut solver = decided(rt.alloc(), clauses, &mut meter)?;
-    answer_since(rt, &mut solver, start, meter.spending().conflicts())
+    let answer = answer_since(rt, &mut solver, start, meter.spending().conflicts());
+    drop(solver);
+    answer
 }
 
 // Tells what solving took, and then makes the answer.
@@ -60,8 +66,13 @@ fn answer_since(
 // A solver that has found out, without a proof, whether the clauses have a model.
 fn decided(alloc: Global, clauses: Db, meter: &mut Meter) -> Result<Solver, Failure> {
     let mut solver = solver_of(alloc, clauses)?;
-    ask_free(alloc, &mut solver, meter)?;
-    Ok(solver)
+    match ask_free(alloc, &mut solver, meter) {
+        Ok(()) => Ok(solver),
+        Err(end) => {
+            drop(solver);
+            Err(Failure::from(end))
+        }
+    }
 }
 
 // The answer of a solver that has found it before. Where there is no model it meets no conflict that it learns from: what
@@ -73,31 +84,14 @@ fn answer_timed(rt: &HostRuntime, solver: &mut Solver) -> Result<Answer, Failure
     Ok(answer)
 }
 
-/// A solver with these clauses.
-pub(crate) fn solver_of(alloc: Global, clauses: Db) -> Result<Solver, Failure> {
-    let mut solver = Solver::new(alloc)?;
-    add_all(&mut solver, clauses)?;
-    Ok(solver)
+/// A solver with the clauses of a file.
+pub(crate) fn solver_of(alloc: Global, clauses: Db) -> Result<Solver, AllocError> {
+    Solver::with_clauses(alloc, clauses.into_vec())
 }
 
-fn add_all(solver: &mut Solver, clauses: Db) -> Result<(), Failure> {
-    for clause in clauses.into_vec() {
-        add_one(solver, clause)?;
-    }
+fn ask_free(alloc: Global, solver: &mut Solver, meter: &mut Meter) -> Result<(), SolveEnd> {
+    solver.ask(alloc, &[], meter)?;
     Ok(())
-}
-
-/// Adds a clause of a file.
-pub(crate) fn add_one(solver: &mut Solver, clause: Clause) -> Result<(), Failure> {
-    if !are_sized(clause.as_slice()) {
-        return Err(Failure::BadInput);
-    }
-    solver.add(clause)?;
-    Ok(())
-}
-
-fn ask_free(alloc: Global, solver: &mut Solver, meter: &mut Meter) -> Result<Asked, SolveEnd> {
-    solver.ask(alloc, &[], meter)
 }
 
 fn solve_free(solver: &mut Solver, meter: &mut Meter) -> Result<Answer, SolveEnd> {
@@ -174,7 +168,9 @@ fn is_refuted_timed(rt: &HostRuntime, clauses: Db, proof: &[ProofLine]) -> Resul
 // Whether the checker takes every line, and an empty clause is proved.
 fn is_refuted(alloc: Global, clauses: Db, proof: &[ProofLine]) -> Result<bool, AllocError> {
     let mut checker = Checker::new(alloc, clauses)?;
-    Ok(takes_all(&mut checker, proof) && checker.proved_empty())
+    let is_taken = takes_all(&mut checker, proof) && checker.proved_empty();
+    drop(checker);
+    Ok(is_taken)
 }
 
 fn takes_all(checker: &mut Checker, proof: &[ProofLine]) -> bool {
