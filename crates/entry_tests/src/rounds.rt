@@ -110,72 +110,76 @@ fn accepted_rows() -> &'static [(&'static str, &'static str, Judged)] {
 }
 
 // Texts that are refused, and their faults.
-fn refused_rows() -> &'static [(&'static str, &'static str, AnswerFault)] {
-    &[
-        (
-            TOGGLE,
-            "rounds 2\nj0\nrun\n0\n\n\n\n.\n",
-            AnswerFault::FewRounds(1),
-        ),
-        (TOGGLE, "c\nrounds 0\nj0\n", AnswerFault::Shape(2)),
-        (TOGGLE, "rounds 65\nj0\n", AnswerFault::Shape(1)),
-        (TOGGLE, "rounds", AnswerFault::Shape(1)),
-        (TOGGLE, "roundsx 1\n", AnswerFault::Shape(1)),
-        (TOGGLE, "rounds 64\n", AnswerFault::Shape(2)),
-        (TOGGLE, "rounds 1\nj1\n", AnswerFault::NoProperty(1)),
-        (TOGGLE, "rounds 1\nj0\nversion 1\n", AnswerFault::Shape(3)),
-        (
-            TOGGLE,
-            "rounds 1\nj0\nversion 2\nwall 0 0\n",
-            AnswerFault::Shape(4),
-        ),
-        (
-            TOGGLE,
-            "rounds 1\nj0\nrun\n00\n1\n.\n",
-            AnswerFault::Replay(ReplayFault::Width(0)),
-        ),
-        (
-            TOGGLE,
-            "rounds 1\nj0\nrun\n1\n1\n.\n",
-            AnswerFault::Replay(ReplayFault::Width(1)),
-        ),
-        (
-            TOGGLE,
-            "rounds 1\nj0\nrun\n1\n\n.\n",
-            AnswerFault::Replay(ReplayFault::NotInitial(0)),
-        ),
-        (
-            NEVER,
-            "rounds 1\nj0\nrun\n0\n\n.\n",
-            AnswerFault::Replay(ReplayFault::Constraint(0)),
-        ),
-        (
-            TOGGLE,
-            "rounds 1\nj0\nrun\n0\n.\n",
-            AnswerFault::FewRounds(0),
-        ),
-        (
-            TOGGLE,
-            "rounds 1\nj0\nrun\n0\n.\n1\n",
-            AnswerFault::Trailing(6),
-        ),
-        (
-            STUCK,
-            "rounds 1\nj0\nversion 2\nreach 1 0\n\n2 0\n",
-            AnswerFault::Entry(0, EntryFault::Base(0)),
-        ),
-        (
-            STUCK,
-            "rounds 1\nj0\nversion 2\nrefute 0 1\n\n5 0 3 4 0\n",
-            AnswerFault::Refutation(0, LratFault::NoClause(3)),
-        ),
-        (
-            STUCK,
-            "rounds 1\nj0\nversion 2\nrefute 1 1\n0\n",
-            AnswerFault::RefuteUse(0),
-        ),
-        (TOGGLE, "", AnswerFault::Shape(1)),
-    ]
+type Refused = (&'static str, &'static str, AnswerFault);
+
+const REFUSED: [Refused; 19] = [
+    (
+        TOGGLE,
+        "rounds 2\nj0\nrun\n0\n\n\n\n.\n",
+        AnswerFault::FewRounds(1),
+    ),
+    (TOGGLE, "c\nrounds 0\nj0\n", AnswerFault::Shape(2)),
+    (TOGGLE, "rounds 65\nj0\n", AnswerFault::Shape(1)),
+    (TOGGLE, "rounds", AnswerFault::Shape(1)),
+    (TOGGLE, "roundsx 1\n", AnswerFault::Shape(1)),
+    (TOGGLE, "rounds 64\n", AnswerFault::Shape(2)),
+    (TOGGLE, "rounds 1\nj1\n", AnswerFault::NoProperty(1)),
+    (TOGGLE, "rounds 1\nj0\nversion 1\n", AnswerFault::Shape(3)),
+    (
+        TOGGLE,
+        "rounds 1\nj0\nversion 2\nwall 0 0\n",
+        AnswerFault::Shape(4),
+    ),
+    (
+        TOGGLE,
+        "rounds 1\nj0\nrun\n00\n1\n.\n",
+        AnswerFault::Replay(ReplayFault::Width(0)),
+    ),
+    (
+        TOGGLE,
+        "rounds 1\nj0\nrun\n1\n1\n.\n",
+        AnswerFault::Replay(ReplayFault::Width(1)),
+    ),
+    (
+        TOGGLE,
+        "rounds 1\nj0\nrun\n1\n\n.\n",
+        AnswerFault::Replay(ReplayFault::NotInitial(0)),
+    ),
+    (
+        NEVER,
+        "rounds 1\nj0\nrun\n0\n\n.\n",
+        AnswerFault::Replay(ReplayFault::Constraint(0)),
+    ),
+    (
+        TOGGLE,
+        "rounds 1\nj0\nrun\n0\n.\n",
+        AnswerFault::FewRounds(0),
+    ),
+    (
+        TOGGLE,
+        "rounds 1\nj0\nrun\n0\n.\n1\n",
+        AnswerFault::Trailing(6),
+    ),
+    (
+        STUCK,
+        "rounds 1\nj0\nversion 2\nreach 1 0\n\n2 0\n",
+        AnswerFault::Entry(0, EntryFault::Base(0)),
+    ),
+    (
+        STUCK,
+        "rounds 1\nj0\nversion 2\nrefute 0 1\n\n5 0 3 4 0\n",
+        AnswerFault::Refutation(0, LratFault::NoClause(3)),
+    ),
+    (
+        STUCK,
+        "rounds 1\nj0\nversion 2\nrefute 1 1\n0\n",
+        AnswerFault::RefuteUse(0),
+    ),
+    (TOGGLE, "", AnswerFault::Shape(1)),
+];
+
+fn refused_rows() -> &'static [Refused] {
+    &REFUSED
 }
 
 // The place of the first row that is judged otherwise, from 0.
