@@ -1,6 +1,6 @@
 //! Runs of `check` on certificates: tables of models and answers with the line that must be written.
 
-use crate::runs::{ends_so, is_end, run_words};
+use crate::runs::{ends_by, ends_so};
 use crate::tests::{FREE_AT_0, STUCK, TOGGLE};
 use std::alloc::{AllocError, Global};
 use std::sync::Wait;
@@ -528,8 +528,8 @@ fn is_refused_by_wave<R: Threads + Wait + Sync>(
         line
     };
     let words = ["fairlive", "wave", "m", "a"];
-    let ran = run_words(rt, alloc, &words, model.as_bytes(), answer, 1000, &[], &[])?;
-    Ok(is_end(&ran, wanted.as_bytes(), 1))
+    let (model, wanted) = (model.as_bytes(), wanted.as_bytes());
+    ends_by(rt, alloc, &words, model, answer, wanted, 1, 1000)
 }
 
 /// The place of the first row that `wave` does not refuse so, from 0.

@@ -193,18 +193,28 @@ fn counted<R: Threads + Wait + Sync>(
     run_words(rt, alloc, &words, model, "", 1000, &[], &[])
 }
 
-// Whether the text that is printed begins so, and `check` accepts it.
+// Whether a run printed a text that begins so, and `check` accepts it.
+fn is_right<R: Threads + Wait + Sync>(
+    rt: &R,
+    alloc: Global,
+    row: &Printed,
+    ran: &Outcome,
+) -> Result<bool, AllocError> {
+    if ran.status.number() != 0 || !ran.text.as_slice().starts_with(row.2.as_bytes()) {
+        return Ok(false);
+    }
+    is_printed_accepted(rt, alloc, row.0.as_bytes(), ran.text.as_slice())
+}
+
 fn is_counted<R: Threads + Wait + Sync>(
     rt: &R,
     alloc: Global,
     row: &Printed,
 ) -> Result<bool, AllocError> {
-    let model = row.0.as_bytes();
-    let ran = counted(rt, alloc, model, row.1)?;
-    if ran.status.number() != 0 || !ran.text.as_slice().starts_with(row.2.as_bytes()) {
-        return Ok(false);
-    }
-    is_printed_accepted(rt, alloc, model, ran.text.as_slice())
+    let ran = counted(rt, alloc, row.0.as_bytes(), row.1)?;
+    let is_so = is_right(rt, alloc, row, &ran);
+    drop(ran);
+    is_so
 }
 
 /// The place of the first row whose text begins otherwise, or is not accepted, from 0.

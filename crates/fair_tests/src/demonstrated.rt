@@ -104,7 +104,9 @@ fn run_summed<R: Threads + Wait + Sync>(
 ) -> Result<Option<u64>, AllocError> {
     let words = ["fairlive", "demo", row.0, row.1];
     let ran = run_words(rt, alloc, &words, b"", "", most, reads, &[])?;
-    summed_up(alloc, &ran, row)
+    let entries = summed_up(alloc, &ran, row);
+    drop(ran);
+    entries
 }
 
 // Whether two runs for a model write one summary, with its verdict, the second one at 7 bytes a call over a shelf whose

@@ -80,6 +80,18 @@ fn is_dump_of(
     Ok(written.as_slice() == text)
 }
 
+fn is_dump_from(
+    alloc: Global,
+    model: &[u8],
+    lasso: &Lasso,
+    text: &[u8],
+) -> Result<bool, AllocError> {
+    let model = model_of(alloc, model)?;
+    let is_so = is_dump_of(alloc, &model, lasso, text);
+    drop(model);
+    is_so
+}
+
 // Whether the dump of the model's first property is this text.
 fn is_dump(
     alloc: Global,
@@ -89,9 +101,8 @@ fn is_dump(
     from: u64,
     text: &[u8],
 ) -> Result<bool, AllocError> {
-    let model = model_of(alloc, model)?;
     let lasso = lasso_of(alloc, start, inputs, from)?;
-    is_dump_of(alloc, &model, &lasso, text)
+    is_dump_from(alloc, model, &lasso, text)
 }
 
 // A latch that takes its negation, from 0 on; the property is that it is 1.

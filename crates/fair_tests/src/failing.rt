@@ -235,13 +235,16 @@ fn cut_run<R: Threads + Wait + Sync>(
     let (words, model, answer, _, _, _) = row;
     let model = model.as_bytes();
     let ran = run_words(rt, alloc, words, model, answer, most, reads, writes)?;
-    Ok(end_of(&ran, whole))
+    let end = end_of(&ran, whole);
+    drop(ran);
+    Ok(end)
 }
 
 // The text of a run that begins and ends as the row says; else an empty one.
 fn text_of(alloc: Global, ran: Outcome, row: &Row) -> Vec<u8> {
     let is_so = ran.status.number() == row.4 && ran.text.as_slice().starts_with(row.5.as_bytes());
-    let Outcome { text, .. } = ran;
+    let Outcome { status, text } = ran;
+    drop(status);
     if is_so { text } else { Vec::new(alloc) }
 }
 

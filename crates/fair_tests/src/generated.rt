@@ -106,7 +106,9 @@ fn is_printed(status: &Status) -> bool {
 
 fn ring_is_printed<R: Threads + Wait + Sync>(rt: &R, alloc: Global) -> Result<bool, AllocError> {
     let ran = run_gen(rt, alloc, &["fairlive", "gen", "ring", "0", "2"], 7)?;
-    Ok(is_printed(&ran.status))
+    let is_so = is_printed(&ran.status);
+    drop(ran);
+    Ok(is_so)
 }
 
 /// The texts of both forms, at once and at one byte a call.
@@ -147,7 +149,11 @@ fn write_ascii(alloc: Global, model: &Model) -> Result<Vec<u8>, AllocError> {
 /// The ASCII text of the model that a binary text stands for.
 fn in_ascii(alloc: Global, text: &[u8]) -> Result<Vec<u8>, AllocError> {
     match read_binary(alloc, text) {
-        Ok(model) => write_ascii(alloc, &model),
+        Ok(model) => {
+            let text = write_ascii(alloc, &model);
+            drop(model);
+            text
+        }
         Err(_) => Err(AllocError),
     }
 }
@@ -165,11 +171,9 @@ fn text_of<R: Threads + Wait + Sync>(
     words: &[&str],
 ) -> Result<Vec<u8>, AllocError> {
     let Outcome { status, text } = run_gen(rt, alloc, words, 1000)?;
-    Ok(if status.number() == 0 {
-        text
-    } else {
-        Vec::new(alloc)
-    })
+    let number = status.number();
+    drop(status);
+    Ok(if number == 0 { text } else { Vec::new(alloc) })
 }
 
 /// Whether the binary form of a drawn model is so long, and stands for the model of this text.

@@ -172,7 +172,8 @@ pub(crate) fn is_end(ran: &Outcome, text: &[u8], number: u8) -> bool {
     ran.status.number() == number && ran.text.as_slice() == text
 }
 
-fn ends_by<R: Threads + Wait + Sync>(
+/// Whether a run of these words over these texts writes this text and ends with this number, at so many bytes a call.
+pub(crate) fn ends_by<R: Threads + Wait + Sync>(
     rt: &R,
     alloc: Global,
     words: &[&str],
@@ -183,7 +184,9 @@ fn ends_by<R: Threads + Wait + Sync>(
     most: u64,
 ) -> Result<bool, AllocError> {
     let ran = run_words(rt, alloc, words, model, answer, most, &[], &[])?;
-    Ok(is_end(&ran, text, number))
+    let is_so = is_end(&ran, text, number);
+    drop(ran);
+    Ok(is_so)
 }
 
 /// Whether a run of these words over these texts writes this text and ends with this number, at once and at one byte a

@@ -152,16 +152,18 @@ fn solved_alone(alloc: Global, model: &[u8], options: &[&str]) -> Result<Outcome
     run_words_alone(alloc, &words, model, "")
 }
 
-// Whether `check` accepts this answer.
-fn is_accepted<R: Threads + Wait + Sync>(
+/// Whether `check` accepts this answer.
+pub(crate) fn is_accepted<R: Threads + Wait + Sync>(
     rt: &R,
     alloc: Global,
     model: &[u8],
     answer: &str,
 ) -> Result<bool, AllocError> {
     let words = ["fairlive", "check", "m", "a"];
-    let checked = run_words(rt, alloc, &words, model, answer, 1000, &[], &[])?;
-    Ok(checked.status.number() == 0 && checked.text.as_slice().starts_with(b"accepted "))
+    let ran = run_words(rt, alloc, &words, model, answer, 1000, &[], &[])?;
+    let is_so = ran.status.number() == 0 && ran.text.as_slice().starts_with(b"accepted ");
+    drop(ran);
+    Ok(is_so)
 }
 
 /// Whether `check` accepts what was printed of the model.
@@ -209,7 +211,9 @@ fn is_solved_so<R: Threads + Wait + Sync>(
     row: &Row,
 ) -> Result<bool, AllocError> {
     let ran = solved(rt, alloc, row.0, row.1)?;
-    is_right(rt, alloc, row, &ran)
+    let is_so = is_right(rt, alloc, row, &ran);
+    drop(ran);
+    is_so
 }
 
 // The same of a run on one thread.
@@ -219,7 +223,9 @@ fn is_solved_alone<R: Threads + Wait + Sync>(
     row: &Row,
 ) -> Result<bool, AllocError> {
     let ran = solved_alone(alloc, row.0, row.1)?;
-    is_right(rt, alloc, row, &ran)
+    let is_so = is_right(rt, alloc, row, &ran);
+    drop(ran);
+    is_so
 }
 
 // The place of the first row that is not answered so, by threads or by one thread, from 0.

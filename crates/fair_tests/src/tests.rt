@@ -242,7 +242,9 @@ fn toggled<R: Threads + Wait + Sync>(
 
 fn is_toggled<R: Threads + Wait + Sync>(rt: &R, alloc: Global) -> Result<bool, AllocError> {
     let ran = toggled(rt, alloc, TWO_POSITIONS, 7, &[])?;
-    Ok(is_lasso(&ran.status, (0, 2, 0)))
+    let is_so = is_lasso(&ran.status, (0, 2, 0));
+    drop(ran);
+    Ok(is_so)
 }
 
 /// The status of an accepted stimulus tells the lasso.
@@ -346,7 +348,9 @@ fn are_judged(alloc: Global, c: &Circuit) -> Result<[bool; 3], AllocError> {
 
 fn are_judged_of_toggle(alloc: Global) -> Result<[bool; 3], AllocError> {
     let model = model_of(alloc, TOGGLE.as_bytes())?;
-    are_judged(alloc, model.circuit())
+    let told = are_judged(alloc, model.circuit());
+    drop(model);
+    told
 }
 
 #[test]
@@ -384,14 +388,15 @@ fn keeps(
     accepted: bool,
     wanted: (usize, u64),
 ) -> Result<bool, AllocError> {
-    let model = model_of(alloc, model.as_bytes())?;
     let mut shelf = shelf_of(alloc, b"", answer.1, 1000, &[])?;
+    let model = model_of(alloc, model.as_bytes())?;
     let before = Lasso {
         start: Items::new(alloc),
         inputs: Items::new(alloc),
         from: 7,
     };
     let (was, kept) = kept_behind(alloc, model.circuit(), &mut shelf, answer.0, before);
+    drop(model);
     Ok(was == accepted && positions_and_place(&kept) == Some(wanted))
 }
 
@@ -433,7 +438,9 @@ fn is_first_line_run<R: Threads + Wait + Sync>(
 ) -> Result<bool, AllocError> {
     let failing = calls_from(alloc, first)?;
     let ran = toggled(rt, alloc, "zz\nj0\n0\n\n\n.\n", 1, &failing)?;
-    Ok(is_end(&ran, text.as_bytes(), number))
+    let is_so = is_end(&ran, text.as_bytes(), number);
+    drop(ran);
+    Ok(is_so)
 }
 
 // The model's 30 bytes and its end take 31 calls, and the line with its line feed the next three.

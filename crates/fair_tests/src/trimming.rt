@@ -1,7 +1,8 @@
 //! Runs of `trim` over texts in memory.
 
 use crate::certificates::{RISES, WALL};
-use crate::runs::{ends_so, is_end, run_words};
+use crate::runs::{ends_by, ends_so};
+use crate::solving::is_accepted;
 use crate::tests::{CYCLE, STUCK, TOGGLE};
 use std::alloc::{AllocError, Global};
 use std::sync::Wait;
@@ -9,8 +10,6 @@ use std::test::Fail;
 use std::thread::Threads;
 
 const WORDS: [&str; 4] = ["fairlive", "trim", "m", "a"];
-
-const CHECK: [&str; 4] = ["fairlive", "check", "m", "a"];
 
 const ONE_WALL: &str =
     "0\nj0\nversion 2\nwall 1 0\n\n2 0\nproof 1\n6 0 1 3 5 0\nrefute 1 1\n0\n11 0 1 3 4 9 10 5 0\nend\n";
@@ -109,22 +108,12 @@ fn rows() -> &'static [Row] {
 /// The place of the first row that is not answered so, from 0, by reads of three bytes.
 fn wrong_row<R: Threads + Wait + Sync>(rt: &R, alloc: Global) -> Result<Option<usize>, AllocError> {
     for (k, (model, answer, text, number)) in rows().iter().enumerate() {
-        let ran = run_words(rt, alloc, &WORDS, model.as_bytes(), answer, 3, &[], &[])?;
-        if !is_end(&ran, text.as_bytes(), *number) {
+        let (model, text) = (model.as_bytes(), text.as_bytes());
+        if !ends_by(rt, alloc, &WORDS, model, answer, text, *number, 3)? {
             return Ok(Some(k));
         }
     }
     Ok(None)
-}
-
-fn is_accepted<R: Threads + Wait + Sync>(
-    rt: &R,
-    alloc: Global,
-    model: &[u8],
-    text: &str,
-) -> Result<bool, AllocError> {
-    let ran = run_words(rt, alloc, &CHECK, model, text, 1000, &[], &[])?;
-    Ok(ran.status.number() == 0)
 }
 
 /// The place of the first row whose printed text changes when it is trimmed, or is not accepted by `check`.

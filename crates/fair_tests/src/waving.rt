@@ -337,7 +337,9 @@ fn is_answered<R: Threads + Wait + Sync>(
 ) -> Result<bool, AllocError> {
     let model = row.0.as_bytes();
     let ran = run_words(rt, alloc, &WORDS, model, row.1, 1000, &[], &[])?;
-    Ok(is_end_of(&ran, row))
+    let is_so = is_end_of(&ran, row);
+    drop(ran);
+    Ok(is_so)
 }
 
 /// The place of the first row of `check` that `wave` does not answer by a dump where it is accepted, and else as `check`
