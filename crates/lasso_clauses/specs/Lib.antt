@@ -1,0 +1,6 @@
+pub mod Moments
+pub mod Clauses
+pub mod Laws
+pub mod Lowness
+pub mod Moving
+pub mod Examples
