@@ -2,16 +2,16 @@
 //! last round. The main calls are `steps_of` and `most_rounds`.
 
 use crate::properties::Property;
-use drawn_circuits::{Drawn, may_begin, next_of, power, value, values_of};
+use drawn_circuits::{Drawn, may_begin, next_of, power, rest, value, values_of};
 use std::alloc::{AllocError, Global};
 
 /// The positions of a circuit: for each state and each choice of inputs the state that follows, and a bit for each literal
 /// that is true there; nothing where the constraint is false.
 #[derive(Drop)]
 pub(crate) struct Steps {
-    states: u64,
+    pub(crate) states: u64,
     // How many sets of literals there are.
-    seen: u64,
+    pub(crate) seen: u64,
     at: Vec<Option<(u64, u64)>>,
 }
 
@@ -76,7 +76,7 @@ pub(crate) fn steps_of(alloc: Global, d: &Drawn, p: &Property) -> Result<Steps, 
 }
 
 // Which states can be come to with the same number of rounds, and with which literals seen since.
-fn blank(alloc: Global, steps: &Steps) -> Result<Vec<bool>, AllocError> {
+pub(crate) fn blank(alloc: Global, steps: &Steps) -> Result<Vec<bool>, AllocError> {
     let mut level = Vec::new(alloc);
     for _pair in 0..steps.states.saturating_mul(steps.seen) {
         level.push(false)?;
@@ -84,12 +84,12 @@ fn blank(alloc: Global, steps: &Steps) -> Result<Vec<bool>, AllocError> {
     Ok(level)
 }
 
-fn is_in(level: &[bool], pair: u64) -> bool {
+pub(crate) fn is_in(level: &[bool], pair: u64) -> bool {
     level.get(pair as usize).copied().unwrap_or(false)
 }
 
 // Puts a pair in; whether it is new.
-fn put(level: &mut [bool], pair: u64) -> bool {
+pub(crate) fn put(level: &mut [bool], pair: u64) -> bool {
     let place = pair as usize;
     if place >= level.len() || level[place] {
         return false;
@@ -116,12 +116,25 @@ fn go_on(
     put(level, pair.saturating_add(now))
 }
 
+/// The state that follows a state, and the literals that are true there.
+pub(crate) fn step_at(steps: &Steps, state: u64, inputs: u64) -> Option<(u64, u64)> {
+    let place = state.saturating_mul(4).saturating_add(inputs) as usize;
+    steps.at.get(place).copied().flatten()
+}
+
+/// The pair that follows a pair of a state and the literals that were seen.
+pub(crate) fn step_from(steps: &Steps, pair: u64, inputs: u64) -> Option<u64> {
+    let state = pair.checked_div(steps.seen).unwrap_or(0);
+    let (next, literals) = step_at(steps, state, inputs)?;
+    let seen = rest(pair, steps.seen) | literals;
+    Some(next.saturating_mul(steps.seen).saturating_add(seen))
+}
+
 // Goes on from the pairs of one state and some literals by each position; whether a pair is new.
 fn go_on_from(steps: &Steps, state: u64, seen: u64, level: &mut [bool], next: &mut [bool]) -> bool {
     let mut is_new = false;
     for inputs in 0..4 {
-        let place = state.saturating_mul(4).saturating_add(inputs) as usize;
-        if let Some(step) = steps.at.get(place).copied().flatten()
+        if let Some(step) = step_at(steps, state, inputs)
             && go_on(steps, seen, step, level, next)
         {
             is_new = true;

@@ -1,9 +1,14 @@
 //! Tests of what is decided of rounds: rows worked out by hand, and drawn circuits with drawn properties (`properties`)
-//! against a search of all states (`counting`).
+//! against a search of all states (`counting`); and, against such searches too, of the shortest lassos of these circuits
+//! (`lassos`) and of the lengths of their lassos (`lengths`).
 #![tactic(auto)]
 
 #[cfg(test)]
 mod counting;
+#[cfg(test)]
+mod lassos;
+#[cfg(test)]
+mod lengths;
 #[cfg(test)]
 mod properties;
 #[cfg(test)]
