@@ -9,7 +9,6 @@ use Rattle.ic3_loops.specs.Sound.{KeepsQuestion}
 use Rattle.ic3_loops.specs.Keeping.{Keeps, Bounds}
 use Rattle.ic3_loops.proofs.Sounds.{Levels}
 use Rattle.ic3_loops.proofs.Stuck.{narrow_on}
-use Rattle.ic3_loops.proofs.Lowest.{lowest_on}
 use Rattle.ic3_loops.proofs.Ended.{keeps_on, up_to_on}
 
 pub keeps_then : (starts : List Lit) (a b c : Stepping) (x y z : Levels) (l m n : Spendings) → KeepsQuestion a b → Keeps starts a b x y l m
@@ -18,7 +17,6 @@ keeps_then starts a b c x y z l m n same first second = record {
   search = second.search;
   number = second.number ∙ first.number;
   narrows = narrow_on x y z first.narrows second.narrows;
-  lowest = lowest_on x y z first.lowest second.lowest;
   paid =
       let less =
       subst (λ (q : Question). n.steps + room (length q.circuit.latches) z ≤ m.steps + room (length q.circuit.latches) y) same.question second.paid

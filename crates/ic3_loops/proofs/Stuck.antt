@@ -11,7 +11,7 @@ use Rattle.proof_semantics.specs.declared.literals.Lit.{Lit}
 use Rattle.proof_semantics.specs.Clauses.{negation, clause_value, clauses_value, cube_value, values_of}
 use Rattle.proof_semantics.proofs.LiteralLaws.{cube_value-negations, not-not}
 use Rattle.ic3_frames.specs.Frames.{frame_at, own_lemmas, stays, put_from, with_lemma, AllDiffer}
-use Rattle.ic3_frames.specs.Room.{allowed_by, NeighboursDiffer}
+use Rattle.ic3_frames.specs.Room.{allowed_by, AllowTheSame}
 use Rattle.ic3_frames.proofs.Meaning.{with-within}
 use Rattle.ic3_frames.proofs.Putting.{frame-own, some-own}
 use Rattle.ic3_frames.proofs.Times.{stays-not}
@@ -190,16 +190,17 @@ pushed_tried q old new level place inside pushed behind =
     (All-weaker (IsStuck q old level) (IsStuck q new level) (λ lemma. stuck_on q old new level level lemma pushed.below (omega arith))
     (drop (place + 1) own) behind))
 
--- Neighbouring frames differ where each has lemmas of its own, and these are stuck.
+-- Neighbouring frames above the lowest differ where each has lemmas of its own, and these are stuck.
 pub stuck_differ : (q : Question) (cube : List Lit) (levels : Levels) → IsSound q cube levels → AllStuck q levels → AllDiffer levels
-    → NeighboursDiffer (length q.circuit.latches) levels
-stuck_differ q cube levels sound stuck differ k below same =
+    → (k : ℕ) → 1 ≤ k → k + 1 < length levels
+    → AllowTheSame (length q.circuit.latches) (frame_at levels k) (frame_at levels (k + 1)) → ⊥
+stuck_differ q cube levels sound stuck differ k above below same =
     differ_at (own_lemmas levels k) refl (some-own levels k (omega arith) (differ k below))
   where
     differ_at : (own : List (List Lit)) → own_lemmas levels k ≡ own → own_lemmas levels k ≢ [] → ⊥
     differ_at [] is some = some is
     differ_at (lemma ∷ own) is some =
-        let first : IsStuck q levels k lemma = subst (All (IsStuck q levels k)) is (stuck k below) 0 [] (omega arith) in
+        let first : IsStuck q levels k lemma = subst (All (IsStuck q levels k)) is (stuck k above below) 0 [] (omega arith) in
         let t : List Bool = successor q.circuit first.step in
         let size : length t ≡ length q.circuit.latches = length-map q.circuit.latches _ in
         let next : allowed_by (frame_at levels (k + 1)) t ≡ true = sound.steps k first.step below first.arena first.from in
@@ -213,18 +214,12 @@ stay_on q a b c level first second k below stuck = second k below (first k below
 pub all_stuck_here : (q : Question) (levels : Levels) (level place : ℕ) → place ≡ 0 → StuckFrom q levels level place → AreStuck q levels level
 all_stuck_here q levels level place is stuck = subst (StuckFrom q levels level) is stuck
 
--- Where the lemmas of level 0 are not tried, they are stuck.
-pub stuck_first : (q : Question) (levels : Levels) (anew : Bool) (first : ℕ) → first ≤ 2 → (1 < first → anew ≡ false)
-    → (anew ≡ false → AreStuck q levels 0) → (k : ℕ) → k + 1 < first → AreStuck q levels k
-stuck_first q levels anew first most later stuck zero below = stuck (later (omega arith))
-stuck_first q levels anew first most later stuck (suc k) below = absurd (omega arith)
-
 -- One more level.
-pub stuck_more : (q : Question) (old new : Levels) (level : ℕ) → 1 ≤ level → ((k : ℕ) → k + 1 < level → AreStuck q old k)
-    → StayStuck q old new (level - 1) → AreStuck q new (level - 1) → (k : ℕ) → k + 1 < level + 1 → AreStuck q new k
-stuck_more q old new level some before stay here k below =
+pub stuck_more : (q : Question) (old new : Levels) (level : ℕ) → 1 ≤ level → ((k : ℕ) → 1 ≤ k → k + 1 < level → AreStuck q old k)
+    → StayStuck q old new (level - 1) → AreStuck q new (level - 1) → (k : ℕ) → 1 ≤ k → k + 1 < level + 1 → AreStuck q new k
+stuck_more q old new level some before stay here k above below =
     elim (cases_lt (k + 1) level) [
-      | inl earlier ↦ stay k (omega arith) (before k earlier)
+      | inl earlier ↦ stay k (omega arith) (before k above earlier)
       | inr last ↦ let is : level - 1 ≡ k = omega arith in subst (AreStuck q new) is here
     ]
 

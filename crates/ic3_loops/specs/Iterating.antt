@@ -5,7 +5,6 @@ use Rattle.proof_semantics.specs.declared.literals.Lit.{Lit}
 use Rattle.ic3_frames.specs.Frames.{frame_at}
 use Rattle.ic3_frames.specs.Room.{allowed_by}
 use Rattle.ic3_semantics.specs.declared.questions.Goal.{Goal}
-use Rattle.ic3_loops.specs.Sound.{AreStuck}
 use Rattle.ic3_loops.specs.declared.iterating.Iterated.{Iterated}
 use Rattle.ic3_loops.specs.declared.iterating.Iterated.TheVariants.{Path, Closed, More}
 use Rattle.ic3_semantics.specs.Searching.{Question, IsPath, Misses}
@@ -16,11 +15,11 @@ pub record IsClosedAt (q : Question) (goal : Goal) (levels : List (List (List Li
   pub same : frame_at levels level ≡ frame_at levels (level + 1)
   pub misses : Misses q goal (allowed_by (frame_at levels (level + 1)))
 
--- A path; such a level; or a frame more, and then the lemmas of level 0 are stuck.
+-- a path, such a level, or a frame more
 abbrev pub IsIterated : Question → Goal → List (List (List Lit)) → Iterated → Type 0
 IsIterated q goal levels (Path positions) = IsPath q goal positions
 IsIterated q goal levels (Closed level) = IsClosedAt q goal levels level
-IsIterated q goal levels More = AreStuck q levels 0
+IsIterated q goal levels More = Unit {0}
 
 -- where the search goes on there is less room
 abbrev pub TakesRoom : ℕ → ℕ → Iterated → Type 0

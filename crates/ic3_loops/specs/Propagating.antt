@@ -3,7 +3,7 @@
 use Rattle.std.specs.Prelude.{◌≡◌, ℕ, ◌+◌, ◌<◌, ◌≤◌, Bool, true, List, [], length, drop, slice_index_or}
 use Rattle.std.specs.List.{All}
 use Rattle.proof_semantics.specs.declared.literals.Lit.{Lit}
-use Rattle.ic3_frames.specs.Frames.{has_clause, frame_at, own_lemmas, put_at}
+use Rattle.ic3_frames.specs.Frames.{frame_at, own_lemmas, put_at}
 use Rattle.ic3_frames.specs.Room.{room, allowed_by}
 use Rattle.ic3_semantics.specs.Searching.{Question}
 use Rattle.ic3_semantics.specs.Stepping.{Stepping}
@@ -30,18 +30,13 @@ IsTried q old new level place = StuckFrom q old level (place + 1) → StuckFrom 
 abbrev pub Narrows : List (List (List Lit)) → List (List (List Lit)) → Type 0
 Narrows old new = (k : ℕ) (s : List Bool) → allowed_by (frame_at new k) s ≡ true → allowed_by (frame_at old k) s ≡ true
 
--- each lemma that level 0 has and level 1 has not was such a one before
-abbrev pub KeepsLowest : List (List (List Lit)) → List (List (List Lit)) → Type 0
-KeepsLowest old new =
-    (lemma : List Lit) → has_clause (own_lemmas new 0) lemma ≡ true → has_clause (own_lemmas old 0) lemma ≡ true
-
 -- what was stuck below a level is stuck
 abbrev pub StayStuck : Question → List (List (List Lit)) → List (List (List Lit)) → ℕ → Type 0
 StayStuck q old new level = (k : ℕ) → k < level → AreStuck q old k → AreStuck q new k
 
--- the lemmas of each level below the last are stuck
+-- the lemmas of each level above level 0 and below the last are stuck
 abbrev pub AllStuck : Question → List (List (List Lit)) → Type 0
-AllStuck q levels = (k : ℕ) → k + 1 < length levels → AreStuck q levels k
+AllStuck q levels = (k : ℕ) → 1 ≤ k → k + 1 < length levels → AreStuck q levels k
 
 -- The search goes on over as many frames, which allow no more and have no more room.
 pub record IsNarrower (starts : List Lit) (old new : Stepping) (before after : List (List (List Lit))) : Type 0 where

@@ -12,7 +12,7 @@ ghost use Rattle.ic3_semantics.specs.Stepping.{IsOver, IsPredecessor};
 ghost use Rattle.ic3_loops.specs.Starting.{value_literals};
 ghost use Rattle.ic3_loops.specs.Sound.{IsSearch, IsGoalOf, IsBlocked, KeepsQuestion, Agree};
 ghost use Rattle.ic3_semantics.specs.Searching.{CountsUpTo};
-ghost use Rattle.ic3_loops.specs.Propagating.{Narrows, KeepsLowest};
+ghost use Rattle.ic3_loops.specs.Propagating.{Narrows};
 ghost use Rattle.ic3_loops.specs.Generalizing.{IsBased};
 ghost use Rattle.ic3_loops.specs.Keeping.{Keeps, Bounds};
 ghost use Rattle.ic3_loops.specs.Blocking.{AreObligations, IsOpen, IsBefore, TellsConsecution, IsPutIn, IsKeptWith, IsBlockedAt, IsChained, IsBlockedNext};

@@ -10,7 +10,7 @@ ghost use Rattle.ic3_semantics.specs.Stepping.{IsMissing, IsOver};
 ghost use Rattle.ic3_loops.specs.Starting.{value_literals, misses_starts};
 ghost use Rattle.ic3_loops.specs.Sound.{IsSearch, IsRelative, KeepsQuestion, has_one_of};
 ghost use Rattle.ic3_semantics.specs.Searching.{CountsUpTo};
-ghost use Rattle.ic3_loops.specs.Propagating.{Narrows, KeepsLowest};
+ghost use Rattle.ic3_loops.specs.Propagating.{Narrows};
 ghost use Rattle.ic3_loops.specs.Blocking.{IsStronger};
 ghost use Rattle.ic3_loops.specs.Generalizing.{IsOpposed, IsBased, with_literal};
 
@@ -52,7 +52,6 @@ pub(crate) fn generalize<S: StepSolver>(
     ensures stronger { IfOk result (λ level.
         IsStronger (length (S.seen steps.old).question.circuit.latches) level frames.old frames.new) }
     ensures narrows { OnOk result (Narrows frames.old frames.new) }
-    ensures lowest { OnOk result (KeepsLowest frames.old frames.new) }
     ensures number { OnOk result (length frames.new ≡ length frames.old) }
     ensures question { KeepsQuestion (S.seen steps.old) (S.seen steps.new) }
     ensures one { OnOk result (meter.new.steps ≡ one_more meter.old.steps) }
@@ -89,7 +88,6 @@ fn put_counted<S: StepSolver>(
     ensures excluded { OnOk result (allowed_by (frame_at frames.new (from + 1)) state.now ≡ false) }
     ensures stronger { OnOk result (IsStronger (length (S.seen steps.old).question.circuit.latches) (from + 1) frames.old frames.new) }
     ensures narrows { OnOk result (Narrows frames.old frames.new) }
-    ensures lowest { OnOk result (KeepsLowest frames.old frames.new) }
     ensures number { OnOk result (length frames.new ≡ length frames.old) }
     ensures question { KeepsQuestion (S.seen steps.old) (S.seen steps.new) }
     ensures one { OnOk result (meter.new ≡ record meter.old { steps = one_more meter.old.steps }) }

@@ -1,11 +1,11 @@
 //! The iterations of a search: the last frame is strengthened, lemmas are propagated, and a frame is opened. The main call
 //! is `iterate`.
-ghost use Rattle.std.specs.Prelude.{◌≡◌, ◌+◌, ◌^◌, ◌<◌, ◌≤◌, [], ◌∷◌, ◌++◌, length, false, IfOk, IfErr, OnOk};
+ghost use Rattle.std.specs.Prelude.{◌≡◌, ◌+◌, ◌^◌, ◌<◌, ◌≤◌, [], ◌∷◌, ◌++◌, length, IfOk, IfErr, OnOk};
 ghost use Rattle.edge.specs.Faults.{one_more};
 ghost use Rattle.ic3_frames.specs.Frames.{AllDiffer};
 ghost use Rattle.ic3_frames.specs.Room.{room};
 ghost use Rattle.ic3_semantics.specs.Searching.{IsReachEnd};
-ghost use Rattle.ic3_loops.specs.Sound.{IsSearch, IsGoalOf, KeepsQuestion, AreStuck, MissesLast};
+ghost use Rattle.ic3_loops.specs.Sound.{IsSearch, IsGoalOf, KeepsQuestion, MissesLast};
 ghost use Rattle.ic3_semantics.specs.Searching.{CountsUpTo};
 ghost use Rattle.ic3_loops.specs.Propagating.{Narrows, AllStuck};
 ghost use Rattle.ic3_loops.specs.Iterating.{IsIterated, TakesRoom, HasEnded};
@@ -59,22 +59,19 @@ pub fn iterate<S: StepSolver>(
     ensures end { IfErr result (IsReachEnd meter.new) }
 {
     let mut known = no_witnesses(alloc);
-    let mut anew = true;
     'iterations: loop {
-        match iteration(alloc, starts, goal, anew, &mut known, steps, frames, meter)? {
-            Iterated::More => anew = false,
+        match iteration(alloc, starts, goal, &mut known, steps, frames, meter)? {
+            Iterated::More => {}
             ended => return Ok(ended),
         }
     }
 }
 
-// One iteration. Whether it is the first of the question is `anew`; `known` has steps of the question that showed lemmas
-// stuck.
+// One iteration. `known` has steps of the question that showed lemmas stuck.
 fn iteration<S: StepSolver>(
     alloc: Global,
     starts: &Cube,
     goal: &Goal<'_>,
-    anew: bool,
     known: &mut Witnesses,
     steps: &mut S,
     frames: &mut Frames,
@@ -83,7 +80,6 @@ fn iteration<S: StepSolver>(
     requires search { IsSearch starts.now (S.seen steps.old) frames.old }
     requires two { 2 ≤ length frames.old }
     requires goal { IsGoalOf (S.seen steps.old) goal.now }
-    requires lowest { anew ≡ false → AreStuck (S.seen steps.old).question frames.old 0 }
     requires known { AreWitnesses (S.seen steps.old).question known.old }
     ensures search { OnOk result (IsSearch starts.now (S.seen steps.new) frames.new) }
     ensures two { OnOk result (2 ≤ length frames.new) }
@@ -101,7 +97,7 @@ fn iteration<S: StepSolver>(
 {
     match strengthen(alloc, starts, goal, steps, frames, meter)? {
         Some(positions) => Ok(Iterated::Path(positions)),
-        None => propagate_and_open(alloc, starts, goal, anew, known, steps, frames, meter),
+        None => propagate_and_open(alloc, starts, goal, known, steps, frames, meter),
     }
 }
 
@@ -110,8 +106,7 @@ fn iteration<S: StepSolver>(
 fn propagate_and_open<S: StepSolver>(
     alloc: Global,
     starts: &Cube,
-    _goal: &Goal<'_>,
-    anew: bool,
+    goal: &Goal<'_>,
     known: &mut Witnesses,
     steps: &mut S,
     frames: &mut Frames,
@@ -119,14 +114,13 @@ fn propagate_and_open<S: StepSolver>(
 ) -> Result<Iterated, ReachEnd>
     requires search { IsSearch starts.now (S.seen steps.old) frames.old }
     requires two { 2 ≤ length frames.old }
-    requires misses { MissesLast (S.seen steps.old).question _goal.now frames.old }
-    requires lowest { anew ≡ false → AreStuck (S.seen steps.old).question frames.old 0 }
+    requires misses { MissesLast (S.seen steps.old).question goal.now frames.old }
     requires known { AreWitnesses (S.seen steps.old).question known.old }
     ensures search { OnOk result (IsSearch starts.now (S.seen steps.new) frames.new) }
     ensures two { OnOk result (2 ≤ length frames.new) }
     ensures more { OnOk result (length frames.old ≤ length frames.new) }
     ensures narrows { OnOk result (Narrows frames.old frames.new) }
-    ensures outcome { IfOk result (IsIterated (S.seen steps.old).question _goal.now frames.new) }
+    ensures outcome { IfOk result (IsIterated (S.seen steps.old).question goal.now frames.new) }
     ensures known { OnOk result (AreWitnesses (S.seen steps.old).question known.new) }
     ensures smaller { let n = length (S.seen steps.old).question.circuit.latches in
         IfOk result (TakesRoom (room n frames.old) (room n frames.new)) }
@@ -136,7 +130,7 @@ fn propagate_and_open<S: StepSolver>(
     ensures counted { CountsUpTo (room (length (S.seen steps.old).question.circuit.latches) frames.old) meter.old meter.new }
     ensures end { IfErr result (IsReachEnd meter.new) }
 {
-    propagate(alloc, starts, anew, known, steps, frames, meter)?;
+    propagate(alloc, starts, goal, known, steps, frames, meter)?;
     match frames.equal_pair() {
         Some(level) => Ok(Iterated::Closed(level)),
         None => {

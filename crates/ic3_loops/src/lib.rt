@@ -44,8 +44,9 @@
 //! propagate:                                                                       propagating
 //!     from level 1 up, for each lemma that the next level has not:                 pushing
 //!         if it holds after each step from the frame of its level, put the part that the solver answers into the next level
-//!     from the lowest level up, for each lemma that the next level has not:
+//!     from level 1 up, for each lemma that the next level has not:
 //!         if it holds after each step from the frame of its level, put it into the next level
+//!     (while there are two levels, for each lemma of level 0 first; from a state where the goal is a state)
 //!     (a step that showed that a lemma stays shows it still while it begins in the frame)      witnesses
 //! ```
 //!

@@ -1,5 +1,5 @@
 //! Lemmas that hold after each step from their frame go into the next one too. The main call is `propagate`.
-ghost use Rattle.std.specs.Prelude.{◌≡◌, ◌+◌, ◌<◌, ◌≤◌, [], length, slice_index_or, false, IfErr, OnOk};
+ghost use Rattle.std.specs.Prelude.{◌≡◌, ◌+◌, ◌<◌, ◌≤◌, [], length, slice_index_or, IfErr, OnOk};
 ghost use Rattle.edge.specs.Ends.{CountsConflicts, IsEnd};
 ghost use Rattle.ic3_frames.specs.Frames.{own_lemmas};
 ghost use Rattle.ic3_loops.specs.Sound.{IsSearch, IsRelative, KeepsQuestion, AreStuck};
@@ -13,16 +13,17 @@ use crate::witnesses::{Witnesses, forget_unused};
 use cnf::{Clause, Cube};
 use edge::{Meter, SolveEnd};
 use ic3_frames::Frames;
+use ic3_semantics::{Goal, Start};
 use std::alloc::{AllocError, Global};
 
-/// Puts lemmas that hold after each step from their frame into the next frame too: first a part of each, from level 1 up;
-/// and then, from the lowest frame up, each lemma that is left as it is, so that those that stay are stuck. `starts` is the
-/// cube of the starts. The literals of the starts, which are the lemmas of the lowest frame, are tried in the first
-/// iteration of a question alone (`anew`): what is stuck there stays so.
+/// Puts lemmas that hold after each step from their frame into the next frame too, from level 1 up: first a part of each;
+/// and then each lemma that is left as it is, so that those that stay are stuck. The lemmas of level 0, which are the
+/// literals of the starts, are tried while there are two frames, from a state where the goal is a state. `starts` is the
+/// cube of the starts.
 pub(crate) fn propagate<S: StepSolver>(
     alloc: Global,
     starts: &Cube,
-    anew: bool,
+    goal: &Goal<'_>,
     known: &mut Witnesses,
     steps: &mut S,
     frames: &mut Frames,
@@ -30,7 +31,6 @@ pub(crate) fn propagate<S: StepSolver>(
 ) -> Result<(), SolveEnd>
     requires search { IsSearch starts.now (S.seen steps.old) frames.old }
     requires known { AreWitnesses (S.seen steps.old).question known.old }
-    requires lowest { anew ≡ false → AreStuck (S.seen steps.old).question frames.old 0 }
     ensures narrower { OnOk result (IsNarrower starts.now (S.seen steps.old) (S.seen steps.new) frames.old frames.new) }
     ensures stuck { OnOk result (AllStuck (S.seen steps.old).question frames.new) }
     ensures known { OnOk result (AreWitnesses (S.seen steps.old).question known.new) }
@@ -40,14 +40,15 @@ pub(crate) fn propagate<S: StepSolver>(
 {
     forget_unused(known);
     push_parts(alloc, starts, known, steps, frames, meter)?;
-    push_lemmas(alloc, starts, anew, known, steps, frames, meter)
+    push_lemmas(alloc, starts, goal, known, steps, frames, meter)
 }
 
-// Puts each lemma that holds after each step from its frame into the next frame.
+// Puts each lemma that holds after each step from its frame into the next frame: from level 1 up all, of level 0 where they
+// are due.
 fn push_lemmas<S: StepSolver>(
     alloc: Global,
     starts: &Cube,
-    anew: bool,
+    goal: &Goal<'_>,
     known: &mut Witnesses,
     steps: &mut S,
     frames: &mut Frames,
@@ -55,7 +56,6 @@ fn push_lemmas<S: StepSolver>(
 ) -> Result<(), SolveEnd>
     requires search { IsSearch starts.now (S.seen steps.old) frames.old }
     requires known { AreWitnesses (S.seen steps.old).question known.old }
-    requires lowest { anew ≡ false → AreStuck (S.seen steps.old).question frames.old 0 }
     ensures narrower { OnOk result (IsNarrower starts.now (S.seen steps.old) (S.seen steps.new) frames.old frames.new) }
     ensures stuck { OnOk result (AllStuck (S.seen steps.old).question frames.new) }
     ensures known { OnOk result (AreWitnesses (S.seen steps.old).question known.new) }
@@ -63,20 +63,24 @@ fn push_lemmas<S: StepSolver>(
     ensures end { IfErr result (IsEnd meter.new) }
     ensures counted { CountsConflicts meter.old meter.new }
 {
-    let first = first_due(anew);
+    let first = first_due(frames.len(), steps.start(), goal);
     for level in first..frames.len() {
         push_level(alloc, starts, level - 1, known, steps, frames, meter)?;
     }
     Ok(())
 }
 
-// The first frame that lemmas are to be pushed into.
-fn first_due(anew: bool) -> u64
+// The first frame that lemmas are to be pushed into: those of level 0 go up while there are two frames, and from a state,
+// which has a lemma for each latch, where the goal is a state. No contract rests on it.
+fn first_due(count: u64, start: &Start, goal: &Goal<'_>) -> u64
     ensures some { 1 ≤ result }
-    ensures lowest { 1 < result → anew ≡ false }
     ensures next { result ≤ 2 }
 {
-    if anew { 1 } else { 2 }
+    let is_wanted = match (start, goal) {
+        (Start::State(_), Goal::Literal { .. }) => false,
+        _ => true,
+    };
+    if is_wanted && count == 2 { 1 } else { 2 }
 }
 
 // The same of one level, of which the lemmas that came last are tried first.

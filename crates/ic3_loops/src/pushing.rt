@@ -6,7 +6,7 @@ ghost use Rattle.edge.specs.Ends.{CountsConflicts, IsEnd};
 ghost use Rattle.ic3_semantics.specs.Stepping.{IsOver, IsMissing};
 ghost use Rattle.ic3_loops.specs.Sound.{IsSearch, KeepsQuestion, Agree, has_one_of};
 ghost use Rattle.ic3_loops.specs.Holding.{TellsOn};
-ghost use Rattle.ic3_loops.specs.Propagating.{IsNarrower, KeepsLowest};
+ghost use Rattle.ic3_loops.specs.Propagating.{IsNarrower};
 ghost use Rattle.ic3_loops.specs.Witnessing.{AreWitnesses};
 
 use crate::cubes::based;
@@ -32,7 +32,6 @@ pub(crate) fn push_parts<S: StepSolver>(
     requires search { IsSearch starts.now (S.seen steps.old) frames.old }
     requires known { AreWitnesses (S.seen steps.old).question known.old }
     ensures narrower { OnOk result (IsNarrower starts.now (S.seen steps.old) (S.seen steps.new) frames.old frames.new) }
-    ensures lowest { OnOk result (KeepsLowest frames.old frames.new) }
     ensures known { OnOk result (AreWitnesses (S.seen steps.old).question known.new) }
     ensures question { KeepsQuestion (S.seen steps.old) (S.seen steps.new) }
     ensures end { IfErr result (IsEnd meter.new) }
@@ -58,7 +57,6 @@ fn push_own<S: StepSolver>(
     requires known { AreWitnesses (S.seen steps.old).question known.old }
     requires next { level + 1 < length frames.old }
     ensures narrower { OnOk result (IsNarrower starts.now (S.seen steps.old) (S.seen steps.new) frames.old frames.new) }
-    ensures lowest { OnOk result (KeepsLowest frames.old frames.new) }
     ensures known { OnOk result (AreWitnesses (S.seen steps.old).question known.new) }
     ensures question { KeepsQuestion (S.seen steps.old) (S.seen steps.new) }
     ensures end { IfErr result (IsEnd meter.new) }
@@ -87,7 +85,6 @@ fn push_part<S: StepSolver>(
     requires known { AreWitnesses (S.seen steps.old).question known.old }
     requires next { level + 1 < length frames.old }
     ensures narrower { OnOk result (IsNarrower starts.now (S.seen steps.old) (S.seen steps.new) frames.old frames.new) }
-    ensures lowest { OnOk result (KeepsLowest frames.old frames.new) }
     ensures known { OnOk result (AreWitnesses (S.seen steps.old).question known.new) }
     ensures question { KeepsQuestion (S.seen steps.old) (S.seen steps.new) }
     ensures end { IfErr result (IsEnd meter.new) }
@@ -120,7 +117,6 @@ fn put_part<S: StepSolver>(
     requires based { has_one_of starts.now lemma.now ≡ true }
     requires missing { IsMissing (S.seen steps.old) level (map negation lemma.now) part }
     ensures narrower { OnOk result (IsNarrower starts.now (S.seen steps.old) (S.seen steps.new) frames.old frames.new) }
-    ensures lowest { OnOk result (KeepsLowest frames.old frames.new) }
     ensures question { KeepsQuestion (S.seen steps.old) (S.seen steps.new) }
 {
     let cube = negated(alloc, lemma)?;

@@ -1,8 +1,7 @@
-use Rattle.std.proofs.Common.{◌≡◌, ℕ, ◌<◌, ◌^◌, length, ap, subst, ◌∙◌, ◌+◌, arith}
+use Rattle.std.proofs.Common.{◌≡◌, ℕ, ◌<◌, ◌^◌, length, ap, subst, ◌∙◌, ◌+◌}
 use Rattle.ic3_frames.specs.Frames.{with_lemma}
 use Rattle.ic3_frames.proofs.Meaning.{number-stays}
 use Rattle.ic3_loops.proofs.Ended.{one_step}
-use Rattle.ic3_loops.proofs.Lowest.{with_lowest}
 use Rattle.ic3_loops.proofs.Excluding.{stronger-is}
 use Rattle.ic3_loops.proofs.Excluded.{put-excludes, put-narrows}
 use Rattle.ic3_loops.proofs.generalizing.put_counted.Goals as goal
@@ -31,11 +30,6 @@ returns-clause-excluded g c =
 pub returns-clause-narrows : goal.returns-clause-narrows
 returns-clause-narrows g c =
     put-narrows c.args.frames.now c.put_lemma.new.frames (c.args.from + 1) c.args.lemma c.requires.level
-    (c.in_ok-put_lemma.ensures.frames ∙ ap (λ k. with_lemma c.args.frames.now k c.args.lemma) c.in_ok-level.ensures)
-
-pub returns-clause-lowest : goal.returns-clause-lowest
-returns-clause-lowest g c =
-    with_lowest c.args.frames.now c.put_lemma.new.frames (c.args.from + 1) c.args.lemma (omega arith)
     (c.in_ok-put_lemma.ensures.frames ∙ ap (λ k. with_lemma c.args.frames.now k c.args.lemma) c.in_ok-level.ensures)
 
 pub returns-clause-stronger : goal.returns-clause-stronger

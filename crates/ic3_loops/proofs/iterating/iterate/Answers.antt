@@ -1,8 +1,6 @@
 use Rattle.std.proofs.Common.{rules, ◌+◌, ◌≤◌, length, refl, sym, subst, arith}
-use Rattle.std.proofs.lemmas.Bool.{false≢true}
 use Rattle.ic3_frames.specs.Room.{room}
 use Rattle.ic3_semantics.specs.Searching.{Question}
-use Rattle.ic3_loops.specs.Sound.{AreStuck}
 use Rattle.ic3_semantics.specs.Searching.{CountsUpTo}
 use Rattle.ic3_loops.specs.Iterating.{IsIterated}
 use Rattle.ic3_loops.specs.Witnessing.{AreWitnesses}
@@ -16,17 +14,11 @@ iterations-init g c = record {
   two = c.requires.two;
   more = omega arith;
   narrows = λ k s allowed. allowed;
-  lowest = λ later. absurd (false≢true (sym later));
   known = c.no_witnesses-known.ensures (g.S.StepSolver.seen c.args.steps.now).question;
   question = record { question = refl; avoid = refl };
   paid = omega arith;
   counted = up_to_none (room (length (g.S.StepSolver.seen c.args.steps.now).question.circuit.latches) c.args.frames.now) c.args.meter.now;
 }
-
-pub iteration-requires-clause-lowest : goal.iteration-requires-clause-lowest
-iteration-requires-clause-lowest g c = λ later.
-    let before = c.iterations.invariant in
-    subst (λ q. AreStuck q c.iterations.frames 0) (sym before.question.question) (before.lowest later)
 
 pub iteration-requires-clause-known : goal.iteration-requires-clause-known
 iteration-requires-clause-known g c =
@@ -47,9 +39,6 @@ iterations-preserved g c =
       two = says.two;
       more = omega (arith, says.more, before.more);
       narrows = narrow_on c.args.frames.now c.iterations.frames c.iteration.new.frames before.narrows says.narrows;
-      lowest = λ _.
-          subst (λ q. AreStuck q c.iteration.new.frames 0) is
-          (subst (IsIterated (g.S.StepSolver.seen c.iterations.steps).question c.args.goal.now c.iteration.new.frames) c.in-More.is says.outcome);
       known = subst (λ q. AreWitnesses q c.iteration.new.known) is says.known;
       question = keeps_on (g.S.StepSolver.seen c.args.steps.now) (g.S.StepSolver.seen c.iterations.steps) (g.S.StepSolver.seen c.iteration.new.steps) before.question says.question;
       paid = omega (arith, less, before.paid);

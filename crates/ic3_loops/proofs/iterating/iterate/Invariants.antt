@@ -1,6 +1,6 @@
-use Rattle.std.proofs.Common.{◌≡◌, ◌+◌, ◌≤◌, false, length}
+use Rattle.std.proofs.Common.{◌+◌, ◌≤◌, length}
 use Rattle.ic3_frames.specs.Room.{room}
-use Rattle.ic3_loops.specs.Sound.{IsSearch, AreStuck, KeepsQuestion}
+use Rattle.ic3_loops.specs.Sound.{IsSearch, KeepsQuestion}
 use Rattle.ic3_semantics.specs.Searching.{CountsUpTo}
 use Rattle.ic3_loops.specs.Propagating.{Narrows}
 use Rattle.ic3_loops.specs.Witnessing.{AreWitnesses}
@@ -12,7 +12,6 @@ invariant-iterations g l = record {
   two : 2 ≤ length l.frames;
   more : length l.initial.frames ≤ length l.frames;
   narrows : Narrows l.initial.frames l.frames;
-  lowest : l.anew ≡ false → AreStuck (g.S.StepSolver.seen l.initial.steps).question l.frames 0;
   known : AreWitnesses (g.S.StepSolver.seen l.initial.steps).question l.known;
   question : KeepsQuestion (g.S.StepSolver.seen l.initial.steps) (g.S.StepSolver.seen l.steps);
   paid : l.meter.steps + room (length (g.S.StepSolver.seen l.initial.steps).question.circuit.latches) l.frames

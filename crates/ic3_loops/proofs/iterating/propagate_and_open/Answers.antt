@@ -1,6 +1,5 @@
-use Rattle.std.proofs.Common.{◌+◌, arith}
+use Rattle.std.proofs.Common.{◌+◌}
 use Rattle.ic3_loops.proofs.Stuck.{narrow_on}
-use Rattle.ic3_loops.proofs.Lowest.{opened_stuck}
 use Rattle.ic3_loops.proofs.Narrowing.{narrower_misses}
 use Rattle.ic3_loops.proofs.iterating.propagate_and_open.Goals as goal
 
@@ -9,15 +8,9 @@ returns-in-Some-clause-outcome g c = record {
   below = c.in-Some.ensures.found;
   same = c.in-Some.ensures.equal;
   misses =
-      narrower_misses (g.S.StepSolver.seen c.args.steps.now).question c.args._goal.now c.args.frames.now c.propagate.new.frames (c.in-Some.level + 1)
+      narrower_misses (g.S.StepSolver.seen c.args.steps.now).question c.args.goal.now c.args.frames.now c.propagate.new.frames (c.in-Some.level + 1)
       c.in_ok-propagate.ensures.narrower.number c.in-Some.ensures.found c.in_ok-propagate.ensures.narrower.narrows c.requires.misses;
 }
-
-pub returns-in_ok-open_frame-in-None-clause-outcome : goal.returns-in_ok-open_frame-in-None-clause-outcome
-returns-in_ok-open_frame-in-None-clause-outcome g c =
-    let pushed = c.in_ok-propagate.ensures in
-    opened_stuck (g.S.StepSolver.seen c.args.steps.now).question c.propagate.new.frames c.open_frame.new.frames (omega (arith, c.requires.two, pushed.narrower.number))
-    c.in_ok-open_frame-in-None.ensures.frames (pushed.stuck 0 (omega (arith, c.requires.two, pushed.narrower.number)))
 
 pub returns-in_ok-open_frame-in-None-clause-narrows : goal.returns-in_ok-open_frame-in-None-clause-narrows
 returns-in_ok-open_frame-in-None-clause-narrows g c =

@@ -1,24 +1,13 @@
 use Rattle.std.proofs.Common.{sym, subst}
 use Rattle.std.specs.Result.{OnOk}
-use Rattle.ic3_loops.specs.Sound.{IsSound, AreStuck}
 use Rattle.ic3_loops.specs.Propagating.{AllStuck}
 use Rattle.ic3_loops.specs.Witnessing.{AreWitnesses}
 use Rattle.ic3_loops.proofs.Ended.{on_ok}
-use Rattle.ic3_loops.proofs.Lowest.{lowest_stuck}
 use Rattle.ic3_loops.proofs.Narrower.{narrower_on}
 use Rattle.ic3_loops.proofs.propagating.propagate.Goals as goal
 
 pub push_parts-requires-clause-known : goal.push_parts-requires-clause-known
 push_parts-requires-clause-known g c = c.forget_unused.ensures (g.S.StepSolver.seen c.args.steps.now).question c.requires.known
-
-pub push_lemmas-requires-clause-lowest : goal.push_lemmas-requires-clause-lowest
-push_lemmas-requires-clause-lowest g c = λ later.
-    let q = (g.S.StepSolver.seen c.args.steps.now).question in
-    let says = c.in_ok-push_parts.ensures in
-    let is = says.question.question in
-    subst (λ x. AreStuck x c.push_parts.new.frames 0) (sym is)
-    (lowest_stuck q c.args.starts.now c.args.frames.now c.push_parts.new.frames c.requires.search.starts c.requires.search.sound
-    (subst (λ x. IsSound x c.args.starts.now c.push_parts.new.frames) is says.narrower.search.sound) says.lowest (c.requires.lowest later))
 
 pub push_lemmas-requires-clause-known : goal.push_lemmas-requires-clause-known
 push_lemmas-requires-clause-known g c =

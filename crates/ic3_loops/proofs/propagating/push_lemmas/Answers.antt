@@ -2,7 +2,7 @@ use Rattle.std.proofs.Common.{◌-◌, refl, sym, subst, arith}
 use Rattle.ic3_loops.specs.Sound.{AreStuck}
 use Rattle.ic3_loops.specs.Propagating.{StayStuck}
 use Rattle.ic3_loops.specs.Witnessing.{AreWitnesses}
-use Rattle.ic3_loops.proofs.Stuck.{stuck_first, stuck_more}
+use Rattle.ic3_loops.proofs.Stuck.{stuck_more}
 use Rattle.ic3_loops.proofs.Narrower.{narrower_none, narrower_on}
 use Rattle.ic3_loops.proofs.Ended.{counts_none, counts_on, keeps_on}
 use Rattle.ic3_loops.proofs.propagating.push_lemmas.Goals as goal
@@ -10,9 +10,7 @@ use Rattle.ic3_loops.proofs.propagating.push_lemmas.Goals as goal
 pub loop-level-init : goal.loop-level-init
 loop-level-init g c = record {
   narrower = narrower_none c.args.starts.now (g.S.StepSolver.seen c.args.steps.now) c.args.frames.now c.requires.search;
-  stuck =
-      stuck_first (g.S.StepSolver.seen c.args.steps.now).question c.args.frames.now c.args.anew c.first_due-first.result c.first_due-first.ensures.next
-      c.first_due-first.ensures.lowest c.requires.lowest;
+  stuck = λ k some below. absurd (omega (arith, some, below, c.first_due-first.ensures.next));
   known = c.requires.known;
   question = record { question = refl; avoid = refl };
   counted = counts_none c.args.meter.now;

@@ -1,14 +1,14 @@
-use Rattle.std.proofs.Common.{◌+◌, ◌<◌, ℕ}
+use Rattle.std.proofs.Common.{◌+◌, ◌<◌, ◌≤◌, ℕ}
 use Rattle.edge.specs.Ends.{CountsConflicts}
 use Rattle.ic3_loops.specs.Sound.{AreStuck, KeepsQuestion}
-use Rattle.ic3_loops.specs.Propagating.{IsNarrower, StuckFrom, StayStuck}
+use Rattle.ic3_loops.specs.Propagating.{IsNarrower}
 use Rattle.ic3_loops.specs.Witnessing.{AreWitnesses}
 use Rattle.ic3_loops.proofs.propagating.push_lemmas.Given as goal
 
 abbrev pub invariant-loop-level : goal.invariant-loop-level
 invariant-loop-level g l = record {
   narrower : IsNarrower l.starts (g.S.StepSolver.seen l.initial.steps) (g.S.StepSolver.seen l.steps) l.initial.frames l.frames;
-  stuck : (k : ℕ) → k + 1 < l.level → AreStuck (g.S.StepSolver.seen l.initial.steps).question l.frames k;
+  stuck : (k : ℕ) → 1 ≤ k → k + 1 < l.level → AreStuck (g.S.StepSolver.seen l.initial.steps).question l.frames k;
   known : AreWitnesses (g.S.StepSolver.seen l.initial.steps).question l.known;
   question : KeepsQuestion (g.S.StepSolver.seen l.initial.steps) (g.S.StepSolver.seen l.steps);
   counted : CountsConflicts l.initial.meter l.meter;

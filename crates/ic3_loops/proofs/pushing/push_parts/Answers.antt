@@ -1,6 +1,5 @@
 use Rattle.std.proofs.Common.{refl, sym, subst}
 use Rattle.ic3_loops.specs.Witnessing.{AreWitnesses}
-use Rattle.ic3_loops.proofs.Lowest.{lowest_on}
 use Rattle.ic3_loops.proofs.Narrower.{narrower_none, narrower_on}
 use Rattle.ic3_loops.proofs.Ended.{counts_none, counts_on, keeps_on}
 use Rattle.ic3_loops.proofs.pushing.push_parts.Goals as goal
@@ -8,7 +7,6 @@ use Rattle.ic3_loops.proofs.pushing.push_parts.Goals as goal
 pub loop-level-init : goal.loop-level-init
 loop-level-init g c = record {
   narrower = narrower_none c.args.starts.now (g.S.StepSolver.seen c.args.steps.now) c.args.frames.now c.requires.search;
-  lowest = λ lemma there. there;
   known = c.requires.known;
   question = record { question = refl; avoid = refl };
   counted = counts_none c.args.meter.now;
@@ -27,7 +25,6 @@ loop-level-preserved g c =
       narrower =
           narrower_on c.args.starts.now first (g.S.StepSolver.seen c.loop-level.steps) (g.S.StepSolver.seen c.push_own.new.steps)
           c.args.frames.now c.loop-level.frames c.push_own.new.frames before.narrower says.narrower;
-      lowest = lowest_on c.args.frames.now c.loop-level.frames c.push_own.new.frames before.lowest says.lowest;
       known = subst (λ q. AreWitnesses q c.push_own.new.known) before.question.question says.known;
       question = keeps_on first (g.S.StepSolver.seen c.loop-level.steps) (g.S.StepSolver.seen c.push_own.new.steps) before.question says.question;
       counted = counts_on c.args.meter.now c.loop-level.meter c.push_own.new.meter before.counted says.counted;

@@ -1,4 +1,4 @@
-use Rattle.std.proofs.Common.{◌≡◌, ◌+◌, true, length, sym, subst, ◌∙◌, arith}
+use Rattle.std.proofs.Common.{◌≡◌, ◌+◌, true, length, sym, subst, arith}
 use Rattle.proof_semantics.specs.Clauses.{is_part}
 use Rattle.ic3_semantics.specs.Stepping.{IsOver, IsMissing}
 use Rattle.ic3_loops.specs.Sound.{IsRelative}
@@ -7,9 +7,8 @@ use Rattle.ic3_loops.specs.Generalizing.{IsExcluded}
 use Rattle.ic3_loops.proofs.Stuck.{negation_over}
 use Rattle.ic3_loops.proofs.Excluding.{based-is, relative-is}
 use Rattle.ic3_loops.proofs.Excluded.{excluded-based}
-use Rattle.ic3_loops.proofs.Lowest.{with_lowest}
 use Rattle.ic3_loops.proofs.Narrower.{misses-lemma, narrower_with}
-use Rattle.ic3_loops.proofs.Ended.{on_ok, on_both}
+use Rattle.ic3_loops.proofs.Ended.{on_both}
 use Rattle.ic3_loops.proofs.pushing.put_part.Goals as goal
 
 pub based-requires-clause-misses : goal.based-requires-clause-misses
@@ -55,9 +54,3 @@ returns-clause-narrower g c =
     c.put_lemma.new.frames c.in_ok-next.next c.in_ok-clause.clause search c.put_lemma.ensures.question
     (omega (arith, c.requires.next, c.in_ok-next.ensures)) is)
     c.put_lemma.ensures.search c.put_lemma.ensures.frames
-
-pub returns-clause-lowest : goal.returns-clause-lowest
-returns-clause-lowest g c =
-    on_ok c.put_lemma.result _ _
-    (with_lowest c.args.frames.now c.put_lemma.new.frames c.in_ok-next.next c.in_ok-clause.clause (omega (arith, c.in_ok-next.ensures)))
-    c.put_lemma.ensures.frames
