@@ -17,7 +17,7 @@ use Rattle.certificate_lines.proofs.WordLaws.{word_given_line, word_back}
 use Rattle.certificate.specs.declared.ends.Accepted.{Accepted}
 use Rattle.certificate.specs.declared.ends.AnswerFault.TheVariants as faults
 use Rattle.certificate.specs.Answers.{property_line}
-use Rattle.certificate.specs.Reading.{Claim, HasLasso, HasNone, Status, Property, Rows, Dotted, Stepped, opens_rounds, other_status, status_step, property_in, claimed, property_step, version_step, with_value, values_in, latches_step, row_step, step}
+use Rattle.certificate.specs.Reading.{Claim, HasLasso, HasNone, Status, Property, Rows, Dotted, Stepped, opens_other, other_status, status_step, property_in, claimed, property_step, version_step, with_value, values_in, latches_step, row_step, step}
 use Rattle.certificate.specs.Ends.{IsGoodAtEnd}
 use Rattle.certificate.proofs.Completing.{FromRows, FromLatches, FromVersion, Claims, FromProperty, Completes, After}
 use Rattle.certificate.proofs.CompletingProofs.{heads}
@@ -252,13 +252,13 @@ module _ (c : Circuit) (a : Accepted) where
   unknown_status number left false rounds h = no_status number left rounds h
 
   zero_status : (number : ℕ) (line : List ℕ) (left : List (List ℕ)) (t : Bool) → bytes_eq line (codes "0") ≡ t
-      → After c (if t then Ok (Property HasNone) else if bytes_eq line (codes "2") then Err faults.UnknownStatus else other_status number (opens_rounds line)) left a
+      → After c (if t then Ok (Property HasNone) else if bytes_eq line (codes "2") then Err faults.UnknownStatus else other_status number (opens_other line)) left a
       → Completes c Status (line ∷ left) a
   zero_status number line left true is h = inr (record { rest = left; spelled = ap (λ l. l ∷ left) ((bytes_eq-Decides line (codes "0")).0 is); others = h })
-  zero_status number line left false is h = absurd (unknown_status number left (bytes_eq line (codes "2")) (opens_rounds line) h)
+  zero_status number line left false is h = absurd (unknown_status number left (bytes_eq line (codes "2")) (opens_other line) h)
 
   one_status : (number : ℕ) (line : List ℕ) (left : List (List ℕ)) (t : Bool) → bytes_eq line (codes "1") ≡ t
-      → After c (if t then Ok (Property HasLasso) else if bytes_eq line (codes "0") then Ok (Property HasNone) else if bytes_eq line (codes "2") then Err faults.UnknownStatus else other_status number (opens_rounds line)) left a
+      → After c (if t then Ok (Property HasLasso) else if bytes_eq line (codes "0") then Ok (Property HasNone) else if bytes_eq line (codes "2") then Err faults.UnknownStatus else other_status number (opens_other line)) left a
       → Completes c Status (line ∷ left) a
   one_status number line left true is h = inl (record { rest = left; spelled = ap (λ l. l ∷ left) ((bytes_eq-Decides line (codes "1")).0 is); others = h })
   one_status number line left false is h = zero_status number line left (bytes_eq line (codes "0")) refl h

@@ -45,7 +45,7 @@ skips_neither : (a b : List ℕ) → is_skipped a ≡ false → is_skipped b ≡
 skips_neither [] b first second = second
 skips_neither (x ∷ a) b first second = first
 
-plain_append : (a b : List ℕ) → IsPlain a → IsPlain b → IsPlain (a ++ b)
+pub plain_append : (a b : List ℕ) → IsPlain a → IsPlain b → IsPlain (a ++ b)
 plain_append a b h k =
     record { lacks = All-append (λ x. x ≢ 10) a b h.lacks k.lacks; kept = skips_neither a b h.kept k.kept }
 
@@ -58,7 +58,7 @@ lacks_by : (bytes : List ℕ) → list_all (λ x. not (eqb x 10)) bytes ≡ true
 lacks_by [] e = All-nil (λ x. x ≢ 10)
 lacks_by (b ∷ bytes) e = lacks_first b bytes (eqb b 10) refl (lacks_by bytes) e
 
-plain_word : (word : List ℕ) → list_all (λ x. not (eqb x 10)) word ≡ true → is_skipped word ≡ false → IsPlain word
+pub plain_word : (word : List ℕ) → list_all (λ x. not (eqb x 10)) word ≡ true → is_skipped word ≡ false → IsPlain word
 plain_word word all kept = record { lacks = lacks_by word all; kept = kept }
 
 plain_digit : (d : ℕ) → 48 ≤ d → d ≤ 57 → IsPlain (d ∷ [])

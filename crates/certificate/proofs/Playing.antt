@@ -32,7 +32,7 @@ use Rattle.certificate.specs.declared.ends.AnswerFault.{AnswerFault}
 use Rattle.certificate.specs.declared.ends.AnswerFault.TheVariants as faults
 use Rattle.certificate.specs.Lines.{Numbered, end_of, kept_readable}
 use Rattle.certificate.specs.Refuted.{refuted_clauses, may_open}
-use Rattle.certificate.specs.Reading.{Body, Begun, Proving, Wanted, Start, EntryUses, EntryClause, EntryProof, EntryLine, RefutationUses, RefutationLine, Last, Claim, HasLasso, HasNone, State, Status, Property, Latches, Rows, Dotted, Versioned, Certified, Ended, Stepped, with_entry, entry_fault, next_proof, next_clause, next_line, next_refuting_line, begin_proof, with_line, open_step, start_step, as_use, unless_bad, uses_step, begin_entry, with_clause, has_base, base_step, clause_step, proof_step, line_step, refuting_step, last_step, certificate_step, version_step, other_status, opens_rounds, status_step, property_in, claimed, property_step, values_in, latches_step, row_step, step, and_then, read_lines}
+use Rattle.certificate.specs.Reading.{Body, Begun, Proving, Wanted, Start, EntryUses, EntryClause, EntryProof, EntryLine, RefutationUses, RefutationLine, Last, Claim, HasLasso, HasNone, State, Status, Property, Latches, Rows, Dotted, Versioned, Certified, Ended, Stepped, with_entry, entry_fault, next_proof, next_clause, next_line, next_refuting_line, begin_proof, with_line, open_step, start_step, as_use, unless_bad, uses_step, begin_entry, with_clause, has_base, base_step, clause_step, proof_step, line_step, refuting_step, last_step, certificate_step, version_step, other_status, opens_other, status_step, property_in, claimed, property_step, values_in, latches_step, row_step, step, and_then, read_lines}
 use Rattle.certificate.specs.Ends.{IsFaultAtEnd, IsFirstFault}
 use Rattle.certificate.specs.Laws.{JudgedBefore}
 
@@ -159,11 +159,11 @@ module _ (c : Circuit) where
 
   status_keeps : (number : ℕ) (line : List ℕ) → Keeps c (status_step number line)
   status_keeps number line =
-      let unknown : Stepped = if bytes_eq line (codes "2") then Err faults.UnknownStatus else other_status number (opens_rounds line) in
+      let unknown : Stepped = if bytes_eq line (codes "2") then Err faults.UnknownStatus else other_status number (opens_other line) in
       let none : Stepped = if bytes_eq line (codes "0") then Ok (Property HasNone) else unknown in
       by_test (bytes_eq line (codes "1")) (Ok (Property HasLasso)) none tt
       (by_test (bytes_eq line (codes "0")) (Ok (Property HasNone)) unknown tt
-      (by_test (bytes_eq line (codes "2")) (Err faults.UnknownStatus) (other_status number (opens_rounds line)) tt (other_keeps number (opens_rounds line))))
+      (by_test (bytes_eq line (codes "2")) (Err faults.UnknownStatus) (other_status number (opens_other line)) tt (other_keeps number (opens_other line))))
 
   claimed_keeps : (claim : Claim) (n : ℕ) → n < length c.justice → IsThere c (claimed claim n)
   claimed_keeps HasLasso n h = h

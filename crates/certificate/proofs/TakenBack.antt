@@ -33,7 +33,7 @@ next taken x after f e = ap (λ o. o >>= f) e
 
 -- ---- one behind the other
 
-many_back : {A : Type 0} (take : Taker A) (text : A → Lines) (Fits : A → Type 0) → ((x : A) (rest : Lines) → Fits x → take (text x ++ rest) ≡ Some (x, rest))
+pub many_back : {A : Type 0} (take : Taker A) (text : A → Lines) (Fits : A → Type 0) → ((x : A) (rest : Lines) → Fits x → take (text x ++ rest) ≡ Some (x, rest))
     → (xs : List A) (rest : Lines) → All Fits xs → many take (length xs) (flat_map text xs ++ rest) ≡ Some (xs, rest)
 unfolding many
 many_back take text Fits back [] rest all = refl
@@ -105,7 +105,7 @@ proof_back proof rest h =
     next (count_at (word_line_text (lines.Proof (length proof)) ∷ (proof ++ rest))) (length proof) (proof ++ rest) (λ n more. many line_at n more) (count_back (length proof) (proof ++ rest) h)
     ∙ lines_back proof rest
 
-record Fits (v : Version) (e : Written) : Type 0 where
+pub record Fits (v : Version) (e : Written) : Type 0 where
   form : CanBeWritten v e
   each : length e.proofs ≡ length e.clauses
   small : All Small e.uses
@@ -122,7 +122,7 @@ behind_uses o uses behind = many clause_at o.clauses behind >>= behind_clauses o
 behind_opening : Version → Opening → Lines → Option (Written × Lines)
 behind_opening v o after = uses_at v after >>= behind_uses o
 
-entry_back : (v : Version) (e : Written) (rest : Lines) → Fits v e → entry_at v (entry_lines e ++ rest) ≡ Some (e, rest)
+pub entry_back : (v : Version) (e : Written) (rest : Lines) → Fits v e → entry_at v (entry_lines e ++ rest) ≡ Some (e, rest)
 unfolding entry_at behind_opening behind_uses behind_clauses behind_proofs
 entry_back v e rest fits =
     let o : Opening = record { kind = e.kind; clauses = length e.clauses; uses = length e.uses } in
@@ -186,7 +186,7 @@ certificate_back n certificate fits =
 
 -- ---- a good one
 
-entries_fit : (c : Circuit) (v : Version) (before : List Entry) (es : List Written) (all : List Entry) → length before + length es ≤ MAX_ENTRIES → All (CanBeWritten v) es → AreProvedBehind c before es all → All (Fits v) es
+pub entries_fit : (c : Circuit) (v : Version) (before : List Entry) (es : List Written) (all : List Entry) → length before + length es ≤ MAX_ENTRIES → All (CanBeWritten v) es → AreProvedBehind c before es all → All (Fits v) es
 unfolding Small
 entries_fit c v before [] all few form proved = All-nil (Fits v)
 entries_fit c v before (e ∷ es) all few form (clauses, are, first, others) =

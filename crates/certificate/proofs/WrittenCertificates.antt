@@ -38,16 +38,16 @@ use Rattle.certificate.proofs.PlainLines.{IsPlain, word_line_plain, property_pla
 
 -- ---- how long the text of some lines is
 
-abbrev size : List (List ℕ) → ℕ
+abbrev pub size : List (List ℕ) → ℕ
 size ls = length (ended_lines ls)
 
-size_first : (line : List ℕ) (ls : List (List ℕ)) → size (line ∷ ls) ≡ length line + 1 + size ls
+pub size_first : (line : List ℕ) (ls : List (List ℕ)) → size (line ∷ ls) ≡ length line + 1 + size ls
 size_first line ls = length-append (line ++ 10 ∷ []) (ended_lines ls) ∙ ap (λ n. n + size ls) (length-append line (10 ∷ []))
 
-size_both : (ls ms : List (List ℕ)) → size (ls ++ ms) ≡ size ls + size ms
+pub size_both : (ls ms : List (List ℕ)) → size (ls ++ ms) ≡ size ls + size ms
 size_both ls ms = ap length (flat_map-append (λ line. line ++ 10 ∷ []) ls ms) ∙ length-append (ended_lines ls) (ended_lines ms)
 
-counted : (ls : List (List ℕ)) → length ls ≤ size ls
+pub counted : (ls : List (List ℕ)) → length ls ≤ size ls
 counted [] = omega arith
 counted (line ∷ ls) = let first = size_first line ls in let others = counted ls in omega (arith, first, others)
 
@@ -59,7 +59,7 @@ joined_counted (f ∷ g ∷ fs) =
     let both = length-append f (32 ∷ join_with_byte 32 (g ∷ fs)) in
     omega (arith, others, both)
 
-uses_counted : (uses : List Use) → length uses ≤ length (uses_text (map written uses)) + 1
+pub uses_counted : (uses : List Use) → length uses ≤ length (uses_text (map written uses)) + 1
 uses_counted uses =
     let fs : List (List ℕ) = map use_text (map written uses) in
     let count : length fs ≡ length uses = length-map (map written uses) use_text ∙ length-map uses written in
@@ -181,7 +181,7 @@ module _ (c : Circuit) (checked : IsChecked c) (limits : IsWithinLimits c) where
   literals_small : (clause : List Lit) → All IsNumber (map (literal_in_model c) clause)
   literals_small clause = All-map IsNumber (literal_in_model c) clause (λ k d below. literal_small (get_or clause k d))
 
-  uses_stand : (most : ℕ) (uses : List Use) → most ≤ MAX_ENTRIES → All (λ u. u.entry < most) uses → All (MayStand Two) (map written uses)
+  pub uses_stand : (most : ℕ) (uses : List Use) → most ≤ MAX_ENTRIES → All (λ u. u.entry < most) uses → All (MayStand Two) (map written uses)
   uses_stand most uses few present =
       let each : (u : Use) → u.entry < most → MayStand Two (written u) = λ u below. (omega (arith, few, below), tt) in
       All-map (MayStand Two) written uses (All-weaker (λ u. u.entry < most) (λ u. MayStand Two (written u)) each uses present)
@@ -213,7 +213,7 @@ module _ (c : Circuit) (checked : IsChecked c) (limits : IsWithinLimits c) where
   clauses_plain (clause ∷ clauses) =
       All-cons IsPlain (clause_text (map (literal_in_model c) clause)) (map clause_text (map (map (literal_in_model c)) clauses)) (clause_plain (map (literal_in_model c) clause) (literals_small clause)) (clauses_plain clauses)
 
-  abbrev Short : List (List ℕ) → Type 0
+  abbrev pub Short : List (List ℕ) → Type 0
   Short ls = size ls ≤ most_bytes
 
   record Sizes (w : Written) : Type 0 where
@@ -264,16 +264,16 @@ module _ (c : Circuit) (checked : IsChecked c) (limits : IsWithinLimits c) where
 
   -- ---- all entries
 
-  abbrev all_lines : List CheckedEntry → List (List ℕ)
+  abbrev pub all_lines : List CheckedEntry → List (List ℕ)
   all_lines list = flat_map entry_lines (map written_entry list)
 
-  abbrev entries_of : List CheckedEntry → List Entry
+  abbrev pub entries_of : List CheckedEntry → List Entry
   entries_of list = map (λ e. e.entry) list
 
-  record AreFine (before : List Entry) (list : List CheckedEntry) : Type 0 where
-    form : All (CanBeWritten Two) (map written_entry list)
-    plain : All IsPlain (all_lines list)
-    proved : AreProvedBehind c before (map written_entry list) (before ++ entries_of list)
+  pub record AreFine (before : List Entry) (list : List CheckedEntry) : Type 0 where
+    pub form : All (CanBeWritten Two) (map written_entry list)
+    pub plain : All IsPlain (all_lines list)
+    pub proved : AreProvedBehind c before (map written_entry list) (before ++ entries_of list)
 
   -- the entry is the circuit's
   own : (e : CheckedEntry) → e.circuit ≡ c → of_entry e.entry e.proofs ≡ written_entry e
@@ -289,7 +289,7 @@ module _ (c : Circuit) (checked : IsChecked c) (limits : IsWithinLimits c) where
       let later = subst (λ all. AreProvedBehind c (before ++ e.entry ∷ []) (map written_entry list) all) (append_assoc before (e.entry ∷ []) (entries_of list)) others.proved in
       subst P same (fine.form, fine.plain, (e.entry.clauses, clauses_back e.entry.clauses proved.over, proved, later))
 
-  all_fine : (before : List Entry) (list : List CheckedEntry) → AreProvedInOrder c before list → length before + length list ≤ MAX_ENTRIES
+  pub all_fine : (before : List Entry) (list : List CheckedEntry) → AreProvedInOrder c before list → length before + length list ≤ MAX_ENTRIES
       → Short (all_lines list) → AreFine before list
   all_fine before [] proved few short =
       record { form = All-nil (CanBeWritten Two); plain = All-nil IsPlain; proved = append-nil before }

@@ -1,6 +1,6 @@
 -- The first fault of an answer, by its lines from the first on: what the next line has to be, and what each line makes of
 -- that. The order of the tests is this program's own.
-use Rattle.std.specs.Prelude.{ℕ, ◌+◌, Bool, true, false, List, [], ◌∷◌, ◌++◌, map, length, take, Option, Some, None, Result, Ok, Err, codes, if◌then◌else◌, ◌==◌, nat_lt}
+use Rattle.std.specs.Prelude.{ℕ, ◌+◌, Bool, true, false, ◌||◌, List, [], ◌∷◌, ◌++◌, map, length, take, Option, Some, None, Result, Ok, Err, codes, if◌then◌else◌, ◌==◌, nat_lt}
 use Rattle.std.specs.List.{list_any}
 use Rattle.std.specs.Str.{bytes_eq}
 use Rattle.aig_semantics.specs.declared.traces.Stimulus.{Stimulus}
@@ -235,9 +235,15 @@ version_step n number (Some (lines.Version version)) =
     Ok (Certified (record { property = n; version = version; refuted = Skeletons; entries = [] }) Start)
 version_step n number _ = Err (faults.Shape number)
 
--- the line is the first of a text about rounds, which is no answer
+-- the line is the first of a text about rounds, or of a sheet for all properties, which are no answers
 abbrev pub opens_rounds : List ℕ → Bool
 opens_rounds line = bytes_eq (take 6 line) (codes "rounds")
+
+abbrev pub opens_sheet : List ℕ → Bool
+opens_sheet line = bytes_eq (take 3 line) (codes "all")
+
+abbrev pub opens_other : List ℕ → Bool
+opens_other line = opens_rounds line || opens_sheet line
 
 abbrev pub other_status : ℕ → Bool → Stepped
 other_status number true = Err faults.UnknownStatus
@@ -248,7 +254,7 @@ status_step number line =
     if bytes_eq line (codes "1") then Ok (Property HasLasso)
     else if bytes_eq line (codes "0") then Ok (Property HasNone)
     else if bytes_eq line (codes "2") then Err faults.UnknownStatus
-    else other_status number (opens_rounds line)
+    else other_status number (opens_other line)
 
 -- the number of the property that a line names
 abbrev pub property_in : List ℕ → Option ℕ

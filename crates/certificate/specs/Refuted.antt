@@ -20,7 +20,7 @@ abbrev pub state_clauses : Circuit → Lit → List Numbered → List (List Lit)
 state_clauses c literal uses =
     flat_map (λ u. set_at_place (state_place c 0) u.entry.clauses) uses ++ clause_at_place (state_place c 0) (literal ∷ []) ∷ []
 
--- A good refutation of the states that have the literal, over a list of entries: its uses are closed and name no side, and its
+-- A good refutation of the states that have the literal, over a list of reach entries: its uses are closed and name no side, and its
 -- proof refutes these clauses.
 pub record IsStateRefutation (c : Circuit) (literal : Lit) (entries : List Entry) (uses : List Use) (proof : List (List ℕ)) : Type 0 where
   pub closed : AreClosed entries uses

@@ -1,4 +1,4 @@
--- Scaffolding of inner functions: the states of code as those of the reading.
+-- The states of code as those of the reading, and what code keeps of them.
 use Rattle.std.specs.Prelude.{◌≡◌, ℕ, ◌<◌, ◌≤◌, List, length}
 use Rattle.std.specs.List.{All}
 use Rattle.aig_semantics.specs.Circuits.{Circuit}
@@ -107,7 +107,7 @@ IsAhead c b (wanted.RefutationLine p) = IsBody c b × (p.read < p.count)
 IsAhead c b (wanted.StateLine checker p) = IsBody c b × (p.read < p.count)
 IsAhead c b wanted.Last = IsBody c b
 
--- what the code keeps of a state; a property is one of the circuit's
+-- what the code keeps of a state; a property is one of the circuit's where skeletons of it are to be refuted
 abbrev pub IsKept : Circuit → StateInCode → Type 0
 IsKept c (states.Certified b w) = IsAhead c b w
 IsKept c (states.Ended b) = IsBody c b

@@ -50,7 +50,7 @@ pub enum AnswerFault {
     TooLong,
     /// The line with this number stands behind the answer's last line, and is not skipped.
     Trailing(u64),
-    /// The status is 2, of which no answers are read, or the text is one about rounds.
+    /// The status is 2, of which no answers are read, or the text is one about rounds or a sheet.
     UnknownStatus,
     /// The run of a text about rounds has so many rounds, fewer than the text says. Of an answer it never comes.
     FewRounds(u64),

@@ -7,7 +7,7 @@ ghost use Rattle.cnf_unroll.specs.Blocks.{step_clauses};
 ghost use Rattle.entry.specs.LatchTables.{AreNumbersOf};
 ghost use Rattle.certificate_lines.specs.Fields.{number_in};
 ghost use Rattle.certificate_lines.specs.Words.{word_line_of};
-ghost use Rattle.certificate.specs.Reading.{opens_rounds, other_status, status_step, property_in, claimed, property_step, version_step, Certified, Start};
+ghost use Rattle.certificate.specs.Reading.{opens_rounds, opens_sheet, opens_other, other_status, status_step, property_in, claimed, property_step, version_step, Certified, Start};
 ghost use Rattle.certificate.specs.Seen.{seen, seen_claim, IsKept};
 ghost use Rattle.certificate.specs.Steps.{Tells};
 
@@ -31,7 +31,7 @@ pub(crate) fn is_word(line: &[u8], word: &[u8]) -> bool
     line == word
 }
 
-/// Whether the line is the first of a text about rounds.
+/// Whether the line begins with `rounds`, as the first line of a text about rounds does.
 pub fn opens_rounds(line: &[u8]) -> bool
     ensures { result ≡ opens_rounds line.now }
 {
@@ -39,11 +39,25 @@ pub fn opens_rounds(line: &[u8]) -> bool
     is_word(front, b"rounds")
 }
 
+/// Whether the line is the first of a sheet, whatever its form.
+pub fn opens_sheet(line: &[u8]) -> bool
+    ensures { result ≡ opens_sheet line.now }
+{
+    let front = if line.len() < 3 { line } else { &line[..3] };
+    is_word(front, b"all")
+}
+
+fn opens_other(line: &[u8]) -> bool
+    ensures { result ≡ opens_other line.now }
+{
+    opens_rounds(line) || opens_sheet(line)
+}
+
 // Behind a line that is no status.
 fn other_status(number: u64, line: &[u8]) -> Result<State, AnswerEnd>
-    ensures { (c : CircuitOf) → Tells c (other_status number (opens_rounds line.now)) result }
+    ensures { (c : CircuitOf) → Tells c (other_status number (opens_other line.now)) result }
 {
-    if opens_rounds(line) {
+    if opens_other(line) {
         return Err(AnswerEnd::Refused(AnswerFault::UnknownStatus));
     }
     Err(misplaced(number))
@@ -76,7 +90,7 @@ pub fn number_in(field: &[u8]) -> Option<u64>
     Some(number)
 }
 
-/// The number of the property that a line names.
+/// The number behind the `j` of a line that names a property, below 2^63; `None` where the line is in another form.
 pub fn property_in(line: &[u8]) -> Option<u64>
     ensures { result ≡ property_in line.now }
 {
@@ -178,7 +192,7 @@ pub(crate) fn version_step(
 }
 
 /// The state before the first entry of a certificate of version 2 whose refutation is to refute the states that have this
-/// literal over latch numbers. It names property `property`, which is no property of the circuit's.
+/// literal over latch numbers. `property` is the number that its text names, which need not be one of this circuit's.
 pub fn states_refuted(
     alloc: Global,
     circuit: &Circuit,

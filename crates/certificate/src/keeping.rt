@@ -10,14 +10,14 @@ use stimulus::is_skipped;
 
 /// The lines that are not skipped, where lines are kept.
 #[derive(Drop)]
-pub(crate) struct KeptLines {
-    pub(crate) keeps: bool,
-    pub(crate) lines: Items<ProofLine>,
+pub struct KeptLines {
+    pub keeps: bool,
+    pub lines: Items<ProofLine>,
 }
 
 impl KeptLines {
     /// Keeps none.
-    pub(crate) fn none(alloc: Global) -> KeptLines
+    pub fn none(alloc: Global) -> KeptLines
         ensures keeps { result.keeps ≡ false }
         ensures lines { result.lines ≡ [] }
     {
@@ -28,7 +28,7 @@ impl KeptLines {
     }
 
     /// Keeps each, none so far.
-    pub(crate) fn each(alloc: Global) -> KeptLines
+    pub fn each(alloc: Global) -> KeptLines
         ensures keeps { result.keeps ≡ true }
         ensures lines { result.lines ≡ [] }
     {
@@ -39,7 +39,7 @@ impl KeptLines {
     }
 
     /// Keeps the line, unless it is skipped or none is kept.
-    pub(crate) fn keep(&mut self, alloc: Global, line: &[u8]) -> Result<(), AllocError>
+    pub fn keep(&mut self, alloc: Global, line: &[u8]) -> Result<(), AllocError>
         ensures keeps { self.new.keeps ≡ self.old.keeps }
         ensures lines { OnOk result (self.old.keeps ≡ true → self.new.lines ≡ self.old.lines ++ kept_lines (line.now ∷ [])) }
     {

@@ -8,7 +8,7 @@
 //! | `print` | writes the answer that is held, a certificate in version 2 |
 //! | `write` | writes the answer with the certificate of checked entries and a refutation |
 //! | `step` | goes on from a state of the reading by a line, for other texts that have runs or entries |
-//! | `number_in`, `property_in`, `property_of`, `opens_rounds` | read a number that is a field, the line of a property, and whether a text is about rounds |
+//! | `number_in`, `property_in`, `property_of`, `opens_rounds`, `opens_sheet` | read a number that is a field, the line of a property, and whether a text is about rounds, or a sheet |
 //! | `states_refuted` | the state before the entries of a certificate that refutes states which have a literal |
 //! | `answers_are_read_as_good` | a law: what is read as a good answer is one, and every good answer is so read |
 //! | `good_answers_are_true` | a law: a good answer shows a fair lasso, or that there is none |
@@ -42,7 +42,8 @@ mod writing;
 
 pub use checking::{check_answer, check_with_lasso};
 pub use ends::{Accepted, AnswerEnd, AnswerFault};
-pub use heads::{number_in, opens_rounds, property_in, property_of, states_refuted};
+pub use heads::{number_in, opens_rounds, opens_sheet, property_in, property_of, states_refuted};
+pub use keeping::KeptLines;
 pub use laws::{
     answers_are_read_as_good, answers_have_one_end, first_faults_stay, good_answers_agree,
     good_answers_are_true, printed_answers_hold_the_same, written_certificates_are_good,
@@ -54,4 +55,5 @@ pub use loading::load;
 pub use printing::print;
 pub use state::{Begun, Body, Claim, Proving, Refuted, State, Wanted};
 pub use steps::step;
-pub use writing::write;
+pub use taking::{EntryForm, Form, TakeEnd, take_many};
+pub use writing::{add_entry, add_lines, add_uses, add_word_line, write};

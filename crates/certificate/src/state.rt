@@ -21,10 +21,10 @@ pub enum Refuted {
 /// What was read of a certificate. The judge keeps the circuit's clauses, and latches are found by their variables.
 #[derive(Drop)]
 pub struct Body {
-    pub(crate) property: u32,
-    pub(crate) version: Version,
-    pub(crate) refuted: Refuted,
-    pub(crate) list: Items<Listed>,
+    pub property: u32,
+    pub version: Version,
+    pub refuted: Refuted,
+    pub list: Items<Listed>,
     pub(crate) judge: Judge,
     pub(crate) latches: LatchNumbers,
 }
@@ -49,33 +49,52 @@ pub struct Proving {
 /// What the next line of a certificate has to be.
 #[derive(Drop)]
 pub enum Wanted {
+    /// The first line of an entry, or of the refutation.
     Start,
+    /// The uses of an entry with this first line.
     EntryUses(Opening),
+    /// The next clause of the entry.
     EntryClause(Begun),
+    /// The first line of the proof of the clause with this number.
     EntryProof(Listed, u64),
+    /// The next line of that proof.
     EntryLine(Listed, u64, Proving),
+    /// The uses of the refutation.
     RefutationUses(Refutation),
+    /// The next line of its proof, where it refutes skeletons.
     RefutationLine(Proving),
+    /// The next line of its proof, where it refutes states: the checker has what was read of it.
     StateLine(Checker, Proving),
+    /// The line `end`.
     Last,
 }
 
 /// What the status claims.
 #[derive(Clone, Copy)]
 pub enum Claim {
+    /// A fair lasso.
     HasLasso,
+    /// That there is none.
     HasNone,
 }
 
 /// What the next line of an answer has to be.
 #[derive(Drop)]
 pub enum State {
+    /// The status.
     Status,
+    /// The line of the property.
     Property(Claim),
+    /// The values of the latches, of a stimulus for this property.
     Latches(u32),
+    /// The values of the inputs at the next position, or the dot.
     Rows(u32, Stimulus),
+    /// Nothing, behind the dot.
     Dotted(u32, Stimulus),
+    /// The version, of a certificate of this property.
     Versioned(u32),
+    /// A line of the certificate.
     Certified(Body, Wanted),
+    /// Nothing, behind the end.
     Ended(Body),
 }

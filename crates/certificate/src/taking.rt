@@ -17,7 +17,7 @@ use std::alloc::{AllocError, AllocFailed, Global};
 
 /// Why nothing was taken.
 #[derive(Clone, Copy)]
-pub(crate) enum TakeEnd {
+pub enum TakeEnd {
     /// The lines do not begin with it.
     Form,
     Memory,
@@ -46,7 +46,7 @@ impl<T: Drop> From<AllocFailed<T>> for TakeEnd {
 }
 
 /// A form of lines of which one may stand behind the other.
-pub(crate) trait Form<X> {
+pub trait Form<X> {
     ghost use Rattle.certificate.specs.Taking.{Taker};
 
     ghost taken_at: { Self → Taker X };
@@ -61,7 +61,7 @@ pub(crate) trait Form<X> {
 }
 
 /// So many of the form, and the lines behind them.
-fn take_many<'a, X: Drop, F: Form<X>>(
+pub fn take_many<'a, X: Drop, F: Form<X>>(
     alloc: Global,
     form: &F,
     count: u64,
@@ -242,8 +242,8 @@ impl Form<Proof> for ProofForm {
 
 /// An entry of a certificate of this version.
 #[derive(Clone, Copy)]
-struct EntryForm {
-    version: Version,
+pub struct EntryForm {
+    pub version: Version,
 }
 
 impl Form<Written> for EntryForm {

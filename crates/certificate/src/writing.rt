@@ -49,7 +49,7 @@ pub fn write(
 
 // Each of these adds lines at the end of a text, each with its line feed.
 
-pub(crate) fn add_word_line(text: &mut Vec<u8>, line: WordLine) -> Result<(), AllocError>
+pub fn add_word_line(text: &mut Vec<u8>, line: WordLine) -> Result<(), AllocError>
     ensures { OnOk result (Adds text.old.items text.new.items (word_line_text line ∷ [])) }
 {
     push_word_line(text, line)?;
@@ -57,7 +57,7 @@ pub(crate) fn add_word_line(text: &mut Vec<u8>, line: WordLine) -> Result<(), Al
     Ok(())
 }
 
-pub(crate) fn add_uses(text: &mut Vec<u8>, uses: &[Use]) -> Result<(), AllocError>
+pub fn add_uses(text: &mut Vec<u8>, uses: &[Use]) -> Result<(), AllocError>
     ensures { OnOk result (Adds text.old.items text.new.items (uses_text (map written uses.now) ∷ [])) }
 {
     push_uses(text, uses)?;
@@ -141,7 +141,7 @@ fn add_clauses(
 }
 
 // The lines of a proof, as they are.
-fn add_lines(text: &mut Vec<u8>, lines: &[ProofLine]) -> Result<(), AllocError>
+pub fn add_lines(text: &mut Vec<u8>, lines: &[ProofLine]) -> Result<(), AllocError>
     ensures { OnOk result (Adds text.old.items text.new.items lines.now) }
 {
     for line in lines {
@@ -178,7 +178,7 @@ fn opening_of(e: &Checked) -> Opening
     }
 }
 
-fn add_entry(alloc: Global, text: &mut Vec<u8>, e: &Checked) -> Result<(), AllocError>
+pub fn add_entry(alloc: Global, text: &mut Vec<u8>, e: &Checked) -> Result<(), AllocError>
     ensures { OnOk result (Adds text.old.items text.new.items (entry_lines (written_entry e.now))) }
 {
     let listed = e.listed();
