@@ -15,6 +15,8 @@ mod queries;
 #[cfg(test)]
 mod rounds;
 #[cfg(test)]
+mod sheets;
+#[cfg(test)]
 mod tests;
 #[cfg(test)]
 mod views;
