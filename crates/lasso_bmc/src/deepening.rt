@@ -119,8 +119,8 @@ fn ask(
 }
 
 /// The question for one position more: a fair lasso of property `j`, counted from 0, of so many positions, or there is
-/// none. Each learned clause is counted by the meter. `Spent` comes where the count of conflicts is at its limit. After
-/// an error nothing is said of the solver.
+/// none. The meter counts conflicts alone. `Spent` comes where the count of conflicts is at its limit. After an error
+/// nothing is said of the solver.
 pub fn deepen(
     alloc: Global,
     c: &Circuit,

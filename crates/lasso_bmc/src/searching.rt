@@ -12,9 +12,8 @@ use edge::{Meter, SolveEnd};
 use std::alloc::{AllocError, Global};
 
 /// Whether a fair lasso of property `j`, counted from 0, has from `done + 1` to `depth` positions: one with the fewest, or
-/// that there is none. None is to have at most `done` positions, which is so of 0. Each learned clause is counted by the
-/// meter. `Spent` comes where the count of conflicts is at its limit.
-
+/// that there is none. None is to have at most `done` positions, which is so of 0. The meter counts conflicts alone.
+/// `Spent` comes where the count of conflicts is at its limit.
 pub fn search(
     alloc: Global,
     c: &Circuit,
