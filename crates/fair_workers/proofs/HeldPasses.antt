@@ -1,8 +1,8 @@
 -- What the turns of a pass leave of what it knows.
-use Rattle.std.proofs.Common.{◌≡◌, ◌≢◌, ℕ, zero, suc, ◌+◌, ◌<◌, ◌≤◌, Bool, true, false, cond, Result, List, [], ◌∷◌, ◌++◌, map, Some, None, inl, inr, length, take, refl, sym, ap, ◌∙◌, subst, arith, ⊎_elim}
-use Rattle.std.specs.Prelude.{◌==◌, Option, Contains, Ok, Err, IfOk, OnOk, OnErr}
+use Rattle.std.proofs.Common.{◌≡◌, ◌≢◌, ℕ, zero, suc, ◌+◌, ◌<◌, ◌≤◌, ◌⊎◌, Bool, true, false, cond, Result, List, [], ◌∷◌, ◌++◌, map, Some, None, inl, inr, length, take, refl, sym, ap, ◌∙◌, subst, arith, ⊎_elim}
+use Rattle.std.specs.Prelude.{◌==◌, ◌&&◌, nat_le, nat_lt, Option, Contains, Ok, Err, IfOk, OnOk, OnErr}
 use Rattle.std.specs.List.{All, AllPairs}
-use Rattle.std.proofs.lemmas.Bool.{false≢true, cases_eq, eq-eqb, ne_eqb}
+use Rattle.std.proofs.lemmas.Bool.{false≢true, cases_eq, eq-eqb, ne_eqb, le-leb, lt-leb, lt-ltb, le-ltb, and_from, cond-true, cond-false}
 use Rattle.std.proofs.lemmas.List.{length-append, length-map, append_assoc, append-nil, take-append-le, take_all}
 use Rattle.std.proofs.lemmas.List.Elements.{All-nil}
 use Rattle.aig_semantics.specs.Circuits.{Circuit}
@@ -325,8 +325,18 @@ open-of : (served : List Served) (least i : ℕ) → IsNextOpen served least (So
 open-of served least i (inl first) = first.open_one
 open-of served least i (inr (none, first)) = first.open_one
 
+-- what the search for an open property passes over
+is-passed : (least j i : ℕ) → least ≤ i → (i < j) ⊎ (j < least) → is_passed least j i ≡ true
+is-passed least j i low (inl less) =
+    cond-true (nat_le least j) (nat_le least i && nat_lt i j) (cond (nat_lt i j) true (nat_le least i)) (le-leb least j (omega (arith, low, less)))
+    ∙ and_from (nat_le least i) (nat_lt i j) (le-leb least i low) (lt-ltb i j less)
+is-passed least j i low (inr below) =
+    cond-false (nat_le least j) (nat_le least i && nat_lt i j) (cond (nat_lt i j) true (nat_le least i)) (lt-leb least j below)
+    ∙ cond-false (nat_lt i j) true (nat_le least i) (le-ltb i j (omega (arith, low, below)))
+    ∙ le-leb least i low
+
 pub opened-known : (l : LedgerState) (p q : PassState) (least : ℕ) (r : Option ℕ) → IsPassOf l p → passing.HasOpened l p least r q
-    → HasAsked (known_by l p) r (known_by l q)
+    → HasAsked (known_by l p) least r (known_by l q)
 opened-known l p q least None is h = record {
   keeps = record { keeps = keeps-by l p q (opened-moves l p q least None h); list = h.kept.list };
   tells = λ j inside. subst (λ (ms : List Marked). Shows ms j) (sym h.marks)
@@ -337,10 +347,13 @@ opened-known l p q least (Some j) is h =
     let none : outcome_of h.turn.after.served j ≡ None = ap (λ (b : BoardState). outcome_of b.served j) h.event.after ∙ is_open.1 in
     record {
       keeps = record { keeps = keeps-by l p q (opened-moves l p q least (Some j) h); list = h.kept.list };
-      tells = (
-        subst (λ (xs : List ℕ). Contains xs j) h.turn.board.properties is_open.0,
-        not-true (is_shown (shown_of q.marks j)) (λ shows. marks-tell q.marks h.turn.after.served j h.turn.known_after.marks shows none),
-      );
+      tells = record {
+        served = subst (λ (xs : List ℕ). Contains xs j) h.turn.board.properties is_open.0;
+        unsettled = not-true (is_shown (shown_of q.marks j)) (λ shows. marks-tell q.marks h.turn.after.served j h.turn.known_after.marks shows none);
+        passed = λ i inside low way. subst (λ (ms : List Marked). Shows ms i) (sym h.marks)
+            (touched-shows (is_passed least j) closed_unless_won p.marks i closed-shows (subst (λ (xs : List ℕ). Contains xs i) (sym is.marks) inside)
+            (is-passed least j i low way));
+      };
     }
 
 -- ---- what a call leaves

@@ -1,5 +1,5 @@
 -- What the events of a board leave of it and of a lent board, and what the worker then knows.
-use Rattle.std.proofs.Common.{◌≡◌, ◌≢◌, ℕ, zero, suc, ◌+◌, ◌<◌, ◌≤◌, Bool, true, false, not, cond, List, [], ◌∷◌, ◌++◌, Some, None, inl, inr, length, get_or, take, drop, refl, sym, ap, ◌∙◌, subst, arith}
+use Rattle.std.proofs.Common.{◌≡◌, ◌≢◌, ℕ, zero, suc, ◌+◌, ◌<◌, ◌≤◌, ◌⊎◌, Bool, true, false, not, cond, List, [], ◌∷◌, ◌++◌, Some, None, inl, inr, length, get_or, take, drop, refl, sym, ap, ◌∙◌, subst, arith}
 use Rattle.std.specs.Prelude.{◌==◌, Option, is_some, Contains}
 use Rattle.std.specs.List.{All, list_all}
 use Rattle.std.proofs.lemmas.Bool.{false≢true, and_parts}
@@ -313,16 +313,31 @@ open-of : (served : List Served) (least i : ℕ) → IsNextOpen served least (So
 open-of served least i (inl first) = first.open_one
 open-of served least i (inr (none, first)) = first.open_one
 
+-- a property that was passed over has an outcome
+passed-over : (served : List Served) (least j i : ℕ) → IsNextOpen served least (Some j) → Contains (properties_of served) i → least ≤ i → (i < j) ⊎ (j < least)
+    → is_some (outcome_of served i) ≡ true
+passed-over served least j i (inl first) inside low (inl less) = some-is (outcome_of served i) (λ none. first.none_before i low less (inside, none))
+passed-over served least j i (inl first) inside low (inr below) = absurd (let from = first.from_on in omega (arith, from, below))
+passed-over served least j i (inr (none, first)) inside low way = some-is (outcome_of served i) (λ gone. none i low (inside, gone))
+
 asked : (n turns : ℕ) (b : BoardState) (least : ℕ) (r : Option ℕ) → IsNextOpen b.served least r
-    → HasAsked (known_at b n turns) r (known_at b n (turns + 1))
+    → HasAsked (known_at b n turns) least r (known_at b n (turns + 1))
 asked n turns b least None answer = record { keeps = kept-list n turns b b.served refl (λ i h. h); tells = settled-all b n (turns + 1) answer }
 asked n turns b least (Some i) answer =
     let is_open : IsOpen b.served i = open-of b.served least i answer in
-    record { keeps = kept-list n turns b b.served refl (λ j h. h); tells = (is_open.0, none-is (outcome_of b.served i) is_open.1) }
+    record {
+      keeps = kept-list n turns b b.served refl (λ j h. h);
+      tells = record {
+        served = is_open.0;
+        unsettled = none-is (outcome_of b.served i) is_open.1;
+        passed = λ j inside low way. passed-over b.served least i j answer inside low way;
+      };
+    }
 
 pub ask-known : (n turns : ℕ) (b c : BoardState) (least : ℕ) (r : Option ℕ) → OpensNext b least r c
-    → HasAsked (known_at b n turns) r (known_at c n (turns + 1))
-ask-known n turns b c least r o = subst (λ d. HasAsked (known_at b n turns) r (known_at d n (turns + 1))) (sym o.after) (asked n turns b least r o.answer)
+    → HasAsked (known_at b n turns) least r (known_at c n (turns + 1))
+ask-known n turns b c least r o =
+    subst (λ d. HasAsked (known_at b n turns) least r (known_at d n (turns + 1))) (sym o.after) (asked n turns b least r o.answer)
 
 -- ---- lent boards
 

@@ -1,3 +1,4 @@
+pub mod Ahead
 pub mod Turned
 pub mod LentBoards
 pub mod Causes

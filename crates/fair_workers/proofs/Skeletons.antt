@@ -20,11 +20,12 @@ use Rattle.fair_semantics.proofs.Staying.{front_allows}
 use Rattle.entry.specs.CheckedEntries.{CheckedEntry}
 use Rattle.entry.specs.declared.origins.Origin.{Origin}
 use Rattle.entry.specs.declared.origins.Origin.TheVariants.{Given, Worker as FoundBy}
-use Rattle.wall_store.specs.Boards.{BoardState, plain, Allow, EachBehind, FromWorker, IsFind, properties_of, most_entries}
+use Rattle.wall_store.specs.Boards.{BoardState, plain, Allow, FromWorker, IsFind, properties_of, most_entries}
 use Rattle.fair_round.specs.Spending.{IsSpent}
 use Rattle.fair_workers.specs.declared.limits.Report.{Report}
 use Rattle.fair_workers.specs.Runs.{Task, AreLimits, IsFull, IsReport}
-use Rattle.fair_workers.specs.Laws.{NoReportWithoutLimits}
+use Rattle.fair_workers.specs.Laws.{skeleton_lists, NoReportWithoutLimits}
+use Rattle.fair_workers.proofs.Ahead.{member}
 use Rattle.fair_workers.proofs.LentBoards.{not-excluded}
 
 -- ---- counting lists of values
@@ -180,52 +181,143 @@ excluded-here before e s excluded =
     let same : excludes (whole ++ []) (length before) s ≡ true = subst (λ xs. excludes xs (length before) s ≡ true) (sym (append-nil whole)) excluded in
     false≢true (sym not_so ∙ same))
 
--- each find leaves less
-find-less : (c : Circuit) (j workers n : ℕ) (before : List CheckedEntry) (e : CheckedEntry) (origin : Origin)
-    → n ≡ max 1 (length (fair_literals c j)) → FromWorker origin (IsFind c (j ∷ []) workers before e)
-    → count (n * (length c.latches + length c.inputs)) (allows c n (before ++ e ∷ [])) + 1
-    ≤ count (n * (length c.latches + length c.inputs)) (allows c n before)
-find-less c j workers n before e Given size find = absurd find
-find-less c j workers n before e (FoundBy work) size find =
-    let s : Skeleton = work.skeleton in
-    let is : IsSkeleton c j s = only c j s find.skeleton in
-    let as_many : n ≡ length s.situations = size ∙ sym is.size in
+-- how many situations a skeleton of a property has, and how many values these have
+abbrev situations : Circuit → ℕ → ℕ
+situations c j = max 1 (length (fair_literals c j))
+
+abbrev width : Circuit → ℕ → ℕ
+width c j = situations c j * (length c.latches + length c.inputs)
+
+-- how many skeletons of a property the entries allow, and of each of these properties
+abbrev left_for : Circuit → List CheckedEntry → ℕ → ℕ
+left_for c entries j = count (width c j) (allows c (situations c j) entries)
+
+abbrev left_all : Circuit → List CheckedEntry → List ℕ → ℕ
+left_all c entries [] = 0
+left_all c entries (j ∷ js) = left_for c entries j + left_all c entries js
+
+left-within : (c : Circuit) (before : List CheckedEntry) (e : CheckedEntry) (j : ℕ) → left_for c (before ++ e ∷ []) j ≤ left_for c before j
+left-within c before e j =
+    count-within (width c j) (allows c (situations c j) (before ++ e ∷ [])) (allows c (situations c j) before)
+    (λ t. fewer-allowed c (situations c j) before e t)
+
+all-within : (c : Circuit) (before : List CheckedEntry) (e : CheckedEntry) (js : List ℕ) → left_all c (before ++ e ∷ []) js ≤ left_all c before js
+all-within c before e [] = omega arith
+all-within c before e (j ∷ js) =
+    sums (left_for c (before ++ e ∷ []) j) (left_for c before j) (left_all c (before ++ e ∷ []) js) (left_all c before js) (left-within c before e j)
+    (all-within c before e js)
+  where
+    sums : (a b m n : ℕ) → a ≤ b → m ≤ n → a + m ≤ b + n
+    sums a b m n here rest = omega (arith, here, rest)
+
+-- each find leaves less of its property
+find-one : (c : Circuit) (j : ℕ) (before : List CheckedEntry) (e : CheckedEntry) (s : Skeleton) → IsSkeleton c j s → Allow before s
+    → excludes (plain before ++ e.entry ∷ []) (length before) s ≡ true → left_for c (before ++ e ∷ []) j + 1 ≤ left_for c before j
+find-one c j before e s is allowed excluded =
+    let n : ℕ = situations c j in
+    let as_many : n ≡ length s.situations = sym is.size in
     let bits : List Bool = bits_of s.situations in
-    let long : length bits ≡ n * (length c.latches + length c.inputs) =
+    let long : length bits ≡ width c j =
     bits-size c s.situations is.situations ∙ ap (λ m. m * (length c.latches + length c.inputs)) (sym as_many)
     in
     let out : allows c n (before ++ e ∷ []) bits ≡ false =
     skeleton-allowed c j n (before ++ e ∷ []) s is as_many ∙ ap (λ xs. allow (numbered xs) (places s)) (plain-more before e)
     ∙ excluded-here (plain before) e.entry s
-    (subst (λ (m : ℕ). excludes (plain before ++ e.entry ∷ []) m s ≡ true) (sym (length-map before (λ (x : CheckedEntry). x.entry))) find.excluded)
+    (subst (λ (m : ℕ). excludes (plain before ++ e.entry ∷ []) m s ≡ true) (sym (length-map before (λ (x : CheckedEntry). x.entry))) excluded)
     in
-    let within : allows c n before bits ≡ true = skeleton-allowed c j n before s is as_many ∙ find.allowed in
-    count-less (n * (length c.latches + length c.inputs)) (allows c n (before ++ e ∷ [])) (allows c n before) (λ t. fewer-allowed c n before e t) bits long out within
+    let within : allows c n before bits ≡ true = skeleton-allowed c j n before s is as_many ∙ allowed in
+    count-less (width c j) (allows c n (before ++ e ∷ [])) (allows c n before) (λ t. fewer-allowed c n before e t) bits long out within
+
+-- and of all
+find-all : (c : Circuit) (js : List ℕ) (j : ℕ) (before : List CheckedEntry) (e : CheckedEntry) (s : Skeleton) → Contains js j → IsSkeleton c j s
+    → Allow before s → excludes (plain before ++ e.entry ∷ []) (length before) s ≡ true → left_all c (before ++ e ∷ []) js + 1 ≤ left_all c before js
+find-all c [] j before e s inside is allowed excluded = absurd (let below : inside.0 < 0 = inside.1 in omega arith)
+find-all c (i ∷ js) j before e s inside is allowed excluded =
+    elim (member i js j inside) [
+      | inl same ↦
+          first (left_for c (before ++ e ∷ []) i) (left_for c before i) (left_all c (before ++ e ∷ []) js) (left_all c before js)
+          (subst (λ (m : ℕ). left_for c (before ++ e ∷ []) m + 1 ≤ left_for c before m) (sym same) (find-one c j before e s is allowed excluded))
+          (all-within c before e js)
+      | inr there ↦
+          later (left_for c (before ++ e ∷ []) i) (left_for c before i) (left_all c (before ++ e ∷ []) js) (left_all c before js) (left-within c before e i)
+          (find-all c js j before e s there is allowed excluded)
+    ]
   where
-    only : (c : Circuit) (j : ℕ) (s : Skeleton) → Any (λ i. IsSkeleton c i s) (j ∷ []) → IsSkeleton c j s
-    only c j s (k, i, inside, at, is) =
-        let first : k ≡ 0 = omega (arith, inside) in
-        let same : i ≡ j = sym at ∙ ap (λ m. get_or (j ∷ []) m i) first in
-        subst (λ m. IsSkeleton c m s) same is
+    first : (a b m n : ℕ) → a + 1 ≤ b → m ≤ n → (a + m) + 1 ≤ b + n
+    first a b m n here rest = omega (arith, here, rest)
+
+    later : (a b m n : ℕ) → a ≤ b → m + 1 ≤ n → (a + m) + 1 ≤ b + n
+    later a b m n here rest = omega (arith, here, rest)
+
+find-by : (c : Circuit) (js : List ℕ) (before : List CheckedEntry) (e : CheckedEntry) (s : Skeleton) → Any (λ j. IsSkeleton c j s) js → Allow before s
+    → excludes (plain before ++ e.entry ∷ []) (length before) s ≡ true → left_all c (before ++ e ∷ []) js + 1 ≤ left_all c before js
+find-by c js before e s (k, j, below, at, is) allowed excluded = find-all c js j before e s (k, below, at) is allowed excluded
+
+find-less : (c : Circuit) (js : List ℕ) (workers : ℕ) (before : List CheckedEntry) (e : CheckedEntry) (origin : Origin)
+    → FromWorker origin (IsFind c js workers before e) → left_all c (before ++ e ∷ []) js + 1 ≤ left_all c before js
+find-less c js workers before e Given find = absurd find
+find-less c js workers before e (FoundBy work) find = find-by c js before e work.skeleton find.skeleton find.allowed find.excluded
+
+-- one of a property is one of all
+one-of-all : (c : Circuit) (entries : List CheckedEntry) (js : List ℕ) (j : ℕ) → Contains js j → left_for c entries j ≤ left_all c entries js
+one-of-all c entries [] j inside = absurd (let below : inside.0 < 0 = inside.1 in omega arith)
+one-of-all c entries (i ∷ js) j inside =
+    elim (member i js j inside) [
+      | inl same ↦ subst (λ (m : ℕ). left_for c entries m ≤ left_for c entries i + left_all c entries js) same (first (left_for c entries i) (left_all c entries js))
+      | inr there ↦ later (left_for c entries j) (left_for c entries i) (left_all c entries js) (one-of-all c entries js j there)
+    ]
+  where
+    first : (a b : ℕ) → a ≤ a + b
+    first a b = omega arith
+
+    later : (m a b : ℕ) → m ≤ b → m ≤ a + b
+    later m a b h = omega (arith, h)
+
+least-left : (a b : ℕ) → 1 ≤ a → a ≤ b → 0 + 1 ≤ b
+least-left a b some most = omega (arith, some, most)
+
+-- Behind the first entries each excludes a skeleton that those before it allow.
+abbrev FindsFrom : Circuit → List ℕ → ℕ → ℕ → List CheckedEntry → Type 0
+FindsFrom c js workers first entries =
+    (before after : List CheckedEntry) (e : CheckedEntry) → entries ≡ before ++ e ∷ after → first ≤ length before
+    → FromWorker e.origin (IsFind c js workers before e)
 
 -- as many skeletons are left as entries follow, and one more
-left-after : (c : Circuit) (j workers n : ℕ) (entries before after : List CheckedEntry) (s : Skeleton)
-    → n ≡ max 1 (length (fair_literals c j)) → entries ≡ before ++ after
-    → EachBehind (λ earlier e. FromWorker e.origin (IsFind c (j ∷ []) workers earlier e)) entries
-    → IsSkeleton c j s → Allow entries s
-    → length after + 1 ≤ count (n * (length c.latches + length c.inputs)) (allows c n before)
-left-after c j workers n entries before [] s size split finds is allowed =
-    let as_many : n ≡ length s.situations = size ∙ sym is.size in
+left-after : (c : Circuit) (js : List ℕ) (j workers first : ℕ) (entries before after : List CheckedEntry) (s : Skeleton) → Contains js j
+    → entries ≡ before ++ after → FindsFrom c js workers first entries → first ≤ length before → IsSkeleton c j s → Allow entries s
+    → length after + 1 ≤ left_all c before js
+left-after c js j workers first entries before [] s inside split finds low is allowed =
+    let n : ℕ = situations c j in
+    let as_many : n ≡ length s.situations = sym is.size in
     let same : entries ≡ before = split ∙ append-nil before in
     let passes : allows c n before (bits_of s.situations) ≡ true =
     skeleton-allowed c j n before s is as_many ∙ subst (λ (xs : List CheckedEntry). Allow xs s) same allowed
     in
-    count-some (n * (length c.latches + length c.inputs)) (allows c n before) (bits_of s.situations)
+    let some : 1 ≤ left_for c before j =
+    count-some (width c j) (allows c n before) (bits_of s.situations)
     (bits-size c s.situations is.situations ∙ ap (λ m. m * (length c.latches + length c.inputs)) (sym as_many)) passes
-left-after c j workers n entries before (e ∷ after) s size split finds is allowed =
-    let rest = left-after c j workers n entries (before ++ e ∷ []) after s size (split ∙ sym (append_assoc before (e ∷ []) after)) finds is allowed in
-    let here = find-less c j workers n before e e.origin size (finds before after e split) in
+    in
+    let most : left_for c before j ≤ left_all c before js = one-of-all c before js j inside in
+    least-left (left_for c before j) (left_all c before js) some most
+left-after c js j workers first entries before (e ∷ after) s inside split finds low is allowed =
+    let more : first ≤ length (before ++ e ∷ []) = omega (arith, low, length-append before (e ∷ [])) in
+    let rest : length after + 1 ≤ left_all c (before ++ e ∷ []) js =
+    left-after c js j workers first entries (before ++ e ∷ []) after s inside (split ∙ sym (append_assoc before (e ∷ []) after)) finds more is allowed
+    in
+    let here : left_all c (before ++ e ∷ []) js + 1 ≤ left_all c before js =
+    find-less c js workers before e e.origin (finds before after e split low)
+    in
     omega (arith, rest, here)
+
+-- there are no more than lists of values
+all-most : (c : Circuit) (entries : List CheckedEntry) (js : List ℕ) → left_all c entries js ≤ skeleton_lists c js
+all-most c entries [] = omega arith
+all-most c entries (j ∷ js) =
+    sums (left_for c entries j) (2 ^ width c j) (left_all c entries js) (skeleton_lists c js)
+    (count-most (width c j) (allows c (situations c j) entries)) (all-most c entries js)
+  where
+    sums : (a b m n : ℕ) → a ≤ b → m ≤ n → a + m ≤ b + n
+    sums a b m n here rest = omega (arith, here, rest)
 
 -- ---- the law
 
@@ -236,49 +328,41 @@ not-spent : (spent : Spendings) → spent.conflict_limit ≡ None → spent.step
 not-spent spent conflicts steps (inl h) = some-not-none spent.conflicts (sym h ∙ conflicts)
 not-spent spent conflicts steps (inr h) = some-not-none spent.steps (sym h ∙ steps)
 
-least-is : (given more most : ℕ) → given ≡ 0 → more ≤ most → min (given + more) most ≡ more
-least-is given more most none few = grind (arith)
+too-many : (whole given found left room most : ℕ) → whole ≡ most → whole ≡ given + found → found + 1 ≤ left → left ≤ room → given + room ≤ most → ⊥
+too-many whole given found left room most a b d e f = omega (arith, a, b, d, e, f)
 
-too-many : (size k room : ℕ) → size ≡ k → size + 1 ≤ room → room ≤ k → ⊥
-too-many size k room a b d = omega (arith, a, b, d)
+least-self : (n : ℕ) → n ≤ n
+least-self n = omega arith
 
-full-not : (task : Task) (j : ℕ) (report : Report) → AreLimits task.limits → task.properties ≡ j ∷ [] → task.given ≡ []
-    → 2 ^ (max 1 (length (fair_literals task.circuit j)) * (length task.circuit.latches + length task.circuit.inputs)) ≤ task.limits.skeletons
+full-not : (task : Task) (report : Report)
+    → length task.given + skeleton_lists task.circuit task.properties ≤ min (length task.given + task.limits.skeletons) most_entries
     → IsReport task report → IsFull report.board → ⊥
-full-not task j report limits one none room is full =
+full-not task report room is full =
     let b : BoardState = report.board in
     let c : Circuit = task.circuit in
-    let n : ℕ = max 1 (length (fair_literals c j)) in
-    let served : properties_of b.served ≡ j ∷ [] = is.board.properties ∙ one in
-    let given : b.given ≡ 0 = is.board.given ∙ ap length none in
-    let size : length b.entries ≡ task.limits.skeletons =
-    full.full ∙ is.board.limit ∙ least-is (length task.given) task.limits.skeletons most_entries (ap length none) limits.skeletons
+    let js : List ℕ = task.properties in
+    let first : ℕ = length task.given in
+    let found : List CheckedEntry = is.board.entries.0 in
+    let split : b.entries ≡ task.given ++ found = is.board.entries.1 in
+    let given : b.given ≡ first = is.board.given in
+    let finds : FindsFrom c js b.workers first b.entries = λ before after e at low.
+    subst (λ (d : Circuit). FromWorker e.origin (IsFind d js b.workers before e)) is.board.circuit
+    (subst (λ (is : List ℕ). FromWorker e.origin (IsFind b.circuit is b.workers before e)) is.board.properties
+    (is.board.board.found before after e at (omega (arith, given, low))))
     in
-    let finds : EachBehind (λ earlier e. FromWorker e.origin (IsFind c (j ∷ []) b.workers earlier e)) b.entries = λ before after e split.
-    subst (λ (d : Circuit). FromWorker e.origin (IsFind d (j ∷ []) b.workers before e)) is.board.circuit
-    (subst (λ (js : List ℕ). FromWorker e.origin (IsFind b.circuit js b.workers before e)) served
-    (is.board.board.found before after e split (omega (arith, given))))
-    in
-    let i : ℕ = is.unanswered.0 in
-    let left = full.allows i is.unanswered.1 in
-    let same : i ≡ j = only-one (properties_of b.served) i j served is.unanswered.1.0 in
-    let skeleton : IsSkeleton c j left.0 =
-    subst (λ m. IsSkeleton c m left.0) same (subst (λ (d : Circuit). IsSkeleton d i left.0) is.board.circuit left.1.skeleton)
-    in
-    let more = left-after c j b.workers n b.entries [] b.entries left.0 refl refl finds skeleton left.1.allowed in
-    let most = count-most (n * (length c.latches + length c.inputs)) (allows c n []) in
-    too-many (length b.entries) task.limits.skeletons (2 ^ (n * (length c.latches + length c.inputs))) size (omega (arith, more, most)) room
-  where
-    only-one : (xs : List ℕ) (i j : ℕ) → xs ≡ j ∷ [] → Contains xs i → i ≡ j
-    only-one xs i j e (k, inside, at) =
-        let below : k < length (j ∷ []) = subst (λ (ys : List ℕ). k < length ys) e inside in
-        let first : k ≡ 0 = omega (arith, below) in
-        sym at ∙ ap (λ ys. get_or ys k i) e ∙ ap (λ m. get_or (j ∷ []) m i) first
+    let j : ℕ = is.unanswered.0 in
+    let left = full.allows j is.unanswered.1 in
+    let inside : Contains js j = subst (λ (is : List ℕ). Contains is j) is.board.properties is.unanswered.1.0 in
+    let skeleton : IsSkeleton c j left.0 = subst (λ (d : Circuit). IsSkeleton d j left.0) is.board.circuit left.1.skeleton in
+    too-many (length b.entries) first (length found) (left_all c task.given js) (skeleton_lists c js)
+    (min (first + task.limits.skeletons) most_entries) (full.full ∙ is.board.limit) (ap length split ∙ length-append task.given found)
+    (left-after c js j b.workers first b.entries task.given found left.0 inside split finds (least-self first) skeleton left.1.allowed)
+    (all-most c task.given js) room
 
 pub no-report : NoReportWithoutLimits
-no-report task j report limits one none conflicts steps room is =
+no-report task report limits conflicts steps room is =
     elim is.cause [
-      | inl full ↦ full-not task j report limits one none room is full
+      | inl full ↦ full-not task report room is full
       | inr spent ↦
           let d : Spendings = record { conflicts = 0; conflict_limit = None; steps = 0; step_limit = None } in
           let inside : 0 < length report.workers = omega (arith, is.spent.count, limits.some) in

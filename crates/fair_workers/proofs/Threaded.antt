@@ -1,8 +1,8 @@
 -- Workers on threads: what each of them begins with and comes to, and what the board of their ledger is then.
 use Rattle.std.proofs.Common.{◌≡◌, ℕ, zero, suc, ◌+◌, ◌-◌, ◌*◌, ◌<◌, ◌≤◌, min, Bool, true, false, cond, List, [], ◌∷◌, ◌++◌, map, Some, None, inl, inr, length, get_or, drop, refl, sym, ap, ◌∙◌, subst, arith}
-use Rattle.std.specs.Prelude.{Option, Contains, ◌==◌, IfSome}
+use Rattle.std.specs.Prelude.{Contains, ◌==◌}
 use Rattle.std.specs.List.{All, Any, AllPairs, remove}
-use Rattle.std.proofs.lemmas.Bool.{false≢true, cases_lt, eq-eqb, ne_eqb}
+use Rattle.std.proofs.lemmas.Bool.{false≢true, false_from_ne_true, cases_lt, eq-eqb, ne_eqb}
 use Rattle.std.proofs.lemmas.List.{get_or-map, get_or_default, length-map, length-append, append-nil, append_assoc, map-append, drop-append-le, drop_all}
 use Rattle.std.proofs.lemmas.List.Elements.{All-nil, All-cons, filter-append}
 use Rattle.wall_ledger.proofs.Events.{some_same}
@@ -11,10 +11,11 @@ use Rattle.edge.specs.Units.{Spendings}
 use Rattle.entry.specs.declared.origins.Origin.{Origin}
 use Rattle.entry.specs.declared.origins.Origin.TheVariants.{Given, Worker as FoundBy}
 use Rattle.entry.specs.CheckedEntries.{CheckedEntry}
-use Rattle.skeleton.specs.Finding.{Asking, IsAllowed}
+use Rattle.skeleton.specs.Finding.{IsAllowed}
 use Rattle.wall_store.specs.Boards.{BoardState, FromWorker, AscendBy, Ascend, IsFind, is_by, found_by, turn_of, most_entries, plain, first_board, properties_of}
+use Rattle.wall_store.specs.Events.{IsSettled}
 use Rattle.wall_store.proofs.Ascending.{none_found, ascend_empty, ascend_later, found_others}
-use Rattle.wall_ledger.specs.Passes.{Marked, PassState, LedgerState, GoesOn, OwnTurns, blank, new_pass, new_passes}
+use Rattle.wall_ledger.specs.Passes.{Marked, PassState, LedgerState, GoesOn, OwnTurns, blank, shown_of, new_pass, new_passes}
 use Rattle.wall_ledger.specs.Turns.{IsBegun, IsClosed, AreAll, AreOf}
 use Rattle.fair_workers.specs.declared.ending.WorkerEnd.{WorkerEnd}
 use Rattle.fair_workers.specs.declared.limits.Limits.{Limits}
@@ -22,91 +23,91 @@ use Rattle.fair_workers.specs.declared.runners.Runner.{Runner}
 use Rattle.fair_workers.specs.declared.working.Phase.{Phase}
 use Rattle.fair_workers.specs.declared.working.Phase.TheVariants as phases
 use Rattle.fair_workers.specs.declared.working.Worker.{Worker}
-use Rattle.fair_workers.specs.Runs.{Task, AreLimits, IsFoundWithin, IsBoardOf, IsInBudget, IsWithLimits, most_turns}
-use Rattle.fair_workers.specs.Knowing.{Known}
-use Rattle.fair_workers.specs.Working.{rank, left, left_to, left_at_first, searches_left_to, searches_ahead, search_steps, steps_through, is_running, AreRoundsOf, IsIn, IsStuck, IsWorker, Turns, KeepsLimits}
-use Rattle.fair_workers.specs.Ends.{IsStuckOn, Tells, IsDone, AreDone}
-use Rattle.fair_workers.specs.Holding.{known_by, fresh_meter, Goes, StaysHeld, IsPassOf, IsReady, IsThrough, MayRun, HasRun, HaveRun, HasEnded, IsBegunFor}
+use Rattle.fair_workers.specs.Runs.{Task, AreServed, IsFoundWithin, IsBoardOf, IsFull, IsInBudget, IsWithLimits, last_turns, most_turns}
+use Rattle.fair_workers.specs.Knowing.{Known, AreSettled}
+use Rattle.fair_workers.specs.Working.{left_to, left_at_first, searches_left_to, search_steps, steps_through, is_running, IsIn, IsStuck, IsWorker, Turns}
+use Rattle.fair_workers.specs.Ends.{Tells, IsDone, AreDone}
+use Rattle.fair_workers.specs.Holding.{is_shown, known_by, fresh_meter, steps_within, Goes, StaysHeld, IsPassOf, IsReady, IsThrough, MayRun, HasRun, HaveRun, HasEnded, IsBegunFor}
 use Rattle.fair_workers.proofs.Causes.{steps-least}
-use Rattle.fair_workers.proofs.Together.{within-on}
+use Rattle.fair_workers.proofs.Together.{within-on, first-worker, first-within, most-least}
 use Rattle.fair_workers.proofs.HeldPasses.{marks-tell}
-use Rattle.fair_round.proofs.Counting.{steps-first, steps-kept, steps-over, steps-last}
+use Rattle.fair_round.proofs.Counting.{steps-kept, steps-over, steps-last}
 
 -- ---- one worker
 
 -- with a pass that is ready a worker begins
-ready-worker : (limits : Limits) (j : ℕ) (l : LedgerState) (p : PassState) (w : Worker) → IsReady limits j l p
-    → w.rounds ≡ None → w.phase ≡ phases.Asks → IsWorker j (known_by l p) w
-ready-worker limits j l p w is none phase = record {
-  served = is.served;
-  inside = is.property;
-  rounds = subst (λ (r : Option Asking). IfSome r (AreRoundsOf l.circuit j (plain p.list))) (sym none) tt;
-  phase = subst (IsIn j (known_by l p) w.meter) (sym phase) tt;
-  short = is.pass.limit;
-  turns = subst (λ q. p.turns + left l.limit (length p.list) q ≤ left_at_first l.limit (length l.given)) (sym phase)
-      (begins p.turns l.limit (length p.list) (length l.given) is.turns (ap length is.list));
-}
-  where
-    begins : (turns limit seen given : ℕ) → turns ≡ 0 → seen ≡ given → turns + ((limit - seen) * 3 + 6) ≤ (limit - given) * 3 + 6
-    begins turns limit seen given none same = omega (arith, none, same)
+ready-worker : (limits : Limits) (properties : List ℕ) (l : LedgerState) (p : PassState) (w : Worker) → IsReady limits properties l p
+    → w.rounds ≡ None → w.phase ≡ phases.Asks → IsWorker (known_by l p) w
+ready-worker limits properties l p w is none phase =
+    first-worker (known_by l p) w is.served none phase is.pass.limit is.turns (let same = ap length is.list in omega (arith, same))
 
 -- the steps that its searches may take
-ready-steps : (limits : Limits) (j : ℕ) (l : LedgerState) (p : PassState) (w : Worker) → IsReady limits j l p → w.phase ≡ phases.Asks
+ready-steps : (limits : Limits) (properties : List ℕ) (l : LedgerState) (p : PassState) (w : Worker) → IsReady limits properties l p → w.phase ≡ phases.Asks
     → w.meter ≡ fresh_meter limits
-    → steps_through w (searches_left_to (known_by l p) w) (search_steps l.circuit j) ≤ (limits.skeletons + 1) * search_steps l.circuit j
-ready-steps limits j l p w is phase meter =
-    let ahead : searches_ahead w.phase ≡ 1 = ap searches_ahead phase in
-    steps-first w.meter.steps (searches_left_to (known_by l p) w) limits.skeletons (search_steps l.circuit j) (ap (λ (s : Spendings). s.steps) meter)
-    (few l.limit (length p.list) (length l.given) limits.skeletons (searches_ahead w.phase) (ap length is.list) is.grows ahead)
-  where
-    few : (limit seen given more ahead : ℕ) → seen ≡ given → limit ≤ given + more → ahead ≡ 1 → (limit - seen) + ahead ≤ more + 1
-    few limit seen given more ahead same grows one = omega (arith, same, grows, one)
+    → steps_through w (searches_left_to (known_by l p) w) (search_steps l.circuit l.properties) ≤ steps_within limits l
+ready-steps limits properties l p w is phase meter =
+    first-within (known_by l p) w limits.skeletons (let same = ap length is.list in let grows = is.grows in omega (arith, same, grows)) phase
+    (ap (λ (s : Spendings). s.steps) meter)
 
-pub goes-first : (limits : Limits) (j : ℕ) (l : LedgerState) (p : PassState) (w : Worker) → IsReady limits j l p
-    → w.rounds ≡ None → w.meter ≡ fresh_meter limits → w.phase ≡ phases.Asks → Goes limits j l p w
-goes-first limits j l p w is none meter phase = record {
+pub goes-first : (limits : Limits) (properties : List ℕ) (l : LedgerState) (p : PassState) (w : Worker) → IsReady limits properties l p
+    → w.rounds ≡ None → w.meter ≡ fresh_meter limits → w.phase ≡ phases.Asks → Goes limits l p w
+goes-first limits properties l p w is none meter phase = record {
   pass = is.pass;
-  worker = ready-worker limits j l p w is none phase;
+  worker = ready-worker limits properties l p w is none phase;
   counted = record { conflicts = ap (λ (s : Spendings). s.conflict_limit) meter; steps = ap (λ (s : Spendings). s.step_limit) meter };
-  steps = ready-steps limits j l p w is phase meter;
+  steps = ready-steps limits properties l p w is phase meter;
 }
 
 -- a turn keeps the bound on steps
-turn-steps : (j : ℕ) (k l : Known) (w v : Worker) (most : ℕ) → Turns j 0 k w l v → steps_through w (searches_left_to k w) (search_steps k.circuit j) ≤ most
-    → steps_through v (searches_left_to l v) (search_steps k.circuit j) ≤ most
-turn-steps j k l w v most turn before =
-    steps-kept v.meter.steps w.meter.steps (searches_left_to l v) (searches_left_to k w) (search_steps k.circuit j) most
-    (steps-over v.meter.steps (searches_left_to l v) (search_steps k.circuit j) (steps_through w (searches_left_to k w) (search_steps k.circuit j)) turn.steps)
+turn-steps : (k l : Known) (w v : Worker) (most : ℕ) → Turns 0 k w l v → steps_through w (searches_left_to k w) (search_steps k.circuit k.properties) ≤ most
+    → steps_through v (searches_left_to l v) (search_steps k.circuit k.properties) ≤ most
+turn-steps k l w v most turn before =
+    steps-kept v.meter.steps w.meter.steps (searches_left_to l v) (searches_left_to k w) (search_steps k.circuit k.properties) most
+    (steps-over v.meter.steps (searches_left_to l v) (search_steps k.circuit k.properties)
+    (steps_through w (searches_left_to k w) (search_steps k.circuit k.properties)) turn.steps)
     before
 
-pub goes-on : (limits : Limits) (j : ℕ) (l m : LedgerState) (p q : PassState) (w v : Worker) → Goes limits j l p w → StaysHeld l p m q
-    → Turns j 0 (known_by l p) w (known_by m q) v → Goes limits j m q v
-goes-on limits j l m p q w v g stays turn = record {
+pub goes-on : (limits : Limits) (l m : LedgerState) (p q : PassState) (w v : Worker) → Goes limits l p w → StaysHeld l p m q
+    → Turns 0 (known_by l p) w (known_by m q) v → Goes limits m q v
+goes-on limits l m p q w v g stays turn = record {
   pass = stays.pass;
   worker = turn.worker;
   counted = within-on limits w.meter v.meter turn.limits g.counted;
   steps =
-      subst (λ (n : LedgerState). steps_through v (searches_left_to (known_by m q) v) (search_steps n.circuit j) ≤ (limits.skeletons + 1) * search_steps n.circuit j)
+      subst (λ (n : LedgerState). steps_through v (searches_left_to (known_by m q) v) (search_steps n.circuit n.properties) ≤ steps_within limits n)
       (sym stays.ledger)
-      (turn-steps j (known_by l p) (known_by m q) w v ((limits.skeletons + 1) * search_steps l.circuit j) turn g.steps);
+      (turn-steps (known_by l p) (known_by m q) w v (steps_within limits l) turn g.steps);
 }
 
 few-turns : (turns ahead most : ℕ) → turns + ahead ≤ most → turns ≤ most
 few-turns turns ahead most h = omega (arith, h)
 
+-- the phase of a worker that has ended tells the same of any property
+tells-any : (i j : ℕ) (k : Known) (meter : Spendings) (p : Phase) → is_running p ≡ false → IsIn i k meter p → IsIn j k meter p
+tells-any i j k meter phases.Asks ended h = absurd (false≢true (sym ended))
+tells-any i j k meter phases.Looks ended h = absurd (false≢true (sym ended))
+tells-any i j k meter phases.Searches ended h = absurd (false≢true (sym ended))
+tells-any i j k meter (phases.AsksLast from) ended h = absurd (false≢true (sym ended))
+tells-any i j k meter phases.LooksLast ended h = absurd (false≢true (sym ended))
+tells-any i j k meter phases.SearchesLast ended h = absurd (false≢true (sym ended))
+tells-any i j k meter phases.Closed ended h = h
+tells-any i j k meter phases.Full ended h = h
+tells-any i j k meter phases.Spent ended h = h
+tells-any i j k meter phases.Refused ended h = h
+
 -- a worker that has taken its turns
-pub goes-through : (limits : Limits) (j : ℕ) (l m : LedgerState) (q : PassState) (v : Worker) (spent : Spendings) → m ≡ l → Goes limits j m q v
-    → is_running v.phase ≡ false → spent ≡ v.meter → IsInBudget spent → IsThrough limits j l q (record { spent = spent; phase = v.phase })
-goes-through limits j l m q v spent ledger g over same within =
-    subst (λ (n : LedgerState). IsThrough limits j n q (record { spent = spent; phase = v.phase })) ledger
-    (subst (λ (s : Spendings). IsThrough limits j m q (record { spent = s; phase = v.phase })) (sym same) (record {
+pub goes-through : (limits : Limits) (l m : LedgerState) (q : PassState) (v : Worker) (spent : Spendings) → m ≡ l → Goes limits m q v
+    → is_running v.phase ≡ false → spent ≡ v.meter → IsInBudget spent → IsThrough limits l q (record { spent = spent; phase = v.phase })
+goes-through limits l m q v spent ledger g over same within =
+    subst (λ (n : LedgerState). IsThrough limits n q (record { spent = spent; phase = v.phase })) ledger
+    (subst (λ (s : Spendings). IsThrough limits m q (record { spent = s; phase = v.phase })) (sym same) (record {
       pass = g.pass;
-      turns = few-turns q.turns (left_to (known_by m q) v) (left_at_first m.limit (length m.given)) g.worker.turns;
+      turns = few-turns q.turns (left_to (known_by m q) v) (left_at_first (known_by m q)) g.worker.turns;
       over = over;
-      tells = g.worker.phase;
+      tells = tells-any v.property 0 (known_by m q) v.meter v.phase over g.worker.phase;
       counted = g.counted;
       within = subst IsInBudget same within;
-      steps = steps-last v.meter.steps (searches_left_to (known_by m q) v) (search_steps m.circuit j) ((limits.skeletons + 1) * search_steps m.circuit j) g.steps;
+      steps = steps-last v.meter.steps (searches_left_to (known_by m q) v) (search_steps m.circuit m.properties) (steps_within limits m) g.steps;
     }))
 
 -- ---- new passes
@@ -128,17 +129,19 @@ marked-new : (js : List ℕ) → map (λ (m : Marked). m.property) (map (λ (j :
 marked-new [] = refl
 marked-new (j ∷ js) = ap (λ (is : List ℕ). j ∷ is) (marked-new js)
 
-ready-new : (task : Task) (j : ℕ) (l : LedgerState) (ps : List PassState) (n : ℕ) → task.properties ≡ j ∷ [] → j < length task.circuit.justice
-    → IsBegun task.circuit task.properties task.limits.workers task.limits.skeletons task.given l ps → IsReady task.limits j l (new_pass l n)
-ready-new task j l ps n properties inside is = record {
+ready-new : (task : Task) (l : LedgerState) (ps : List PassState) (n : ℕ) → AreServed task.circuit task.properties
+    → IsBegun task.circuit task.properties task.limits.workers task.limits.skeletons task.given l ps
+    → IsReady task.limits task.properties l (new_pass l n)
+ready-new task l ps n served is = record {
   pass = record {
     home = refl;
     circuit = ap (λ (b : BoardState). b.circuit) is.first ∙ sym is.circuit;
     marks = marked-new l.properties;
     limit = short l.limit (length task.given + task.limits.skeletons) is.limit;
   };
-  served = is.properties ∙ properties;
-  property = subst (λ (c : Circuit). j < length c.justice) (sym is.circuit) inside;
+  same = is.properties;
+  served = subst (λ (c : Circuit). AreServed c l.properties) (sym is.circuit)
+      (subst (λ (js : List ℕ). AreServed task.circuit js) (sym is.properties) served);
   list = refl;
   turns = refl;
   grows = grown l.limit (length l.given) (length task.given) task.limits.skeletons is.limit (ap length is.given);
@@ -166,34 +169,33 @@ ends-at runners es k d e same below =
     sym (get_or-map (λ (r : Runner). r.end) runners k d (Some e) below) ∙ ap (λ xs. get_or xs k (Some e)) (sym same)
     ∙ get_or-map (λ (q : WorkerEnd). Some q) es k e (Some e) (omega (arith, below, size))
 
-pub runners-size : (task : Task) (j : ℕ) (l : LedgerState) (runners : List Runner) → IsBegunFor task j l runners → length runners ≡ task.limits.workers
-runners-size task j l runners is =
+pub runners-size : (task : Task) (l : LedgerState) (runners : List Runner) → IsBegunFor task l runners → length runners ≡ task.limits.workers
+runners-size task l runners is =
     sym (length-map runners (λ (r : Runner). r.pass)) ∙ ap length is.passes ∙ length-map (new_passes l 0 task.limits.workers) (λ (q : PassState). Some q)
     ∙ new-size l 0 task.limits.workers
 
-new-held : (task : Task) (j : ℕ) (l : LedgerState) (runners : List Runner) (k : ℕ) (d : Runner) → IsBegunFor task j l runners → k < length runners
+new-held : (task : Task) (l : LedgerState) (runners : List Runner) (k : ℕ) (d : Runner) → IsBegunFor task l runners → k < length runners
     → (get_or runners k d).pass ≡ Some (new_pass l k)
-new-held task j l runners k d is below =
+new-held task l runners k d is below =
     passes-at runners (new_passes l 0 task.limits.workers) k d (new_pass l k) is.passes below
     ∙ ap (λ (q : PassState). Some q)
-    (new-at l 0 task.limits.workers k (new_pass l k) (omega (arith, below, runners-size task j l runners is))
+    (new-at l 0 task.limits.workers k (new_pass l k) (omega (arith, below, runners-size task l runners is))
     ∙ ap (new_pass l) (let z : 0 + k ≡ k = omega arith in z))
 
-pub may-run-all : (task : Task) (j : ℕ) (l : LedgerState) (runners : List Runner) → IsBegunFor task j l runners → All (MayRun task.limits j l) runners
-may-run-all task j l runners is = λ k d below.
-    (new_pass l k, new-held task j l runners k d is below, ready-new task j l (new_passes l 0 task.limits.workers) k is.properties is.property is.ledger)
+pub may-run-all : (task : Task) (l : LedgerState) (runners : List Runner) → IsBegunFor task l runners → All (MayRun task.limits task.properties l) runners
+may-run-all task l runners is = λ k d below.
+    (new_pass l k, new-held task l runners k d is below, ready-new task l (new_passes l 0 task.limits.workers) k is.served is.ledger)
 
-pub have-ended : (limits : Limits) (j : ℕ) (l : LedgerState) (before after : List Runner) → HaveRun limits j l before after → All HasEnded after
-have-ended limits j l before after h = λ k d below.
-    let run : HasRun limits j l (get_or before k d) (get_or after k d) = h.1 k d (omega (arith, below, h.0)) in
+pub have-ended : (limits : Limits) (l : LedgerState) (before after : List Runner) → HaveRun limits l before after → All HasEnded after
+have-ended limits l before after h = λ k d below.
+    let run : HasRun limits l (get_or before k d) (get_or after k d) = h.1 k d (omega (arith, below, h.0)) in
     ((run.pass, run.held), (run.end, run.kept))
 
-pub begun-for : (task : Task) (j : ℕ) (l : LedgerState) (ps : List PassState) (runners : List Runner) → task.properties ≡ j ∷ [] → j < length task.circuit.justice
+pub begun-for : (task : Task) (l : LedgerState) (ps : List PassState) (runners : List Runner) → AreServed task.circuit task.properties
     → IsBegun task.circuit task.properties task.limits.workers task.limits.skeletons task.given l ps → map (λ r. r.pass) runners ≡ map Some ps
-    → IsBegunFor task j l runners
-begun-for task j l ps runners properties inside is same = record {
-  properties = properties;
-  property = inside;
+    → IsBegunFor task l runners
+begun-for task l ps runners served is same = record {
+  served = served;
   ledger = subst (λ (qs : List PassState). IsBegun task.circuit task.properties task.limits.workers task.limits.skeletons task.given l qs) is.passes is;
   passes = same ∙ ap (λ (qs : List PassState). map Some qs) is.passes;
 }
@@ -221,10 +223,10 @@ none-left (x ∷ xs) e = absurd (omega (arith, e))
 -- ---- what comes back
 
 -- passes and ends of workers that are through, in the order of their numbers
-pub record AreBack (task : Task) (j : ℕ) (l : LedgerState) (ps : List PassState) (es : List WorkerEnd) : Type 0 where
+pub record AreBack (task : Task) (l : LedgerState) (ps : List PassState) (es : List WorkerEnd) : Type 0 where
   passes : length ps ≡ task.limits.workers
   ends : length es ≡ task.limits.workers
-  through : (k : ℕ) (p : PassState) (e : WorkerEnd) → k < task.limits.workers → IsThrough task.limits j l (get_or ps k p) (get_or es k e)
+  through : (k : ℕ) (p : PassState) (e : WorkerEnd) → k < task.limits.workers → IsThrough task.limits l (get_or ps k p) (get_or es k e)
   own : (k : ℕ) (p : PassState) → k < task.limits.workers → OwnTurns (get_or ps k p)
   number : (k : ℕ) (p : PassState) → k < task.limits.workers → (get_or ps k p).number ≡ k
 
@@ -234,11 +236,11 @@ blank-runner = record { pass = None; end = None }
 abbrev no-end : Limits → WorkerEnd
 no-end limits = record { spent = fresh_meter limits; phase = phases.Refused }
 
-pub back-of : (task : Task) (j : ℕ) (l : LedgerState) (before after : List Runner) (ps : List PassState) (es : List WorkerEnd) → IsBegunFor task j l before
-    → HaveRun task.limits j l before after → map Some ps ≡ map (λ r. r.pass) after → map Some es ≡ map (λ r. r.end) after → AreBack task j l ps es
-back-of task j l before after ps es is h passes ends =
-    let count : length before ≡ task.limits.workers = runners-size task j l before is in
-    let run : (k : ℕ) → k < task.limits.workers → HasRun task.limits j l (get_or before k blank-runner) (get_or after k blank-runner) =
+pub back-of : (task : Task) (l : LedgerState) (before after : List Runner) (ps : List PassState) (es : List WorkerEnd) → IsBegunFor task l before
+    → HaveRun task.limits l before after → map Some ps ≡ map (λ r. r.pass) after → map Some es ≡ map (λ r. r.end) after → AreBack task l ps es
+back-of task l before after ps es is h passes ends =
+    let count : length before ≡ task.limits.workers = runners-size task l before is in
+    let run : (k : ℕ) → k < task.limits.workers → HasRun task.limits l (get_or before k blank-runner) (get_or after k blank-runner) =
     λ k below. h.1 k blank-runner (omega (arith, below, count))
     in
     let pass-is : (k : ℕ) (p : PassState) (below : k < task.limits.workers) → (run k below).pass ≡ get_or ps k p = λ k p below.
@@ -253,23 +255,23 @@ back-of task j l before after ps es is h passes ends =
       passes = sym (length-map ps (λ (q : PassState). Some q)) ∙ ap length passes ∙ length-map after (λ (r : Runner). r.pass) ∙ h.0 ∙ count;
       ends = sym (length-map es (λ (q : WorkerEnd). Some q)) ∙ ap length ends ∙ length-map after (λ (r : Runner). r.end) ∙ h.0 ∙ count;
       through = λ k p e below.
-          subst (λ (q : PassState). IsThrough task.limits j l q (get_or es k e)) (pass-is k p below)
-          (subst (λ (f : WorkerEnd). IsThrough task.limits j l (run k below).pass f) (end-is k e below) (run k below).through);
+          subst (λ (q : PassState). IsThrough task.limits l q (get_or es k e)) (pass-is k p below)
+          (subst (λ (f : WorkerEnd). IsThrough task.limits l (run k below).pass f) (end-is k e below) (run k below).through);
       own = λ k p below. subst OwnTurns (pass-is k p below) (run k below).own;
       number = λ k p below.
           sym (ap (λ (q : PassState). q.number) (pass-is k p below))
-          ∙ (run k below).number (new_pass l k) (new-held task j l before k blank-runner is (omega (arith, below, count)));
+          ∙ (run k below).number (new_pass l k) (new-held task l before k blank-runner is (omega (arith, below, count)));
     }
 
-pub all-back : (task : Task) (j : ℕ) (l : LedgerState) (ps : List PassState) (es : List WorkerEnd) → AreBack task j l ps es → l.workers ≡ task.limits.workers
+pub all-back : (task : Task) (l : LedgerState) (ps : List PassState) (es : List WorkerEnd) → AreBack task l ps es → l.workers ≡ task.limits.workers
     → AreAll l ps
-all-back task j l ps es back workers = λ n below.
+all-back task l ps es back workers = λ n below.
     let inside : n < task.limits.workers = omega (arith, below, workers) in
     let p : PassState = get_or ps n (new_pass l n) in
     (n, p, omega (arith, inside, back.passes), sym (get_or_default ps n (new_pass l n) p (omega (arith, inside, back.passes))), back.number n (new_pass l n) inside)
 
-pub of-back : (task : Task) (j : ℕ) (l : LedgerState) (ps : List PassState) (es : List WorkerEnd) → AreBack task j l ps es → AreOf l ps
-of-back task j l ps es back = λ k d below. (back.through k d (no-end task.limits) (omega (arith, below, back.passes))).pass.home
+pub of-back : (task : Task) (l : LedgerState) (ps : List PassState) (es : List WorkerEnd) → AreBack task l ps es → AreOf l ps
+of-back task l ps es back = λ k d below. (back.through k d (no-end task.limits) (omega (arith, below, back.passes))).pass.home
 
 -- ---- lists of entries
 
@@ -298,9 +300,9 @@ in-found Q n (x ∷ before) after e mine a =
 
 -- ---- the last board
 
-module _ (task : Task) (j : ℕ) (l : LedgerState) (qs ps : List PassState) (es : List WorkerEnd) (b : BoardState) (one : task.properties ≡ j ∷ [])
+module _ (task : Task) (l : LedgerState) (qs ps : List PassState) (es : List WorkerEnd) (b : BoardState)
     (is : IsBegun task.circuit task.properties task.limits.workers task.limits.skeletons task.given l qs)
-    (origins : All (λ e. e.origin ≡ Given) task.given) (back : AreBack task j l ps es) (closed : IsClosed l ps b) where
+    (origins : All (λ e. e.origin ≡ Given) task.given) (back : AreBack task l ps es) (closed : IsClosed l ps b) where
   abbrev rest : List CheckedEntry
   rest = closed.board.front.0
 
@@ -324,17 +326,20 @@ module _ (task : Task) (j : ℕ) (l : LedgerState) (qs ps : List PassState) (es 
   own-ascend n below =
       subst (λ (m : ℕ). Ascend m (pass-of n).list (pass-of n).turns) (back.number n (new_pass l n) below) (back.own n (new_pass l n) below)
 
-  most-least : left_at_first l.limit (length l.given) ≤ most_turns task
-  most-least =
-      least l.limit (length l.given) (length task.given) task.limits.skeletons (length task.properties) is.limit (ap length is.given) (ap length one)
-    where
-      least : (limit first given more properties : ℕ) → limit ≡ min (given + more) most_entries → first ≡ given → properties ≡ 1
-          → (limit - first) * 3 + 6 ≤ 3 * (more + 1 + properties)
-      least limit first given more properties short same one = grind (arith)
+  -- how many turns a worker of the ledger has at most
+  abbrev most-here : ℕ
+  most-here = ((l.limit - length l.given) + length l.properties) * 3 + last_turns l.properties + 3
+
+  least-here : most-here ≤ most_turns task
+  least-here =
+      subst (λ (js : List ℕ). most-here ≤ 3 * (task.limits.skeletons + 1 + length js) + last_turns js) is.properties
+      (most-least l.limit (length l.given) (length task.given) task.limits.skeletons (length l.properties) (last_turns l.properties) is.limit (ap length is.given))
 
   few : (n : ℕ) → n < task.limits.workers → (pass-of n).turns ≤ most_turns task
-  few n below =
-      (let turns = (back.through n (new_pass l n) (no-end task.limits) below).turns in let most = most-least in omega (arith, turns, most))
+  few n below = within-both (pass-of n).turns most-here (most_turns task) (back.through n (new_pass l n) (no-end task.limits) below).turns least-here
+    where
+      within-both : (t m n : ℕ) → t ≤ m → m ≤ n → t ≤ n
+      within-both t m n a b = omega (arith, a, b)
 
   -- where an entry stands that was found
   found-at : (mid after : List CheckedEntry) (e : CheckedEntry) → rest ≡ mid ++ e ∷ after
@@ -413,43 +418,50 @@ module _ (task : Task) (j : ℕ) (l : LedgerState) (qs ps : List PassState) (es 
       in
       on.list.1 ∙ ap (λ xs. p.list ++ xs) (none-left on.list.0 none) ∙ append-nil p.list
 
-  stuck-by : (p : PassState) → GoesOn p b → IsStuck j (known_by l p) → IsStuckOn j b
-  stuck-by p on h =
-      let whole : b.entries ≡ p.list = whole-list p on h.0 in (
-        ap length whole ∙ h.0 ∙ sym closed.board.limit,
-        (
-          h.1.0,
-          subst (λ (c : Circuit). IsAllowed c j (plain b.entries) h.1.0) (sym closed.board.circuit)
-              (subst (λ (xs : List CheckedEntry). IsAllowed l.circuit j (plain xs) h.1.0) (sym whole) h.1.1),
-        ),
-      )
+  full-by : (p : PassState) → GoesOn p b → IsStuck (known_by l p) → IsFull b
+  full-by p on h =
+      let whole : b.entries ≡ p.list = whole-list p on h.full in
+      record {
+        full = ap length whole ∙ h.full ∙ sym closed.board.limit;
+        allows = λ i is_open.
+            (let left = h.allows i (subst (λ (js : List ℕ). Contains js i) closed.board.properties is_open.0)
+            (false_from_ne_true (is_shown (shown_of p.marks i)) (λ shows. marks-tell p.marks b.served i on.marks shows is_open.1))
+            in (
+              left.0,
+              subst (λ (c : Circuit). IsAllowed c i (plain b.entries) left.0) (sym closed.board.circuit)
+                  (subst (λ (xs : List CheckedEntry). IsAllowed l.circuit i (plain xs) left.0) (sym whole) left.1),
+            ));
+      }
 
-  tells-by : (p : PassState) (spent : Spendings) (q : Phase) → GoesOn p b → is_running q ≡ false → IsIn j (known_by l p) spent q → Tells j b spent q
+  settled-by : (p : PassState) → GoesOn p b → AreSettled (known_by l p) → IsSettled b.served
+  settled-by p on h = λ i is_open.
+      marks-tell p.marks b.served i on.marks (h i (subst (λ (js : List ℕ). Contains js i) closed.board.properties is_open.0)) is_open.1
+
+  tells-by : (p : PassState) (spent : Spendings) (q : Phase) → GoesOn p b → is_running q ≡ false → IsIn 0 (known_by l p) spent q → Tells b spent q
   tells-by p spent phases.Asks on over h = absurd (false≢true (sym over))
   tells-by p spent phases.Looks on over h = absurd (false≢true (sym over))
   tells-by p spent phases.Searches on over h = absurd (false≢true (sym over))
-  tells-by p spent phases.AsksLast on over h = absurd (false≢true (sym over))
+  tells-by p spent (phases.AsksLast from) on over h = absurd (false≢true (sym over))
   tells-by p spent phases.LooksLast on over h = absurd (false≢true (sym over))
   tells-by p spent phases.SearchesLast on over h = absurd (false≢true (sym over))
-  tells-by p spent phases.Closed on over h = marks-tell p.marks b.served j on.marks h
-  tells-by p spent phases.Full on over h = stuck-by p on h
+  tells-by p spent phases.Closed on over h = settled-by p on h
+  tells-by p spent phases.Full on over h = full-by p on h
   tells-by p spent phases.Spent on over h = h
   tells-by p spent phases.Refused on over h = tt
 
-  done-back : (e : WorkerEnd) (k : ℕ) → k < task.limits.workers → IsThrough task.limits j l (pass-of k) e → IsDone task j b e
+  done-back : (e : WorkerEnd) (k : ℕ) → k < task.limits.workers → IsThrough task.limits l (pass-of k) e → IsDone task b e
   done-back e k below h = record {
     spent = record {
       limits = h.counted;
       within = h.within;
-      most = steps-least task j l.circuit e.spent.steps is.circuit one h.steps;
+      most = steps-least task l.circuit l.properties e.spent.steps is.circuit is.properties h.steps;
     };
     tells = tells-by (pass-of k) e.spent e.phase (goes k below) h.over h.tells;
   }
 
-  pub all-done : AreDone task j b es
+  pub all-done : AreDone task b es
   all-done = record {
     board = board-back;
-    properties = one;
     count = back.ends;
     each = λ k d below.
         let inside : k < task.limits.workers = omega (arith, below, back.ends) in

@@ -1,42 +1,40 @@
 -- Workers that take turns over one board.
-use Rattle.std.proofs.Common.{◌≡◌, ◌≢◌, ℕ, ◌+◌, ◌-◌, ◌*◌, ◌<◌, ◌≤◌, max, min, Bool, true, false, ◌||◌, List, [], ◌∷◌, ◌++◌, ◌⊎◌, inl, inr, None, map, length, get_or, set, take, drop, refl, sym, ap, ◌∙◌, subst, arith}
-use Rattle.std.specs.Prelude.{Option, Contains, ◌==◌, IfSome}
-use Rattle.std.specs.List.{All}
+use Rattle.std.proofs.Common.{◌≡◌, ◌≢◌, ℕ, zero, suc, ◌+◌, ◌-◌, ◌*◌, ◌<◌, ◌≤◌, min, true, false, List, [], ◌∷◌, ◌++◌, ◌⊎◌, inl, inr, None, map, length, get_or, set, take, drop, refl, sym, ap, ◌∙◌, subst, arith}
+use Rattle.std.specs.Prelude.{Option, Contains, ◌==◌, is_some, IfSome}
+use Rattle.std.specs.List.{All, sum_by}
 use Rattle.std.proofs.Math.Seq.{map-set_same}
 use Rattle.std.proofs.lemmas.Bool.{false≢true, cases_lt, eq-eqb, ne_eqb}
 use Rattle.std.proofs.lemmas.List.{get_or-map, get_or_past, get_or_append_left, get_or-set_same, get_or-set_other, get_or-replicate, length-set, length-map, length-append, append-nil, append_assoc, map-append, map-set, take_all, take-append-le, drop_all, drop-append-le}
 use Rattle.std.proofs.Math.Seq.{get_or-append_seam}
+use Rattle.std.proofs.lemmas.List.Sums.{sum_by-cons}
 use Rattle.std.proofs.lemmas.List.Elements.{All-nil, All-push, All-set, All-map, All-head, All-tail, All-cons, All-append, All-weaker}
-use Rattle.std.proofs.lemmas.List.Sums.{sum_by-set}
-use Rattle.aig_semantics.specs.Circuits.{Circuit, fair_literals}
+use Rattle.aig_semantics.specs.Circuits.{Circuit}
 use Rattle.edge.specs.Units.{Spendings}
 use Rattle.entry.specs.declared.origins.Origin.{Origin}
 use Rattle.entry.specs.declared.origins.Origin.TheVariants.{Given, Worker as FoundBy}
-use Rattle.entry.specs.CheckedEntries.{CheckedEntry, GoesOnFrom}
-use Rattle.fair_semantics.specs.declared.skeletons.Skeleton.{Skeleton}
+use Rattle.entry.specs.CheckedEntries.{CheckedEntry}
 use Rattle.skeleton.specs.Finding.{Asking, IsAllowed}
-use Rattle.wall_store.specs.declared.outcomes.Served.{Served}
 use Rattle.wall_store.specs.Boards.{BoardState, IsBoard, FromWorker, is_by, found_by, turn_of, AscendBy, Ascend, plain, properties_of, outcome_of, most_entries, first_board}
 use Rattle.wall_store.specs.Events.{seen_by, list_of, IsSettled}
 use Rattle.wall_store.proofs.Ascending.{ascend_empty, ascend_later, ascend_push, found_own, found_others}
-use Rattle.fair_round.specs.Spending.{IsSpent, path_steps}
 use Rattle.fair_workers.specs.declared.limits.Limits.{Limits}
-use Rattle.fair_workers.specs.declared.limits.Report.{Report}
 use Rattle.fair_workers.specs.declared.working.Phase.{Phase}
 use Rattle.fair_workers.specs.declared.working.Phase.TheVariants as phases
 use Rattle.fair_workers.specs.declared.working.Worker.{Worker}
 use Rattle.fair_workers.specs.declared.board_workers.BoardWorker.{BoardWorker}
 use Rattle.fair_workers.specs.declared.lending.LentBoard.{LentBoard}
-use Rattle.fair_workers.specs.Runs.{Task, IsFoundWithin, IsBoardOf, IsWithLimits, IsInBudget, AreSpentOn, IsFull, IsAnswer, IsReport, most_situations, most_steps, most_turns}
-use Rattle.fair_workers.specs.Knowing.{Known}
-use Rattle.fair_workers.specs.Working.{rank, is_running, is_refused, left, left_at_first, searches_left, searches_ahead, search_steps, steps_through, AreRoundsOf, IsIn, IsStuck, IsWorker, Turns, KeepsLimits}
-use Rattle.fair_workers.specs.BoardWorkers.{known_at, known_of, left_by, left_of, searches_left_by, KeepsWithin, runs_at, turns_at, IsOfTurn, GoesOnBy, StaysLent, IsBoardWorker, TakesTurn, Follows, AreWorkers, ServeTask, HaveEnded, task_of}
-use Rattle.fair_workers.specs.Ends.{IsStuckOn, Tells, IsDone, AreDone}
+use Rattle.fair_workers.specs.Runs.{Task, AreServed, IsFoundWithin, IsBoardOf, IsWithLimits, IsInBudget, IsFull, last_turns, most_steps, most_turns}
+use Rattle.fair_workers.specs.Knowing.{Known, AreSettled}
+use Rattle.fair_workers.specs.Working.{is_ahead, is_running, left, left_in, left_to, left_at_first, searches_left, searches_left_in, searches_left_to, search_steps, steps_through, room_of, ahead_of, AreRoundsOf, IsStuck, IsIn, IsWorker, Turns, KeepsLimits}
+use Rattle.fair_workers.specs.BoardWorkers.{known_at, known_of, left_by, left_of, searches_left_by, turns_on, steps_on, KeepsWithin, runs_at, turns_at, IsOfTurn, GoesOnBy, StaysLent, IsFresh, IsBoardWorker, TakesTurn, Follows, AreWorkers, ServeTask, HaveEnded}
+use Rattle.fair_workers.specs.Ends.{Tells, IsDone, AreDone}
 use Rattle.fair_workers.specs.declared.ending.WorkerEnd.{WorkerEnd}
 use Rattle.fair_workers.proofs.Causes.{steps-least}
-use Rattle.fair_workers.proofs.Turned.{turn-within, is-running, rounds-same}
+use Rattle.fair_workers.proofs.Ahead.{Stay, ahead-on, ahead-within, count-most, left-on, searches-on}
+use Rattle.fair_workers.proofs.Turned.{turn-within, rounds-same, served-on, past-on, stuck-on, first-on}
 use Rattle.fair_workers.proofs.LentBoards.{is-not-none, some-is, seen-size, seen-within}
-use Rattle.fair_round.proofs.Counting.{steps-first, steps-kept, steps-over, steps-last}
+use Rattle.fair_round.proofs.Counting.{steps-kept, steps-over, steps-last}
+use Rattle.std.proofs.Math.Nat.{mul-le-mul_right}
 
 -- ---- the beginning
 
@@ -45,19 +43,19 @@ own-fresh : (b : BoardState) (w turns : ℕ) → length b.entries ≡ b.given �
 own-fresh b w turns fresh =
     ascend_empty w (drop b.given b.entries) turns (ap (found_by w) (drop_all b.given b.entries (omega (arith, fresh))))
 
-pub workers-none : (limits : Limits) (j : ℕ) (b : BoardState) → length b.entries ≡ b.given → AreWorkers limits j b []
-workers-none limits j b fresh = record {
+pub workers-none : (limits : Limits) (b : BoardState) → length b.entries ≡ b.given → AreWorkers limits b []
+workers-none limits b fresh = record {
   numbers = λ k below. absurd (omega arith);
-  each = All-nil (IsBoardWorker j b);
+  each = All-nil (IsBoardWorker b);
   within = All-nil (λ w. IsWithLimits limits w.worker.meter);
-  steps = All-nil (KeepsWithin limits j b.limit b.circuit);
+  steps = All-nil (KeepsWithin limits b);
   own = λ w. own-fresh b w (turns_at [] w) fresh;
 }
 
-pub workers-push : (limits : Limits) (j : ℕ) (b : BoardState) (workers : List BoardWorker) (w : BoardWorker) → AreWorkers limits j b workers
-    → w.number ≡ length workers → IsBoardWorker j b w → IsWithLimits limits w.worker.meter → KeepsWithin limits j b.limit b.circuit w
-    → length b.entries ≡ b.given → AreWorkers limits j b (workers ++ w ∷ [])
-workers-push limits j b workers w are number is within sparing fresh =
+pub workers-push : (limits : Limits) (b : BoardState) (workers : List BoardWorker) (w : BoardWorker) → AreWorkers limits b workers
+    → w.number ≡ length workers → IsBoardWorker b w → IsWithLimits limits w.worker.meter → KeepsWithin limits b w
+    → length b.entries ≡ b.given → AreWorkers limits b (workers ++ w ∷ [])
+workers-push limits b workers w are number is within sparing fresh =
     let numbers : List ℕ = map (λ (v : BoardWorker). v.number) workers in
     let size : length numbers ≡ length workers = length-map workers (λ (v : BoardWorker). v.number) in
     let split : map (λ (v : BoardWorker). v.number) (workers ++ w ∷ []) ≡ numbers ++ w.number ∷ [] = map-append (λ (v : BoardWorker). v.number) workers (w ∷ []) in
@@ -70,43 +68,66 @@ workers-push limits j b workers w are number is within sparing fresh =
                 let at : k ≡ length numbers = omega (arith, size, below, length-append workers (w ∷ [])) in
                 ap (λ m. get_or (numbers ++ w.number ∷ []) m 0) at ∙ get_or-append_seam numbers w.number [] 0 ∙ number ∙ sym size ∙ sym at
           ];
-      each = All-push (IsBoardWorker j b) workers w are.each is;
+      each = All-push (IsBoardWorker b) workers w are.each is;
       within = All-push (λ v. IsWithLimits limits v.worker.meter) workers w are.within within;
-      steps = All-push (KeepsWithin limits j b.limit b.circuit) workers w are.steps sparing;
+      steps = All-push (KeepsWithin limits b) workers w are.steps sparing;
       own = λ v. own-fresh b v (turns_at (workers ++ w ∷ []) v) fresh;
     }
 
+-- at first a worker has begun nothing
+first-steps : (s n k r : ℕ) → s ≡ 0 → n * r ≤ k * r → s + n * r ≤ k * r
+first-steps s n k r none few = omega (arith, none, few)
+
+first-searches : (limit seen more ahead properties : ℕ) → limit ≤ seen + more → ahead ≤ properties → (limit - seen) + ahead ≤ more + properties
+first-searches limit seen more ahead properties grows few = omega (arith, grows, few)
+
+pub few-searches : (k : Known) (w : Worker) (more : ℕ) → k.limit ≤ length k.list + more → w.phase ≡ phases.Asks
+    → searches_left_to k w ≤ more + length k.properties
+few-searches k w more grows phase =
+    subst (λ p. searches_left_in k w.property p ≤ more + length k.properties) (sym phase)
+    (first-searches k.limit (length k.list) more (ahead_of k w.property phases.Asks) (length k.properties) grows
+    (count-most (is_ahead k.settled w.property phases.Asks) k.properties))
+
+pub first-within : (k : Known) (w : Worker) (more : ℕ) → k.limit ≤ length k.list + more → w.phase ≡ phases.Asks → w.meter.steps ≡ 0
+    → steps_through w (searches_left_to k w) (search_steps k.circuit k.properties) ≤ (more + length k.properties) * search_steps k.circuit k.properties
+first-within k w more grows phase none =
+    first-steps w.meter.steps (searches_left_to k w) (more + length k.properties) (search_steps k.circuit k.properties) none
+    (mul-le-mul_right (search_steps k.circuit k.properties) (few-searches k w more grows phase))
+
+first-turns : (turns limit seen given ahead properties last : ℕ) → turns ≡ 0 → given ≤ seen → ahead ≤ properties
+    → turns + (((limit - seen) + ahead) * 3 + last + 3) ≤ ((limit - given) + properties) * 3 + last + 3
+first-turns turns limit seen given ahead properties last none whole few = omega (arith, none, whole, few)
+
+pub first-worker : (k : Known) (w : Worker) → AreServed k.circuit k.properties → w.rounds ≡ None → w.phase ≡ phases.Asks → k.limit ≤ most_entries
+    → k.turns ≡ 0 → k.given ≤ length k.list → IsWorker k w
+first-worker k w served none phase short turns whole = record {
+  served = served;
+  rounds = subst (λ (r : Option Asking). IfSome r (AreRoundsOf k.circuit w.property (plain k.list))) (sym none) tt;
+  phase = subst (λ p. IsIn w.property k w.meter p) (sym phase) tt;
+  short = short;
+  turns = subst (λ p. k.turns + left_in k w.property p ≤ left_at_first k) (sym phase)
+      (first-turns k.turns k.limit (length k.list) k.given (ahead_of k w.property phases.Asks) (length k.properties) (last_turns k.properties) turns whole
+      (count-most (is_ahead k.settled w.property phases.Asks) k.properties));
+}
+
+seen-all : (b : BoardState) (n : ℕ) → IsBoard b → n < b.workers → seen_by b n ≡ length b.entries → length (list_of b n) ≡ length b.entries
+seen-all b n is below whole = seen-size b n is below ∙ whole
+
+pub worker-first : (b : BoardState) (m : BoardWorker) → IsBoard b → m.number < b.workers → AreServed b.circuit (properties_of b.served)
+    → m.worker.rounds ≡ None → m.worker.phase ≡ phases.Asks → m.turns ≡ 0 → m.seen ≡ seen_by b m.number → seen_by b m.number ≡ length b.entries
+    → IsBoardWorker b m
+worker-first b m is below served none phase turns seen whole = record {
+  number = below;
+  seen = seen;
+  worker = first-worker (known_at b m.number m.turns) m.worker served none phase is.limit turns
+      (let given = is.given in omega (arith, given, seen-all b m.number is below whole));
+}
+
 -- at the beginning the whole list has been seen, and the list may grow by so many entries
-pub sparing-first : (limits : Limits) (j : ℕ) (b : BoardState) (w : BoardWorker) → b.limit ≤ length b.entries + limits.skeletons
-    → w.seen ≡ length b.entries → w.worker.phase ≡ phases.Asks → w.worker.meter.steps ≡ 0 → KeepsWithin limits j b.limit b.circuit w
-sparing-first limits j b w few seen phase none =
-    let ahead : searches_ahead w.worker.phase ≡ 1 = ap searches_ahead phase in
-    steps-first w.worker.meter.steps (searches_left_by b.limit w) limits.skeletons (search_steps b.circuit j) none (omega (arith, few, seen, ahead))
-
--- at the beginning nothing of what is left has been done
-first-turns : (limit given seen : ℕ) → given ≤ seen → 0 + left limit seen phases.Asks ≤ left_at_first limit given
-first-turns limit given seen whole = omega (arith, whole)
-
-pub worker-first : (j : ℕ) (b : BoardState) (m : BoardWorker) → IsBoard b → m.number < b.workers → j < length b.circuit.justice → m.worker.rounds ≡ None
-    → m.worker.phase ≡ phases.Asks → m.turns ≡ 0 → m.seen ≡ seen_by b m.number → seen_by b m.number ≡ length b.entries
-    → properties_of b.served ≡ j ∷ [] → IsBoardWorker j b m
-worker-first j b m is below inside none phase turns seen whole served =
-    let k : Known = known_at b m.number m.turns in
-    let size : b.given ≤ length (list_of b m.number) = omega (arith, is.given, whole, seen-size b m.number is below) in
-    record {
-      number = below;
-      seen = seen;
-      worker = record {
-        served = served;
-        inside = inside;
-        rounds = subst (λ (r : Option Asking). IfSome r (AreRoundsOf b.circuit j (plain (list_of b m.number)))) (sym none) tt;
-        phase = subst (IsIn j k m.worker.meter) (sym phase) tt;
-        short = is.limit;
-        turns = subst (λ p. m.turns + left b.limit (length (list_of b m.number)) p ≤ left_at_first b.limit b.given) (sym phase)
-            (subst (λ (n : ℕ). n + left b.limit (length (list_of b m.number)) phases.Asks ≤ left_at_first b.limit b.given) (sym turns)
-            (first-turns b.limit b.given (length (list_of b m.number)) size));
-      };
-    }
+pub sparing-first : (limits : Limits) (b : BoardState) (m : BoardWorker) → IsBoard b → m.number < b.workers → b.limit ≤ length b.entries + limits.skeletons
+    → seen_by b m.number ≡ length b.entries → m.worker.phase ≡ phases.Asks → m.worker.meter.steps ≡ 0 → KeepsWithin limits b m
+sparing-first limits b m is below grows whole phase none =
+    first-within (known_at b m.number m.turns) m.worker limits.skeletons (omega (arith, grows, seen-all b m.number is below whole)) phase none
 
 -- ---- whose turn it is
 
@@ -135,59 +156,108 @@ same-or-not i k =
 pub within-on : (limits : Limits) (old new : Spendings) → KeepsLimits old new → IsWithLimits limits old → IsWithLimits limits new
 within-on limits old new kept h = record { conflicts = kept.conflicts ∙ h.conflicts; steps = kept.steps ∙ h.steps }
 
-number-at : (limits : Limits) (j : ℕ) (b : BoardState) (workers : List BoardWorker) (k : ℕ) (d : BoardWorker) → AreWorkers limits j b workers → k < length workers
+number-at : (limits : Limits) (b : BoardState) (workers : List BoardWorker) (k : ℕ) (d : BoardWorker) → AreWorkers limits b workers → k < length workers
     → (get_or workers k d).number ≡ k
-number-at limits j b workers k d are below = sym (get_or-map (λ (v : BoardWorker). v.number) workers k d 0 below) ∙ are.numbers k below
+number-at limits b workers k d are below = sym (get_or-map (λ (v : BoardWorker). v.number) workers k d 0 below) ∙ are.numbers k below
 
 -- what another one's turn leaves of a worker
-phase-stays : (j : ℕ) (k l : Known) (meter : Spendings) (p : Phase) → l.circuit ≡ k.circuit → l.limit ≡ k.limit → l.list ≡ k.list
-    → (k.settled j ≡ true → l.settled j ≡ true) → IsIn j k meter p → IsIn j l meter p
-phase-stays j k l meter phases.Asks circuit limit list settled h = tt
-phase-stays j k l meter phases.Looks circuit limit list settled h = tt
-phase-stays j k l meter phases.Searches circuit limit list settled h = tt
-phase-stays j k l meter phases.AsksLast circuit limit list settled h = ap length list ∙ h ∙ sym limit
-phase-stays j k l meter phases.LooksLast circuit limit list settled h = ap length list ∙ h ∙ sym limit
-phase-stays j k l meter phases.SearchesLast circuit limit list settled h = ap length list ∙ h ∙ sym limit
-phase-stays j k l meter phases.Closed circuit limit list settled h = settled h
-phase-stays j k l meter phases.Full circuit limit list settled h = (
-  ap length list ∙ h.0 ∙ sym limit,
-  (
-    h.1.0,
-    subst (λ (xs : List CheckedEntry). IsAllowed l.circuit j (plain xs) h.1.0) (sym list)
-        (subst (λ c. IsAllowed c j (plain k.list) h.1.0) (sym circuit) h.1.1),
-  ),
-)
-phase-stays j k l meter phases.Spent circuit limit list settled h = h
-phase-stays j k l meter phases.Refused circuit limit list settled h = tt
+phase-stays : (j : ℕ) (k l : Known) (meter : Spendings) (p : Phase) → l.circuit ≡ k.circuit → l.properties ≡ k.properties → l.limit ≡ k.limit → l.list ≡ k.list
+    → Stay k.settled l.settled → IsIn j k meter p → IsIn j l meter p
+phase-stays j k l meter phases.Asks circuit properties limit list stay h = tt
+phase-stays j k l meter phases.Looks circuit properties limit list stay h = subst (λ (js : List ℕ). Contains js j) (sym properties) h
+phase-stays j k l meter phases.Searches circuit properties limit list stay h = subst (λ (js : List ℕ). Contains js j) (sym properties) h
+phase-stays j k l meter (phases.AsksLast from) circuit properties limit list stay h = past-on from k l circuit properties limit list stay h
+phase-stays j k l meter phases.LooksLast circuit properties limit list stay h = record {
+  served = subst (λ (js : List ℕ). Contains js j) (sym properties) h.served;
+  past = past-on j k l circuit properties limit list stay h.past;
+}
+phase-stays j k l meter phases.SearchesLast circuit properties limit list stay h = record {
+  served = subst (λ (js : List ℕ). Contains js j) (sym properties) h.served;
+  past = past-on j k l circuit properties limit list stay h.past;
+}
+phase-stays j k l meter phases.Closed circuit properties limit list stay h = λ i inside. stay i (h i (subst (λ (js : List ℕ). Contains js i) properties inside))
+phase-stays j k l meter phases.Full circuit properties limit list stay h = stuck-on k l circuit properties limit list stay h
+phase-stays j k l meter phases.Spent circuit properties limit list stay h = h
+phase-stays j k l meter phases.Refused circuit properties limit list stay h = tt
 
-turns-stay : (k l s t m n g h r : ℕ) → l ≡ k → t ≡ s → n ≡ m → h ≡ g → k + ((m - s) * 3 + r) ≤ (m - g) * 3 + 6 → l + ((n - t) * 3 + r) ≤ (n - h) * 3 + 6
-turns-stay k l s t m n g h r turns seen limit given within = omega (arith, turns, seen, limit, given, within)
+room-same : (k l : Known) → l.limit ≡ k.limit → l.list ≡ k.list → room_of l ≤ room_of k
+room-same k l limit list = omega (arith, limit, ap length list)
 
-worker-stays : (j : ℕ) (k l : Known) (w : Worker) → l.circuit ≡ k.circuit → l.properties ≡ k.properties → l.turns ≡ k.turns → l.given ≡ k.given
-    → l.limit ≡ k.limit → l.list ≡ k.list → (k.settled j ≡ true → l.settled j ≡ true) → IsWorker j k w → IsWorker j l w
-worker-stays j k l w circuit properties turns given limit list settled is = record {
-  served = properties ∙ is.served;
-  inside = subst (λ (c : Circuit). j < length c.justice) (sym circuit) is.inside;
-  rounds = rounds-same w.rounds j k l circuit list is.rounds;
-  phase = phase-stays j k l w.meter w.phase circuit limit list settled is.phase;
+left-stays : (k l : Known) (w : Worker) → l.properties ≡ k.properties → l.limit ≡ k.limit → l.list ≡ k.list → Stay k.settled l.settled → left_to l w ≤ left_to k w
+left-stays k l w properties limit list stay =
+    left-on (room_of k) (room_of l) (ahead_of k w.property w.phase) (ahead_of l w.property w.phase) (last_turns k.properties) (last_turns l.properties) w.phase
+    (room-same k l limit list)
+    (ahead-within k l w.property w.property w.phase w.phase properties (ahead-on k.settled l.settled w.property w.phase stay))
+    (ap last_turns properties)
+
+searches-stay : (k l : Known) (w : Worker) → l.properties ≡ k.properties → l.limit ≡ k.limit → l.list ≡ k.list → Stay k.settled l.settled
+    → searches_left_to l w ≤ searches_left_to k w
+searches-stay k l w properties limit list stay =
+    searches-on (room_of k) (room_of l) (ahead_of k w.property w.phase) (ahead_of l w.property w.phase) w.phase (room-same k l limit list)
+    (ahead-within k l w.property w.property w.phase w.phase properties (ahead-on k.settled l.settled w.property w.phase stay))
+
+turns-stay : (t u a b m n : ℕ) → u ≡ t → b ≤ a → t + a ≤ m → m ≤ n → u + b ≤ n
+turns-stay t u a b m n turns less within most = omega (arith, turns, less, within, most)
+
+worker-stays : (k l : Known) (w : Worker) → l.circuit ≡ k.circuit → l.properties ≡ k.properties → l.turns ≡ k.turns → l.given ≡ k.given
+    → l.limit ≡ k.limit → l.list ≡ k.list → Stay k.settled l.settled → IsWorker k w → IsWorker l w
+worker-stays k l w circuit properties turns given limit list stay is = record {
+  served = served-on k l circuit properties is.served;
+  rounds = rounds-same w.rounds w.property k l circuit list is.rounds;
+  phase = phase-stays w.property k l w.meter w.phase circuit properties limit list stay is.phase;
   short = subst (λ (n : ℕ). n ≤ most_entries) (sym limit) is.short;
-  turns = turns-stay k.turns l.turns (length k.list) (length l.list) k.limit l.limit k.given l.given (rank w.phase) turns (ap length list) limit given is.turns;
+  turns = turns-stay k.turns l.turns (left_to k w) (left_to l w) (left_at_first k) (left_at_first l) turns (left-stays k l w properties limit list stay) is.turns
+      (first-on k l limit given properties);
 }
 
-other-stays : (j n turn : ℕ) (b c : BoardState) (m : BoardWorker) → IsBoard b → m.number ≢ n → GoesOnBy n turn b c → IsBoardWorker j b m → IsBoardWorker j c m
-other-stays j n turn b c m board other on is =
-    let same_seen : seen_by c m.number ≡ seen_by b m.number = on.others m.number other in
-    let within : seen_by b m.number ≤ length b.entries = seen-within b m.number board is.number in
-    let same_list : list_of c m.number ≡ list_of b m.number =
-    ap (λ (i : ℕ). take i c.entries) same_seen ∙ ap (take (seen_by b m.number)) on.entries.1
-    ∙ take-append-le (seen_by b m.number) b.entries on.entries.0 within
-    in
-    record {
-      number = omega (arith, is.number, on.workers);
-      seen = is.seen ∙ sym same_seen;
-      worker = worker-stays j (known_at b m.number m.turns) (known_at c m.number m.turns) m.worker on.circuit on.properties refl on.given on.limit same_list
-          (λ has. some-is (outcome_of c.served j) (on.outcomes j (is-not-none (outcome_of b.served j) has))) is.worker;
-    }
+settled-stay : (b c : BoardState) (n turn : ℕ) → GoesOnBy n turn b c → Stay (λ j. is_some (outcome_of b.served j)) (λ j. is_some (outcome_of c.served j))
+settled-stay b c n turn on = λ j has. some-is (outcome_of c.served j) (on.outcomes j (is-not-none (outcome_of b.served j) has))
+
+list-stays : (n turn : ℕ) (b c : BoardState) (m : ℕ) → IsBoard b → m ≢ n → m < b.workers → GoesOnBy n turn b c → list_of c m ≡ list_of b m
+list-stays n turn b c m board other below on =
+    ap (λ (i : ℕ). take i c.entries) (on.others m other) ∙ ap (take (seen_by b m)) on.entries.1
+    ∙ take-append-le (seen_by b m) b.entries on.entries.0 (seen-within b m board below)
+
+other-stays : (n turn : ℕ) (b c : BoardState) (m : BoardWorker) → IsBoard b → m.number ≢ n → GoesOnBy n turn b c → IsBoardWorker b m → IsBoardWorker c m
+other-stays n turn b c m board other on is = record {
+  number = omega (arith, is.number, on.workers);
+  seen = is.seen ∙ sym (on.others m.number other);
+  worker = worker-stays (known_at b m.number m.turns) (known_at c m.number m.turns) m.worker on.circuit on.properties refl on.given on.limit
+      (list-stays n turn b c m.number board other is.number on) (settled-stay b c n turn on) is.worker;
+}
+
+-- no more is left to it
+other-left : (n turn : ℕ) (b c : BoardState) (m : BoardWorker) → IsBoard b → m.number ≢ n → GoesOnBy n turn b c → IsBoardWorker b m → left_by c m ≤ left_by b m
+other-left n turn b c m board other on is =
+    left-stays (known_at b m.number m.turns) (known_at c m.number m.turns) m.worker on.properties on.limit
+    (list-stays n turn b c m.number board other is.number on) (settled-stay b c n turn on)
+
+other-searches : (n turn : ℕ) (b c : BoardState) (m : BoardWorker) → IsBoard b → m.number ≢ n → GoesOnBy n turn b c → IsBoardWorker b m
+    → searches_left_by c m ≤ searches_left_by b m
+other-searches n turn b c m board other on is =
+    searches-stay (known_at b m.number m.turns) (known_at c m.number m.turns) m.worker on.properties on.limit
+    (list-stays n turn b c m.number board other is.number on) (settled-stay b c n turn on)
+
+steps-same : (b c : BoardState) (n turn : ℕ) → GoesOnBy n turn b c → steps_on c ≡ steps_on b
+steps-same b c n turn on =
+    ap (λ (d : Circuit). search_steps d (properties_of c.served)) on.circuit ∙ ap (λ (js : List ℕ). search_steps b.circuit js) on.properties
+
+-- the bound on steps, in the words of the board before
+keeps-by : (limits : Limits) (b c : BoardState) (m : BoardWorker) → steps_on c ≡ steps_on b → properties_of c.served ≡ properties_of b.served
+    → steps_through m.worker (searches_left_by c m) (steps_on b) ≤ (limits.skeletons + length (properties_of b.served)) * steps_on b → KeepsWithin limits c m
+keeps-by limits b c m steps properties h =
+    subst (λ (r : ℕ). steps_through m.worker (searches_left_by c m) r ≤ (limits.skeletons + length (properties_of c.served)) * r) (sym steps)
+    (subst (λ (js : List ℕ). steps_through m.worker (searches_left_by c m) (steps_on b) ≤ (limits.skeletons + length js) * steps_on b) (sym properties) h)
+
+fewer-through : (s n m r most : ℕ) → n * r ≤ m * r → s + m * r ≤ most → s + n * r ≤ most
+fewer-through s n m r most fewer h = omega (arith, fewer, h)
+
+other-within : (limits : Limits) (n turn : ℕ) (b c : BoardState) (m : BoardWorker) → IsBoard b → m.number ≢ n → GoesOnBy n turn b c → IsBoardWorker b m
+    → KeepsWithin limits b m → KeepsWithin limits c m
+other-within limits n turn b c m board other on is h =
+    keeps-by limits b c m (steps-same b c n turn on) on.properties
+    (fewer-through m.worker.meter.steps (searches_left_by c m) (searches_left_by b m) (steps_on b) ((limits.skeletons + length (properties_of b.served)) * steps_on b)
+    (mul-le-mul_right (steps_on b) (other-searches n turn b c m board other on is)) h)
 
 -- ---- the entries of each worker
 
@@ -239,10 +309,10 @@ found-on : (n turn : ℕ) (b c : BoardState) → b.given ≤ length b.entries �
 found-on n turn b c within on =
     ap (λ (m : ℕ). drop m c.entries) on.given ∙ ap (drop b.given) on.entries.1 ∙ drop-append-le b.given b.entries on.entries.0 within
 
-own-turned : (j : ℕ) (b c : BoardState) (workers : List BoardWorker) (k : ℕ) (w v : BoardWorker) → IsBoard b → k < length workers → w ≡ get_or workers k w → w.number ≡ k
-    → TakesTurn j b w c v → ((i : ℕ) → Ascend i (drop b.given b.entries) (turns_at workers i))
+own-turned : (b c : BoardState) (workers : List BoardWorker) (k : ℕ) (w v : BoardWorker) → IsBoard b → k < length workers → w ≡ get_or workers k w → w.number ≡ k
+    → TakesTurn b w c v → ((i : ℕ) → Ascend i (drop b.given b.entries) (turns_at workers i))
     → (i : ℕ) → Ascend i (drop c.given c.entries) (turns_at (set workers k v) i)
-own-turned j b c workers k w v board below at number turn own i =
+own-turned b c workers k w v board below at number turn own i =
     let on : GoesOnBy w.number w.turns b c = turn.board in
     let found : List CheckedEntry = drop b.given b.entries in
     let more : List CheckedEntry = on.entries.0 in
@@ -261,80 +331,102 @@ own-turned j b c workers k w v board below at number turn own i =
           (subst (Ascend i (found ++ more)) (sym (turns-else workers k i v other)) (own-other i k w.turns (turns_at workers i) found more other each (own i)))
     ]
 
-pub workers-turn : (limits : Limits) (j : ℕ) (b c : BoardState) (workers : List BoardWorker) (k : ℕ) (w v : BoardWorker) → IsBoard b → IsBoard c
-    → AreWorkers limits j b workers → k < length workers → w ≡ get_or workers k w → TakesTurn j b w c v → AreWorkers limits j c (set workers k v)
-workers-turn limits j b c workers k w v board after are below at turn =
-    let mine : w.number ≡ k = ap (λ (u : BoardWorker). u.number) at ∙ number-at limits j b workers k w are below in
+-- each worker but the one whose turn it was
+each-other : (P : BoardWorker → Type 0) (limits : Limits) (b : BoardState) (workers : List BoardWorker) (k : ℕ) (w v : BoardWorker)
+    → AreWorkers limits b workers → k < length workers → w.number ≡ k → P v
+    → ((i : ℕ) (d : BoardWorker) → i < length workers → (get_or workers i d).number ≢ w.number → P (get_or workers i d)) → All P (set workers k v)
+each-other P limits b workers k w v are below mine here others = λ i d inside.
+    elim (same-or-not i k) [
+      | inl same ↦ subst P (sym (ap (λ m. get_or (set workers k v) m d) same ∙ get_or-set_same workers k v d below)) here
+      | inr other ↦
+          let there : i < length workers = omega (arith, inside, length-set workers k v) in
+          subst P (sym (get_or-set_other workers k i v d other))
+          (others i d there (λ e. other (sym (number-at limits b workers i d are there) ∙ e ∙ mine)))
+    ]
+
+pub workers-turn : (limits : Limits) (b c : BoardState) (workers : List BoardWorker) (k : ℕ) (w v : BoardWorker) → IsBoard b → IsBoard c
+    → AreWorkers limits b workers → k < length workers → w ≡ get_or workers k w → TakesTurn b w c v → AreWorkers limits c (set workers k v)
+workers-turn limits b c workers k w v board after are below at turn =
+    let mine : w.number ≡ k = ap (λ (u : BoardWorker). u.number) at ∙ number-at limits b workers k w are below in
     let numbers_same : map (λ (u : BoardWorker). u.number) (set workers k v) ≡ map (λ (u : BoardWorker). u.number) workers =
     map-set_same (λ (u : BoardWorker). u.number) workers k v w (turn.number ∙ ap (λ (u : BoardWorker). u.number) at)
     in
     record {
       numbers = λ i inside. ap (λ xs. get_or xs i 0) numbers_same ∙ are.numbers i (omega (arith, inside, length-set workers k v));
-      each = λ i d inside.
-          elim (same-or-not i k) [
-            | inl same ↦
-                subst (IsBoardWorker j c) (sym (ap (λ m. get_or (set workers k v) m d) same ∙ get_or-set_same workers k v d below)) turn.worker
-            | inr other ↦
-                let there : i < length workers = omega (arith, inside, length-set workers k v) in
-                subst (IsBoardWorker j c) (sym (get_or-set_other workers k i v d other))
-                (other-stays j w.number w.turns b c (get_or workers i d) board
-                (λ e. other (sym (number-at limits j b workers i d are there) ∙ e ∙ mine)) turn.board (are.each i d there))
-          ];
+      each = each-other (IsBoardWorker c) limits b workers k w v are below mine turn.worker
+          (λ i d there other. other-stays w.number w.turns b c (get_or workers i d) board other turn.board (are.each i d there));
       within = All-set (λ u. IsWithLimits limits u.worker.meter) workers k v
           (within-on limits w.worker.meter v.worker.meter turn.limits
           (subst (λ (u : BoardWorker). IsWithLimits limits u.worker.meter) (sym at) (are.within k w below))) are.within;
       steps =
-          let cost : ℕ = search_steps b.circuit j in
-          let before : KeepsWithin limits j b.limit b.circuit w = subst (KeepsWithin limits j b.limit b.circuit) (sym at) (are.steps k w below) in
-          let mine : KeepsWithin limits j b.limit b.circuit v =
-          steps-kept v.worker.meter.steps w.worker.meter.steps (searches_left_by b.limit v) (searches_left_by b.limit w) cost ((limits.skeletons + 1) * cost) turn.steps before
+          let most : ℕ = (limits.skeletons + length (properties_of b.served)) * steps_on b in
+          let before : KeepsWithin limits b w = subst (KeepsWithin limits b) (sym at) (are.steps k w below) in
+          let here : KeepsWithin limits c v =
+          keeps-by limits b c v (steps-same b c w.number w.turns turn.board) turn.board.properties
+          (steps-kept v.worker.meter.steps w.worker.meter.steps (searches_left_by c v) (searches_left_by b w) (steps_on b) most turn.steps before)
           in
-          let all : All (KeepsWithin limits j b.limit b.circuit) (set workers k v) = All-set (KeepsWithin limits j b.limit b.circuit) workers k v mine are.steps in
-          subst (λ (n : ℕ). All (KeepsWithin limits j n c.circuit) (set workers k v)) (sym turn.board.limit)
-          (subst (λ (d : Circuit). All (KeepsWithin limits j b.limit d) (set workers k v)) (sym turn.board.circuit) all);
-      own = own-turned j b c workers k w v board below at mine turn are.own;
+          each-other (KeepsWithin limits c) limits b workers k w v are below mine here
+          (λ i d there other. other-within limits w.number w.turns b c (get_or workers i d) board other turn.board (are.each i d there) (are.steps i d there));
+      own = own-turned b c workers k w v board below at mine turn are.own;
     }
 
 -- a turn of a worker to which the board is lent
-pub board-turn : (j : ℕ) (b : BoardState) (m : BoardWorker) (t : LentBoard) (v : Worker) → IsBoard b → IsBoardWorker j b m
+pub board-turn : (b : BoardState) (m : BoardWorker) (t : LentBoard) (v : Worker) → IsBoard b → IsBoardWorker b m
     → StaysLent (record { board = b; number = m.number; seen = m.seen; turns = m.turns }) t
-    → Turns j 0 (known_at b m.number m.turns) m.worker (known_of t) v
-    → TakesTurn j b m t.board (record { number = m.number; seen = t.seen; turns = t.turns; worker = v })
-board-turn j b m t v board is stays turn =
-    let here : length (list_of b m.number) ≡ m.seen = seen-size b m.number board is.number ∙ sym is.seen in
-    let there : length (list_of t.board t.number) ≡ t.seen = seen-size t.board t.number stays.lent.board stays.lent.number ∙ sym stays.lent.seen in
-    let cost : ℕ = search_steps b.circuit j in
-    record {
-      worker = record {
-        number = subst (λ (n : ℕ). n < t.board.workers) stays.number stays.lent.number;
-        seen = subst (λ (n : ℕ). t.seen ≡ seen_by t.board n) stays.number stays.lent.seen;
-        worker = subst (λ (n : ℕ). IsWorker j (known_at t.board n t.turns) v) stays.number turn.worker;
-      };
-      board = stays.board;
-      number = refl;
-      one = stays.one;
-      paid = stays.paid;
-      limits = turn.limits;
-      less =
-          subst (λ (n : ℕ). left b.limit t.seen v.phase < left b.limit n m.worker.phase) here
-          (subst (λ (n : ℕ). left b.limit n v.phase < left b.limit (length (list_of b m.number)) m.worker.phase) there
-          (subst (λ (n : ℕ). left n (length (list_of t.board t.number)) v.phase < left b.limit (length (list_of b m.number)) m.worker.phase) stays.board.limit turn.less));
-      steps =
-          subst (λ (n : ℕ). steps_through v (searches_left b.limit t.seen v.phase) cost ≤ steps_through m.worker (searches_left b.limit n m.worker.phase) cost) here
-          (subst (λ (n : ℕ). steps_through v (searches_left b.limit n v.phase) cost
-          ≤ steps_through m.worker (searches_left b.limit (length (list_of b m.number)) m.worker.phase) cost) there
-          (subst (λ (n : ℕ). steps_through v (searches_left n (length (list_of t.board t.number)) v.phase) cost
-          ≤ steps_through m.worker (searches_left b.limit (length (list_of b m.number)) m.worker.phase) cost) stays.board.limit
-          (steps-over v.meter.steps (searches_left t.board.limit (length (list_of t.board t.number)) v.phase) cost
-          (steps_through m.worker (searches_left b.limit (length (list_of b m.number)) m.worker.phase) cost) turn.steps)));
-    }
+    → Turns 0 (known_at b m.number m.turns) m.worker (known_of t) v
+    → TakesTurn b m t.board (record { number = m.number; seen = t.seen; turns = t.turns; worker = v })
+board-turn b m t v board is stays turn = record {
+  worker = record {
+    number = subst (λ (n : ℕ). n < t.board.workers) stays.number stays.lent.number;
+    seen = subst (λ (n : ℕ). t.seen ≡ seen_by t.board n) stays.number stays.lent.seen;
+    worker = subst (λ (n : ℕ). IsWorker (known_at t.board n t.turns) v) stays.number turn.worker;
+  };
+  board = stays.board;
+  number = refl;
+  one = stays.one;
+  paid = stays.paid;
+  limits = turn.limits;
+  less = subst (λ (n : ℕ). left_to (known_at t.board n t.turns) v < left_by b m) stays.number turn.less;
+  steps = subst (λ (n : ℕ). steps_through v (searches_left_to (known_at t.board n t.turns) v) (steps_on b) ≤ steps_through m.worker (searches_left_by b m) (steps_on b))
+      stays.number
+      (steps-over v.meter.steps (searches_left_to (known_of t) v) (steps_on b) (steps_through m.worker (searches_left_by b m) (steps_on b)) turn.steps);
+}
 
-pub less-turn : (limit : ℕ) (workers : List BoardWorker) (k : ℕ) (w v : BoardWorker) → k < length workers → w ≡ get_or workers k w → left_by limit v < left_by limit w
-    → left_of limit (set workers k v) < left_of limit workers
-less-turn limit workers k w v below at less =
-    let sums = sum_by-set (left_by limit) workers k v w below in
-    let here : left_by limit (get_or workers k w) ≡ left_by limit w = ap (left_by limit) (sym at) in
-    omega (arith, sums, here, less)
+-- of one worker less is left, of the others no more
+sums-on : (f g : BoardWorker → ℕ) (workers : List BoardWorker) → All (λ m. g m ≤ f m) workers → sum_by g workers ≤ sum_by f workers
+sums-on f g [] each = omega arith
+sums-on f g (m ∷ workers) each =
+    let here : g m ≤ f m = All-head (λ (u : BoardWorker). g u ≤ f u) m workers each in
+    let rest : sum_by g workers ≤ sum_by f workers = sums-on f g workers (All-tail (λ (u : BoardWorker). g u ≤ f u) m workers each) in
+    omega (arith, here, rest, sum_by-cons g m workers, sum_by-cons f m workers)
+
+later-less : (f g : BoardWorker → ℕ) (x y : BoardWorker) (workers later : List BoardWorker) → g y ≤ f x → sum_by g later < sum_by f workers
+    → sum_by g (y ∷ later) < sum_by f (x ∷ workers)
+later-less f g x y workers later here rest = omega (arith, here, rest, sum_by-cons g y later, sum_by-cons f x workers)
+
+first-less : (f g : BoardWorker → ℕ) (x y : BoardWorker) (workers : List BoardWorker) → g y < f x → sum_by g workers ≤ sum_by f workers
+    → sum_by g (y ∷ workers) < sum_by f (x ∷ workers)
+first-less f g x y workers here rest = omega (arith, here, rest, sum_by-cons g y workers, sum_by-cons f x workers)
+
+sums-less : (f g : BoardWorker → ℕ) (workers : List BoardWorker) (k : ℕ) (w v : BoardWorker) → k < length workers → w ≡ get_or workers k w → g v < f w
+    → ((i : ℕ) (d : BoardWorker) → i < length workers → i ≢ k → g (get_or workers i d) ≤ f (get_or workers i d))
+    → sum_by g (set workers k v) < sum_by f workers
+sums-less f g [] k w v below at less others = absurd (omega arith)
+sums-less f g (x ∷ workers) zero w v below at less others =
+    let rest : sum_by g workers ≤ sum_by f workers = sums-on f g workers (λ i d inside. others (suc i) d (omega arith) (λ e. omega arith)) in
+    let here : g v < f x = subst (λ (u : BoardWorker). g v < f u) at less in
+    first-less f g x v workers here rest
+sums-less f g (x ∷ workers) (suc k) w v below at less others =
+    later-less f g x x workers (set workers k v) (others 0 x (omega arith) (λ e. omega arith))
+    (sums-less f g workers k w v (omega arith) at less (λ i d inside other. others (suc i) d (omega arith) (λ e. other (omega (arith, e)))))
+
+pub less-turn : (limits : Limits) (b c : BoardState) (workers : List BoardWorker) (k : ℕ) (w v : BoardWorker) → IsBoard b → AreWorkers limits b workers
+    → k < length workers → w ≡ get_or workers k w → TakesTurn b w c v → left_of c (set workers k v) < left_of b workers
+less-turn limits b c workers k w v board are below at turn =
+    let mine : w.number ≡ k = ap (λ (u : BoardWorker). u.number) at ∙ number-at limits b workers k w are below in
+    sums-less (left_by b) (left_by c) workers k w v below at turn.less
+    (λ i d there other. other-left w.number w.turns b c (get_or workers i d) board
+    (λ e. other (sym (number-at limits b workers i d are there) ∙ e ∙ mine)) turn.board (are.each i d there))
 
 within-of : (n turn most : ℕ) (origin : Origin) → turn < most → FromWorker origin (λ work. (work.author ≡ n) × (work.turn ≡ turn))
     → FromWorker origin (λ work. work.turn < most)
@@ -345,13 +437,11 @@ within-more : (most more : ℕ) (origin : Origin) → most ≤ more → FromWork
 within-more most more Given less found = found
 within-more most more (FoundBy work) less found = omega (arith, less, found)
 
-pub follows-turn : (j : ℕ) (b c : BoardState) (m n : BoardWorker) → IsBoard c → IsBoardWorker j b m → is_running m.worker.phase ≡ true → TakesTurn j b m c n
+pub follows-turn : (b c : BoardState) (m n : BoardWorker) → IsBoard c → IsBoardWorker b m → is_running m.worker.phase ≡ true → TakesTurn b m c n
     → Follows b c
-follows-turn j b c m n after is running turn =
-    let most : ℕ = left_at_first b.limit b.given in
-    let below : m.turns < most =
-    turn-within m.turns b.limit b.given (length (list_of b m.number)) (rank m.worker.phase) is.worker.turns (is-running m.worker.phase running)
-    in
+follows-turn b c m n after is running turn =
+    let most : ℕ = turns_on b in
+    let below : m.turns < most = turn-within (known_at b m.number m.turns) m.worker is.worker running in
     let on : GoesOnBy m.number m.turns b c = turn.board in
     record {
       board = after;
@@ -367,18 +457,24 @@ follows-turn j b c m n after is running turn =
       );
     }
 
--- the turns that a worker has over a board, in the words of its task
-turns-least : (task : Task) (j : ℕ) (b : BoardState) → IsBoardOf task b → task.properties ≡ j ∷ [] → left_at_first b.limit b.given ≤ most_turns task
-turns-least task j b is properties =
-    least b.limit b.given (length task.given) task.limits.skeletons (length task.properties) is.limit is.given (ap length properties)
+pub most-least : (limit first given more properties last : ℕ) → limit ≡ min (given + more) most_entries → first ≡ given
+    → ((limit - first) + properties) * 3 + last + 3 ≤ 3 * (more + 1 + properties) + last
+most-least limit first given more properties last short same = few limit first more properties last (room limit first given more short same)
   where
-    least : (limit first given more properties : ℕ) → limit ≡ min (given + more) most_entries → first ≡ given → properties ≡ 1
-        → (limit - first) * 3 + 6 ≤ 3 * (more + 1 + properties)
-    least limit first given more properties short same one = grind (arith)
+    room : (limit first given more : ℕ) → limit ≡ min (given + more) most_entries → first ≡ given → limit - first ≤ more
+    room limit first given more short same = grind (arith)
 
-board-of-on : (task : Task) (j : ℕ) (b c : BoardState) → task.properties ≡ j ∷ [] → IsBoardOf task b → Follows b c
-    → ((w : ℕ) → AscendBy w (drop c.given c.entries)) → IsBoardOf task c
-board-of-on task j b c properties is on own = record {
+    few : (limit first more properties last : ℕ) → limit - first ≤ more → ((limit - first) + properties) * 3 + last + 3 ≤ 3 * (more + 1 + properties) + last
+    few limit first more properties last less = omega (arith, less)
+
+-- the turns that a worker has over a board, in the words of its task
+turns-least : (task : Task) (b : BoardState) → IsBoardOf task b → turns_on b ≤ most_turns task
+turns-least task b is =
+    subst (λ (js : List ℕ). turns_on b ≤ 3 * (task.limits.skeletons + 1 + length js) + last_turns js) is.properties
+    (most-least b.limit b.given (length task.given) task.limits.skeletons (length (properties_of b.served)) (last_turns (properties_of b.served)) is.limit is.given)
+
+board-of-on : (task : Task) (b c : BoardState) → IsBoardOf task b → Follows b c → ((w : ℕ) → AscendBy w (drop c.given c.entries)) → IsBoardOf task c
+board-of-on task b c is on own = record {
   board = on.board;
   circuit = on.circuit ∙ is.circuit;
   properties = on.properties ∙ is.properties;
@@ -389,17 +485,16 @@ board-of-on task j b c properties is on own = record {
     is.entries.0 ++ on.entries.0,
     on.entries.1 ∙ ap (λ xs. xs ++ on.entries.0) is.entries.1 ∙ append_assoc task.given is.entries.0 on.entries.0,
     All-append (IsFoundWithin (most_turns task)) is.entries.0 on.entries.0 is.entries.2
-        (All-weaker (IsFoundWithin (left_at_first b.limit b.given)) (IsFoundWithin (most_turns task))
-        (λ e found. within-more (left_at_first b.limit b.given) (most_turns task) e.origin (turns-least task j b is properties) found) on.entries.0 on.entries.2),
+        (All-weaker (IsFoundWithin (turns_on b)) (IsFoundWithin (most_turns task))
+        (λ e found. within-more (turns_on b) (most_turns task) e.origin (turns-least task b is) found) on.entries.0 on.entries.2),
   );
   own = λ w. subst (λ (n : ℕ). AscendBy w (drop n c.entries)) (on.given ∙ is.given) (own w);
 }
 
-pub workers-on : (task : Task) (j : ℕ) (b c : BoardState) (workers later : List BoardWorker) → ServeTask task j b workers → Follows b c
-    → AreWorkers task.limits j c later → length later ≡ length workers → ServeTask task j c later
-workers-on task j b c workers later is on are size = record {
-  board = board-of-on task j b c is.properties is.board on (λ w. (are.own w).0);
-  properties = is.properties;
+pub workers-on : (task : Task) (b c : BoardState) (workers later : List BoardWorker) → ServeTask task b workers → Follows b c
+    → AreWorkers task.limits c later → length later ≡ length workers → ServeTask task c later
+workers-on task b c workers later is on are size = record {
+  board = board-of-on task b c is.board on (λ w. (are.own w).0);
   count = size ∙ is.count;
   workers = are;
 }
@@ -411,61 +506,67 @@ seen-whole : (b : BoardState) (n : ℕ) → IsBoard b → n < b.workers → leng
 seen-whole b n is below full =
     take_all (seen_by b n) b.entries (omega (arith, seen-size b n is below, full, is.within))
 
-stuck-on : (j : ℕ) (b : BoardState) (n turns : ℕ) → IsBoard b → n < b.workers → IsStuck j (known_at b n turns) → IsStuckOn j b
-stuck-on j b n turns is below h =
-    let whole : list_of b n ≡ b.entries = seen-whole b n is below h.0 in (
-      ap length (sym whole) ∙ h.0,
-      (h.1.0, subst (λ (xs : List CheckedEntry). IsAllowed b.circuit j (plain xs) h.1.0) whole h.1.1),
-    )
+full-on : (b : BoardState) (n turns : ℕ) → IsBoard b → n < b.workers → IsStuck (known_at b n turns) → IsFull b
+full-on b n turns is below h =
+    let whole : list_of b n ≡ b.entries = seen-whole b n is below h.full in
+    record {
+      full = ap length (sym whole) ∙ h.full;
+      allows = λ j is_open.
+          (let left = h.allows j is_open.0 (ap is_some is_open.1) in
+          (left.0, subst (λ (xs : List CheckedEntry). IsAllowed b.circuit j (plain xs) left.0) whole left.1));
+    }
+
+settled-on : (b : BoardState) (n turns : ℕ) → AreSettled (known_at b n turns) → IsSettled b.served
+settled-on b n turns h = λ j is_open. is-not-none (outcome_of b.served j) (h j is_open.0) is_open.1
 
 -- what a worker that has ended tells of its board
 told : (j : ℕ) (b : BoardState) (n turns : ℕ) (meter : Spendings) (p : Phase) → IsBoard b → n < b.workers → is_running p ≡ false
-    → IsIn j (known_at b n turns) meter p → Tells j b meter p
+    → IsIn j (known_at b n turns) meter p → Tells b meter p
 told j b n turns meter phases.Asks is below ended h = absurd (false≢true (sym ended))
 told j b n turns meter phases.Looks is below ended h = absurd (false≢true (sym ended))
 told j b n turns meter phases.Searches is below ended h = absurd (false≢true (sym ended))
-told j b n turns meter phases.AsksLast is below ended h = absurd (false≢true (sym ended))
+told j b n turns meter (phases.AsksLast from) is below ended h = absurd (false≢true (sym ended))
 told j b n turns meter phases.LooksLast is below ended h = absurd (false≢true (sym ended))
 told j b n turns meter phases.SearchesLast is below ended h = absurd (false≢true (sym ended))
-told j b n turns meter phases.Closed is below ended h = is-not-none (outcome_of b.served j) h
-told j b n turns meter phases.Full is below ended h = stuck-on j b n turns is below h
+told j b n turns meter phases.Closed is below ended h = settled-on b n turns h
+told j b n turns meter phases.Full is below ended h = full-on b n turns is below h
 told j b n turns meter phases.Spent is below ended h = h
 told j b n turns meter phases.Refused is below ended h = tt
 
 abbrev end_of : BoardWorker → WorkerEnd
 end_of m = record { spent = m.worker.meter; phase = m.worker.phase }
 
-done-with : (task : Task) (j : ℕ) (b : BoardState) (workers : List BoardWorker) (k : ℕ) (d : BoardWorker) → ServeTask task j b workers
-    → HaveEnded workers → k < length workers → IsInBudget (get_or workers k d).worker.meter → IsDone task j b (end_of (get_or workers k d))
-done-with task j b workers k d is over below within =
+done-with : (task : Task) (b : BoardState) (workers : List BoardWorker) (k : ℕ) (d : BoardWorker) → ServeTask task b workers
+    → HaveEnded workers → k < length workers → IsInBudget (get_or workers k d).worker.meter → IsDone task b (end_of (get_or workers k d))
+done-with task b workers k d is over below within =
     let m : BoardWorker = get_or workers k d in
-    let mine : IsBoardWorker j b m = is.workers.each k d below in
-    let cost : ℕ = search_steps b.circuit j in
+    let mine : IsBoardWorker b m = is.workers.each k d below in
     record {
       spent = record {
         limits = is.workers.within k d below;
         within = within;
-        most = steps-least task j b.circuit m.worker.meter.steps is.board.circuit is.properties
-            (steps-last m.worker.meter.steps (searches_left_by b.limit m) cost ((task.limits.skeletons + 1) * cost) (is.workers.steps k d below));
+        most = steps-least task b.circuit (properties_of b.served) m.worker.meter.steps is.board.circuit is.board.properties
+            (steps-last m.worker.meter.steps (searches_left_by b m) (steps_on b) ((task.limits.skeletons + length (properties_of b.served)) * steps_on b)
+            (is.workers.steps k d below));
       };
-      tells = told j b m.number m.turns m.worker.meter m.worker.phase is.board.board mine.number (runs-here workers k d below ∙ over k below) mine.worker.phase;
+      tells = told m.worker.property b m.number m.turns m.worker.meter m.worker.phase is.board.board mine.number (runs-here workers k d below ∙ over k below)
+          mine.worker.phase;
     }
 
 -- workers that have all ended are done with their board
-pub done-all : (task : Task) (j : ℕ) (b : BoardState) (workers : List BoardWorker) (ends : List WorkerEnd) → ServeTask task j b workers
+pub done-all : (task : Task) (b : BoardState) (workers : List BoardWorker) (ends : List WorkerEnd) → ServeTask task b workers
     → HaveEnded workers → ends ≡ map (λ m. record { spent = m.worker.meter; phase = m.worker.phase }) workers → All (λ e. IsInBudget e.spent) ends
-    → AreDone task j b ends
-done-all task j b workers ends is over same within =
+    → AreDone task b ends
+done-all task b workers ends is over same within =
     let all : All (λ (e : WorkerEnd). IsInBudget e.spent) (map end_of workers) = subst (All (λ (e : WorkerEnd). IsInBudget e.spent)) same within in
     let budget : (k : ℕ) (d : BoardWorker) → k < length workers → IsInBudget (get_or workers k d).worker.meter = λ k d below.
     subst (λ (e : WorkerEnd). IsInBudget e.spent) (get_or-map end_of workers k d (end_of d) below) (all k (end_of d) (omega (arith, below, length-map workers end_of)))
     in
     record {
       board = is.board;
-      properties = is.properties;
       count = ap length same ∙ length-map workers end_of ∙ is.count;
-      each = subst (All (IsDone task j b)) (sym same)
-          (All-map (IsDone task j b) end_of workers (λ k d below. done-with task j b workers k d is over below (budget k d below)));
+      each = subst (All (IsDone task b)) (sym same)
+          (All-map (IsDone task b) end_of workers (λ k d below. done-with task b workers k d is over below (budget k d below)));
     }
 
 -- ---- the first board
@@ -476,18 +577,22 @@ first-seen b c properties workers more given e =
     subst (λ (d : BoardState). (n : ℕ) → n < d.workers → seen_by d n ≡ length d.entries) (sym e)
     (λ n below. get_or-replicate workers n (length given) 0 below)
 
-pub first-of : (b : BoardState) (c : Circuit) (j : ℕ) (limits : Limits) (given : List CheckedEntry)
-    → b ≡ first_board c (j ∷ []) limits.workers limits.skeletons given → IsBoard b → IsBoardOf (task_of c j limits given) b
-first-of b c j limits given e is = record {
+served-of : (js : List ℕ) → properties_of (map (λ j. record { property = j; outcome = None }) js) ≡ js
+served-of [] = refl
+served-of (j ∷ js) = ap (λ (is : List ℕ). j ∷ is) (served-of js)
+
+pub first-of : (b : BoardState) (task : Task) → b ≡ first_board task.circuit task.properties task.limits.workers task.limits.skeletons task.given → IsBoard b
+    → IsBoardOf task b
+first-of b task e is = record {
   board = is;
   circuit = ap (λ (d : BoardState). d.circuit) e;
-  properties = ap (λ (d : BoardState). properties_of d.served) e;
+  properties = ap (λ (d : BoardState). properties_of d.served) e ∙ served-of task.properties;
   workers = ap (λ (d : BoardState). d.workers) e;
   limit = ap (λ (d : BoardState). d.limit) e;
   given = ap (λ (d : BoardState). d.given) e;
-  entries = ([], ap (λ (d : BoardState). d.entries) e ∙ sym (append-nil given), All-nil (IsFoundWithin (most_turns (task_of c j limits given))));
-  own = λ w. (ascend_empty w (drop (length given) b.entries) 0
-      (ap (λ (d : BoardState). found_by w (drop (length given) d.entries)) e ∙ ap (found_by w) (drop_all (length given) given (omega arith)))).0;
+  entries = ([], ap (λ (d : BoardState). d.entries) e ∙ sym (append-nil task.given), All-nil (IsFoundWithin (most_turns task)));
+  own = λ w. (ascend_empty w (drop (length task.given) b.entries) 0
+      (ap (λ (d : BoardState). found_by w (drop (length task.given) d.entries)) e ∙ ap (found_by w) (drop_all (length task.given) task.given (omega arith)))).0;
 }
 
 pub first-fresh : (b : BoardState) (c : Circuit) (properties : List ℕ) (workers more : ℕ) (given : List CheckedEntry)
@@ -501,3 +606,21 @@ first-grows b c properties workers more given e =
   where
     least-left : (m n : ℕ) → min m n ≤ m
     least-left m n = grind (arith)
+
+-- over it workers may begin
+pub fresh-of : (b : BoardState) (task : Task) → b ≡ first_board task.circuit task.properties task.limits.workers task.limits.skeletons task.given
+    → AreServed task.circuit task.properties → IsFresh task b
+fresh-of b task e served = record {
+  served = subst (λ (d : BoardState). AreServed d.circuit (properties_of d.served)) (sym e)
+      (subst (λ (js : List ℕ). AreServed task.circuit js) (sym (served-of task.properties)) served);
+  workers = sym (ap (λ (d : BoardState). d.workers) e);
+  seen = first-seen b task.circuit task.properties task.limits.workers task.limits.skeletons task.given e;
+  fresh = first-fresh b task.circuit task.properties task.limits.workers task.limits.skeletons task.given e;
+  grows = first-grows b task.circuit task.properties task.limits.workers task.limits.skeletons task.given e;
+}
+
+-- the workers with which a task begins
+pub serve-first : (b : BoardState) (task : Task) (workers : List BoardWorker)
+    → b ≡ first_board task.circuit task.properties task.limits.workers task.limits.skeletons task.given → IsBoard b
+    → length workers ≡ task.limits.workers → AreWorkers task.limits b workers → ServeTask task b workers
+serve-first b task workers e is count are = record { board = first-of b task e is; count = count; workers = are }

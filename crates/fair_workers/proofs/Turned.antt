@@ -1,15 +1,17 @@
 -- What a worker's calls come to, by what it knows.
-use Rattle.std.proofs.Common.{◌≡◌, ℕ, max, ◌+◌, ◌-◌, ◌*◌, ◌<◌, ◌≤◌, true, List, [], ◌∷◌, ◌++◌, length, get_or, refl, sym, ap, ◌∙◌, subst, arith}
-use Rattle.std.specs.Prelude.{Option, Some, None, Result, Ok, Err, Contains, IfSome, IfOk}
-use Rattle.std.specs.List.{Any}
-use Rattle.std.proofs.lemmas.Bool.{false≢true}
-use Rattle.std.proofs.lemmas.List.{length-append, map-append, append_assoc}
+use Rattle.std.proofs.Common.{◌≡◌, ℕ, max, min, ◌+◌, ◌-◌, ◌*◌, ◌^◌, ◌<◌, ◌≤◌, Bool, true, false, cond, inl, inr, List, [], ◌∷◌, ◌++◌, length, get_or, refl, sym, ap, ◌∙◌, subst, arith}
+use Rattle.std.specs.Prelude.{◌==◌, nat_lt, Option, Some, None, Result, Ok, Err, Contains, IfSome, IfOk}
+use Rattle.std.specs.List.{Any, All, AllPairs}
+use Rattle.std.proofs.lemmas.Bool.{false≢true, both_ways, cases_lt, cases_Bool, eqb-true, eqb-false, ltb-true, ltb-false}
+use Rattle.std.proofs.lemmas.List.{length-append, map-append, append_assoc, append-nil}
+use Rattle.std.proofs.Math.Nat.{mul-le-mul_right}
 use Rattle.aig_semantics.specs.Circuits.{Circuit, fair_literals}
 use Rattle.edge.specs.Units.{Spendings}
 use Rattle.fair_semantics.specs.Entries.{Entry, used_entries, AreClosed}
 use Rattle.fair_semantics.specs.Skeletons.{IsSkeleton}
+use Rattle.fair_semantics.specs.declared.skeletons.Skeleton.{Skeleton}
 use Rattle.entry.specs.CheckedEntries.{CheckedEntry, GoesOnFrom}
-use Rattle.skeleton.specs.Finding.{Asking}
+use Rattle.skeleton.specs.Finding.{Asking, IsAllowed}
 use Rattle.entry.specs.declared.origins.Origin.{Origin}
 use Rattle.entry.specs.declared.origins.Origin.TheVariants.{Given, Worker as FoundBy}
 use Rattle.wall_store.specs.declared.outcomes.Posted.{Posted}
@@ -17,11 +19,13 @@ use Rattle.wall_store.specs.declared.outcomes.Posted.TheVariants as posts
 use Rattle.wall_store.specs.Boards.{FromWorker, most_entries, plain}
 use Rattle.fair_round.specs.Spending.{Asks, path_steps}
 use Rattle.fair_round.specs.Deeds.{IsWorkOf}
-use Rattle.fair_workers.specs.Knowing.{Known, AreSettled, Keeps, KeepsList, SeesMore, HasPosted, HasFinished, IsOwn}
+use Rattle.fair_workers.specs.Runs.{AreServed, last_turns, most_situations, most_properties}
+use Rattle.fair_workers.specs.Knowing.{Known, AreSettled, Keeps, KeepsList, SeesMore, IsNext, HasAsked, HasPosted, HasFinished, IsOwn}
 use Rattle.fair_workers.specs.declared.working.Phase.{Phase}
 use Rattle.fair_workers.specs.declared.working.Phase.TheVariants as phases
 use Rattle.fair_workers.specs.declared.working.Worker.{Worker}
-use Rattle.fair_workers.specs.Working.{rank, left, left_to, left_at_first, searches_ahead, searches_left, searches_left_to, search_steps, steps_through, is_running, phase_after, AreRoundsOf, IsAtLimit, IsIn, IsWorker, Turns, Thinks}
+use Rattle.fair_workers.specs.Working.{left, left_in, left_to, left_at_first, searches_in, searches_left, searches_left_in, searches_left_to, search_steps, steps_through, room_of, ahead_of, is_running, phase_after, phase_finished, phase_passed, serving, asked, asked_last, AreRoundsOf, IsAtLimit, IsAllowing, IsStuck, IsPast, ServesLast, IsIn, IsWorker, Turns, Thinks}
+use Rattle.fair_workers.proofs.Ahead.{Stay, was-open, only-in, none-above, are-two, last-of-two, some-in, ahead-on, looks-ahead, asks-ahead, full-ahead, last-looks-ahead, passed-ahead, passed-out, finished-ahead, finished-out, settled-out, serves-searches, serves-last, ahead-within, ahead-less, searches-some, looks-some, last-some, running-left, ended-left, ended-searches, turn-searches, left-on, searches-on, situations-within}
 use Rattle.fair_round.proofs.Counting.{steps-fewer, steps-behind}
 
 -- ---- lists that go on
@@ -59,8 +63,15 @@ made-rounds (Ok r) c j xs made = record {
 }
 made-rounds (Err e) c j xs made = tt
 
-inside-on : (j : ℕ) (k l : Known) → Keeps k l → j < length k.circuit.justice → j < length l.circuit.justice
-inside-on j k l kept inside = subst (λ (c : Circuit). j < length c.justice) (sym kept.circuit) inside
+-- rounds that are kept of a property are of that
+pub rounds-served : (r : Option Asking) (c : Circuit) (i j : ℕ) (seen : List Entry) (b : Bool) → (i == j) ≡ b → IfSome r (AreRoundsOf c i seen)
+    → IfSome (cond b r None) (AreRoundsOf c j seen)
+rounds-served r c i j seen true same h = subst (λ (m : ℕ). IfSome r (AreRoundsOf c m seen)) (eqb-true i j same) h
+rounds-served r c i j seen false same h = tt
+
+pub served-on : (k l : Known) → l.circuit ≡ k.circuit → l.properties ≡ k.properties → AreServed k.circuit k.properties → AreServed l.circuit l.properties
+served-on k l circuit properties h =
+    subst (λ (c : Circuit). AreServed c l.properties) (sym circuit) (subst (λ (js : List ℕ). AreServed k.circuit js) (sym properties) h)
 
 no-shorter : (k l : Known) → SeesMore k l → length k.list ≤ length l.list
 no-shorter k l sees = omega (arith, ap length sees.list.1, length-append k.list sees.list.0)
@@ -69,160 +80,545 @@ no-shorter k l sees = omega (arith, ap length sees.list.1, length-append k.list 
 pub full-stays : (k l : Known) → SeesMore k l → IsAtLimit k → IsAtLimit l
 full-stays k l sees full = omega (arith, no-shorter k l sees, sees.within, sees.keeps.limit, full)
 
+none-more : (xs : List CheckedEntry) → length xs ≡ 0 → xs ≡ []
+none-more [] e = refl
+none-more (x ∷ xs) e = absurd (omega (arith, e))
+
+full-same : (k l : Known) → SeesMore k l → IsAtLimit k → l.list ≡ k.list
+full-same k l sees full =
+    let none : length sees.list.0 ≡ 0 =
+    omega (arith, ap length sees.list.1, length-append k.list sees.list.0, sees.within, sees.keeps.limit, full)
+    in
+    sees.list.1 ∙ ap (λ xs. k.list ++ xs) (none-more sees.list.0 none) ∙ append-nil k.list
+
 -- ---- one property
 
-pub contains-one : (properties : List ℕ) (j : ℕ) → properties ≡ j ∷ [] → Contains properties j
-contains-one properties j e =
-    let inside : 0 < length properties = subst (λ (xs : List ℕ). 0 < length xs) (sym e) (omega arith) in
-    let at : get_or properties 0 j ≡ j = subst (λ (xs : List ℕ). get_or xs 0 j ≡ j) (sym e) refl in
-    (0, inside, at)
+-- an outcome of the only property settles all
+settled-only : (j : ℕ) (k : Known) → length k.properties ≡ 1 → Contains k.properties j → k.settled j ≡ true → AreSettled k
+settled-only j k one inside has i there = subst (λ (m : ℕ). k.settled m ≡ true) (sym (only-in k.properties i j one there inside)) has
 
-pub settled-one : (j : ℕ) (k : Known) → k.properties ≡ j ∷ [] → AreSettled k → k.settled j ≡ true
-settled-one j k e settled = settled j (contains-one k.properties j e)
+-- ---- what a full list allows
 
--- ---- how much is left
+pub allowing-on : (k l : Known) (i : ℕ) → l.circuit ≡ k.circuit → l.list ≡ k.list → IsAllowing k i → IsAllowing l i
+allowing-on k l i circuit list (s, h) = (
+  s,
+  subst (λ (xs : List CheckedEntry). IsAllowed l.circuit i (plain xs) s) (sym list)
+      (subst (λ (c : Circuit). IsAllowed c i (plain k.list) s) (sym circuit) h),
+)
 
-less-kept : (m n s t r q : ℕ) → n ≡ m → t ≡ s → q < r → (n - t) * 3 + q < (m - s) * 3 + r
-less-kept m n s t r q limit same less = omega (arith, limit, same, less)
+inside-back : (k l : Known) (i : ℕ) → l.properties ≡ k.properties → Contains l.properties i → Contains k.properties i
+inside-back k l i same inside = subst (λ (js : List ℕ). Contains js i) same inside
 
-less-shown : (m n s t r q : ℕ) → n ≡ m → s ≤ t → q < r → (n - t) * 3 + q < (m - s) * 3 + r
-less-shown m n s t r q limit shown less = omega (arith, limit, shown, less)
+inside-on : (k l : Known) (i : ℕ) → l.properties ≡ k.properties → Contains k.properties i → Contains l.properties i
+inside-on k l i same inside = subst (λ (js : List ℕ). Contains js i) (sym same) inside
 
--- from a search that made the list grow to the next question
-less-grown : (m n s t r q : ℕ) → n ≡ m → s < t → t ≤ n → 4 ≤ r → q ≤ 6 → (n - t) * 3 + q < (m - s) * 3 + r
-less-grown m n s t r q limit grown within searches small = omega (arith, limit, grown, within, searches, small)
+at-limit-on : (k l : Known) → l.limit ≡ k.limit → l.list ≡ k.list → IsAtLimit k → IsAtLimit l
+at-limit-on k l limit list full = ap length list ∙ full ∙ sym limit
 
-turns-kept : (k l s t m n g h : ℕ) → l ≤ k + 1 → t < s → n ≡ m → h ≡ g → k + s ≤ (m - g) * 3 + 6 → l + t ≤ (n - h) * 3 + 6
-turns-kept k l s t m n g h one less limit given within = omega (arith, one, less, limit, given, within)
+pub past-on : (n : ℕ) (k l : Known) → l.circuit ≡ k.circuit → l.properties ≡ k.properties → l.limit ≡ k.limit → l.list ≡ k.list → Stay k.settled l.settled
+    → IsPast n k → IsPast n l
+past-on n k l circuit properties limit list stay h = record {
+  full = at-limit-on k l limit list h.full;
+  below = λ i inside less unsettled.
+      allowing-on k l i circuit list
+      (h.below i (inside-back k l i properties inside) less (was-open k.settled l.settled i stay unsettled));
+}
 
-turns-on : (k l : Known) (s t : ℕ) → Keeps k l → t < s → k.turns + s ≤ left_at_first k.limit k.given → l.turns + t ≤ left_at_first l.limit l.given
-turns-on k l s t kept less within = turns-kept k.turns l.turns s t k.limit l.limit k.given l.given kept.turns less kept.limit kept.given within
+pub stuck-on : (k l : Known) → l.circuit ≡ k.circuit → l.properties ≡ k.properties → l.limit ≡ k.limit → l.list ≡ k.list → Stay k.settled l.settled
+    → IsStuck k → IsStuck l
+stuck-on k l circuit properties limit list stay h = record {
+  full = at-limit-on k l limit list h.full;
+  allows = λ i inside unsettled.
+      allowing-on k l i circuit list (h.allows i (inside-back k l i properties inside) (was-open k.settled l.settled i stay unsettled));
+}
+
+-- none below the first number was passed
+past-none : (k : Known) → IsAtLimit k → IsPast 0 k
+past-none k full = record { full = full; below = λ i inside less unsettled. absurd (omega (arith, less)) }
+
+-- the next open property, with those that were passed over
+past-next : (from j : ℕ) (k : Known) → from ≤ j → IsNext k from j → IsPast from k → IsPast j k
+past-next from j k low next h = record {
+  full = h.full;
+  below = λ i inside less unsettled.
+      elim (cases_lt i from) [
+        | inl before ↦ h.below i inside before unsettled
+        | inr behind ↦ absurd (both_ways (k.settled i) unsettled (next.passed i inside behind (inl less)))
+      ];
+}
+
+-- where the next one is below, all that are open were passed
+stuck-next : (from j : ℕ) (k : Known) → j < from → IsNext k from j → IsPast from k → IsStuck k
+stuck-next from j k below next h = record {
+  full = h.full;
+  allows = λ i inside unsettled.
+      elim (cases_lt i from) [
+        | inl before ↦ h.below i inside before unsettled
+        | inr behind ↦ absurd (both_ways (k.settled i) unsettled (next.passed i inside behind (inr below)))
+      ];
+}
+
+-- behind a property of which a skeleton is left
+past-more : (j : ℕ) (k : Known) → IsAllowing k j → IsPast j k → IsPast (j + 1) k
+past-more j k left h = record {
+  full = h.full;
+  below = λ i inside less unsettled.
+      elim (cases_lt i j) [
+        | inl before ↦ h.below i inside before unsettled
+        | inr behind ↦ (let same : i ≡ j = omega (arith, behind, less) in subst (λ (m : ℕ). IsAllowing k m) (sym same) left)
+      ];
+}
+
+-- behind the last one
+stuck-last : (j : ℕ) (k : Known) → AllPairs (λ a b. a < b) k.properties → get_or k.properties (length k.properties - 1) 0 ≤ j → IsAllowing k j → IsPast j k
+    → IsStuck k
+stuck-last j k ascend last left h = record {
+  full = h.full;
+  allows = λ i inside unsettled.
+      elim (cases_lt i j) [
+        | inl before ↦ h.below i inside before unsettled
+        | inr behind ↦
+            (let most : i ≤ get_or k.properties (length k.properties - 1) 0 = none-above k.properties i ascend inside in
+            let same : i ≡ j = omega (arith, behind, most, last) in
+            subst (λ (m : ℕ). IsAllowing k m) (sym same) left)
+      ];
+}
+
+-- ---- turns in general
+
+keeps-self : (k : Known) → Keeps k k
+keeps-self k = record { circuit = refl; properties = refl; number = refl; given = refl; limit = refl; turns = omega arith; settled = λ j h. h }
+
+same : (k : Known) → KeepsList k k
+same k = record { keeps = keeps-self k; list = refl }
+
+room-kept : (k l : Known) → KeepsList k l → room_of l ≤ room_of k
+room-kept k l h = omega (arith, h.keeps.limit, ap length h.list)
+
+room-seen : (k l : Known) → SeesMore k l → room_of l ≤ room_of k
+room-seen k l h = omega (arith, h.keeps.limit, no-shorter k l h)
+
+room-grown : (k l : Known) → SeesMore k l → length k.list < length l.list → room_of l + 1 ≤ room_of k
+room-grown k l h grown = omega (arith, h.keeps.limit, h.within, grown)
+
+last-kept : (k l : Known) → Keeps k l → last_turns l.properties ≡ last_turns k.properties
+last-kept k l h = ap last_turns h.properties
+
+first-kept : (m n g h a b s t : ℕ) → n ≡ m → h ≡ g → b ≡ a → t ≡ s → ((m - g) + a) * 3 + s + 3 ≤ ((n - h) + b) * 3 + t + 3
+first-kept m n g h a b s t limit given properties last = omega (arith, limit, given, properties, last)
+
+pub first-on : (k l : Known) → l.limit ≡ k.limit → l.given ≡ k.given → l.properties ≡ k.properties → left_at_first k ≤ left_at_first l
+first-on k l limit given properties =
+    first-kept k.limit l.limit k.given l.given (length k.properties) (length l.properties) (last_turns k.properties) (last_turns l.properties) limit given
+    (ap length properties) (ap last_turns properties)
+
+turns-on : (t u a b m n : ℕ) → u ≤ t + 1 → b < a → t + a ≤ m → m ≤ n → u + b ≤ n
+turns-on t u a b m n one less within most = omega (arith, one, less, within, most)
 
 short-on : (m n : ℕ) → n ≡ m → m ≤ most_entries → n ≤ most_entries
 short-on m n limit short = omega (arith, limit, short)
 
--- a turn that is taken is one of those that a worker has
-pub turn-within : (turns limit given seen r : ℕ) → turns + ((limit - seen) * 3 + r) ≤ left_at_first limit given → 0 < r → turns < left_at_first limit given
-turn-within turns limit given seen r within running = omega (arith, within, running)
-
--- ---- how many searches are left
-
-fewer-kept : (m n s t p k r : ℕ) → n ≡ m → t ≡ s → p + k ≤ r → (n - t) + p + k ≤ (m - s) + r
-fewer-kept m n s t p k r limit same fewer = omega (arith, limit, same, fewer)
-
-fewer-shown : (m n s t p k r : ℕ) → n ≡ m → s ≤ t → p + k ≤ r → (n - t) + p + k ≤ (m - s) + r
-fewer-shown m n s t p k r limit shown fewer = omega (arith, limit, shown, fewer)
-
-fewer-grown : (m n s t : ℕ) → n ≡ m → s < t → t ≤ n → (n - t) + 1 + 1 ≤ (m - s) + 1
-fewer-grown m n s t limit grown within = omega (arith, limit, grown, within)
-
--- ---- turns
-
-same : (k : Known) → KeepsList k k
-same k = record {
-  keeps = record { circuit = refl; properties = refl; number = refl; given = refl; limit = refl; turns = omega arith; settled = λ j h. h };
-  list = refl;
+-- A turn, by what it leaves: the worker v has spent nothing more.
+made-turn : (searches : ℕ) (k l : Known) (w v : Worker) → IsWorker k w → Keeps k l → v.meter ≡ w.meter
+    → IfSome v.rounds (AreRoundsOf l.circuit v.property (plain l.list)) → IsIn v.property l v.meter v.phase → left_to l v < left_to k w
+    → searches_left_to l v + searches ≤ searches_left_to k w → Turns searches k w l v
+made-turn searches k l w v is kept meter rounds here less fewer = record {
+  worker = record {
+    served = served-on k l kept.circuit kept.properties is.served;
+    rounds = rounds;
+    phase = here;
+    short = short-on k.limit l.limit kept.limit is.short;
+    turns = turns-on k.turns l.turns (left_to k w) (left_to l v) (left_at_first k) (left_at_first l) kept.turns less is.turns
+        (first-on k l kept.limit kept.given kept.properties);
+  };
+  limits = record { conflicts = ap (λ (s : Spendings). s.conflict_limit) meter; steps = ap (λ (s : Spendings). s.step_limit) meter };
+  less = less;
+  steps = steps-fewer v.meter.steps w.meter.steps (searches_left_to l v) (searches_left_to k w) searches (search_steps k.circuit k.properties)
+      (omega (arith, ap (λ (s : Spendings). s.steps) meter)) fewer;
 }
 
--- where the list stays
-pub kept-turn : (j searches : ℕ) (k l : Known) (w : Worker) (p : Phase) → IsWorker j k w → KeepsList k l → rank p < rank w.phase
-    → searches_ahead p + searches ≤ searches_ahead w.phase → IsIn j l w.meter p → Turns j searches k w l (record w { phase = p })
-kept-turn j searches k l w p is kept less fewer here =
-    let size : length l.list ≡ length k.list = ap length kept.list in
-    let falls : left l.limit (length l.list) p < left k.limit (length k.list) w.phase =
-    less-kept k.limit l.limit (length k.list) (length l.list) (rank w.phase) (rank p) kept.keeps.limit size less
-    in
-    record {
-      worker = record {
-        served = kept.keeps.properties ∙ is.served;
-        inside = inside-on j k l kept.keeps is.inside;
-        rounds = rounds-same w.rounds j k l kept.keeps.circuit kept.list is.rounds;
-        phase = here;
-        short = short-on k.limit l.limit kept.keeps.limit is.short;
-        turns = turns-on k l (left k.limit (length k.list) w.phase) (left l.limit (length l.list) p) kept.keeps falls is.turns;
-      };
-      limits = record { conflicts = refl; steps = refl };
-      less = falls;
-      steps = steps-fewer w.meter.steps w.meter.steps (searches_left l.limit (length l.list) p) (searches_left k.limit (length k.list) w.phase) searches
-          (search_steps k.circuit j) (omega arith)
-          (fewer-kept k.limit l.limit (length k.list) (length l.list) (searches_ahead p) searches (searches_ahead w.phase) kept.keeps.limit size fewer);
-    }
+none-left : (a b : ℕ) → b ≡ 0 → 0 < a → b < a
+none-left a b none some = omega (arith, none, some)
+
+none-searched : (a b s : ℕ) → b ≡ 0 → s ≤ a → b + s ≤ a
+none-searched a b s none few = omega (arith, none, few)
+
+ended-turn : (k l : Known) (w : Worker) (p : Phase) → IsWorker k w → Keeps k l → IfSome w.rounds (AreRoundsOf l.circuit w.property (plain l.list))
+    → is_running w.phase ≡ true → is_running p ≡ false → IsIn w.property l w.meter p → Turns (searches_in w.phase) k w l (record w { phase = p })
+ended-turn k l w p is kept rounds running ended here =
+    made-turn (searches_in w.phase) k l w (record w { phase = p }) is kept refl rounds here
+    (none-left (left_to k w) (left_in l w.property p) (ended-left l w.property p ended) (running-left k w.property w.meter w.phase running is.phase))
+    (none-searched (searches_left_to k w) (searches_left_in l w.property p) (searches_in w.phase) (ended-searches l w.property p ended)
+    (turn-searches k w.property w.meter w.phase is.phase))
+
+-- a turn in which the worker ends, and the list stays
+pub end-turn : (k l : Known) (w : Worker) (p : Phase) → IsWorker k w → KeepsList k l → is_running w.phase ≡ true → is_running p ≡ false
+    → IsIn w.property l w.meter p → Turns (searches_in w.phase) k w l (record w { phase = p })
+end-turn k l w p is kept running ended here =
+    ended-turn k l w p is kept.keeps (rounds-same w.rounds w.property k l kept.keeps.circuit kept.list is.rounds) running ended here
 
 -- where no call is made
-pub phase-turn : (j searches : ℕ) (k : Known) (w : Worker) (p : Phase) → IsWorker j k w → rank p < rank w.phase
-    → searches_ahead p + searches ≤ searches_ahead w.phase → IsIn j k w.meter p → Turns j searches k w k (record w { phase = p })
-phase-turn j searches k w p is less fewer here = kept-turn j searches k k w p is (same k) less fewer here
+pub stop-turn : (k : Known) (w : Worker) (p : Phase) → IsWorker k w → is_running w.phase ≡ true → is_running p ≡ false → IsIn w.property k w.meter p
+    → Turns (searches_in w.phase) k w k (record w { phase = p })
+stop-turn k w p is running ended here = end-turn k k w p is (same k) running ended here
 
--- where the worker sees the whole list
-seen-turn : (j searches : ℕ) (k l : Known) (w : Worker) (p : Phase) → IsWorker j k w → SeesMore k l
-    → left l.limit (length l.list) p < left k.limit (length k.list) w.phase
-    → searches_left l.limit (length l.list) p + searches ≤ searches_left k.limit (length k.list) w.phase
-    → IsIn j l w.meter p → Turns j searches k w l (record w { phase = p })
-seen-turn j searches k l w p is sees falls fewer here = record {
-  worker = record {
-    served = sees.keeps.properties ∙ is.served;
-    inside = inside-on j k l sees.keeps is.inside;
-    rounds = rounds-in w.rounds j k l sees is.rounds;
-    phase = here;
-    short = short-on k.limit l.limit sees.keeps.limit is.short;
-    turns = turns-on k l (left k.limit (length k.list) w.phase) (left l.limit (length l.list) p) sees.keeps falls is.turns;
-  };
-  limits = record { conflicts = refl; steps = refl };
-  less = falls;
-  steps = steps-fewer w.meter.steps w.meter.steps (searches_left l.limit (length l.list) p) (searches_left k.limit (length k.list) w.phase) searches
-      (search_steps k.circuit j) (omega arith) fewer;
-}
+pub runs-in : (p q : Phase) → p ≡ q → is_running q ≡ true → is_running p ≡ true
+runs-in p q e running = ap is_running e ∙ running
 
--- a look
-pub look-turn : (j searches : ℕ) (k l : Known) (w : Worker) (p : Phase) → IsWorker j k w → SeesMore k l → rank p < rank w.phase
-    → searches_ahead p + searches ≤ searches_ahead w.phase → IsIn j l w.meter p → Turns j searches k w l (record w { phase = p })
-look-turn j searches k l w p is sees less fewer here =
-    let shown : length k.list ≤ length l.list = no-shorter k l sees in
-    seen-turn j searches k l w p is sees
-    (less-shown k.limit l.limit (length k.list) (length l.list) (rank w.phase) (rank p) sees.keeps.limit shown less)
-    (fewer-shown k.limit l.limit (length k.list) (length l.list) (searches_ahead p) searches (searches_ahead w.phase) sees.keeps.limit shown fewer) here
+-- what is known in the phase of a worker
+here-in : (k : Known) (w : Worker) (p : Phase) → IsWorker k w → w.phase ≡ p → IsIn w.property k w.meter p
+here-in k w p is e = subst (λ q. IsIn w.property k w.meter q) e is.phase
 
--- where the list has grown, a search has been made and one is ahead
-grown-searches : (m n s t : ℕ) (p : Phase) → p ≡ phases.Searches → n ≡ m → s < t → t ≤ n → (n - t) + 1 + searches_ahead p ≤ (m - s) + searches_ahead p
-grown-searches m n s t p phase limit grown within =
-    subst (λ q. (n - t) + 1 + searches_ahead q ≤ (m - s) + searches_ahead q) (sym phase) (fewer-grown m n s t limit grown within)
+-- ---- the questions
 
-grown-turn : (j : ℕ) (k l : Known) (w : Worker) → IsWorker j k w → w.phase ≡ phases.Searches → SeesMore k l → length k.list < length l.list
-    → Turns j (searches_ahead w.phase) k w l (record w { phase = phases.Asks })
-grown-turn j k l w is phase sees grown =
-    seen-turn j (searches_ahead w.phase) k l w phases.Asks is sees
-    (less-grown k.limit l.limit (length k.list) (length l.list) (rank w.phase) 6 sees.keeps.limit grown sees.within
-    (subst (λ p. 4 ≤ rank p) (sym phase) (omega arith)) (omega arith))
-    (grown-searches k.limit l.limit (length k.list) (length l.list) w.phase phase sees.keeps.limit grown sees.within) tt
+less-asked : (r q a b m n : ℕ) → q ≤ r → b ≤ a → n ≡ m → (q + b) * 3 + n + 2 < (r + a) * 3 + m + 3
+less-asked r q a b m n room ahead last = omega (arith, room, ahead, last)
 
--- a post
-pub post-turn : (j : ℕ) (k l : Known) (w : Worker) (r : Posted) → IsWorker j k w → w.phase ≡ phases.Searches → HasPosted k r l
-    → Turns j (searches_ahead w.phase) k w l (record w { phase = phase_after r })
-post-turn j k l w (posts.Appended n) is phase h = grown-turn j k l w is phase h.sees h.tells
-post-turn j k l w (posts.Stale n) is phase h = grown-turn j k l w is phase h.sees h.tells
-post-turn j k l w posts.Full is phase h =
-    look-turn j (searches_ahead w.phase) k l w phases.AsksLast is h.sees (subst (λ p. 3 < rank p) (sym phase) (omega arith)) (omega arith) h.tells
-post-turn j k l w posts.Closed is phase h =
-    look-turn j (searches_ahead w.phase) k l w phases.Closed is h.sees (subst (λ p. 0 < rank p) (sym phase) (omega arith)) (omega arith)
-    (settled-one j l (h.sees.keeps.properties ∙ is.served) h.tells)
+kept-searches : (r q a b : ℕ) → q ≤ r → b ≤ a → q + b + 0 ≤ r + a
+kept-searches r q a b room ahead = omega (arith, room, ahead)
 
-pub is-running : (p : Phase) → is_running p ≡ true → 0 < rank p
-is-running phases.Asks h = omega arith
-is-running phases.Looks h = omega arith
-is-running phases.Searches h = omega arith
-is-running phases.AsksLast h = omega arith
-is-running phases.LooksLast h = omega arith
-is-running phases.SearchesLast h = omega arith
-is-running phases.Closed h = absurd (false≢true h)
-is-running phases.Full h = absurd (false≢true h)
-is-running phases.Spent h = absurd (false≢true h)
-is-running phases.Refused h = absurd (false≢true h)
+asked-next : (k l : Known) (w : Worker) (j : ℕ) → IsWorker k w → w.phase ≡ phases.Asks → KeepsList k l → IsNext l w.property j
+    → Turns 0 k w l (serving j phases.Looks w)
+asked-next k l w j is phase kept next =
+    let e = kept.keeps in
+    let v : Worker = serving j phases.Looks w in
+    let ahead : ahead_of l j phases.Looks ≤ ahead_of k w.property phases.Asks =
+    ahead-within k l w.property j phases.Asks phases.Looks e.properties (looks-ahead k.settled l.settled w.property j e.settled next.unsettled)
+    in
+    made-turn 0 k l w v is e refl
+    (rounds-served w.rounds l.circuit w.property j (plain l.list) (w.property == j) refl
+    (rounds-same w.rounds w.property k l e.circuit kept.list is.rounds))
+    next.served
+    (subst (λ p. left_in l j phases.Looks < left_in k w.property p) (sym phase)
+    (less-asked (room_of k) (room_of l) (ahead_of k w.property phases.Asks) (ahead_of l j phases.Looks) (last_turns k.properties) (last_turns l.properties)
+    (room-kept k l kept) ahead (last-kept k l e)))
+    (subst (λ p. searches_left_in l j phases.Looks + 0 ≤ searches_left_in k w.property p) (sym phase)
+    (kept-searches (room_of k) (room_of l) (ahead_of k w.property phases.Asks) (ahead_of l j phases.Looks) (room-kept k l kept) ahead))
 
--- a finish
-pub finish-turn : (j : ℕ) (k l : Known) (w : Worker) → IsWorker j k w → is_running w.phase ≡ true → HasFinished j k l
-    → Turns j (searches_ahead w.phase) k w l (record w { phase = phases.Closed })
-finish-turn j k l w is running h =
-    kept-turn j (searches_ahead w.phase) k l w phases.Closed is h.keeps (is-running w.phase running) (omega arith) h.settled
+pub ask-turn : (k l : Known) (w : Worker) (r : Option ℕ) → IsWorker k w → w.phase ≡ phases.Asks → HasAsked k w.property r l → Turns 0 k w l (asked r w)
+ask-turn k l w None is phase h =
+    subst (λ p. Turns (searches_in p) k w l (record w { phase = phases.Closed })) phase
+    (end-turn k l w phases.Closed is h.keeps (runs-in w.phase phases.Asks phase refl) refl h.tells)
+ask-turn k l w (Some j) is phase h = asked-next k l w j is phase h.keeps h.tells
+
+less-asked-last : (a b m n : ℕ) → b ≤ a → n ≡ m → b * 3 + n - 1 < (a * 3 + m - 1) + 1
+less-asked-last a b m n ahead last = omega (arith, ahead, last)
+
+asked-last-next : (k l : Known) (w : Worker) (from j : ℕ) → IsWorker k w → w.phase ≡ phases.AsksLast from → KeepsList k l → IsNext l from j → from ≤ j
+    → Turns 0 k w l (serving j phases.LooksLast w)
+asked-last-next k l w from j is phase kept next low =
+    let e = kept.keeps in
+    let v : Worker = serving j phases.LooksLast w in
+    let past : IsPast from l = past-on from k l e.circuit e.properties e.limit kept.list e.settled (here-in k w (phases.AsksLast from) is phase) in
+    let ahead : ahead_of l j phases.LooksLast ≤ ahead_of k w.property (phases.AsksLast from) =
+    ahead-within k l w.property j (phases.AsksLast from) phases.LooksLast e.properties
+    (last-looks-ahead k.settled l.settled w.property from j e.settled low next.unsettled)
+    in
+    made-turn 0 k l w v is e refl
+    (rounds-served w.rounds l.circuit w.property j (plain l.list) (w.property == j) refl
+    (rounds-same w.rounds w.property k l e.circuit kept.list is.rounds))
+    (record { served = next.served; past = past-next from j l low next past })
+    (subst (λ p. left_in l j phases.LooksLast < left_in k w.property p) (sym phase)
+    (less-asked-last (ahead_of k w.property (phases.AsksLast from)) (ahead_of l j phases.LooksLast) (last_turns k.properties) (last_turns l.properties) ahead
+    (last-kept k l e)))
+    (subst (λ p. searches_left_in l j phases.LooksLast + 0 ≤ searches_left_in k w.property p) (sym phase) (omega arith))
+
+asked-last-stuck : (k l : Known) (w : Worker) (from j : ℕ) → IsWorker k w → w.phase ≡ phases.AsksLast from → KeepsList k l → IsNext l from j → j < from
+    → Turns 0 k w l (record w { phase = phases.Full })
+asked-last-stuck k l w from j is phase kept next below =
+    let e = kept.keeps in
+    let past : IsPast from l = past-on from k l e.circuit e.properties e.limit kept.list e.settled (here-in k w (phases.AsksLast from) is phase) in
+    subst (λ p. Turns (searches_in p) k w l (record w { phase = phases.Full })) phase
+    (end-turn k l w phases.Full is kept (runs-in w.phase (phases.AsksLast from) phase refl) refl (stuck-next from j l below next past))
+
+asked-last-by : (k l : Known) (w : Worker) (from j : ℕ) (b : Bool) → nat_lt j from ≡ b → IsWorker k w → w.phase ≡ phases.AsksLast from → KeepsList k l
+    → IsNext l from j → Turns 0 k w l (cond b (record w { phase = phases.Full }) (serving j phases.LooksLast w))
+asked-last-by k l w from j true test is phase kept next = asked-last-stuck k l w from j is phase kept next (ltb-true j from test)
+asked-last-by k l w from j false test is phase kept next = asked-last-next k l w from j is phase kept next (ltb-false j from test)
+
+pub ask-last-turn : (k l : Known) (w : Worker) (from : ℕ) (r : Option ℕ) → IsWorker k w → w.phase ≡ phases.AsksLast from → HasAsked k from r l
+    → Turns 0 k w l (asked_last from r w)
+ask-last-turn k l w from None is phase h =
+    subst (λ p. Turns (searches_in p) k w l (record w { phase = phases.Closed })) phase
+    (end-turn k l w phases.Closed is h.keeps (runs-in w.phase (phases.AsksLast from) phase refl) refl h.tells)
+ask-last-turn k l w from (Some j) is phase h = asked-last-by k l w from j (nat_lt j from) refl is phase h.keeps h.tells
+
+-- ---- looks
+
+less-looked : (r q a b m n : ℕ) → q ≤ r → b ≤ a → n ≡ m → (q + b) * 3 + n + 1 < (r + a) * 3 + m + 2
+less-looked r q a b m n room ahead last = omega (arith, room, ahead, last)
+
+pub look-turn : (k l : Known) (w : Worker) → IsWorker k w → w.phase ≡ phases.Looks → SeesMore k l → Turns 0 k w l (record w { phase = phases.Searches })
+look-turn k l w is phase sees =
+    let e = sees.keeps in
+    let j : ℕ = w.property in
+    let ahead : ahead_of l j phases.Searches ≤ ahead_of k j phases.Looks =
+    ahead-within k l j j phases.Looks phases.Searches e.properties (ahead-on k.settled l.settled j phases.Looks e.settled)
+    in
+    made-turn 0 k l w (record w { phase = phases.Searches }) is e refl (rounds-in w.rounds j k l sees is.rounds)
+    (inside-on k l j e.properties (here-in k w phases.Looks is phase))
+    (subst (λ p. left_in l j phases.Searches < left_in k j p) (sym phase)
+    (less-looked (room_of k) (room_of l) (ahead_of k j phases.Looks) (ahead_of l j phases.Searches) (last_turns k.properties) (last_turns l.properties)
+    (room-seen k l sees) ahead (last-kept k l e)))
+    (subst (λ p. searches_left_in l j phases.Searches + 0 ≤ searches_left_in k j p) (sym phase)
+    (kept-searches (room_of k) (room_of l) (ahead_of k j phases.Looks) (ahead_of l j phases.Searches) (room-seen k l sees) ahead))
+
+less-looked-last : (a b m n : ℕ) → 1 ≤ a → b ≤ a → n ≡ m → b * 3 + n - 2 < a * 3 + m - 1
+less-looked-last a b m n some ahead last = omega (arith, some, ahead, last)
+
+pub look-last-turn : (k l : Known) (w : Worker) → IsWorker k w → w.phase ≡ phases.LooksLast → SeesMore k l
+    → Turns 0 k w l (record w { phase = phases.SearchesLast })
+look-last-turn k l w is phase sees =
+    let e = sees.keeps in
+    let j : ℕ = w.property in
+    let was : ServesLast j k = here-in k w phases.LooksLast is phase in
+    let list : l.list ≡ k.list = full-same k l sees was.past.full in
+    let ahead : ahead_of l j phases.SearchesLast ≤ ahead_of k j phases.LooksLast =
+    ahead-within k l j j phases.LooksLast phases.SearchesLast e.properties (ahead-on k.settled l.settled j phases.LooksLast e.settled)
+    in
+    made-turn 0 k l w (record w { phase = phases.SearchesLast }) is e refl (rounds-in w.rounds j k l sees is.rounds)
+    (record {
+      served = inside-on k l j e.properties was.served;
+      past = past-on j k l e.circuit e.properties e.limit list e.settled was.past;
+    })
+    (subst (λ p. left_in l j phases.SearchesLast < left_in k j p) (sym phase)
+    (less-looked-last (ahead_of k j phases.LooksLast) (ahead_of l j phases.SearchesLast) (last_turns k.properties) (last_turns l.properties)
+    (looks-some k j was.served) ahead (last-kept k l e)))
+    (subst (λ p. searches_left_in l j phases.SearchesLast + 0 ≤ searches_left_in k j p) (sym phase) (omega arith))
+
+-- ---- posts
+
+less-grown : (r q a b m n : ℕ) → q + 1 ≤ r → b ≤ a → n ≡ m → (q + b) * 3 + n + 3 < (r + a) * 3 + m + 1
+less-grown r q a b m n room ahead last = omega (arith, room, ahead, last)
+
+grown-searches : (r q a b : ℕ) → q + 1 ≤ r → b ≤ a → q + b + 1 ≤ r + a
+grown-searches r q a b room ahead = omega (arith, room, ahead)
+
+grown-turn : (k l : Known) (w : Worker) → IsWorker k w → w.phase ≡ phases.Searches → SeesMore k l → length k.list < length l.list
+    → Turns 1 k w l (record w { phase = phases.Asks })
+grown-turn k l w is phase sees grown =
+    let e = sees.keeps in
+    let j : ℕ = w.property in
+    let ahead : ahead_of l j phases.Asks ≤ ahead_of k j phases.Searches =
+    ahead-within k l j j phases.Searches phases.Asks e.properties (asks-ahead k.settled l.settled j j e.settled)
+    in
+    let room : room_of l + 1 ≤ room_of k = room-grown k l sees grown in
+    made-turn 1 k l w (record w { phase = phases.Asks }) is e refl (rounds-in w.rounds j k l sees is.rounds) tt
+    (subst (λ p. left_in l j phases.Asks < left_in k j p) (sym phase)
+    (less-grown (room_of k) (room_of l) (ahead_of k j phases.Searches) (ahead_of l j phases.Asks) (last_turns k.properties) (last_turns l.properties)
+    room ahead (last-kept k l e)))
+    (subst (λ p. searches_left_in l j phases.Asks + 1 ≤ searches_left_in k j p) (sym phase)
+    (grown-searches (room_of k) (room_of l) (ahead_of k j phases.Searches) (ahead_of l j phases.Asks) room ahead))
+
+less-full : (r a b m n : ℕ) → 1 ≤ a → b ≤ a → n ≡ m → (b * 3 + n - 1) + 1 < (r + a) * 3 + m + 1
+less-full r a b m n some ahead last = omega (arith, some, ahead, last)
+
+full-searches : (r a : ℕ) → 1 ≤ a → 0 + 1 ≤ r + a
+full-searches r a some = omega (arith, some)
+
+full-turn : (k l : Known) (w : Worker) → IsWorker k w → w.phase ≡ phases.Searches → SeesMore k l → IsAtLimit l
+    → Turns 1 k w l (record w { phase = phases.AsksLast 0 })
+full-turn k l w is phase sees full =
+    let e = sees.keeps in
+    let j : ℕ = w.property in
+    let some : 1 ≤ ahead_of k j phases.Searches = searches-some k j (here-in k w phases.Searches is phase) in
+    let ahead : ahead_of l j (phases.AsksLast 0) ≤ ahead_of k j phases.Searches =
+    ahead-within k l j j phases.Searches (phases.AsksLast 0) e.properties (full-ahead k.settled l.settled j j e.settled)
+    in
+    made-turn 1 k l w (record w { phase = phases.AsksLast 0 }) is e refl (rounds-in w.rounds j k l sees is.rounds) (past-none l full)
+    (subst (λ p. left_in l j (phases.AsksLast 0) < left_in k j p) (sym phase)
+    (less-full (room_of k) (ahead_of k j phases.Searches) (ahead_of l j (phases.AsksLast 0)) (last_turns k.properties) (last_turns l.properties) some ahead
+    (last-kept k l e)))
+    (subst (λ p. searches_left_in l j (phases.AsksLast 0) + 1 ≤ searches_left_in k j p) (sym phase)
+    (full-searches (room_of k) (ahead_of k j phases.Searches) some))
+
+post-by : (k l : Known) (w : Worker) (r : Posted) → IsWorker k w → w.phase ≡ phases.Searches → HasPosted k r l
+    → Turns 1 k w l (record w { phase = phase_after r })
+post-by k l w (posts.Appended n) is phase h = grown-turn k l w is phase h.sees h.tells
+post-by k l w (posts.Stale n) is phase h = grown-turn k l w is phase h.sees h.tells
+post-by k l w posts.Full is phase h = full-turn k l w is phase h.sees h.tells
+post-by k l w posts.Closed is phase h =
+    subst (λ p. Turns (searches_in p) k w l (record w { phase = phases.Closed })) phase
+    (ended-turn k l w phases.Closed is h.sees.keeps (rounds-in w.rounds w.property k l h.sees is.rounds) (runs-in w.phase phases.Searches phase refl) refl h.tells)
+
+pub post-turn : (k l : Known) (w : Worker) (r : Posted) → IsWorker k w → w.phase ≡ phases.Searches → HasPosted k r l
+    → Turns (searches_in w.phase) k w l (record w { phase = phase_after r })
+post-turn k l w r is phase h = subst (λ p. Turns (searches_in p) k w l (record w { phase = phase_after r })) (sym phase) (post-by k l w r is phase h)
+
+-- ---- outcomes that are handed in
+
+less-finished : (r q a b m n : ℕ) → q ≤ r → b + 1 ≤ a → n ≡ m → (q + b) * 3 + n + 3 < (r + a) * 3 + m + 1
+less-finished r q a b m n room ahead last = omega (arith, room, ahead, last)
+
+finished-searches : (r q a b : ℕ) → q ≤ r → b + 1 ≤ a → q + b + 1 ≤ r + a
+finished-searches r q a b room ahead = omega (arith, room, ahead)
+
+finish-more : (k l : Known) (w : Worker) → IsWorker k w → w.phase ≡ phases.Searches → HasFinished w.property k l
+    → Turns 1 k w l (record w { phase = phases.Asks })
+finish-more k l w is phase h =
+    let e = h.keeps.keeps in
+    let j : ℕ = w.property in
+    let ahead : ahead_of l j phases.Asks + 1 ≤ ahead_of k j phases.Searches =
+    ahead-less k l j j j phases.Searches phases.Asks e.properties (asks-ahead k.settled l.settled j j e.settled) (here-in k w phases.Searches is phase)
+    (settled-out l.settled j j h.settled) (serves-searches k.settled j)
+    in
+    let room : room_of l ≤ room_of k = room-kept k l h.keeps in
+    made-turn 1 k l w (record w { phase = phases.Asks }) is e refl (rounds-same w.rounds j k l e.circuit h.keeps.list is.rounds) tt
+    (subst (λ p. left_in l j phases.Asks < left_in k j p) (sym phase)
+    (less-finished (room_of k) (room_of l) (ahead_of k j phases.Searches) (ahead_of l j phases.Asks) (last_turns k.properties) (last_turns l.properties)
+    room ahead (last-kept k l e)))
+    (subst (λ p. searches_left_in l j phases.Asks + 1 ≤ searches_left_in k j p) (sym phase)
+    (finished-searches (room_of k) (room_of l) (ahead_of k j phases.Searches) (ahead_of l j phases.Asks) room ahead))
+
+finish-only : (k l : Known) (w : Worker) → IsWorker k w → is_running w.phase ≡ true → Contains k.properties w.property → length k.properties ≡ 1
+    → HasFinished w.property k l → Turns (searches_in w.phase) k w l (record w { phase = phases.Closed })
+finish-only k l w is running inside one h =
+    end-turn k l w phases.Closed is h.keeps running refl
+    (settled-only w.property l (ap length h.keeps.keeps.properties ∙ one) (inside-on k l w.property h.keeps.keeps.properties inside) h.settled)
+
+finish-by : (k l : Known) (w : Worker) (b : Bool) → (length k.properties == 1) ≡ b → IsWorker k w → w.phase ≡ phases.Searches → HasFinished w.property k l
+    → Turns 1 k w l (record w { phase = cond b phases.Closed phases.Asks })
+finish-by k l w true one is phase h =
+    subst (λ p. Turns (searches_in p) k w l (record w { phase = phases.Closed })) phase
+    (finish-only k l w is (runs-in w.phase phases.Searches phase refl) (here-in k w phases.Searches is phase) (eqb-true (length k.properties) 1 one) h)
+finish-by k l w false more is phase h = finish-more k l w is phase h
+
+pub finish-turn : (k l : Known) (w : Worker) (properties : List ℕ) → properties ≡ k.properties → IsWorker k w → w.phase ≡ phases.Searches
+    → HasFinished w.property k l → Turns (searches_in w.phase) k w l (record w { phase = phase_finished properties phases.Asks })
+finish-turn k l w properties same is phase h =
+    subst (λ p. Turns (searches_in p) k w l (record w { phase = phase_finished properties phases.Asks })) (sym phase)
+    (subst (λ (js : List ℕ). Turns 1 k w l (record w { phase = phase_finished js phases.Asks })) (sym same)
+    (finish-by k l w (length k.properties == 1) refl is phase h))
+
+less-finished-last : (a b m n : ℕ) → b + 1 ≤ a → n ≡ m → m ≡ 1 → (b * 3 + n - 1) + 1 < a * 3 + m - 2
+less-finished-last a b m n ahead last one = omega (arith, ahead, last, one)
+
+more-than-one : (n : ℕ) → 0 < n → (n == 1) ≡ false → 2 ≤ n
+more-than-one n some other =
+    elim (cases_lt n 2) [
+      | inl less ↦ absurd (eqb-false n 1 other (omega (arith, some, less)))
+      | inr most ↦ most
+    ]
+
+finish-last-more : (k l : Known) (w : Worker) → 2 ≤ length k.properties → IsWorker k w → w.phase ≡ phases.SearchesLast → HasFinished w.property k l
+    → Turns 0 k w l (record w { phase = phases.AsksLast w.property })
+finish-last-more k l w two is phase h =
+    let e = h.keeps.keeps in
+    let j : ℕ = w.property in
+    let was : ServesLast j k = here-in k w phases.SearchesLast is phase in
+    let ahead : ahead_of l j (phases.AsksLast j) + 1 ≤ ahead_of k j phases.SearchesLast =
+    ahead-less k l j j j phases.SearchesLast (phases.AsksLast j) e.properties (finished-ahead k.settled l.settled j j e.settled) was.served
+    (finished-out l.settled j j h.settled) (serves-last k.settled j)
+    in
+    made-turn 0 k l w (record w { phase = phases.AsksLast j }) is e refl (rounds-same w.rounds j k l e.circuit h.keeps.list is.rounds)
+    (past-on j k l e.circuit e.properties e.limit h.keeps.list e.settled was.past)
+    (subst (λ p. left_in l j (phases.AsksLast j) < left_in k j p) (sym phase)
+    (less-finished-last (ahead_of k j phases.SearchesLast) (ahead_of l j (phases.AsksLast j)) (last_turns k.properties) (last_turns l.properties) ahead
+    (last-kept k l e) (last-of-two k.properties two)))
+    (subst (λ p. searches_left_in l j (phases.AsksLast j) + 0 ≤ searches_left_in k j p) (sym phase) (omega arith))
+
+finish-last-by : (k l : Known) (w : Worker) (b : Bool) → (length k.properties == 1) ≡ b → IsWorker k w → w.phase ≡ phases.SearchesLast
+    → HasFinished w.property k l → Turns 0 k w l (record w { phase = cond b phases.Closed (phases.AsksLast w.property) })
+finish-last-by k l w true one is phase h =
+    subst (λ p. Turns (searches_in p) k w l (record w { phase = phases.Closed })) phase
+    (finish-only k l w is (runs-in w.phase phases.SearchesLast phase refl) (here-in k w phases.SearchesLast is phase).served
+    (eqb-true (length k.properties) 1 one) h)
+finish-last-by k l w false more is phase h =
+    finish-last-more k l w
+    (more-than-one (length k.properties) (some-in k.properties w.property (here-in k w phases.SearchesLast is phase).served) more) is phase h
+
+pub finish-last-turn : (k l : Known) (w : Worker) (properties : List ℕ) → properties ≡ k.properties → IsWorker k w → w.phase ≡ phases.SearchesLast
+    → HasFinished w.property k l → Turns (searches_in w.phase) k w l (record w { phase = phase_finished properties (phases.AsksLast w.property) })
+finish-last-turn k l w properties same is phase h =
+    subst (λ p. Turns (searches_in p) k w l (record w { phase = phase_finished properties (phases.AsksLast w.property) })) (sym phase)
+    (subst (λ (js : List ℕ). Turns 0 k w l (record w { phase = phase_finished js (phases.AsksLast w.property) })) (sym same)
+    (finish-last-by k l w (length k.properties == 1) refl is phase h))
+
+-- ---- a property that is passed over
+
+less-passed : (a b m : ℕ) → b + 1 ≤ a → m ≡ 1 → (b * 3 + m - 1) + 1 < a * 3 + m - 2
+less-passed a b m ahead one = omega (arith, ahead, one)
+
+pass-more : (k : Known) (w : Worker) → IsWorker k w → w.phase ≡ phases.SearchesLast → IsAllowing k w.property
+    → w.property < get_or k.properties (length k.properties - 1) 0 → Turns 0 k w k (record w { phase = phases.AsksLast (w.property + 1) })
+pass-more k w is phase left more =
+    let j : ℕ = w.property in
+    let was : ServesLast j k = here-in k w phases.SearchesLast is phase in
+    let ahead : ahead_of k j (phases.AsksLast (j + 1)) + 1 ≤ ahead_of k j phases.SearchesLast =
+    ahead-less k k j j j phases.SearchesLast (phases.AsksLast (j + 1)) refl (passed-ahead k.settled j j) was.served (passed-out k.settled j j)
+    (serves-last k.settled j)
+    in
+    made-turn 0 k k w (record w { phase = phases.AsksLast (j + 1) }) is (keeps-self k) refl is.rounds (past-more j k left was.past)
+    (subst (λ p. left_in k j (phases.AsksLast (j + 1)) < left_in k j p) (sym phase)
+    (less-passed (ahead_of k j phases.SearchesLast) (ahead_of k j (phases.AsksLast (j + 1))) (last_turns k.properties) ahead
+    (last-of-two k.properties (are-two k.properties j was.served more))))
+    (subst (λ p. searches_left_in k j (phases.AsksLast (j + 1)) + 0 ≤ searches_left_in k j p) (sym phase) (omega arith))
+
+pass-by : (k : Known) (w : Worker) (b : Bool) → nat_lt w.property (get_or k.properties (length k.properties - 1) 0) ≡ b → IsWorker k w
+    → w.phase ≡ phases.SearchesLast → IsAllowing k w.property → Turns 0 k w k (record w { phase = cond b (phases.AsksLast (w.property + 1)) phases.Full })
+pass-by k w true test is phase left = pass-more k w is phase left (ltb-true w.property (get_or k.properties (length k.properties - 1) 0) test)
+pass-by k w false test is phase left =
+    subst (λ p. Turns (searches_in p) k w k (record w { phase = phases.Full })) phase
+    (stop-turn k w phases.Full is (runs-in w.phase phases.SearchesLast phase refl) refl
+    (stuck-last w.property k is.served.ascend (ltb-false w.property (get_or k.properties (length k.properties - 1) 0) test) left
+    (here-in k w phases.SearchesLast is phase).past))
+
+pub pass-turn : (k : Known) (w : Worker) (properties : List ℕ) → properties ≡ k.properties → IsWorker k w → w.phase ≡ phases.SearchesLast
+    → IsAllowing k w.property → Turns (searches_in w.phase) k w k (record w { phase = phase_passed properties w.property })
+pass-turn k w properties same is phase left =
+    subst (λ p. Turns (searches_in p) k w k (record w { phase = phase_passed properties w.property })) (sym phase)
+    (subst (λ (js : List ℕ). Turns 0 k w k (record w { phase = phase_passed js w.property })) (sym same)
+    (pass-by k w (nat_lt w.property (get_or k.properties (length k.properties - 1) 0)) refl is phase left))
+
+-- there is a last property
+pub some-served : (k : Known) (w : Worker) (properties : List ℕ) → properties ≡ k.properties → IsWorker k w → w.phase ≡ phases.SearchesLast
+    → 0 < length properties
+some-served k w properties same is phase =
+    subst (λ (js : List ℕ). 0 < length js) (sym same) (some-in k.properties w.property (here-in k w phases.SearchesLast is phase).served)
+
+-- the property that is served is one of the circuit's
+inside-at : (c : Circuit) (properties : List ℕ) (j : ℕ) → AreServed c properties → Contains properties j → j < length c.justice
+inside-at c properties j h (k, below, at) = subst (λ (m : ℕ). m < length c.justice) at (h.inside k j below)
+
+pub serves-inside : (k : Known) (w : Worker) → IsWorker k w → w.phase ≡ phases.Searches → w.property < length k.circuit.justice
+serves-inside k w is phase = inside-at k.circuit k.properties w.property is.served (here-in k w phases.Searches is phase)
+
+pub serves-last-inside : (k : Known) (w : Worker) → IsWorker k w → w.phase ≡ phases.SearchesLast → w.property < length k.circuit.justice
+serves-last-inside k w is phase = inside-at k.circuit k.properties w.property is.served (here-in k w phases.SearchesLast is phase).served
+
+pub serves-one : (k : Known) (w : Worker) → IsWorker k w → w.phase ≡ phases.Searches → Contains k.properties w.property
+serves-one k w is phase = here-in k w phases.Searches is phase
+
+pub serves-last-one : (k : Known) (w : Worker) → IsWorker k w → w.phase ≡ phases.SearchesLast → Contains k.properties w.property
+serves-last-one k w is phase = (here-in k w phases.SearchesLast is phase).served
+
+-- ---- turns that are taken
+
+few-turns : (turns left most : ℕ) → turns + left ≤ most → 0 < left → turns < most
+few-turns turns left most within some = omega (arith, within, some)
+
+-- a turn that is taken is one of those that a worker has
+pub turn-within : (k : Known) (w : Worker) → IsWorker k w → is_running w.phase ≡ true → k.turns < left_at_first k
+turn-within k w is running = few-turns k.turns (left_to k w) (left_at_first k) is.turns (running-left k w.property w.meter w.phase running is.phase)
+
+last-few : (n : ℕ) → min 1 (n - 1) ≤ 1
+last-few n = grind (arith)
+
+first-few : (limit given properties last : ℕ) → limit ≤ 65536 → properties ≤ 536870912 → last ≤ 1
+    → ((limit - given) + properties) * 3 + last + 3 < 4294967296
+first-few limit given properties last short few one = omega (arith, short, few, one)
+
+turn-fits : (t n : ℕ) → t < n → n < 4294967296 → t + 1 < 2 ^ 32
+turn-fits t n less few = omega (arith, less, few)
+
+-- there is a number for it
+pub one-more-turn : (k : Known) (w : Worker) → IsWorker k w → is_running w.phase ≡ true → k.turns + 1 < 2 ^ 32
+one-more-turn k w is running =
+    turn-fits k.turns (left_at_first k) (turn-within k w is running)
+    (first-few k.limit k.given (length k.properties) (last_turns k.properties) is.short is.served.few (last-few (length k.properties)))
+
+pub one-more-in : (k : Known) (w : Worker) (p : Phase) → IsWorker k w → w.phase ≡ p → is_running p ≡ true → k.turns + 1 < 2 ^ 32
+one-more-in k w p is phase running = one-more-turn k w is (runs-in w.phase p phase running)
 
 -- ---- thinking
 
@@ -230,7 +626,7 @@ phase-thinks : (j : ℕ) (k : Known) (a b : Spendings) (p : Phase) → is_runnin
 phase-thinks j k a b phases.Asks running h = h
 phase-thinks j k a b phases.Looks running h = h
 phase-thinks j k a b phases.Searches running h = h
-phase-thinks j k a b phases.AsksLast running h = h
+phase-thinks j k a b (phases.AsksLast from) running h = h
 phase-thinks j k a b phases.LooksLast running h = h
 phase-thinks j k a b phases.SearchesLast running h = h
 phase-thinks j k a b phases.Closed running h = h
@@ -238,25 +634,33 @@ phase-thinks j k a b phases.Full running h = h
 phase-thinks j k a b phases.Spent running h = absurd (false≢true running)
 phase-thinks j k a b phases.Refused running h = absurd (false≢true running)
 
-pub thinks_worker : (j searches : ℕ) (k : Known) (w v : Worker) → IsWorker j k w → Thinks j searches k w v → is_running w.phase ≡ true → IsWorker j k v
-thinks_worker j searches k w v is t running = record {
+pub thinks_worker : (searches : ℕ) (k : Known) (w v : Worker) → IsWorker k w → Thinks searches k w v → is_running w.phase ≡ true → IsWorker k v
+thinks_worker searches k w v is t running = record {
   served = is.served;
-  inside = is.inside;
   rounds = t.rounds;
-  phase = subst (IsIn j k v.meter) (sym t.phase) (phase-thinks j k w.meter v.meter w.phase running is.phase);
+  phase = subst (λ (m : ℕ). IsIn m k v.meter v.phase) (sym t.property)
+      (subst (IsIn w.property k v.meter) (sym t.phase) (phase-thinks w.property k w.meter v.meter w.phase running is.phase));
   short = is.short;
-  turns = subst (λ p. k.turns + left k.limit (length k.list) p ≤ left_at_first k.limit k.given) (sym t.phase) is.turns;
+  turns = subst (λ (m : ℕ). k.turns + left_in k m v.phase ≤ left_at_first k) (sym t.property)
+      (subst (λ p. k.turns + left_in k w.property p ≤ left_at_first k) (sym t.phase) is.turns);
 }
 
-pub thinks_turn : (j searches : ℕ) (k l : Known) (w v u : Worker) → Thinks j searches k w v → Turns j searches k v l u → Turns j 0 k w l u
-thinks_turn j searches k l w v u t turn = record {
+searches-same : (k : Known) (w v : Worker) → v.property ≡ w.property → v.phase ≡ w.phase → searches_left_to k v ≡ searches_left_to k w
+searches-same k w v property phase =
+    ap (λ p. searches_left_in k v.property p) phase ∙ ap (λ (m : ℕ). searches_left_in k m w.phase) property
+
+left-same : (k : Known) (w v : Worker) → v.property ≡ w.property → v.phase ≡ w.phase → left_to k v ≡ left_to k w
+left-same k w v property phase = ap (λ p. left_in k v.property p) phase ∙ ap (λ (m : ℕ). left_in k m w.phase) property
+
+pub thinks_turn : (searches : ℕ) (k l : Known) (w v u : Worker) → Thinks searches k w v → Turns searches k v l u → Turns 0 k w l u
+thinks_turn searches k l w v u t turn = record {
   worker = turn.worker;
   limits = record { conflicts = turn.limits.conflicts ∙ t.limits.conflicts; steps = turn.limits.steps ∙ t.limits.steps };
-  less = subst (λ p. left_to l u < left k.limit (length k.list) p) t.phase turn.less;
+  less = subst (λ (n : ℕ). left_to l u < n) (left-same k w v t.property t.phase) turn.less;
   steps =
-      let cost : ℕ = search_steps k.circuit j in
-      let behind : steps_through u (searches_left_to l u + searches) cost ≤ v.meter.steps + searches_left k.limit (length k.list) w.phase * cost =
-      subst (λ p. steps_through u (searches_left_to l u + searches) cost ≤ v.meter.steps + searches_left k.limit (length k.list) p * cost) t.phase turn.steps
+      let cost : ℕ = search_steps k.circuit k.properties in
+      let behind : steps_through u (searches_left_to l u + searches) cost ≤ v.meter.steps + searches_left_to k w * cost =
+      subst (λ (n : ℕ). steps_through u (searches_left_to l u + searches) cost ≤ v.meter.steps + n * cost) (searches-same k w v t.property t.phase) turn.steps
       in
       steps-behind u.meter.steps v.meter.steps w.meter.steps searches (searches_left_to l u) (searches_left_to k w) cost t.steps behind;
 }
@@ -275,30 +679,38 @@ counts-none n searches x = record {
     more a b = omega arith
 
 -- one search, in the phase for it
-pub thought : (p : Phase) (s t : ℕ) (c d : Circuit) (j : ℕ) → p ≡ phases.Searches → d ≡ c
-    → t ≤ s + (max 1 (length (fair_literals d j)) + 1) * path_steps (length d.latches) → t ≤ s + searches_ahead p * search_steps c j
-thought p s t c d j phase circuit h =
-    subst (λ q. t ≤ s + searches_ahead q * search_steps c j) (sym phase)
-    (subst (λ (k : Circuit). t ≤ s + 1 * search_steps k j) circuit (one t s (search_steps d j) h))
+pub thought : (p : Phase) (s t : ℕ) (c d : Circuit) (j : ℕ) (properties : List ℕ) → p ≡ phases.Searches → d ≡ c → Contains properties j
+    → t ≤ s + (max 1 (length (fair_literals d j)) + 1) * path_steps (length d.latches) → t ≤ s + searches_in p * search_steps c properties
+thought p s t c d j properties phase circuit inside h =
+    subst (λ q. t ≤ s + searches_in q * search_steps c properties) (sym phase)
+    (subst (λ (k : Circuit). t ≤ s + 1 * search_steps k properties) circuit
+    (one t s ((max 1 (length (fair_literals d j)) + 1) * path_steps (length d.latches)) (search_steps d properties) h
+    (mul-le-mul_right (path_steps (length d.latches)) (more (max 1 (length (fair_literals d j))) (most_situations d properties) (situations-within d properties j inside)))))
   where
-    one : (t s r : ℕ) → t ≤ s + r → t ≤ s + 1 * r
-    one t s r h = omega (arith, h)
+    one : (t s r q : ℕ) → t ≤ s + r → r ≤ q → t ≤ s + 1 * q
+    one t s r q h few = omega (arith, h, few)
+
+    more : (m n : ℕ) → m ≤ n → m + 1 ≤ n + 1
+    more m n h = omega (arith, h)
 
 pub unthought : (s t k r : ℕ) → t ≡ s → t ≤ s + k * r
 unthought s t k r same = omega (arith, same)
 
 -- ---- posts
 
-pub may-post : (j : ℕ) (k : Known) (e : CheckedEntry) (origin : Origin) → k.properties ≡ j ∷ [] → e.circuit ≡ k.circuit
+any-of : (P : ℕ → Type 0) (js : List ℕ) (j : ℕ) → Contains js j → P j → Any P js
+any-of P js j (k, below, at) p = (k, j, below, at, p)
+
+pub may-post : (j : ℕ) (k : Known) (e : CheckedEntry) (origin : Origin) → Contains k.properties j → e.circuit ≡ k.circuit
     → AreClosed (plain k.list) e.entry.uses → e.used ≡ used_entries (plain k.list) e.entry.uses
     → FromWorker origin (IsWorkOf k.circuit (plain k.list) j k.number k.turns) → FromWorker origin (IsOwn k e)
-may-post j k e Given served circuit closed used work = absurd work
-may-post j k e (FoundBy found) served circuit closed used work = record {
+may-post j k e Given inside circuit closed used work = absurd work
+may-post j k e (FoundBy found) inside circuit closed used work = record {
   circuit = circuit;
   author = work.author;
   turn = work.turn;
   closed = closed;
   used = used;
-  skeleton = subst (Any (λ i. IsSkeleton k.circuit i found.skeleton)) (sym served) (0, j, omega arith, refl, work.allowed.skeleton);
+  skeleton = any-of (λ i. IsSkeleton k.circuit i found.skeleton) k.properties j inside work.allowed.skeleton;
   allowed = work.allowed.allowed;
 }

@@ -11,7 +11,7 @@ use Rattle.fair_workers.specs.declared.ending.WorkerEnd.{WorkerEnd}
 use Rattle.fair_workers.specs.declared.limits.Limits.{Limits}
 use Rattle.fair_workers.specs.declared.runners.Runner.{Runner}
 use Rattle.fair_workers.specs.declared.working.Worker.{Worker}
-use Rattle.fair_workers.specs.Runs.{Task, IsInBudget, IsWithLimits}
+use Rattle.fair_workers.specs.Runs.{Task, AreServed, IsInBudget, IsWithLimits}
 use Rattle.fair_workers.specs.Knowing.{Known}
 use Rattle.fair_workers.specs.Working.{is_running, left_at_first, searches_left_to, search_steps, steps_through, IsIn, IsWorker}
 
@@ -49,10 +49,10 @@ pub record StaysHeld (l : LedgerState) (p : PassState) (m : LedgerState) (q : Pa
 
 -- A pass with which a worker begins: it has seen the given entries and has had no turn, and the list may grow as the
 -- limits say.
-pub record IsReady (limits : Limits) (j : ℕ) (l : LedgerState) (p : PassState) : Type 0 where
+pub record IsReady (limits : Limits) (properties : List ℕ) (l : LedgerState) (p : PassState) : Type 0 where
   pub pass : IsPassOf l p
-  pub served : l.properties ≡ j ∷ []
-  pub property : j < length l.circuit.justice
+  pub same : l.properties ≡ properties
+  pub served : AreServed l.circuit l.properties
   pub list : p.list ≡ l.given
   pub turns : p.turns ≡ 0
   pub grows : l.limit ≤ length l.given + limits.skeletons
@@ -66,53 +66,55 @@ fresh_meter limits = record {
   step_limit = limit_of limits.steps;
 }
 
+-- how many steps a worker takes at most over a ledger
+abbrev pub steps_within : Limits → LedgerState → ℕ
+steps_within limits l = (limits.skeletons + length l.properties) * search_steps l.circuit l.properties
+
 -- A worker and its pass between two turns: the steps that it has taken, and those of all searches that are left to it,
 -- are within what a worker takes at most.
-pub record Goes (limits : Limits) (j : ℕ) (l : LedgerState) (p : PassState) (w : Worker) : Type 0 where
+pub record Goes (limits : Limits) (l : LedgerState) (p : PassState) (w : Worker) : Type 0 where
   pub pass : IsPassOf l p
-  pub worker : IsWorker j (known_by l p) w
+  pub worker : IsWorker (known_by l p) w
   pub counted : IsWithLimits limits w.meter
   pub steps :
-      steps_through w (searches_left_to (known_by l p) w) (search_steps l.circuit j)
-      ≤ (limits.skeletons + 1) * search_steps l.circuit j
+      steps_through w (searches_left_to (known_by l p) w) (search_steps l.circuit l.properties) ≤ steps_within limits l
 
 -- How a worker ended, with its pass: what it then knows, and what it spent.
-pub record IsThrough (limits : Limits) (j : ℕ) (l : LedgerState) (p : PassState) (e : WorkerEnd) : Type 0 where
+pub record IsThrough (limits : Limits) (l : LedgerState) (p : PassState) (e : WorkerEnd) : Type 0 where
   pub pass : IsPassOf l p
-  pub turns : p.turns ≤ left_at_first l.limit (length l.given)
+  pub turns : p.turns ≤ left_at_first (known_by l p)
   pub over : is_running e.phase ≡ false
-  pub tells : IsIn j (known_by l p) e.spent e.phase
+  pub tells : IsIn 0 (known_by l p) e.spent e.phase
   pub counted : IsWithLimits limits e.spent
   pub within : IsInBudget e.spent
-  pub steps : e.spent.steps ≤ (limits.skeletons + 1) * search_steps l.circuit j
+  pub steps : e.spent.steps ≤ steps_within limits l
 
 -- a worker that has a pass with which it may begin
-abbrev pub MayRun : Limits → ℕ → LedgerState → Runner → Type 0
-MayRun limits j l r = (p : PassState) × (r.pass ≡ Some p) × IsReady limits j l p
+abbrev pub MayRun : Limits → List ℕ → LedgerState → Runner → Type 0
+MayRun limits properties l r = (p : PassState) × (r.pass ≡ Some p) × IsReady limits properties l p
 
 -- The worker has ended: it has its pass again, and its end is kept.
-pub record HasRun (limits : Limits) (j : ℕ) (l : LedgerState) (r s : Runner) : Type 0 where
+pub record HasRun (limits : Limits) (l : LedgerState) (r s : Runner) : Type 0 where
   pub pass : PassState
   pub held : s.pass ≡ Some pass
   pub end : WorkerEnd
   pub kept : s.end ≡ Some end
   pub number : (p : PassState) → r.pass ≡ Some p → pass.number ≡ p.number
   pub own : OwnTurns pass
-  pub through : IsThrough limits j l pass end
+  pub through : IsThrough limits l pass end
 
 -- all of them have
-abbrev pub HaveRun : Limits → ℕ → LedgerState → List Runner → List Runner → Type 0
-HaveRun limits j l before after =
+abbrev pub HaveRun : Limits → LedgerState → List Runner → List Runner → Type 0
+HaveRun limits l before after =
     (length after ≡ length before)
-    × ((k : ℕ) (d : Runner) → k < length before → HasRun limits j l (slice_index_or before k d) (slice_index_or after k d))
+    × ((k : ℕ) (d : Runner) → k < length before → HasRun limits l (slice_index_or before k d) (slice_index_or after k d))
 
 -- the runner has a pass and an end
 abbrev pub HasEnded : Runner → Type 0
 HasEnded r = ((p : PassState) × (r.pass ≡ Some p)) × ((e : WorkerEnd) × (r.end ≡ Some e))
 
--- A ledger for a task of property j, and a runner with each of its passes.
-pub record IsBegunFor (task : Task) (j : ℕ) (l : LedgerState) (runners : List Runner) : Type 0 where
-  pub properties : task.properties ≡ j ∷ []
-  pub property : j < length task.circuit.justice
+-- A ledger for a task, and a runner with each of its passes.
+pub record IsBegunFor (task : Task) (l : LedgerState) (runners : List Runner) : Type 0 where
+  pub served : AreServed task.circuit task.properties
   pub ledger : IsBegun task.circuit task.properties task.limits.workers task.limits.skeletons task.given l (new_passes l 0 task.limits.workers)
   pub passes : map (λ r. r.pass) runners ≡ map Some (new_passes l 0 task.limits.workers)

@@ -1,6 +1,6 @@
 -- Scaffolding of inner functions. What a worker knows of a list that it shares with others, and what a call for the list
 -- makes of that. It goes for a board on which workers take turns, and for whatever else may lend one a list.
-use Rattle.std.specs.Prelude.{◌≡◌, ℕ, ◌+◌, ◌<◌, ◌≤◌, Bool, true, false, List, ◌++◌, length, Contains, Option, Some, None}
+use Rattle.std.specs.Prelude.{◌≡◌, ℕ, ◌+◌, ◌<◌, ◌≤◌, ◌⊎◌, Bool, true, false, List, ◌++◌, length, Contains, Option, Some, None}
 use Rattle.std.specs.List.{Any}
 use Rattle.aig_semantics.specs.Circuits.{Circuit}
 use Rattle.fair_semantics.specs.Entries.{used_entries, AreClosed}
@@ -65,14 +65,20 @@ pub record HasFinished (j : ℕ) (k l : Known) : Type 0 where
   pub keeps : KeepsList k l
   pub settled : l.settled j ≡ true
 
--- What the answer to a question for an open property tells: each has an outcome; or this one is open.
-abbrev pub TellsAsked : Known → Option ℕ → Type 0
-TellsAsked l None = AreSettled l
-TellsAsked l (Some j) = Contains l.properties j × (l.settled j ≡ false)
+-- Property j is open; and each from a number on has an outcome, up to j, or all of them where j is below that number.
+pub record IsNext (l : Known) (from j : ℕ) : Type 0 where
+  pub served : Contains l.properties j
+  pub unsettled : l.settled j ≡ false
+  pub passed : (i : ℕ) → Contains l.properties i → from ≤ i → (i < j) ⊎ (j < from) → l.settled i ≡ true
 
-pub record HasAsked (k : Known) (r : Option ℕ) (l : Known) : Type 0 where
+-- What the answer to a question for an open property from a number on tells: each has an outcome; or this one is next.
+abbrev pub TellsAsked : Known → ℕ → Option ℕ → Type 0
+TellsAsked l from None = AreSettled l
+TellsAsked l from (Some j) = IsNext l from j
+
+pub record HasAsked (k : Known) (from : ℕ) (r : Option ℕ) (l : Known) : Type 0 where
   pub keeps : KeepsList k l
-  pub tells : TellsAsked l r
+  pub tells : TellsAsked l from r
 
 -- What a worker may post is an entry of its own and of this turn, that is of the circuit, whose uses are closed among the
 -- entries that it has seen, and whose skeleton, one of a property of the list, these allow.

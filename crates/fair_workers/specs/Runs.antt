@@ -1,8 +1,8 @@
 -- What workers leave that search over one board: an answer for each property, or a report that shows what was spent.
 -- The search is FAIR (Bradley, Somenzi, Hassan, Zhang, An incremental approach to model checking progress properties,
 -- 2011); that several workers share its list is this program's.
-use Rattle.std.specs.Prelude.{◌≡◌, ℕ, ◌+◌, ◌*◌, ◌<◌, ◌≤◌, ◌⊎◌, min, max, List, [], ◌∷◌, ◌++◌, length, drop}
-use Rattle.std.specs.List.{All}
+use Rattle.std.specs.Prelude.{◌≡◌, ℕ, ◌+◌, ◌-◌, ◌*◌, ◌<◌, ◌≤◌, ◌⊎◌, min, max, List, [], ◌∷◌, ◌++◌, length, drop}
+use Rattle.std.specs.List.{All, AllPairs}
 use Rattle.aig_semantics.specs.Circuits.{Circuit, fair_literals}
 use Rattle.fair_semantics.specs.declared.skeletons.Skeleton.{Skeleton}
 use Rattle.edge.specs.Units.{Spendings, IsWithin, limit_of}
@@ -29,10 +29,25 @@ pub record AreLimits (limits : Limits) : Type 0 where
   pub few : limits.workers ≤ 64
   pub skeletons : limits.skeletons ≤ most_entries
 
--- How many turns a worker takes at most: three (it asks whether a property is open, looks, and searches) for each entry by
--- which the list may grow, three in which it finds the list full, and then three for each property.
+-- no more properties are served
+abbrev pub most_properties : ℕ
+most_properties = 536870912
+
+-- Properties that may be served: their numbers ascend, are those of properties of the circuit, and are no more than that.
+pub record AreServed (c : Circuit) (properties : List ℕ) : Type 0 where
+  pub ascend : AllPairs (λ i j. i < j) properties
+  pub inside : All (λ j. j < length c.justice) properties
+  pub few : length properties ≤ most_properties
+
+-- the turn in which a worker that serves several properties is told that each has an outcome
+abbrev pub last_turns : List ℕ → ℕ
+last_turns properties = min 1 (length properties - 1)
+
+-- How many turns a worker takes at most: three (it asks for an open property, looks, and searches) for each entry by which
+-- the list may grow, three in which it finds the list full, and three for each property; and one more where there are
+-- several.
 abbrev pub most_turns : Task → ℕ
-most_turns task = 3 * (task.limits.skeletons + 1 + length task.properties)
+most_turns task = 3 * (task.limits.skeletons + 1 + length task.properties) + last_turns task.properties
 
 -- a worker found the entry, within so many turns
 abbrev pub IsFoundWithin : ℕ → CheckedEntry → Type 0

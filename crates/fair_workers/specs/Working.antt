@@ -1,6 +1,6 @@
 -- Scaffolding of inner functions. A worker, and what a turn comes to, by what it knows of the list that it shares.
-use Rattle.std.specs.Prelude.{◌≡◌, ℕ, ◌+◌, ◌-◌, ◌*◌, ◌<◌, ◌≤◌, max, Bool, true, false, List, ◌∷◌, [], length, IfSome}
-use Rattle.aig_semantics.specs.Circuits.{Circuit, fair_literals}
+use Rattle.std.specs.Prelude.{◌≡◌, ℕ, ◌+◌, ◌-◌, ◌*◌, ◌<◌, ◌≤◌, ◌==◌, ◌||◌, ◌&&◌, not, nat_le, nat_lt, Bool, true, false, List, ◌∷◌, [], length, slice_index_or, Contains, Option, Some, None, IfSome, if◌then◌else◌}
+use Rattle.aig_semantics.specs.Circuits.{Circuit}
 use Rattle.edge.specs.Units.{Spendings}
 use Rattle.entry.specs.CheckedEntries.{GoesOnFrom}
 use Rattle.fair_semantics.specs.Entries.{Entry}
@@ -13,27 +13,17 @@ use Rattle.fair_round.specs.Spending.{IsSpent, path_steps}
 use Rattle.fair_workers.specs.declared.working.Phase.{Phase}
 use Rattle.fair_workers.specs.declared.working.Phase.TheVariants as phases
 use Rattle.fair_workers.specs.declared.working.Worker.{Worker}
-use Rattle.fair_workers.specs.Knowing.{Known}
+use Rattle.fair_workers.specs.Runs.{AreServed, last_turns, most_situations}
+use Rattle.fair_workers.specs.Knowing.{Known, AreSettled}
 
--- how many phases may follow before the worker has seen more, or has ended
-abbrev pub rank : Phase → ℕ
-rank phases.Asks = 6
-rank phases.Looks = 5
-rank phases.Searches = 4
-rank phases.AsksLast = 3
-rank phases.LooksLast = 2
-rank phases.SearchesLast = 1
-rank phases.Closed = 0
-rank phases.Full = 0
-rank phases.Spent = 0
-rank phases.Refused = 0
+-- ---- phases
 
 -- the worker has not ended
 abbrev pub is_running : Phase → Bool
 is_running phases.Asks = true
 is_running phases.Looks = true
 is_running phases.Searches = true
-is_running phases.AsksLast = true
+is_running (phases.AsksLast from) = true
 is_running phases.LooksLast = true
 is_running phases.SearchesLast = true
 is_running phases.Closed = false
@@ -46,7 +36,7 @@ abbrev pub is_refused : Phase → Bool
 is_refused phases.Asks = false
 is_refused phases.Looks = false
 is_refused phases.Searches = false
-is_refused phases.AsksLast = false
+is_refused (phases.AsksLast from) = false
 is_refused phases.LooksLast = false
 is_refused phases.SearchesLast = false
 is_refused phases.Closed = false
@@ -58,67 +48,171 @@ is_refused phases.Refused = true
 abbrev pub phase_after : Posted → Phase
 phase_after (posts.Appended n) = phases.Asks
 phase_after (posts.Stale n) = phases.Asks
-phase_after posts.Full = phases.AsksLast
+phase_after posts.Full = phases.AsksLast 0
 phase_after posts.Closed = phases.Closed
 
--- how many searches are ahead of a worker before it has seen more
-abbrev pub searches_ahead : Phase → ℕ
-searches_ahead phases.Asks = 1
-searches_ahead phases.Looks = 1
-searches_ahead phases.Searches = 1
-searches_ahead phases.AsksLast = 0
-searches_ahead phases.LooksLast = 0
-searches_ahead phases.SearchesLast = 0
-searches_ahead phases.Closed = 0
-searches_ahead phases.Full = 0
-searches_ahead phases.Spent = 0
-searches_ahead phases.Refused = 0
+-- where it leads to that an outcome was handed in: to the end, where no other property is served
+abbrev pub phase_finished : List ℕ → Phase → Phase
+phase_finished properties next = if length properties == 1 then phases.Closed else next
 
--- how much is left to do in a phase for a worker that has seen so many entries, where no list is longer than the limit
-abbrev pub left : ℕ → ℕ → Phase → ℕ
-left limit seen p = (limit - seen) * 3 + rank p
+-- where it leads to that a full list allows a skeleton of property j: to the properties behind it, where there are some
+abbrev pub phase_passed : List ℕ → ℕ → Phase
+phase_passed properties j =
+    if nat_lt j (slice_index_or properties (length properties - 1) 0) then phases.AsksLast (j + 1) else phases.Full
 
--- how many searches are left to it
+-- ---- workers
+
+-- The worker serves property j from now on; of its rounds it keeps those of that property.
+abbrev pub serving : ℕ → Phase → Worker → Worker
+serving j phase w = record {
+  property = j;
+  rounds = if w.property == j then w.rounds else None;
+  meter = w.meter;
+  phase = phase;
+}
+
+-- the worker behind the answer to its question for an open property
+abbrev pub asked : Option ℕ → Worker → Worker
+asked None w = record w { phase = phases.Closed }
+asked (Some j) w = serving j phases.Looks w
+
+-- the same of a full list: it ends where it went through all that are open
+abbrev pub asked_last : ℕ → Option ℕ → Worker → Worker
+asked_last from None w = record w { phase = phases.Closed }
+asked_last from (Some j) w = if nat_lt j from then record w { phase = phases.Full } else serving j phases.LooksLast w
+
+-- ---- how much is left
+
+-- how many of these numbers pass the test
+abbrev pub count : (ℕ → Bool) → List ℕ → ℕ
+count test [] = 0
+count test (j ∷ js) = (if test j then 1 else 0) + count test js
+
+-- Whether property i is ahead of a worker that serves property j: it has no outcome, or it is j; of a full list only those
+-- that the worker did not go through.
+abbrev pub is_ahead : (ℕ → Bool) → ℕ → Phase → ℕ → Bool
+is_ahead settled j phases.Asks i = not (settled i)
+is_ahead settled j phases.Looks i = (i == j) || not (settled i)
+is_ahead settled j phases.Searches i = (i == j) || not (settled i)
+is_ahead settled j (phases.AsksLast from) i = nat_le from i && not (settled i)
+is_ahead settled j phases.LooksLast i = (i == j) || (nat_lt j i && not (settled i))
+is_ahead settled j phases.SearchesLast i = (i == j) || (nat_lt j i && not (settled i))
+is_ahead settled j phases.Closed i = false
+is_ahead settled j phases.Full i = false
+is_ahead settled j phases.Spent i = false
+is_ahead settled j phases.Refused i = false
+
+-- How many turns are left in a phase at most, where the list may grow by so many entries, so many properties are ahead, and
+-- so many turns come last.
+abbrev pub left : ℕ → ℕ → ℕ → Phase → ℕ
+left room ahead last phases.Asks = (room + ahead) * 3 + last + 3
+left room ahead last phases.Looks = (room + ahead) * 3 + last + 2
+left room ahead last phases.Searches = (room + ahead) * 3 + last + 1
+left room ahead last (phases.AsksLast from) = (ahead * 3 + last - 1) + 1
+left room ahead last phases.LooksLast = ahead * 3 + last - 1
+left room ahead last phases.SearchesLast = ahead * 3 + last - 2
+left room ahead last phases.Closed = 0
+left room ahead last phases.Full = 0
+left room ahead last phases.Spent = 0
+left room ahead last phases.Refused = 0
+
+-- how many searches are left at most
 abbrev pub searches_left : ℕ → ℕ → Phase → ℕ
-searches_left limit seen p = (limit - seen) + searches_ahead p
+searches_left room ahead phases.Asks = room + ahead
+searches_left room ahead phases.Looks = room + ahead
+searches_left room ahead phases.Searches = room + ahead
+searches_left room ahead (phases.AsksLast from) = 0
+searches_left room ahead phases.LooksLast = 0
+searches_left room ahead phases.SearchesLast = 0
+searches_left room ahead phases.Closed = 0
+searches_left room ahead phases.Full = 0
+searches_left room ahead phases.Spent = 0
+searches_left room ahead phases.Refused = 0
 
--- the same for a worker that knows this
+-- how many searches the turn of a phase makes
+abbrev pub searches_in : Phase → ℕ
+searches_in phases.Asks = 0
+searches_in phases.Looks = 0
+searches_in phases.Searches = 1
+searches_in (phases.AsksLast from) = 0
+searches_in phases.LooksLast = 0
+searches_in phases.SearchesLast = 0
+searches_in phases.Closed = 0
+searches_in phases.Full = 0
+searches_in phases.Spent = 0
+searches_in phases.Refused = 0
+
+-- by how many entries the list may become longer than what the worker has seen
+abbrev pub room_of : Known → ℕ
+room_of k = k.limit - length k.list
+
+-- how many properties are ahead of a worker that serves property j, in a phase
+abbrev pub ahead_of : Known → ℕ → Phase → ℕ
+ahead_of k j p = count (is_ahead k.settled j p) k.properties
+
+abbrev pub left_in : Known → ℕ → Phase → ℕ
+left_in k j p = left (room_of k) (ahead_of k j p) (last_turns k.properties) p
+
+abbrev pub searches_left_in : Known → ℕ → Phase → ℕ
+searches_left_in k j p = searches_left (room_of k) (ahead_of k j p) p
+
 abbrev pub left_to : Known → Worker → ℕ
-left_to k w = left k.limit (length k.list) w.phase
+left_to k w = left_in k w.property w.phase
 
 abbrev pub searches_left_to : Known → Worker → ℕ
-searches_left_to k w = searches_left k.limit (length k.list) w.phase
+searches_left_to k w = searches_left_in k w.property w.phase
 
--- how much is left at first to a worker that has seen the entries with which the list began
-abbrev pub left_at_first : ℕ → ℕ → ℕ
-left_at_first limit given = left limit given phases.Asks
+-- how many turns are left at first to a worker that has seen the entries with which the list began
+abbrev pub left_at_first : Known → ℕ
+left_at_first k = left (k.limit - k.given) (length k.properties) (last_turns k.properties) phases.Asks
 
--- how many steps one search takes at most
-abbrev pub search_steps : Circuit → ℕ → ℕ
-search_steps c j = (max 1 (length (fair_literals c j)) + 1) * path_steps (length c.latches)
+-- how many steps one search takes at most, whichever of the properties it serves
+abbrev pub search_steps : Circuit → List ℕ → ℕ
+search_steps c properties = (most_situations c properties + 1) * path_steps (length c.latches)
 
 -- how many steps a worker has taken, and may take in so many searches
 abbrev pub steps_through : Worker → ℕ → ℕ → ℕ
 steps_through w searches cost = w.meter.steps + searches * cost
 
+-- ---- what is known
+
 -- the list is full
 abbrev pub IsAtLimit : Known → Type 0
 IsAtLimit k = length k.list ≡ k.limit
 
--- the list is full, and allows a skeleton of property j
-abbrev pub IsStuck : ℕ → Known → Type 0
-IsStuck j k = IsAtLimit k × ((s : Skeleton) × IsAllowed k.circuit j (plain k.list) s)
+-- the entries allow a skeleton of property j
+abbrev pub IsAllowing : Known → ℕ → Type 0
+IsAllowing k j = (s : Skeleton) × IsAllowed k.circuit j (plain k.list) s
+
+-- of each open property below this number
+abbrev pub AllowBelow : ℕ → Known → Type 0
+AllowBelow least k = (i : ℕ) → Contains k.properties i → i < least → k.settled i ≡ false → IsAllowing k i
+
+-- The list is full, and allows a skeleton of each open property.
+pub record IsStuck (k : Known) : Type 0 where
+  pub full : IsAtLimit k
+  pub allows : (i : ℕ) → Contains k.properties i → k.settled i ≡ false → IsAllowing k i
+
+-- The list is full, and the worker went through the properties below this number.
+pub record IsPast (least : ℕ) (k : Known) : Type 0 where
+  pub full : IsAtLimit k
+  pub below : AllowBelow least k
+
+-- The same of a worker that serves property j.
+pub record ServesLast (j : ℕ) (k : Known) : Type 0 where
+  pub served : Contains k.properties j
+  pub past : IsPast j k
 
 -- what is known in a phase
 abbrev pub IsIn : ℕ → Known → Spendings → Phase → Type 0
 IsIn j k meter phases.Asks = Unit {0}
-IsIn j k meter phases.Looks = Unit {0}
-IsIn j k meter phases.Searches = Unit {0}
-IsIn j k meter phases.AsksLast = IsAtLimit k
-IsIn j k meter phases.LooksLast = IsAtLimit k
-IsIn j k meter phases.SearchesLast = IsAtLimit k
-IsIn j k meter phases.Closed = k.settled j ≡ true
-IsIn j k meter phases.Full = IsStuck j k
+IsIn j k meter phases.Looks = Contains k.properties j
+IsIn j k meter phases.Searches = Contains k.properties j
+IsIn j k meter (phases.AsksLast from) = IsPast from k
+IsIn j k meter phases.LooksLast = ServesLast j k
+IsIn j k meter phases.SearchesLast = ServesLast j k
+IsIn j k meter phases.Closed = AreSettled k
+IsIn j k meter phases.Full = IsStuck k
 IsIn j k meter phases.Spent = IsSpent meter
 IsIn j k meter phases.Refused = Unit {0}
 
@@ -133,28 +227,28 @@ pub record AreRoundsOf (c : Circuit) (j : ℕ) (seen : List Entry) (r : Asking) 
   pub property : r.property ≡ j
   pub on : GoesOnFrom r.seen seen
 
--- A worker that serves property j and knows this; before its first search it keeps nothing. With each turn less is left, so
+-- A worker that knows this. Its rounds are of the property that it serves, or served last. With each turn less is left, so
 -- there are no more turns than that.
-pub record IsWorker (j : ℕ) (k : Known) (w : Worker) : Type 0 where
-  pub served : k.properties ≡ j ∷ []
-  pub inside : j < length k.circuit.justice
-  pub rounds : IfSome w.rounds (AreRoundsOf k.circuit j (plain k.list))
-  pub phase : IsIn j k w.meter w.phase
+pub record IsWorker (k : Known) (w : Worker) : Type 0 where
+  pub served : AreServed k.circuit k.properties
+  pub rounds : IfSome w.rounds (AreRoundsOf k.circuit w.property (plain k.list))
+  pub phase : IsIn w.property k w.meter w.phase
   pub short : k.limit ≤ most_entries
-  pub turns : k.turns + left_to k w ≤ left_at_first k.limit k.given
+  pub turns : k.turns + left_to k w ≤ left_at_first k
 
 -- A turn of a worker, between what it knew and what it then knows; or the rest of one, behind so many searches.
-pub record Turns (j searches : ℕ) (k : Known) (w : Worker) (l : Known) (v : Worker) : Type 0 where
-  pub worker : IsWorker j l v
+pub record Turns (searches : ℕ) (k : Known) (w : Worker) (l : Known) (v : Worker) : Type 0 where
+  pub worker : IsWorker l v
   pub limits : KeepsLimits w.meter v.meter
   pub less : left_to l v < left_to k w
   pub steps :
-      steps_through v (searches_left_to l v + searches) (search_steps k.circuit j)
-      ≤ steps_through w (searches_left_to k w) (search_steps k.circuit j)
+      steps_through v (searches_left_to l v + searches) (search_steps k.circuit k.properties)
+      ≤ steps_through w (searches_left_to k w) (search_steps k.circuit k.properties)
 
 -- The worker thought over what it has seen, in so many searches, which changed its rounds and its meter alone.
-pub record Thinks (j searches : ℕ) (k : Known) (w v : Worker) : Type 0 where
+pub record Thinks (searches : ℕ) (k : Known) (w v : Worker) : Type 0 where
+  pub property : v.property ≡ w.property
   pub phase : v.phase ≡ w.phase
-  pub rounds : IfSome v.rounds (AreRoundsOf k.circuit j (plain k.list))
+  pub rounds : IfSome v.rounds (AreRoundsOf k.circuit v.property (plain k.list))
   pub limits : KeepsLimits w.meter v.meter
-  pub steps : v.meter.steps ≤ steps_through w searches (search_steps k.circuit j)
+  pub steps : v.meter.steps ≤ steps_through w searches (search_steps k.circuit k.properties)

@@ -1,18 +1,17 @@
 //! The workers of a board, and whose turn it is. The main calls are `workers_on` and `turn_of`.
 
-ghost use Rattle.std.specs.Prelude.{◌≡◌, ℕ, ◌+◌, ◌<◌, ◌≤◌, ◌∷◌, [], true, false, None, All, map, length, slice_index, vec_capacity, IfOk, OnOk};
+ghost use Rattle.std.specs.Prelude.{◌≡◌, ℕ, ◌<◌, ◌≤◌, [], true, false, None, All, map, length, slice_index, vec_capacity, IfOk, OnOk};
 ghost use Rattle.std.specs.Arc.{arc_value};
 ghost use Rattle.edge.specs.Units.{limit_of};
 ghost use Rattle.wall_store.specs.Boards.{properties_of};
-ghost use Rattle.wall_store.specs.Events.{seen_by};
 ghost use Rattle.fair_workers.specs.Runs.{IsInBudget};
 ghost use Rattle.fair_workers.specs.Working.{is_running};
-ghost use Rattle.fair_workers.specs.BoardWorkers.{IsBoardWorker, TakesTurn, Follows, AreWorkers, HaveEnded, runs_at, left_of};
+ghost use Rattle.fair_workers.specs.BoardWorkers.{task_in, IsFresh, IsBoardWorker, TakesTurn, Follows, AreWorkers, HaveEnded, runs_at, left_of};
 
 use crate::ending::{WorkerEnd, end_of};
 use crate::lending::LentBoard;
 use crate::limits::Limits;
-use crate::working::{Phase, Worker, take_turn};
+use crate::working::{Phase, Worker, first_property, take_turn};
 use circuit::Circuit;
 use edge::Meter;
 use entry::Checked;
@@ -20,12 +19,12 @@ use std::alloc::{AllocError, Global};
 use std::sync::Arc;
 use wall_store::Board;
 
-/// What is asked of the workers of a run: the circuit, the number of the property, what they may spend, and the given
+/// What is asked of the workers of a run: the circuit, the numbers of the properties, what they may spend, and the given
 /// entries.
 #[derive(Drop)]
 pub(crate) struct RunTask<'a> {
     pub(crate) circuit: &'a Arc<Circuit>,
-    pub(crate) property: u32,
+    pub(crate) properties: &'a [u32],
     pub(crate) limits: Limits,
     pub(crate) given: &'a [Arc<Checked>],
 }
@@ -40,28 +39,26 @@ pub(crate) struct BoardWorker {
 }
 
 // A worker that has seen so many entries, and has begun and spent nothing. No other meter is made for the work of a run.
-fn new_worker(limits: Limits, number: u32, seen: usize) -> BoardWorker
-    ensures { result ≡ record {
-      number = number;
-      seen = seen;
-      turns = 0;
-      worker = record {
-        rounds = None;
-        meter = record {
-          conflicts = 0;
-          conflict_limit = limit_of limits.conflicts;
-          steps = 0;
-          step_limit = limit_of limits.steps;
-        };
-        phase = Phase.Asks;
-      };
+fn new_worker(task: &RunTask<'_>, number: u32, seen: usize) -> BoardWorker
+    ensures number { result.number ≡ number }
+    ensures seen { result.seen ≡ seen }
+    ensures turns { result.turns ≡ 0 }
+    ensures rounds { result.worker.rounds ≡ None }
+    ensures meter { result.worker.meter ≡ record {
+      conflicts = 0;
+      conflict_limit = limit_of task.now.limits.conflicts;
+      steps = 0;
+      step_limit = limit_of task.now.limits.steps;
     } }
+    ensures phase { result.worker.phase ≡ Phase.Asks }
 {
+    let limits = task.limits;
     BoardWorker {
         number,
         seen,
         turns: 0,
         worker: Worker {
+            property: first_property(task.properties, number, limits.workers),
             rounds: None,
             meter: Meter::new(limits.conflicts, limits.steps),
             phase: Phase::Asks,
@@ -75,15 +72,9 @@ pub(crate) fn workers_on(
     task: &RunTask<'_>,
     board: &Board,
 ) -> Result<Vec<BoardWorker>, AllocError>
-    requires property { task.now.property < length (arc_value task.now.circuit.now).justice }
-    requires circuit { arc_value task.now.circuit.now ≡ board.now.circuit }
-    requires served { properties_of board.now.served ≡ task.now.property ∷ [] }
-    requires workers { task.now.limits.workers ≡ board.now.workers }
-    requires seen { (n : ℕ) → n < board.now.workers → seen_by board.now n ≡ length board.now.entries }
-    requires fresh { length board.now.entries ≡ board.now.given }
-    requires grows { board.now.limit ≤ length board.now.entries + task.now.limits.skeletons }
+    requires { IsFresh (task_in task.now) board.now }
     ensures count { IfOk result (λ made. length made.items ≡ task.now.limits.workers) }
-    ensures workers { IfOk result (λ made. AreWorkers task.now.limits task.now.property board.now made.items) }
+    ensures workers { IfOk result (λ made. AreWorkers task.now.limits board.now made.items) }
 {
     let mut workers = Vec::new(alloc);
     fill(task, board, &mut workers)?;
@@ -92,21 +83,15 @@ pub(crate) fn workers_on(
 
 // Puts the workers into a list in which there is none.
 fn fill(task: &RunTask<'_>, board: &Board, workers: &mut Vec<BoardWorker>) -> Result<(), AllocError>
-    requires property { task.now.property < length (arc_value task.now.circuit.now).justice }
-    requires circuit { arc_value task.now.circuit.now ≡ board.now.circuit }
-    requires served { properties_of board.now.served ≡ task.now.property ∷ [] }
-    requires workers { task.now.limits.workers ≡ board.now.workers }
-    requires seen { (n : ℕ) → n < board.now.workers → seen_by board.now n ≡ length board.now.entries }
-    requires fresh { length board.now.entries ≡ board.now.given }
-    requires grows { board.now.limit ≤ length board.now.entries + task.now.limits.skeletons }
+    requires fresh { IsFresh (task_in task.now) board.now }
     requires none { workers.old.items ≡ [] }
     ensures count { OnOk result (length workers.new.items ≡ task.now.limits.workers) }
-    ensures workers { OnOk result (AreWorkers task.now.limits task.now.property board.now workers.new.items) }
+    ensures workers { OnOk result (AreWorkers task.now.limits board.now workers.new.items) }
 {
     board.holds();
     let seen = board.entries().len();
     for number in 0..task.limits.workers {
-        workers.push(new_worker(task.limits, number, seen))?;
+        workers.push(new_worker(task, number, seen))?;
     }
     Ok(())
 }
@@ -115,14 +100,15 @@ fn fill(task: &RunTask<'_>, board: &Board, workers: &mut Vec<BoardWorker>) -> Re
 pub(crate) fn turn_on_board(
     alloc: Global,
     c: &Arc<Circuit>,
-    j: u32,
+    properties: &[u32],
     own: &mut BoardWorker,
     board: Board,
 ) -> Board
     requires circuit { arc_value c.now ≡ board.circuit }
-    requires worker { IsBoardWorker j board own.old }
+    requires properties { properties.now ≡ properties_of board.served }
+    requires worker { IsBoardWorker board own.old }
     requires running { is_running own.old.worker.phase ≡ true }
-    ensures { TakesTurn j board own.old result own.new }
+    ensures { TakesTurn board own.old result own.new }
 {
     board.holds();
     let mut lent = LentBoard {
@@ -131,7 +117,7 @@ pub(crate) fn turn_on_board(
         seen: own.seen,
         turns: own.turns,
     };
-    take_turn(alloc, c, j, &mut own.worker, &mut lent);
+    take_turn(alloc, c, properties, &mut own.worker, &mut lent);
     let LentBoard {
         board,
         seen,
@@ -152,15 +138,16 @@ pub(crate) fn turn_of(
     board: Board,
 ) -> Board
     requires circuit { arc_value task.now.circuit.now ≡ board.circuit }
-    requires workers { AreWorkers task.now.limits task.now.property board workers.old }
+    requires properties { task.now.properties.now ≡ properties_of board.served }
+    requires workers { AreWorkers task.now.limits board workers.old }
     requires inside { k < length workers.old }
     requires running { runs_at workers.old k ≡ true }
-    ensures workers { AreWorkers task.now.limits task.now.property result workers.new }
+    ensures workers { AreWorkers task.now.limits result workers.new }
     ensures follows { Follows board result }
-    ensures less { left_of board.limit workers.new < left_of board.limit workers.old }
+    ensures less { left_of result workers.new < left_of board workers.old }
 {
     board.holds();
-    let after = turn_on_board(alloc, task.circuit, task.property, &mut workers[k], board);
+    let after = turn_on_board(alloc, task.circuit, task.properties, &mut workers[k], board);
     after.holds();
     after
 }

@@ -1,7 +1,8 @@
 //! How workers end, and what they leave of their task, however they shared its list. The main call is `ended`.
 
-ghost use Rattle.std.specs.Prelude.{◌≡◌, ◌≢◌, ◌≤◌, [], true, false, None, Ok, Err, All, map, length, vec_capacity, IfOk, IfErr};
-ghost use Rattle.wall_store.specs.Boards.{outcome_of};
+ghost use Rattle.std.specs.Prelude.{◌≡◌, ◌≤◌, [], true, Ok, Err, map, length, vec_capacity, IfOk, IfErr};
+ghost use Rattle.wall_store.specs.Events.{IsSettled};
+ghost use Rattle.wall_store.specs.Scanning.{all_settled};
 ghost use Rattle.fair_workers.specs.Runs.{IsInBudget, IsAnswer, IsEnded};
 ghost use Rattle.fair_workers.specs.BoardWorkers.{task_in};
 ghost use Rattle.fair_workers.specs.Ends.{AreDone, any_refused};
@@ -62,29 +63,24 @@ fn spendings(ends: &[WorkerEnd], room: Vec<Spending>) -> Items<Spending>
     Items::from_vec(spent)
 }
 
-// Whether the property has an outcome.
-fn has_outcome(board: &Board, j: u32) -> bool
-    ensures yes { result ≡ true → outcome_of board.now.served j ≢ None }
-    ensures no { result ≡ false → outcome_of board.now.served j ≡ None }
+// Whether each property has an outcome.
+fn is_settled(board: &Board) -> bool
+    ensures { result ≡ all_settled board.now.served }
 {
-    match board.outcome(j) {
-        Some(_) => true,
-        None => false,
-    }
+    board.served().iter().all(|s| s.outcome.is_some())
 }
 
-// The report of workers that are done: with an outcome; else want of memory, where a worker was refused some; else
-// without an outcome.
+// The report of workers that are done: with all outcomes; else want of memory, where a worker was refused some; else
+// without all outcomes.
 fn told(task: &RunTask<'_>, ends: &[WorkerEnd], report: Report) -> Result<Report, Ended>
-    requires done { AreDone (task_in task.now) task.now.property report.board ends.now }
+    requires done { AreDone (task_in task.now) report.board ends.now }
     requires spent { report.workers ≡ map (λ e. e.spent) ends.now }
     ensures answer { IfOk result (IsAnswer (task_in task.now)) }
     ensures ended { IfErr result (IsEnded (task_in task.now)) }
-    ensures first { outcome_of report.board.served task.now.property ≢ None → result ≡ Ok report }
-    ensures refused { outcome_of report.board.served task.now.property ≡ None → any_refused ends.now ≡ true
-        → result ≡ Err Ended.Memory }
+    ensures first { IsSettled report.board.served → result ≡ Ok report }
+    ensures refused { (IsSettled report.board.served → ⊥) → any_refused ends.now ≡ true → result ≡ Err Ended.Memory }
 {
-    if has_outcome(&report.board, task.property) {
+    if is_settled(&report.board) {
         return Ok(report);
     }
     if any_refused(ends) {
@@ -100,7 +96,7 @@ pub(crate) fn ended(
     ends: &[WorkerEnd],
     room: Vec<Spending>,
 ) -> Result<Report, Ended>
-    requires done { AreDone (task_in task.now) task.now.property board ends.now }
+    requires done { AreDone (task_in task.now) board ends.now }
     requires empty { room.items ≡ [] }
     requires room { length ends.now ≤ vec_capacity room }
     ensures answer { IfOk result (IsAnswer (task_in task.now)) }

@@ -2,8 +2,8 @@
 
 ghost use Rattle.fair_workers.specs.Laws.{NoReportWithoutLimits};
 
-/// Workers without limits on conflicts and steps leave no report where their list may have an entry for each list of
-/// latch and input values that could be a skeleton.
+/// Workers without limits on conflicts and steps leave no report where their list may have, behind the given entries, one
+/// for each list of latch and input values that could be a skeleton of a property, of each property by itself.
 pub fn no_report_without_limits()
     ensures { NoReportWithoutLimits }
 {}

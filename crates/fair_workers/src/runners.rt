@@ -8,20 +8,20 @@ use crate::ending::{WorkerEnd, spending_of};
 use crate::held::Held;
 use crate::limits::Limits;
 use crate::shared_list::SharedList;
-use crate::working::{Phase, Worker, take_turn};
+use crate::working::{Phase, Worker, first_property, take_turn};
 use edge::{Bell, Gate, Meter, Point};
 use std::alloc::Global;
 use std::sync::{Arc, Wait};
 use wall_ledger::{Ledger, Pass};
 
-/// What the workers of a run share: where they wait, their ledger, the number of their property, what each of them may
+/// What the workers of a run share: where they wait, their ledger, the numbers of their properties, what each of them may
 /// spend, the gate that they pass, and the bell that ends their searches.
 #[derive(Drop)]
 pub(crate) struct Crew<'a, R: Wait, G: Gate> {
     pub(crate) rt: &'a R,
     pub(crate) alloc: Global,
     pub(crate) ledger: &'a Ledger,
-    pub(crate) property: u32,
+    pub(crate) properties: &'a [u32],
     pub(crate) limits: Limits,
     pub(crate) gate: &'a G,
     pub(crate) bell: &'a Arc<Bell>,
@@ -36,8 +36,9 @@ pub(crate) struct Runner {
 
 // The turns of a worker until it ends. It passes the gate after each round.
 fn take_turns<R: Wait, G: Gate>(crew: &Crew<'_, R, G>, worker: &mut Worker, held: &mut Held<'_, R>)
-    requires { Goes crew.now.limits crew.now.property held.old.ledger.now held.old.pass worker.old }
-    ensures goes { Goes crew.now.limits crew.now.property held.new.ledger.now held.new.pass worker.new }
+    requires goes { Goes crew.now.limits held.old.ledger.now held.old.pass worker.old }
+    requires properties { crew.now.properties.now ≡ held.old.ledger.now.properties }
+    ensures goes { Goes crew.now.limits held.new.ledger.now held.new.pass worker.new }
     ensures ledger { held.new.ledger.now ≡ held.old.ledger.now }
     ensures number { held.new.pass.number ≡ held.old.pass.number }
     ensures over { is_running worker.new.phase ≡ false }
@@ -46,7 +47,7 @@ fn take_turns<R: Wait, G: Gate>(crew: &Crew<'_, R, G>, worker: &mut Worker, held
     while worker.phase.is_running() {
         let ledger = held.ledger;
         let searches = worker.phase.searches();
-        take_turn(crew.alloc, ledger.circuit(), crew.property, worker, held);
+        take_turn(crew.alloc, ledger.circuit(), crew.properties, worker, held);
         if searches {
             crew.gate.pass(number, Point::Turn);
         }
@@ -59,9 +60,10 @@ fn run_worker<R: Wait, G: Gate>(
     worker: Worker,
     held: &mut Held<'_, R>,
 ) -> WorkerEnd
-    requires { Goes crew.now.limits crew.now.property held.old.ledger.now held.old.pass worker }
+    requires goes { Goes crew.now.limits held.old.ledger.now held.old.pass worker }
+    requires properties { crew.now.properties.now ≡ held.old.ledger.now.properties }
     ensures number { held.new.pass.number ≡ held.old.pass.number }
-    ensures through { IsThrough crew.now.limits crew.now.property held.old.ledger.now held.new.pass result }
+    ensures through { IsThrough crew.now.limits held.old.ledger.now held.new.pass result }
 {
     let mut worker = worker;
     take_turns(crew, &mut worker, held);
@@ -87,14 +89,15 @@ fn meter_of(limits: Limits, bell: &Arc<Bell>) -> Meter
 fn begun_worker(
     bell: &Arc<Bell>,
     limits: Limits,
-    _property: u32,
+    properties: &[u32],
     _ledger: &Ledger,
-    _pass: &Pass,
+    pass: &Pass,
 ) -> Worker
-    requires { IsReady limits _property _ledger.now _pass.now }
-    ensures { Goes limits _property _ledger.now _pass.now result }
+    requires { IsReady limits properties.now _ledger.now pass.now }
+    ensures { Goes limits _ledger.now pass.now result }
 {
     Worker {
+        property: first_property(properties, pass.number(), limits.workers),
         rounds: None,
         meter: meter_of(limits, bell),
         phase: Phase::Asks,
@@ -103,16 +106,16 @@ fn begun_worker(
 
 // The work of the worker that has this pass.
 fn run_held<R: Wait, G: Gate>(crew: &Crew<'_, R, G>, held: &mut Held<'_, R>) -> WorkerEnd
-    requires { IsReady crew.now.limits crew.now.property held.old.ledger.now held.old.pass }
+    requires { IsReady crew.now.limits crew.now.properties.now held.old.ledger.now held.old.pass }
     ensures number { held.new.pass.number ≡ held.old.pass.number }
-    ensures through { IsThrough crew.now.limits crew.now.property held.old.ledger.now held.new.pass result }
+    ensures through { IsThrough crew.now.limits held.old.ledger.now held.new.pass result }
 {
     let ledger = held.ledger;
-    let worker = begun_worker(crew.bell, crew.limits, crew.property, ledger, &held.pass);
+    let worker = begun_worker(crew.bell, crew.limits, crew.properties, ledger, &held.pass);
     run_worker(crew, worker, held)
 }
 
-// Rings the bell where the worker was told that its property has an outcome.
+// Rings the bell where the worker was told that each property has an outcome.
 fn ring_where_closed(bell: &Arc<Bell>, end: &WorkerEnd) {
     match end.phase {
         Phase::Closed => bell.ring(),
@@ -121,20 +124,20 @@ fn ring_where_closed(bell: &Arc<Bell>, end: &WorkerEnd) {
 }
 
 // The pass of a runner that may run.
-fn taken(runner: &mut Runner, _limits: Limits, _property: u32, _ledger: &Ledger) -> Pass
-    requires { MayRun _limits _property _ledger.now runner.old }
+fn taken(runner: &mut Runner, _limits: Limits, _properties: &[u32], _ledger: &Ledger) -> Pass
+    requires { MayRun _limits _properties.now _ledger.now runner.old }
     ensures pass { runner.old.pass ≡ Some result }
-    ensures ready { IsReady _limits _property _ledger.now result }
+    ensures ready { IsReady _limits _properties.now _ledger.now result }
 {
     runner.pass.take().unwrap()
 }
 
 /// The work of a worker from its start to its end. Where memory is refused, it ends alone.
 pub(crate) fn run_through<R: Wait, G: Gate>(crew: &Crew<'_, R, G>, runner: &mut Runner)
-    requires { MayRun crew.now.limits crew.now.property crew.now.ledger.now runner.old }
-    ensures { HasRun crew.now.limits crew.now.property crew.now.ledger.now runner.old runner.new }
+    requires { MayRun crew.now.limits crew.now.properties.now crew.now.ledger.now runner.old }
+    ensures { HasRun crew.now.limits crew.now.ledger.now runner.old runner.new }
 {
-    let pass = taken(runner, crew.limits, crew.property, crew.ledger);
+    let pass = taken(runner, crew.limits, crew.properties, crew.ledger);
     let number = pass.number();
     crew.gate.pass(number, Point::Start);
     let mut held = Held {

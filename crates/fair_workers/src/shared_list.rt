@@ -71,12 +71,11 @@ pub(crate) trait SharedList {
         ensures finished { HasFinished property (known self.old) (known self.new) }
         ensures on { goes_on self.old self.new };
 
-    /// Asks for a property without an outcome, from this number on and then from 0 on: one that is served and open, or
-    /// `None` where each has an outcome.
-    /// Takes no memory.
+    /// Asks for a property without an outcome: the least that is served and open from this number on, or the least of all
+    /// where there is none from there on, or `None` where each has an outcome. Takes no memory.
     fn next_open(&mut self, from: u32) -> Option<u32>
         requires kept { is_kept self.old }
         requires turns { (known self.old).turns + 1 < 2 ^ 32 }
-        ensures asked { HasAsked (known self.old) result (known self.new) }
+        ensures asked { HasAsked (known self.old) from result (known self.new) }
         ensures on { goes_on self.old self.new };
 }

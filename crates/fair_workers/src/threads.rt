@@ -1,10 +1,10 @@
 //! Workers on threads over one ledger. The main call is `run_all`.
 
-ghost use Rattle.std.specs.Prelude.{◌≡◌, ◌<◌, ◌≤◌, ◌∷◌, [], map, length, vec_capacity, All, IfOk, IfErr};
+ghost use Rattle.std.specs.Prelude.{◌≡◌, ◌≤◌, [], map, length, vec_capacity, All, IfOk, IfErr};
 ghost use Rattle.std.specs.Arc.{arc_value};
 ghost use Rattle.entry.specs.declared.origins.Origin.TheVariants.{Given};
 ghost use Rattle.wall_store.specs.Boards.{IsSoundList, most_entries};
-ghost use Rattle.fair_workers.specs.Runs.{AreLimits, IsAnswer, IsEnded};
+ghost use Rattle.fair_workers.specs.Runs.{AreLimits, AreServed, IsAnswer, IsEnded};
 ghost use Rattle.fair_workers.specs.BoardWorkers.{task_in};
 ghost use Rattle.fair_workers.specs.Ends.{AreDone};
 ghost use Rattle.fair_workers.specs.Holding.{MayRun, HasRun, HaveRun, IsBegunFor};
@@ -49,12 +49,12 @@ fn run_each<R: Threads + Wait + Sync, G: Gate>(
     runners: &mut [Runner],
 )
     requires limits { AreLimits run.now.task.now.limits }
-    requires ready { All (MayRun run.now.task.now.limits run.now.task.now.property ledger.now) runners.old }
-    ensures { HaveRun run.now.task.now.limits run.now.task.now.property ledger.now runners.old runners.new }
+    requires ready { All (MayRun run.now.task.now.limits run.now.task.now.properties.now ledger.now) runners.old }
+    ensures { HaveRun run.now.task.now.limits ledger.now runners.old runners.new }
 {
     let rt = run.rt;
     let alloc = run.alloc;
-    let property = run.task.property;
+    let properties = run.task.properties;
     let limits = run.task.limits;
     let gate = run.gate;
     let bell = run.bell;
@@ -63,14 +63,14 @@ fn run_each<R: Threads + Wait + Sync, G: Gate>(
         runners,
         limits.workers as usize,
         &move |_i: usize, runner: &mut Runner|
-            requires { MayRun limits property ledger.now runner.old }
-            ensures { HasRun limits property ledger.entry.now runner.old runner.new }
+            requires { MayRun limits properties.now ledger.now runner.old }
+            ensures { HasRun limits ledger.entry.now runner.old runner.new }
         {
             let crew = Crew {
                 rt,
                 alloc,
                 ledger,
-                property,
+                properties,
                 limits,
                 gate,
                 bell,
@@ -87,28 +87,28 @@ fn run_listed<R: Threads + Wait + Sync, G: Gate>(
     runners: &mut Vec<Runner>,
 )
     requires limits { AreLimits run.now.task.now.limits }
-    requires ready { All (MayRun run.now.task.now.limits run.now.task.now.property ledger.now) runners.old.items }
-    ensures { HaveRun run.now.task.now.limits run.now.task.now.property ledger.now runners.old.items runners.new.items }
+    requires ready { All (MayRun run.now.task.now.limits run.now.task.now.properties.now ledger.now) runners.old.items }
+    ensures { HaveRun run.now.task.now.limits ledger.now runners.old.items runners.new.items }
 {
     run_each(run, ledger, runners);
 }
 
 // The ledger of a task, and a runner for each of its passes.
 fn begun(alloc: Global, task: &RunTask<'_>) -> Result<(Ledger, Vec<Runner>), AllocError>
-    requires property { task.now.property < length (arc_value task.now.circuit.now).justice }
+    requires served { AreServed (arc_value task.now.circuit.now) task.now.properties.now }
     requires limits { AreLimits task.now.limits }
     requires few_given { length task.now.given.now ≤ most_entries }
     requires given { IsSoundList (arc_value task.now.circuit.now) (map arc_value task.now.given.now) }
     requires origins { All (λ e. e.origin ≡ Given) (map arc_value task.now.given.now) }
-    ensures begun { IfOk result (λ r. IsBegunFor (task_in task.now) task.now.property r.0 r.1.items) }
-    ensures ready { IfOk result (λ r. All (MayRun task.now.limits task.now.property r.0) r.1.items) }
+    ensures begun { IfOk result (λ r. IsBegunFor (task_in task.now) r.0 r.1.items) }
+    ensures ready { IfOk result (λ r. All (MayRun task.now.limits task.now.properties.now r.0) r.1.items) }
 {
     let limits = task.limits;
     let room = Vec::with_capacity(alloc, limits.workers as usize)?;
     let made = Ledger::new(
         alloc,
         task.circuit,
-        &[task.property],
+        task.properties,
         limits.workers,
         limits.skeletons,
         task.given,
@@ -126,12 +126,12 @@ fn all_run<R: Threads + Wait + Sync, G: Gate>(
 ) -> (Board, Vec<WorkerEnd>)
     requires limits { AreLimits run.now.task.now.limits }
     requires origins { All (λ e. e.origin ≡ Given) (map arc_value run.now.task.now.given.now) }
-    requires begun { IsBegunFor (task_in run.now.task.now) run.now.task.now.property ledger runners.items }
-    requires ready { All (MayRun run.now.task.now.limits run.now.task.now.property ledger) runners.items }
+    requires begun { IsBegunFor (task_in run.now.task.now) ledger runners.items }
+    requires ready { All (MayRun run.now.task.now.limits run.now.task.now.properties.now ledger) runners.items }
     requires empty { (room.passes.items ≡ []) × (room.ends.items ≡ []) }
     requires room { (run.now.task.now.limits.workers ≤ vec_capacity room.passes)
         × (run.now.task.now.limits.workers ≤ vec_capacity room.ends) }
-    ensures { AreDone (task_in run.now.task.now) run.now.task.now.property result.0 result.1.items }
+    ensures { AreDone (task_in run.now.task.now) result.0 result.1.items }
 {
     let mut runners = runners;
     run_listed(run, &ledger, &mut runners);
@@ -154,7 +154,7 @@ fn room_for(alloc: Global, workers: u32) -> Result<Room, AllocError>
 
 // What the workers of a task leave.
 fn run_task<R: Threads + Wait + Sync, G: Gate>(run: &Run<'_, R, G>) -> Result<Report, Ended>
-    requires property { run.now.task.now.property < length (arc_value run.now.task.now.circuit.now).justice }
+    requires served { AreServed (arc_value run.now.task.now.circuit.now) run.now.task.now.properties.now }
     requires limits { AreLimits run.now.task.now.limits }
     requires few_given { length run.now.task.now.given.now ≤ most_entries }
     requires given { IsSoundList (arc_value run.now.task.now.circuit.now) (map arc_value run.now.task.now.given.now) }
@@ -170,49 +170,52 @@ fn run_task<R: Threads + Wait + Sync, G: Gate>(run: &Run<'_, R, G>) -> Result<Re
     ended(run.task, board, &ends, spent)
 }
 
-/// What workers leave that search at the same time, each on a thread of its own, over one list for a fair lasso of
-/// property `j` or for a refutation, until there is one: the board with its outcome, and what each worker has spent. The
-/// list begins with the given entries, none of them a worker's, each sound behind those before it.
+/// What workers leave that search at the same time, each on a thread of its own, over one list for a fair lasso of each of
+/// these properties or for a refutation, until each has one: the board with the outcomes, and what each worker has spent.
+/// The list begins with the given entries, none of them a worker's, each sound behind those before it.
+///
+/// A worker asks for an open property and serves it until that has an outcome; workers begin at places spread over the
+/// properties. On a full list it goes through those that are open once more, and then ends.
 ///
 /// Where no thread can be made, workers run one after the other. Each passes the gate at its start, after each of its
 /// rounds, and at its end; there it may be made to wait. May wait. Which worker finds what, and in which order, no clause
 /// says.
 ///
-/// A worker that is refused memory ends, be it at its start, and the others go on. An outcome comes before want of memory,
-/// and that before a report without an outcome. `Spent` comes only where the property has no outcome, and either the list
-/// is full and its entries allow a skeleton, or each worker has spent its conflicts or its steps. Whatever their limit is,
-/// no worker takes more steps than `most_steps` says; so a limit above that is never spent. Nor does one take more turns
-/// than `most_turns` says; within these, in ascending turns, it found what it added to the list.
+/// A worker that is refused memory ends, be it at its start, and the others go on. All outcomes come before want of memory,
+/// and that before a report without one of them. `Spent` comes only where a property has no outcome, and either the list is
+/// full and its entries allow a skeleton of each such property, or each worker has spent its conflicts or its steps.
+/// Whatever their limit is, no worker takes more steps than `most_steps` says; so a limit above that is never spent. In
+/// turns below `most_turns`, in ascending order, it found what it added to the list.
 pub fn run_all<R: Threads + Wait + Sync, G: Gate>(
     rt: &R,
     alloc: Global,
     c: &Arc<Circuit>,
-    j: u32,
+    properties: &[u32],
     limits: Limits,
     given: &[Arc<Checked>],
     gate: &G,
 ) -> Result<Report, Ended>
-    requires property { j < length (arc_value c.now).justice }
+    requires served { AreServed (arc_value c.now) properties.now }
     requires limits { AreLimits limits }
     requires few_given { length given.now ≤ most_entries }
     requires given { IsSoundList (arc_value c.now) (map arc_value given.now) }
     requires origins { All (λ e. e.origin ≡ Given) (map arc_value given.now) }
     ensures answer { IfOk result (IsAnswer (record {
       circuit = arc_value c.now;
-      properties = j ∷ [];
+      properties = properties.now;
       limits = limits;
       given = map arc_value given.now;
     })) }
     ensures ended { IfErr result (IsEnded (record {
       circuit = arc_value c.now;
-      properties = j ∷ [];
+      properties = properties.now;
       limits = limits;
       given = map arc_value given.now;
     })) }
 {
     let task = RunTask {
         circuit: c,
-        property: j,
+        properties,
         limits,
         given,
     };

@@ -1,9 +1,9 @@
 //! Workers that take turns on one thread. The main call is `run_turns`.
 
-ghost use Rattle.std.specs.Prelude.{◌≡◌, ◌<◌, ◌≤◌, [], ◌∷◌, map, length, vec_capacity, IfOk, IfErr};
+ghost use Rattle.std.specs.Prelude.{◌≡◌, ◌≤◌, [], map, length, vec_capacity, IfOk, IfErr};
 ghost use Rattle.std.specs.Arc.{arc_value};
 ghost use Rattle.wall_store.specs.Boards.{IsSoundList, most_entries};
-ghost use Rattle.fair_workers.specs.Runs.{AreLimits, IsAnswer, IsEnded};
+ghost use Rattle.fair_workers.specs.Runs.{AreLimits, AreServed, IsAnswer, IsEnded};
 ghost use Rattle.fair_workers.specs.BoardWorkers.{ServeTask, HaveEnded, task_in};
 ghost use Rattle.fair_workers.specs.Ends.{AreDone};
 
@@ -24,8 +24,8 @@ fn by_schedule(
     workers: &mut [BoardWorker],
     board: Board,
 ) -> Board
-    requires { ServeTask (task_in task.now) task.now.property board workers.old }
-    ensures { ServeTask (task_in task.now) task.now.property result workers.new }
+    requires { ServeTask (task_in task.now) board workers.old }
+    ensures { ServeTask (task_in task.now) result workers.new }
 {
     let mut board = board;
     let mut at = due(schedule, 0, workers);
@@ -43,8 +43,8 @@ fn round_robin(
     workers: &mut [BoardWorker],
     board: Board,
 ) -> Board
-    requires { ServeTask (task_in task.now) task.now.property board workers.old }
-    ensures workers { ServeTask (task_in task.now) task.now.property result workers.new }
+    requires { ServeTask (task_in task.now) board workers.old }
+    ensures workers { ServeTask (task_in task.now) result workers.new }
     ensures over { HaveEnded workers.new }
 {
     let mut board = board;
@@ -65,10 +65,10 @@ fn all_turns(
     board: Board,
     room: Vec<WorkerEnd>,
 ) -> (Board, Vec<WorkerEnd>)
-    requires workers { ServeTask (task_in task.now) task.now.property board workers.old }
+    requires workers { ServeTask (task_in task.now) board workers.old }
     requires empty { room.items ≡ [] }
     requires room { task.now.limits.workers ≤ vec_capacity room }
-    ensures { AreDone (task_in task.now) task.now.property result.0 result.1.items }
+    ensures { AreDone (task_in task.now) result.0 result.1.items }
 {
     let board = by_schedule(alloc, task, schedule, workers, board);
     let board = round_robin(alloc, task, workers, board);
@@ -78,7 +78,7 @@ fn all_turns(
 
 // What the workers of a task leave.
 fn run_task(alloc: Global, task: &RunTask<'_>, schedule: &[u32]) -> Result<Report, Ended>
-    requires property { task.now.property < length (arc_value task.now.circuit.now).justice }
+    requires served { AreServed (arc_value task.now.circuit.now) task.now.properties.now }
     requires limits { AreLimits task.now.limits }
     requires few_given { length task.now.given.now ≤ most_entries }
     requires given { IsSoundList (arc_value task.now.circuit.now) (map arc_value task.now.given.now) }
@@ -91,7 +91,7 @@ fn run_task(alloc: Global, task: &RunTask<'_>, schedule: &[u32]) -> Result<Repor
     let board = Board::new(
         alloc,
         task.circuit,
-        &[task.property],
+        task.properties,
         limits.workers,
         limits.skeletons,
         task.given,
@@ -102,47 +102,50 @@ fn run_task(alloc: Global, task: &RunTask<'_>, schedule: &[u32]) -> Result<Repor
     ended(task, board, &ends, spent)
 }
 
-/// What workers leave that search over one list for a fair lasso of property `j`, or for a refutation, until there is
-/// one: the board with its outcome, and what each worker has spent. The list begins with the given entries, each sound
-/// behind those before it.
+/// What workers leave that search over one list for a fair lasso of each of these properties, or for a refutation, until
+/// each has one: the board with the outcomes, and what each worker has spent. The list begins with the given entries, each
+/// sound behind those before it.
+///
+/// A worker asks for an open property and serves it until that has an outcome; workers begin at places spread over the
+/// properties. On a full list it goes through those that are open once more, and then ends.
 ///
 /// A turn of a worker is its work up to its next event of the board, that event included, or to its end. The schedule
 /// says who takes the first turns; a number of it that is no worker's, or that of a worker that has ended, is skipped.
 /// Then the workers take turns from worker 0 upwards, again and again. No clause says who takes a turn; tests show it.
 ///
-/// A worker that is refused memory ends, be it at its start, and the others go on. An outcome comes before want of memory,
-/// and that before a report without an outcome. `Spent` comes only where the property has no outcome, and either the list
-/// is full and its entries allow a skeleton, or each worker has spent its conflicts or its steps. Whatever their limit is,
-/// no worker takes more steps than `most_steps` says; so a limit above that is never spent. Nor does one take more turns
-/// than `most_turns` says; within these, in ascending turns, it found what it added to the list.
+/// A worker that is refused memory ends, be it at its start, and the others go on. All outcomes come before want of memory,
+/// and that before a report without one of them. `Spent` comes only where a property has no outcome, and either the list is
+/// full and its entries allow a skeleton of each such property, or each worker has spent its conflicts or its steps.
+/// Whatever their limit is, no worker takes more steps than `most_steps` says; so a limit above that is never spent. In
+/// turns below `most_turns`, in ascending order, it found what it added to the list.
 pub fn run_turns(
     alloc: Global,
     c: &Arc<Circuit>,
-    j: u32,
+    properties: &[u32],
     limits: Limits,
     schedule: &[u32],
     given: &[Arc<Checked>],
 ) -> Result<Report, Ended>
-    requires property { j < length (arc_value c.now).justice }
+    requires served { AreServed (arc_value c.now) properties.now }
     requires limits { AreLimits limits }
     requires few_given { length given.now ≤ most_entries }
     requires given { IsSoundList (arc_value c.now) (map arc_value given.now) }
     ensures answer { IfOk result (IsAnswer (record {
       circuit = arc_value c.now;
-      properties = j ∷ [];
+      properties = properties.now;
       limits = limits;
       given = map arc_value given.now;
     })) }
     ensures ended { IfErr result (IsEnded (record {
       circuit = arc_value c.now;
-      properties = j ∷ [];
+      properties = properties.now;
       limits = limits;
       given = map arc_value given.now;
     })) }
 {
     let task = RunTask {
         circuit: c,
-        property: j,
+        properties,
         limits,
         given,
     };

@@ -11,7 +11,7 @@ ghost use Rattle.skeleton.specs.Finding.{IsFound};
 ghost use Rattle.wall_store.specs.Boards.{plain};
 ghost use Rattle.fair_round.specs.Spending.{Asks, IsSpent, IsStop};
 ghost use Rattle.fair_round.specs.Deeds.{IsDeed, IsPosting, IsTrueBehind};
-ghost use Rattle.fair_workers.specs.Working.{is_running, is_refused, phase_after, searches_ahead, AreRoundsOf, IsStuck, IsWorker, Turns, Thinks};
+ghost use Rattle.fair_workers.specs.Working.{is_running, is_refused, phase_after, phase_finished, phase_passed, serving, asked, asked_last, searches_in, AreRoundsOf, IsAllowing, IsWorker, Turns, Thinks};
 
 use crate::shared_list::SharedList;
 use circuit::Circuit;
@@ -26,21 +26,21 @@ use wall_store::{Outcome, Posted};
 /// What a worker does in its next turn, or how it ended.
 #[derive(Clone, Copy)]
 pub(crate) enum Phase {
-    /// It asks whether its property is open.
+    /// It asks for an open property.
     Asks,
-    /// It looks.
+    /// It looks, to serve a property.
     Looks,
     /// It searches, and posts an entry or hands in an outcome.
     Searches,
-    /// It found the list full, and asks for the last time whether its property is open.
-    AsksLast,
-    /// It looks for the last time.
+    /// It found the list full, and asks for an open property from this number on: below it, it went through all.
+    AsksLast(u32),
+    /// It looks, to serve a property for the last time.
     LooksLast,
-    /// It asks for the last time whether all skeletons are excluded.
+    /// It asks whether all skeletons of the property are excluded.
     SearchesLast,
-    /// It ended, since its property has an outcome.
+    /// It ended, since each property has an outcome.
     Closed,
-    /// It ended, since the list is full and a skeleton is left.
+    /// It ended, since the list is full and leaves a skeleton of each open property.
     Full,
     /// It ended, since its conflicts or its steps are spent.
     Spent,
@@ -48,12 +48,21 @@ pub(crate) enum Phase {
     Refused,
 }
 
-/// A worker: its rounds, which it makes when it first searches, its meter, and what it does next or how it ended.
+/// A worker: the property that it serves, or served last; its rounds for it, which it makes when it first searches; its
+/// meter; and what it does next or how it ended.
 #[derive(Drop)]
 pub(crate) struct Worker {
+    pub(crate) property: u32,
     pub(crate) rounds: Option<Rounds>,
     pub(crate) meter: Meter,
     pub(crate) phase: Phase,
+}
+
+/// The property from which a worker of this number asks first: they begin at places spread over the list.
+pub(crate) fn first_property(properties: &[u32], number: u32, workers: u32) -> u32 {
+    let ahead = (number as usize).saturating_mul(properties.len());
+    let place = ahead.checked_div(workers as usize).unwrap_or(0);
+    properties.get(place).copied().unwrap_or(0)
 }
 
 // The rounds of a worker, made where it has none yet. They are put back behind the work.
@@ -94,6 +103,7 @@ fn decided(
     ensures counted { Asks (length (arc_value c.now).latches) (max 1 (length (fair_literals (arc_value c.now) j)) + 1)
         worker.old.meter worker.new.meter }
     ensures rounds { IfSome worker.new.rounds (AreRoundsOf (arc_value c.now) j (viewed view.now)) }
+    ensures property { worker.new.property ≡ worker.old.property }
     ensures phase { worker.new.phase ≡ worker.old.phase }
 {
     let mut rounds = taken(alloc, c, j, author.number, &mut worker.rounds, view)?;
@@ -106,28 +116,27 @@ fn decided(
 fn think<L: SharedList>(
     alloc: Global,
     c: &Arc<Circuit>,
-    j: u32,
     worker: &mut Worker,
     shared: &L,
 ) -> Result<Deed, Stop>
     requires kept { L.is_kept shared.now }
-    requires worker { IsWorker j (L.known shared.now) worker.old }
+    requires worker { IsWorker (L.known shared.now) worker.old }
     requires circuit { arc_value c.now ≡ (L.known shared.now).circuit }
     requires phase { worker.old.phase ≡ Phase.Searches }
-    ensures deed { IfOk result (IsDeed (L.known shared.now).circuit (plain (L.known shared.now).list) j
+    ensures deed { IfOk result (IsDeed (L.known shared.now).circuit (plain (L.known shared.now).list) worker.new.property
         (L.known shared.now).number (L.known shared.now).turns) }
     ensures stop { IfErr result (IsStop worker.new.meter) }
-    ensures thinks { Thinks j (searches_ahead worker.new.phase) (L.known shared.now) worker.old worker.new }
+    ensures thinks { Thinks (searches_in worker.new.phase) (L.known shared.now) worker.old worker.new }
 {
     let author = Author {
         number: shared.number(),
         turn: shared.turns(),
     };
-    decided(alloc, c, j, shared.view(), author, worker)
+    decided(alloc, c, worker.property, shared.view(), author, worker)
 }
 
 // Whether a skeleton is left, by the view.
-fn left_in(
+fn skeleton_in(
     alloc: Global,
     c: &Arc<Circuit>,
     j: u32,
@@ -143,6 +152,7 @@ fn left_in(
     ensures stop { IfErr result (IsStop worker.new.meter) }
     ensures counted { CountsConflicts worker.old.meter worker.new.meter }
     ensures rounds { IfSome worker.new.rounds (AreRoundsOf (arc_value c.now) j (viewed view.now)) }
+    ensures property { worker.new.property ≡ worker.old.property }
     ensures phase { worker.new.phase ≡ worker.old.phase }
 {
     let mut rounds = taken(alloc, c, j, number, &mut worker.rounds, view)?;
@@ -155,55 +165,96 @@ fn left_in(
 fn think_last<L: SharedList>(
     alloc: Global,
     c: &Arc<Circuit>,
-    j: u32,
     worker: &mut Worker,
     shared: &L,
 ) -> Result<Found, Stop>
     requires kept { L.is_kept shared.now }
-    requires worker { IsWorker j (L.known shared.now) worker.old }
+    requires worker { IsWorker (L.known shared.now) worker.old }
     requires circuit { arc_value c.now ≡ (L.known shared.now).circuit }
-    ensures found { IfOk result (IsFound (L.known shared.now).circuit j (plain (L.known shared.now).list)) }
+    requires phase { worker.old.phase ≡ Phase.SearchesLast }
+    ensures found { IfOk result
+        (IsFound (L.known shared.now).circuit worker.new.property (plain (L.known shared.now).list)) }
     ensures stop { IfErr result (IsStop worker.new.meter) }
-    ensures thinks { Thinks j (searches_ahead worker.new.phase) (L.known shared.now) worker.old worker.new }
+    ensures thinks { Thinks (searches_in worker.new.phase) (L.known shared.now) worker.old worker.new }
 {
-    left_in(alloc, c, j, shared.view(), shared.number(), worker)
+    skeleton_in(
+        alloc,
+        c,
+        worker.property,
+        shared.view(),
+        shared.number(),
+        worker,
+    )
 }
 
-// Asks whether the property is open.
-fn ask<L: SharedList>(_j: u32, worker: &mut Worker, shared: &mut L)
+// Serves the property from now on.
+fn serve(worker: &mut Worker, j: u32, phase: Phase)
+    ensures { worker.new ≡ serving j phase worker.old }
+{
+    if worker.property != j {
+        drop(worker.rounds.take());
+        worker.property = j;
+    }
+    worker.phase = phase;
+}
+
+// Goes on behind the answer to its question.
+fn go_on(worker: &mut Worker, told: Option<u32>)
+    ensures { worker.new ≡ asked told worker.old }
+{
+    match told {
+        Some(j) => serve(worker, j, Phase::Looks),
+        None => worker.phase = Phase::Closed,
+    }
+}
+
+// The same where the list is full: it went through the properties below `from`.
+fn go_on_last(worker: &mut Worker, from: u32, told: Option<u32>)
+    ensures { worker.new ≡ asked_last from told worker.old }
+{
+    match told {
+        Some(j) => {
+            if j < from {
+                worker.phase = Phase::Full;
+            } else {
+                serve(worker, j, Phase::LooksLast);
+            }
+        }
+        None => worker.phase = Phase::Closed,
+    }
+}
+
+// Asks for an open property, from the one that it served last on.
+fn ask<L: SharedList>(worker: &mut Worker, shared: &mut L)
     requires kept { L.is_kept shared.old }
-    requires worker { IsWorker _j (L.known shared.old) worker.old }
+    requires worker { IsWorker (L.known shared.old) worker.old }
     requires phase { worker.old.phase ≡ Phase.Asks }
     ensures on { L.goes_on shared.old shared.new }
-    ensures turns { Turns _j 0 (L.known shared.old) worker.old (L.known shared.new) worker.new }
+    ensures turns { Turns 0 (L.known shared.old) worker.old (L.known shared.new) worker.new }
 {
-    worker.phase = match shared.next_open(0) {
-        Some(_) => Phase::Looks,
-        None => Phase::Closed,
-    };
+    let told = shared.next_open(worker.property);
+    go_on(worker, told);
 }
 
-// Asks the same for the last time.
-fn ask_last<L: SharedList>(_j: u32, worker: &mut Worker, shared: &mut L)
+// Asks for an open property that it did not go through since the list is full.
+fn ask_last<L: SharedList>(worker: &mut Worker, from: u32, shared: &mut L)
     requires kept { L.is_kept shared.old }
-    requires worker { IsWorker _j (L.known shared.old) worker.old }
-    requires phase { worker.old.phase ≡ Phase.AsksLast }
+    requires worker { IsWorker (L.known shared.old) worker.old }
+    requires phase { worker.old.phase ≡ Phase.AsksLast from }
     ensures on { L.goes_on shared.old shared.new }
-    ensures turns { Turns _j 0 (L.known shared.old) worker.old (L.known shared.new) worker.new }
+    ensures turns { Turns 0 (L.known shared.old) worker.old (L.known shared.new) worker.new }
 {
-    worker.phase = match shared.next_open(0) {
-        Some(_) => Phase::LooksLast,
-        None => Phase::Closed,
-    };
+    let told = shared.next_open(from);
+    go_on_last(worker, from, told);
 }
 
 // Looks, to search then.
-fn look<L: SharedList>(_j: u32, worker: &mut Worker, shared: &mut L)
+fn look<L: SharedList>(worker: &mut Worker, shared: &mut L)
     requires kept { L.is_kept shared.old }
-    requires worker { IsWorker _j (L.known shared.old) worker.old }
+    requires worker { IsWorker (L.known shared.old) worker.old }
     requires phase { worker.old.phase ≡ Phase.Looks }
     ensures on { L.goes_on shared.old shared.new }
-    ensures turns { Turns _j 0 (L.known shared.old) worker.old (L.known shared.new) worker.new }
+    ensures turns { Turns 0 (L.known shared.old) worker.old (L.known shared.new) worker.new }
 {
     worker.phase = match shared.look() {
         Ok(()) => Phase::Searches,
@@ -211,13 +262,13 @@ fn look<L: SharedList>(_j: u32, worker: &mut Worker, shared: &mut L)
     };
 }
 
-// Looks for the last time.
-fn look_last<L: SharedList>(_j: u32, worker: &mut Worker, shared: &mut L)
+// Looks for the last time, for its property.
+fn look_last<L: SharedList>(worker: &mut Worker, shared: &mut L)
     requires kept { L.is_kept shared.old }
-    requires worker { IsWorker _j (L.known shared.old) worker.old }
+    requires worker { IsWorker (L.known shared.old) worker.old }
     requires phase { worker.old.phase ≡ Phase.LooksLast }
     ensures on { L.goes_on shared.old shared.new }
-    ensures turns { Turns _j 0 (L.known shared.old) worker.old (L.known shared.new) worker.new }
+    ensures turns { Turns 0 (L.known shared.old) worker.old (L.known shared.new) worker.new }
 {
     worker.phase = match shared.look() {
         Ok(()) => Phase::SearchesLast,
@@ -230,20 +281,20 @@ fn after_post(posted: Posted) -> Phase
 {
     match posted {
         Posted::Appended(_) | Posted::Stale(_) => Phase::Asks,
-        Posted::Full => Phase::AsksLast,
+        Posted::Full => Phase::AsksLast(0),
         Posted::Closed => Phase::Closed,
     }
 }
 
 // Posts an entry that was checked behind what the worker has seen.
-fn post<L: SharedList>(_j: u32, worker: &mut Worker, entry: Arc<Checked>, shared: &mut L)
+fn post<L: SharedList>(worker: &mut Worker, entry: Arc<Checked>, shared: &mut L)
     requires kept { L.is_kept shared.old }
-    requires worker { IsWorker _j (L.known shared.old) worker.old }
+    requires worker { IsWorker (L.known shared.old) worker.old }
     requires phase { worker.old.phase ≡ Phase.Searches }
-    requires entry { IsPosting (L.known shared.old).circuit (plain (L.known shared.old).list) _j (L.known shared.old).number
-        (L.known shared.old).turns (arc_value entry) }
+    requires entry { IsPosting (L.known shared.old).circuit (plain (L.known shared.old).list) worker.old.property
+        (L.known shared.old).number (L.known shared.old).turns (arc_value entry) }
     ensures on { L.goes_on shared.old shared.new }
-    ensures turns { Turns _j (searches_ahead worker.old.phase) (L.known shared.old) worker.old (L.known shared.new) worker.new }
+    ensures turns { Turns (searches_in worker.old.phase) (L.known shared.old) worker.old (L.known shared.new) worker.new }
 {
     worker.phase = match shared.post(&entry) {
         Ok(posted) => after_post(posted),
@@ -251,76 +302,117 @@ fn post<L: SharedList>(_j: u32, worker: &mut Worker, entry: Arc<Checked>, shared
     };
 }
 
-// Hands in an outcome that is true over what the worker has seen.
-fn finish<L: SharedList>(j: u32, worker: &mut Worker, outcome: Outcome, shared: &mut L)
-    requires kept { L.is_kept shared.old }
-    requires worker { IsWorker j (L.known shared.old) worker.old }
-    requires running { is_running worker.old.phase ≡ true }
-    requires outcome { IsTrueBehind (L.known shared.old).circuit (plain (L.known shared.old).list) j outcome }
-    ensures on { L.goes_on shared.old shared.new }
-    ensures turns { Turns j (searches_ahead worker.old.phase) (L.known shared.old) worker.old (L.known shared.new) worker.new }
+// Where the worker goes on behind an outcome that it handed in. With one property it has ended.
+fn after_finish(properties: &[u32], next: Phase) -> Phase
+    ensures { result ≡ phase_finished properties.now next }
 {
+    if properties.len() == 1 {
+        Phase::Closed
+    } else {
+        next
+    }
+}
+
+// Hands in an outcome that is true over what the worker has seen.
+fn finish<L: SharedList>(properties: &[u32], worker: &mut Worker, outcome: Outcome, shared: &mut L)
+    requires kept { L.is_kept shared.old }
+    requires worker { IsWorker (L.known shared.old) worker.old }
+    requires properties { properties.now ≡ (L.known shared.old).properties }
+    requires phase { worker.old.phase ≡ Phase.Searches }
+    requires outcome { IsTrueBehind (L.known shared.old).circuit (plain (L.known shared.old).list) worker.old.property
+        outcome }
+    ensures on { L.goes_on shared.old shared.new }
+    ensures turns { Turns (searches_in worker.old.phase) (L.known shared.old) worker.old (L.known shared.new) worker.new }
+{
+    shared.finish(worker.property, outcome);
+    worker.phase = after_finish(properties, Phase::Asks);
+}
+
+// The same where the list is full.
+fn finish_last<L: SharedList>(
+    properties: &[u32],
+    worker: &mut Worker,
+    outcome: Outcome,
+    shared: &mut L,
+)
+    requires kept { L.is_kept shared.old }
+    requires worker { IsWorker (L.known shared.old) worker.old }
+    requires properties { properties.now ≡ (L.known shared.old).properties }
+    requires phase { worker.old.phase ≡ Phase.SearchesLast }
+    requires outcome { IsTrueBehind (L.known shared.old).circuit (plain (L.known shared.old).list) worker.old.property
+        outcome }
+    ensures on { L.goes_on shared.old shared.new }
+    ensures turns { Turns (searches_in worker.old.phase) (L.known shared.old) worker.old (L.known shared.new) worker.new }
+{
+    let j = worker.property;
     shared.finish(j, outcome);
-    worker.phase = Phase::Closed;
+    worker.phase = after_finish(properties, Phase::AsksLast(j));
 }
 
 // The worker ends, since what it may spend is spent.
-fn end_spent<L: SharedList>(_j: u32, worker: &mut Worker, shared: &L)
+fn end_spent<L: SharedList>(worker: &mut Worker, shared: &L)
     requires kept { L.is_kept shared.now }
-    requires worker { IsWorker _j (L.known shared.now) worker.old }
+    requires worker { IsWorker (L.known shared.now) worker.old }
     requires running { is_running worker.old.phase ≡ true }
     requires spent { IsSpent worker.old.meter }
     ensures on { L.goes_on shared.now shared.now }
-    ensures turns { Turns _j (searches_ahead worker.old.phase) (L.known shared.now) worker.old (L.known shared.now) worker.new }
+    ensures turns { Turns (searches_in worker.old.phase) (L.known shared.now) worker.old (L.known shared.now) worker.new }
 {
     shared.holds();
     worker.phase = Phase::Spent;
 }
 
 // The worker ends, since memory was refused.
-fn end_refused<L: SharedList>(_j: u32, worker: &mut Worker, shared: &L)
+fn end_refused<L: SharedList>(worker: &mut Worker, shared: &L)
     requires kept { L.is_kept shared.now }
-    requires worker { IsWorker _j (L.known shared.now) worker.old }
+    requires worker { IsWorker (L.known shared.now) worker.old }
     requires running { is_running worker.old.phase ≡ true }
     ensures on { L.goes_on shared.now shared.now }
-    ensures turns { Turns _j (searches_ahead worker.old.phase) (L.known shared.now) worker.old (L.known shared.now) worker.new }
+    ensures turns { Turns (searches_in worker.old.phase) (L.known shared.now) worker.old (L.known shared.now) worker.new }
 {
     shared.holds();
     worker.phase = Phase::Refused;
 }
 
-// The worker ends, since the list is full and a skeleton is left.
-fn end_full<L: SharedList>(_j: u32, worker: &mut Worker, shared: &L)
+// Where the worker goes on behind property `j`, of which the full list allows a skeleton. Behind the last one it has ended.
+fn after_skeleton(properties: &[u32], j: u32) -> Phase
+    requires { 0 < length properties.now }
+    ensures { result ≡ phase_passed properties.now j }
+{
+    if j < properties[properties.len() - 1] {
+        Phase::AsksLast(j + 1)
+    } else {
+        Phase::Full
+    }
+}
+
+// Goes on to the next property, since the list is full and a skeleton of this one is left.
+fn pass_over<L: SharedList>(properties: &[u32], worker: &mut Worker, shared: &L)
     requires kept { L.is_kept shared.now }
-    requires worker { IsWorker _j (L.known shared.now) worker.old }
+    requires worker { IsWorker (L.known shared.now) worker.old }
+    requires properties { properties.now ≡ (L.known shared.now).properties }
     requires phase { worker.old.phase ≡ Phase.SearchesLast }
-    requires stuck { IsStuck _j (L.known shared.now) }
+    requires left { IsAllowing (L.known shared.now) worker.old.property }
     ensures on { L.goes_on shared.now shared.now }
-    ensures turns { Turns _j (searches_ahead worker.old.phase) (L.known shared.now) worker.old (L.known shared.now) worker.new }
+    ensures turns { Turns (searches_in worker.old.phase) (L.known shared.now) worker.old (L.known shared.now) worker.new }
 {
     shared.holds();
-    worker.phase = Phase::Full;
+    worker.phase = after_skeleton(properties, worker.property);
 }
 
 // Shares the entry and posts it.
-fn post_shared<L: SharedList>(
-    alloc: Global,
-    j: u32,
-    worker: &mut Worker,
-    entry: Checked,
-    shared: &mut L,
-)
+fn post_shared<L: SharedList>(alloc: Global, worker: &mut Worker, entry: Checked, shared: &mut L)
     requires kept { L.is_kept shared.old }
-    requires worker { IsWorker j (L.known shared.old) worker.old }
+    requires worker { IsWorker (L.known shared.old) worker.old }
     requires phase { worker.old.phase ≡ Phase.Searches }
-    requires entry { IsPosting (L.known shared.old).circuit (plain (L.known shared.old).list) j (L.known shared.old).number
-        (L.known shared.old).turns entry }
+    requires entry { IsPosting (L.known shared.old).circuit (plain (L.known shared.old).list) worker.old.property
+        (L.known shared.old).number (L.known shared.old).turns entry }
     ensures on { L.goes_on shared.old shared.new }
-    ensures turns { Turns j (searches_ahead worker.old.phase) (L.known shared.old) worker.old (L.known shared.new) worker.new }
+    ensures turns { Turns (searches_in worker.old.phase) (L.known shared.old) worker.old (L.known shared.new) worker.new }
 {
     match Arc::new(alloc, entry) {
-        Ok(entry) => post(j, worker, entry, shared),
-        Err(_) => end_refused(j, worker, shared),
+        Ok(entry) => post(worker, entry, shared),
+        Err(_) => end_refused(worker, shared),
     }
 }
 
@@ -328,22 +420,23 @@ fn post_shared<L: SharedList>(
 fn search<L: SharedList>(
     alloc: Global,
     c: &Arc<Circuit>,
-    j: u32,
+    properties: &[u32],
     worker: &mut Worker,
     shared: &mut L,
 )
     requires kept { L.is_kept shared.old }
-    requires worker { IsWorker j (L.known shared.old) worker.old }
+    requires worker { IsWorker (L.known shared.old) worker.old }
     requires circuit { arc_value c.now ≡ (L.known shared.old).circuit }
+    requires properties { properties.now ≡ (L.known shared.old).properties }
     requires phase { worker.old.phase ≡ Phase.Searches }
     ensures on { L.goes_on shared.old shared.new }
-    ensures turns { Turns j 0 (L.known shared.old) worker.old (L.known shared.new) worker.new }
+    ensures turns { Turns 0 (L.known shared.old) worker.old (L.known shared.new) worker.new }
 {
-    match think(alloc, c, j, worker, shared) {
-        Ok(Deed::Post(entry)) => post_shared(alloc, j, worker, entry, shared),
-        Ok(Deed::Finish(outcome)) => finish(j, worker, outcome, shared),
-        Err(Stop::Spent) => end_spent(j, worker, shared),
-        Err(Stop::Memory) => end_refused(j, worker, shared),
+    match think(alloc, c, worker, shared) {
+        Ok(Deed::Post(entry)) => post_shared(alloc, worker, entry, shared),
+        Ok(Deed::Finish(outcome)) => finish(properties, worker, outcome, shared),
+        Err(Stop::Spent) => end_spent(worker, shared),
+        Err(Stop::Memory) => end_refused(worker, shared),
     }
 }
 
@@ -351,24 +444,25 @@ fn search<L: SharedList>(
 fn search_last<L: SharedList>(
     alloc: Global,
     c: &Arc<Circuit>,
-    j: u32,
+    properties: &[u32],
     worker: &mut Worker,
     shared: &mut L,
 )
     requires kept { L.is_kept shared.old }
-    requires worker { IsWorker j (L.known shared.old) worker.old }
+    requires worker { IsWorker (L.known shared.old) worker.old }
     requires circuit { arc_value c.now ≡ (L.known shared.old).circuit }
+    requires properties { properties.now ≡ (L.known shared.old).properties }
     requires phase { worker.old.phase ≡ Phase.SearchesLast }
     ensures on { L.goes_on shared.old shared.new }
-    ensures turns { Turns j 0 (L.known shared.old) worker.old (L.known shared.new) worker.new }
+    ensures turns { Turns 0 (L.known shared.old) worker.old (L.known shared.new) worker.new }
 {
-    match think_last(alloc, c, j, worker, shared) {
-        Ok(Found::Skeleton(_left)) => end_full(j, worker, shared),
+    match think_last(alloc, c, worker, shared) {
+        Ok(Found::Skeleton(_left)) => pass_over(properties, worker, shared),
         Ok(Found::Refuted(refutation)) => {
-            finish(j, worker, Outcome::Holds(refutation), shared);
+            finish_last(properties, worker, Outcome::Holds(refutation), shared);
         }
-        Err(Stop::Spent) => end_spent(j, worker, shared),
-        Err(Stop::Memory) => end_refused(j, worker, shared),
+        Err(Stop::Spent) => end_spent(worker, shared),
+        Err(Stop::Memory) => end_refused(worker, shared),
     }
 }
 
@@ -380,7 +474,7 @@ impl Phase {
         match self {
             Phase::Closed | Phase::Full | Phase::Spent | Phase::Refused => false,
             Phase::Asks | Phase::Looks | Phase::Searches => true,
-            Phase::AsksLast | Phase::LooksLast | Phase::SearchesLast => true,
+            Phase::AsksLast(_) | Phase::LooksLast | Phase::SearchesLast => true,
         }
     }
 
@@ -397,7 +491,7 @@ impl Phase {
             Phase::Refused => true,
             Phase::Closed | Phase::Full | Phase::Spent => false,
             Phase::Asks | Phase::Looks | Phase::Searches => false,
-            Phase::AsksLast | Phase::LooksLast | Phase::SearchesLast => false,
+            Phase::AsksLast(_) | Phase::LooksLast | Phase::SearchesLast => false,
         }
     }
 }
@@ -407,24 +501,25 @@ impl Phase {
 pub(crate) fn take_turn<L: SharedList>(
     alloc: Global,
     c: &Arc<Circuit>,
-    j: u32,
+    properties: &[u32],
     worker: &mut Worker,
     shared: &mut L,
 )
     requires kept { L.is_kept shared.old }
-    requires worker { IsWorker j (L.known shared.old) worker.old }
+    requires worker { IsWorker (L.known shared.old) worker.old }
     requires circuit { arc_value c.now ≡ (L.known shared.old).circuit }
+    requires properties { properties.now ≡ (L.known shared.old).properties }
     requires running { is_running worker.old.phase ≡ true }
     ensures on { L.goes_on shared.old shared.new }
-    ensures turns { Turns j 0 (L.known shared.old) worker.old (L.known shared.new) worker.new }
+    ensures turns { Turns 0 (L.known shared.old) worker.old (L.known shared.new) worker.new }
 {
     match worker.phase {
-        Phase::Asks => ask(j, worker, shared),
-        Phase::Looks => look(j, worker, shared),
-        Phase::Searches => search(alloc, c, j, worker, shared),
-        Phase::AsksLast => ask_last(j, worker, shared),
-        Phase::LooksLast => look_last(j, worker, shared),
-        Phase::SearchesLast => search_last(alloc, c, j, worker, shared),
+        Phase::Asks => ask(worker, shared),
+        Phase::Looks => look(worker, shared),
+        Phase::Searches => search(alloc, c, properties, worker, shared),
+        Phase::AsksLast(from) => ask_last(worker, from, shared),
+        Phase::LooksLast => look_last(worker, shared),
+        Phase::SearchesLast => search_last(alloc, c, properties, worker, shared),
         Phase::Closed | Phase::Full | Phase::Spent | Phase::Refused => unreachable!(),
     }
 }

@@ -27,22 +27,24 @@ impl Draws {
     }
 }
 
-// How many there are of what a drawn model has; there is one property.
+// How many there are of what a drawn model has.
 #[derive(Clone, Copy)]
 struct Counts {
     inputs: u64,
     latches: u64,
     gates: u64,
+    properties: u64,
     literals: u64,
     fairness: u64,
 }
 
-// Up to two inputs, two to five latches, two to nine gates, up to three literals of the property and one of fairness.
-fn counts_of(draws: &mut Draws) -> Counts {
+// Up to two inputs, two to five latches, two to nine gates, up to three literals of each property and one of fairness.
+fn counts_of(draws: &mut Draws, properties: u64) -> Counts {
     Counts {
         inputs: draws.below(3),
         latches: draws.below(4).saturating_add(2),
         gates: draws.below(8).saturating_add(2),
+        properties,
         literals: draws.below(4),
         fairness: draws.below(2),
     }
@@ -87,7 +89,17 @@ fn push_head(text: &mut Vec<u8>, n: &Counts) -> Result<(), AllocError> {
     text.extend_from_slice(b"aag ")?;
     push_line(
         text,
-        &[max, n.inputs, n.latches, 0, n.gates, 0, 1, 1, n.fairness],
+        &[
+            max,
+            n.inputs,
+            n.latches,
+            0,
+            n.gates,
+            0,
+            1,
+            n.properties,
+            n.fairness,
+        ],
     )?;
     for input in 0..n.inputs {
         push_line(text, &[input.saturating_add(1).saturating_mul(2)])?;
@@ -120,9 +132,19 @@ fn push_constraint(text: &mut Vec<u8>, n: &Counts, draws: &mut Draws) -> Result<
     push_line(text, &[literal])
 }
 
+// Every second property has one literal more.
+fn property_literals(n: &Counts, property: u64) -> u64 {
+    n.literals.saturating_add(property % 2)
+}
+
 fn push_literals(text: &mut Vec<u8>, n: &Counts, draws: &mut Draws) -> Result<(), AllocError> {
-    push_line(text, &[n.literals])?;
-    for _literal in 0..n.literals.saturating_add(n.fairness) {
+    let mut count = n.fairness;
+    for property in 0..n.properties {
+        let literals = property_literals(n, property);
+        push_line(text, &[literals])?;
+        count = count.saturating_add(literals);
+    }
+    for _literal in 0..count {
         push_line(text, &[draws.below(literal_count(n))])?;
     }
     Ok(())
@@ -139,8 +161,17 @@ fn push_gates(text: &mut Vec<u8>, n: &Counts, draws: &mut Draws) -> Result<(), A
 
 /// The model with a number: a circuit with one property.
 pub(crate) fn model_text(alloc: Global, number: u64) -> Result<Vec<u8>, AllocError> {
+    text_with(alloc, number, 1)
+}
+
+/// The model with a number that has so many properties.
+pub(crate) fn text_with(
+    alloc: Global,
+    number: u64,
+    properties: u64,
+) -> Result<Vec<u8>, AllocError> {
     let mut draws = draws_of(number);
-    let n = counts_of(&mut draws);
+    let n = counts_of(&mut draws, properties);
     let mut text = Vec::new(alloc);
     push_head(&mut text, &n)?;
     push_latches(&mut text, &n, &mut draws)?;

@@ -15,11 +15,11 @@ use std::sync::{Arc, Wait};
 use std::thread::Threads;
 use wall_store::{Board, Outcome};
 
-const NO_LIMIT: u64 = 4_294_967_295;
+pub(crate) const NO_LIMIT: u64 = 4_294_967_295;
 
 /// How a run ended, all of which was seen to be right; or that something was not.
 #[derive(Clone, Copy, PartialEq, Eq)]
-enum End {
+pub(crate) enum End {
     Verdict,
     Report,
     Wrong,
@@ -51,15 +51,20 @@ fn stimulus_of(alloc: Global, lasso: &Lasso) -> Result<Stimulus, AllocError> {
     })
 }
 
-fn lasso_text(alloc: Global, lasso: &Lasso) -> Result<Vec<u8>, AllocError> {
+fn lasso_text(alloc: Global, j: u32, lasso: &Lasso) -> Result<Vec<u8>, AllocError> {
     let made = stimulus_of(alloc, lasso)?;
-    stimulus::write(alloc, 0, &made)
+    stimulus::write(alloc, j, &made)
 }
 
-fn answer_text(alloc: Global, board: &Board, outcome: &Outcome) -> Result<Vec<u8>, AllocError> {
+fn answer_text(
+    alloc: Global,
+    board: &Board,
+    j: u32,
+    outcome: &Outcome,
+) -> Result<Vec<u8>, AllocError> {
     match outcome {
-        Outcome::Lasso(lasso) => lasso_text(alloc, lasso),
-        Outcome::Holds(refutation) => certificate::write(alloc, 0, board.entries(), refutation),
+        Outcome::Lasso(lasso) => lasso_text(alloc, j, lasso),
+        Outcome::Holds(refutation) => certificate::write(alloc, j, board.entries(), refutation),
     }
 }
 
@@ -82,11 +87,11 @@ fn accepted(alloc: Global, c: &Circuit, text: Vec<u8>) -> Result<Option<Accepted
     Ok(judged_text(alloc, c, &mut shelf))
 }
 
-// Whether an answer of property 0 that was accepted says what the search of all states says.
-fn says(answer: Option<Accepted>, has_lasso: bool) -> bool {
+// Whether an answer of property `j` that was accepted says what the search of all states says.
+fn says(answer: Option<Accepted>, j: u32, has_lasso: bool) -> bool {
     match answer {
-        Some(Accepted::Lasso { property, .. }) => property == 0 && has_lasso,
-        Some(Accepted::Holds { property, .. }) => property == 0 && !has_lasso,
+        Some(Accepted::Lasso { property, .. }) => property == j && has_lasso,
+        Some(Accepted::Holds { property, .. }) => property == j && !has_lasso,
         None => false,
     }
 }
@@ -97,9 +102,25 @@ fn is_right_outcome(
     board: &Board,
     outcome: &Outcome,
 ) -> Result<bool, AllocError> {
-    let text = answer_text(alloc, board, outcome)?;
+    let text = answer_text(alloc, board, 0, outcome)?;
     let answer = accepted(alloc, &*searched.circuit, text)?;
-    Ok(says(answer, searched.has_lasso))
+    Ok(says(answer, 0, searched.has_lasso))
+}
+
+/// Whether property `j` has an outcome that is right: its text is accepted, and says what the search of all states says.
+pub(crate) fn is_right_of(
+    alloc: Global,
+    c: &Circuit,
+    board: &Board,
+    j: u32,
+    has_lasso: bool,
+) -> Result<bool, AllocError> {
+    let text = match board.outcome(j) {
+        Some(outcome) => answer_text(alloc, board, j, outcome)?,
+        None => return Ok(false),
+    };
+    let answer = accepted(alloc, c, text)?;
+    Ok(says(answer, j, has_lasso))
 }
 
 // ---- boards and reports
@@ -151,17 +172,22 @@ fn all_in_turn(board: &Board, workers: u32) -> bool {
     true
 }
 
-fn serves_property_0(board: &Board) -> bool {
+fn serves(board: &Board, properties: &[u32]) -> bool {
     let served = board.served();
-    served.len() == 1 && served[0].property == 0
+    for (k, one) in served.iter().enumerate() {
+        if properties.get(k).copied() != Some(one.property) {
+            return false;
+        }
+    }
+    served.len() == properties.len()
 }
 
-// Whether a board is one of these workers, whose list is within its limit.
-fn is_board(board: &Board, n: &Numbers) -> bool {
+/// Whether a board is one of these workers and properties, whose list is within its limit.
+pub(crate) fn is_board(board: &Board, n: &Numbers, properties: &[u32]) -> bool {
     board.workers() == n.workers
         && board.limit() == n.skeletons
         && board.given() == 0
-        && serves_property_0(board)
+        && serves(board, properties)
         && board.entries().len() <= n.skeletons as usize
         && is_by_workers(board, n.workers)
         && all_in_turn(board, n.workers)
@@ -183,7 +209,8 @@ fn is_spent(spent: &Spending) -> bool {
     spent.conflict_limit() == Some(spent.conflicts()) || spent.step_limit() == Some(spent.steps())
 }
 
-fn path_steps(latches: usize) -> u64 {
+/// How many steps one search for a path takes at most.
+pub(crate) fn path_steps(latches: usize) -> u64 {
     let mut states: u64 = 1;
     for _latch in 0..latches {
         states = states.saturating_mul(2);
@@ -195,7 +222,7 @@ fn path_steps(latches: usize) -> u64 {
 
 // How many steps a worker takes at most.
 fn most_steps(c: &Circuit, skeletons: u32) -> u64 {
-    let situations = (literal_count(c) as u64).max(1);
+    let situations = (literal_count(c, 0) as u64).max(1);
     u64::from(skeletons)
         .saturating_add(1)
         .saturating_mul(situations.saturating_add(1))
@@ -216,7 +243,8 @@ fn is_spending(spent: &Spending, n: &Numbers, most: u64) -> bool {
         && spent.steps() <= most
 }
 
-fn all_within(spendings: &[Spending], n: &Numbers, most: u64) -> bool {
+/// Whether each count is within its limit, and no worker took more steps than these.
+pub(crate) fn all_within(spendings: &[Spending], n: &Numbers, most: u64) -> bool {
     for spent in spendings {
         if !is_spending(spent, n, most) {
             return false;
@@ -225,7 +253,8 @@ fn all_within(spendings: &[Spending], n: &Numbers, most: u64) -> bool {
     true
 }
 
-fn all_spent(spendings: &[Spending]) -> bool {
+/// Whether each has spent its conflicts or its steps.
+pub(crate) fn all_spent(spendings: &[Spending]) -> bool {
     for spent in spendings {
         if !is_spent(spent) {
             return false;
@@ -236,7 +265,7 @@ fn all_spent(spendings: &[Spending]) -> bool {
 
 // Whether the board and the counts of a report are right, with an outcome or without one.
 fn has_right_counts(c: &Circuit, n: &Numbers, report: &Report) -> bool {
-    is_board(&report.board, n)
+    is_board(&report.board, n, &[0])
         && report.workers.len() == n.workers as usize
         && all_within(report.workers.as_slice(), n, most_steps(c, n.skeletons))
 }
@@ -254,6 +283,7 @@ fn is_stuck(
     leaves_a_skeleton(
         alloc,
         &*searched.circuit,
+        0,
         board.entries(),
         searched.steps.as_slice(),
     )
@@ -366,8 +396,8 @@ fn circuit_drawn(alloc: Global, number: u64) -> Result<Option<Arc<Circuit>>, All
 }
 
 fn searched(alloc: Global, circuit: Arc<Circuit>) -> Result<SearchedCircuit, AllocError> {
-    let steps = steps_of(alloc, &*circuit)?;
-    let has_lasso = has_fair_lasso(alloc, &*circuit, &steps)?;
+    let steps = steps_of(alloc, &*circuit, 0)?;
+    let has_lasso = has_fair_lasso(alloc, &*circuit, 0, &steps)?;
     Ok(SearchedCircuit {
         circuit,
         steps,
@@ -492,8 +522,8 @@ fn limit_where(kind: u32, own: u32, limit: u32) -> u64 {
     }
 }
 
-// So many of one kind: of entries, conflicts, steps, or of all three.
-fn numbers_of(kind: u32, workers: u32, limit: u32) -> Numbers {
+/// So many of one kind: of entries, conflicts, steps, or of all three.
+pub(crate) fn numbers_of(kind: u32, workers: u32, limit: u32) -> Numbers {
     Numbers {
         workers,
         conflicts: limit_where(kind, 1, limit),
@@ -506,8 +536,8 @@ fn numbers_of(kind: u32, workers: u32, limit: u32) -> Numbers {
     }
 }
 
-// 0, 1, 2, .. up to 16, and then twice as many each time.
-fn next_limit(limit: u32) -> u32 {
+/// 0, 1, 2, .. up to 16, and then twice as many each time.
+pub(crate) fn next_limit(limit: u32) -> u32 {
     if limit < 16 {
         limit + 1
     } else {

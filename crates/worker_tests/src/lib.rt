@@ -12,6 +12,8 @@ mod running;
 #[cfg(test)]
 mod searching;
 #[cfg(test)]
+mod several;
+#[cfg(test)]
 mod sliced;
 #[cfg(test)]
 mod tests;

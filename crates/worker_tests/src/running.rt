@@ -1,13 +1,14 @@
 //! Runs of workers on a model's text.
 
-ghost use Rattle.std.specs.Prelude.{◌<◌, ◌≤◌, length, IfSome};
+ghost use Rattle.std.specs.Prelude.{◌+◌, ◌<◌, ◌≤◌, length, IfOk, IfSome, OnOk};
 ghost use Rattle.std.specs.Arc.{arc_value};
-ghost use Rattle.fair_workers.specs.Runs.{AreLimits};
+ghost use Rattle.fair_workers.specs.Runs.{AreLimits, AreServed};
+ghost use Rattle.worker_tests.specs.Serving.{AreFirst};
 
 use circuit::Circuit;
 use edge::Gate;
 use fair_workers::{Ended, Limits, Report, run_all, run_turns};
-use std::alloc::Global;
+use std::alloc::{AllocError, Global};
 use std::sync::{Arc, Wait};
 use std::thread::Threads;
 use wall_store::sound_lists_grow;
@@ -70,7 +71,79 @@ pub fn run(
     requires limits { AreLimits limits }
 {
     sound_lists_grow(&**c);
-    run_turns(alloc, c, 0, limits, schedule, &[])
+    run_turns(alloc, c, &[0], limits, schedule, &[])
+}
+
+/// Workers that search for an outcome of each of these properties, with no entry given.
+pub fn run_several(
+    alloc: Global,
+    c: &Arc<Circuit>,
+    properties: &[u32],
+    limits: Limits,
+    schedule: &[u32],
+) -> Result<Report, Ended>
+    requires served { AreServed (arc_value c.now) properties.now }
+    requires limits { AreLimits limits }
+{
+    sound_lists_grow(&**c);
+    run_turns(alloc, c, properties, limits, schedule, &[])
+}
+
+/// The same on threads.
+pub fn run_several_threaded<R: Threads + Wait + Sync, G: Gate>(
+    rt: &R,
+    alloc: Global,
+    c: &Arc<Circuit>,
+    properties: &[u32],
+    limits: Limits,
+    gate: &G,
+) -> Result<Report, Ended>
+    requires served { AreServed (arc_value c.now) properties.now }
+    requires limits { AreLimits limits }
+{
+    sound_lists_grow(&**c);
+    run_all(rt, alloc, c, properties, limits, &[], gate)
+}
+
+/// The properties of the circuit whose bits are 1, of the first 64.
+pub fn served_of(alloc: Global, c: &Circuit, bits: u64) -> Result<Vec<u32>, AllocError>
+    ensures { IfOk result (λ properties. AreServed c.now properties.items) }
+{
+    let mut properties = Vec::new(alloc);
+    let mut rest = bits;
+    for j in 0..property_count(c) {
+        push_if(&mut properties, j, rest % 2 == 1)?;
+        rest /= 2;
+    }
+    Ok(properties)
+}
+
+// Puts property `j` behind those below it, where it is asked for.
+fn push_if(properties: &mut Vec<u32>, j: u32, is_asked: bool) -> Result<(), AllocError>
+    requires { AreFirst j properties.old.items }
+    ensures { OnOk result (AreFirst (j + 1) properties.new.items) }
+{
+    if is_asked {
+        return push_next(properties, j);
+    }
+    Ok(())
+}
+
+fn push_next(properties: &mut Vec<u32>, j: u32) -> Result<(), AllocError>
+    requires { AreFirst j properties.old.items }
+    ensures { OnOk result (AreFirst (j + 1) properties.new.items) }
+{
+    properties.push(j)?;
+    Ok(())
+}
+
+// How many properties the circuit has, or 64 where it has more.
+fn property_count(c: &Circuit) -> u32
+    ensures there { result ≤ length c.now.justice }
+    ensures few { result ≤ 64 }
+{
+    let count = c.property_count();
+    if count < 64 { count as u32 } else { 64 }
 }
 
 /// Workers on threads that search for an outcome of property 0, with no entry given.
@@ -85,5 +158,5 @@ pub fn run_threaded<R: Threads + Wait + Sync, G: Gate>(
     requires limits { AreLimits limits }
 {
     sound_lists_grow(&**c);
-    run_all(rt, alloc, c, 0, limits, &[], gate)
+    run_all(rt, alloc, c, &[0], limits, &[], gate)
 }

@@ -104,11 +104,11 @@ fn push_marks(marks: &mut Vec<bool>, values: &[bool], literals: &[u64]) -> Resul
     Ok(())
 }
 
-fn marks_of(alloc: Global, c: &Circuit, values: &[bool]) -> Result<Vec<bool>, AllocError> {
+fn marks_of(alloc: Global, c: &Circuit, j: u32, values: &[bool]) -> Result<Vec<bool>, AllocError> {
     let mut marks = Vec::new(alloc);
     marks.push(true)?;
-    if c.property_count() > 0 {
-        push_marks(&mut marks, values, c.property(0))?;
+    if (j as usize) < c.property_count() {
+        push_marks(&mut marks, values, c.property(j as usize))?;
     }
     push_marks(&mut marks, values, c.fairness())?;
     Ok(marks)
@@ -117,6 +117,7 @@ fn marks_of(alloc: Global, c: &Circuit, values: &[bool]) -> Result<Vec<bool>, Al
 fn push_step(
     alloc: Global,
     c: &Circuit,
+    j: u32,
     state: usize,
     inputs: usize,
     steps: &mut Vec<Step>,
@@ -126,29 +127,32 @@ fn push_step(
         steps.push(Step {
             from: state,
             to: successor(c, &values),
-            marks: marks_of(alloc, c, &values)?,
+            marks: marks_of(alloc, c, j, &values)?,
         })?;
     }
     Ok(())
 }
 
-/// The steps of a circuit of up to six latches and inputs.
-pub(crate) fn steps_of(alloc: Global, c: &Circuit) -> Result<Vec<Step>, AllocError> {
+/// The steps of a circuit of up to six latches and inputs, with the marks of property `j`.
+pub(crate) fn steps_of(alloc: Global, c: &Circuit, j: u32) -> Result<Vec<Step>, AllocError> {
     let mut steps = Vec::new(alloc);
     for state in 0..state_count(c) {
         for inputs in 0..power(c.inputs().len()) {
-            push_step(alloc, c, state, inputs, &mut steps)?;
+            push_step(alloc, c, j, state, inputs, &mut steps)?;
         }
     }
     Ok(steps)
 }
 
-/// How many literals are to be true again and again.
-pub(crate) fn literal_count(c: &Circuit) -> usize {
-    if c.property_count() == 0 {
-        return c.fairness().len();
+/// How many literals are to be true again and again for property `j`.
+pub(crate) fn literal_count(c: &Circuit, j: u32) -> usize {
+    if (j as usize) < c.property_count() {
+        return c
+            .property(j as usize)
+            .len()
+            .saturating_add(c.fairness().len());
     }
-    c.property(0).len().saturating_add(c.fairness().len())
+    c.fairness().len()
 }
 
 fn has_mark(step: &Step, m: usize) -> bool {
@@ -251,8 +255,8 @@ fn is_met_around(steps: &[Step], ways: &Ways, state: usize, m: usize) -> bool {
     false
 }
 
-fn is_fair_around(c: &Circuit, steps: &[Step], ways: &Ways, state: usize) -> bool {
-    for m in 0..literal_count(c).saturating_add(1) {
+fn is_fair_around(marks: usize, steps: &[Step], ways: &Ways, state: usize) -> bool {
+    for m in 0..marks {
         if !is_met_around(steps, ways, state, m) {
             return false;
         }
@@ -260,23 +264,24 @@ fn is_fair_around(c: &Circuit, steps: &[Step], ways: &Ways, state: usize) -> boo
     true
 }
 
-fn has_fair_loop(c: &Circuit, steps: &[Step], ways: &Ways) -> bool {
+fn has_fair_loop(c: &Circuit, marks: usize, steps: &[Step], ways: &Ways) -> bool {
     for state in 0..ways.states {
-        if is_reached(c, ways, state) && is_fair_around(c, steps, ways, state) {
+        if is_reached(c, ways, state) && is_fair_around(marks, steps, ways, state) {
             return true;
         }
     }
     false
 }
 
-/// Whether property 0 has a fair lasso. The steps are those of the circuit.
+/// Whether property `j` has a fair lasso. The steps are those of the circuit, with its marks.
 pub(crate) fn has_fair_lasso(
     alloc: Global,
     c: &Circuit,
+    j: u32,
     steps: &[Step],
 ) -> Result<bool, AllocError> {
     let ways = all_ways(alloc, state_count(c), steps)?;
-    Ok(has_fair_loop(c, steps, &ways))
+    Ok(has_fair_loop(c, literal_count(c, j).saturating_add(1), steps, &ways))
 }
 
 // ---- skeletons
@@ -384,13 +389,13 @@ fn is_met_beside(
 }
 
 fn begins_a_skeleton(
-    c: &Circuit,
+    marks: usize,
     view: &[Arc<Checked>],
     sides: &Sides,
     steps: &[Step],
     state: usize,
 ) -> bool {
-    for m in 0..literal_count(c).saturating_add(1) {
+    for m in 0..marks {
         if !is_met_beside(view, sides, steps, state, m) {
             return false;
         }
@@ -398,22 +403,23 @@ fn begins_a_skeleton(
     true
 }
 
-fn has_skeleton(c: &Circuit, view: &[Arc<Checked>], sides: &Sides, steps: &[Step]) -> bool {
+fn has_skeleton(marks: usize, view: &[Arc<Checked>], sides: &Sides, steps: &[Step]) -> bool {
     for step in steps {
-        if begins_a_skeleton(c, view, sides, steps, step.from) {
+        if begins_a_skeleton(marks, view, sides, steps, step.from) {
             return true;
         }
     }
     false
 }
 
-/// Whether the entries allow a skeleton of property 0. The steps are those of the circuit.
+/// Whether the entries allow a skeleton of property `j`. The steps are those of the circuit, with its marks.
 pub(crate) fn leaves_a_skeleton(
     alloc: Global,
     c: &Circuit,
+    j: u32,
     view: &[Arc<Checked>],
     steps: &[Step],
 ) -> Result<bool, AllocError> {
     let sides = sides_of(alloc, c, view)?;
-    Ok(has_skeleton(c, view, &sides, steps))
+    Ok(has_skeleton(literal_count(c, j).saturating_add(1), view, &sides, steps))
 }

@@ -14,8 +14,8 @@ const COUNTED: &str =
     "aag 14 0 5 0 9 0 0 1\n2 3\n4 5\n6 16\n8 22\n10 28\n1\n2\n12 4 6\n14 5 7\n16 13 15\n18 12 8\n20 13 9\n22 19 21\n24 18 10\n26 19 11\n28 25 27\n";
 
 fn has_lasso(alloc: Global, c: &Circuit) -> Result<bool, AllocError> {
-    let steps = steps_of(alloc, c)?;
-    has_fair_lasso(alloc, c, &steps)
+    let steps = steps_of(alloc, c, 0)?;
+    has_fair_lasso(alloc, c, 0, &steps)
 }
 
 // Whether the model has a fair lasso of its first property, and how many latches are left out of the slice, if the slice has

@@ -3,6 +3,7 @@
 use crate::judging::{circuit_of, ends_within, is_decided, is_decided_on_threads, run_on_threads};
 use crate::meeting::Meeting;
 use crate::running::{Numbers, limits, run, with_property};
+use crate::several::{all_are_decided, all_are_decided_on_threads, all_end_within};
 use circuit::Circuit;
 use entry::{Checked, Origin};
 use fair_workers::{Ended, Report};
@@ -216,5 +217,62 @@ fn first_undecided_on_threads<R: Threads + Wait + Sync>(
 #[test]
 fn drawn_models_are_decided_on_threads(rt: HostRuntime) -> Result<(), Fail> {
     assert_eq!(rt; first_undecided_on_threads(&rt, rt.alloc())?, None);
+    Ok(())
+}
+
+// ---- several properties
+
+// The number of the first drawn model whose properties are not decided rightly.
+fn first_undecided_of_several(alloc: Global) -> Result<Option<u64>, AllocError> {
+    for number in 0..200 {
+        if !all_are_decided(alloc, number)? {
+            return Ok(Some(number));
+        }
+    }
+    Ok(None)
+}
+
+/// Two to five properties, or some or none of them.
+#[test]
+fn several_properties_are_decided(rt: HostRuntime) -> Result<(), Fail> {
+    assert_eq!(rt; first_undecided_of_several(rt.alloc())?, None);
+    Ok(())
+}
+
+// The number of the first drawn model whose properties do not end rightly under limits.
+fn first_wrong_end_of_several(alloc: Global) -> Result<Option<u64>, AllocError> {
+    for number in 0..200 {
+        if !all_end_within(alloc, number)? {
+            return Ok(Some(number));
+        }
+    }
+    Ok(None)
+}
+
+#[test]
+fn several_properties_under_limits(rt: HostRuntime) -> Result<(), Fail> {
+    assert_eq!(rt; first_wrong_end_of_several(rt.alloc())?, None);
+    Ok(())
+}
+
+// The number of the first drawn model whose properties are not decided rightly on threads.
+fn first_undecided_of_several_on_threads<R: Threads + Wait + Sync>(
+    rt: &R,
+    alloc: Global,
+) -> Result<Option<u64>, AllocError> {
+    for number in 0..60 {
+        if !all_are_decided_on_threads(rt, alloc, number)? {
+            return Ok(Some(number));
+        }
+    }
+    Ok(None)
+}
+
+#[test]
+fn several_properties_are_decided_on_threads(rt: HostRuntime) -> Result<(), Fail> {
+    assert_eq!(rt;
+        first_undecided_of_several_on_threads(&rt, rt.alloc())?,
+        None
+    );
     Ok(())
 }

@@ -99,8 +99,8 @@ fn has_bad_run(alloc: Global, model: &Model) -> Result<bool, AllocError> {
 
 // Whether the property has a fair lasso, if its translation has a bad run exactly then.
 fn verdict_on(alloc: Global, c: &Circuit) -> Result<Option<bool>, AllocError> {
-    let steps = steps_of(alloc, c)?;
-    let has_lasso = has_fair_lasso(alloc, c, &steps)?;
+    let steps = steps_of(alloc, c, 0)?;
+    let has_lasso = has_fair_lasso(alloc, c, 0, &steps)?;
     let Ok(model) = translate(alloc, c, 0) else {
         return Ok(None);
     };

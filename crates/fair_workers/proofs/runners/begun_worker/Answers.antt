@@ -6,5 +6,5 @@ use Rattle.fair_workers.proofs.runners.begun_worker.Goals as goal
 
 pub returns : goal.returns
 returns c =
-    let w : Worker = record { rounds = None; meter = c.meter_of.result; phase = Asks } in
-    goes-first c.args.limits c.args._property c.args._ledger.now c.args._pass.now w c.requires refl c.meter_of.ensures refl
+    let w : Worker = record { property = c.first_property.result; rounds = None; meter = c.meter_of.result; phase = Asks } in
+    goes-first c.args.limits c.args.properties.now c.args._ledger.now c.args.pass.now w c.requires refl c.meter_of.ensures refl

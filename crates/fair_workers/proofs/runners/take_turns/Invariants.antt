@@ -5,8 +5,9 @@ use Rattle.fair_workers.proofs.runners.take_turns.Given as goal
 
 abbrev pub invariant-loop-ledger : goal.invariant-loop-ledger
 invariant-loop-ledger g l = record {
-  goes : Goes l.crew.limits l.crew.property l.held.ledger.now l.held.pass l.worker;
+  goes : Goes l.crew.limits l.held.ledger.now l.held.pass l.worker;
   ledger : l.held.ledger.now ≡ l.fn.held.ledger.now;
+  properties : l.crew.properties.now ≡ l.held.ledger.now.properties;
   number : l.held.pass.number ≡ l.fn.held.pass.number;
 }
 

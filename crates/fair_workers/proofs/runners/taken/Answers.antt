@@ -15,4 +15,4 @@ pub returns-clause-ready : goal.returns-clause-ready
 returns-clause-ready c =
     let p : PassState = c.unwrap.result in
     let is : c.requires.0 ≡ p = some_same c.requires.0 p (sym c.requires.1 ∙ sym c.take.ensures.value ∙ c.unwrap.ensures) in
-    subst (IsReady c.args._limits c.args._property c.args._ledger.now) is c.requires.2
+    subst (IsReady c.args._limits c.args._properties.now c.args._ledger.now) is c.requires.2

@@ -9,12 +9,12 @@ use Rattle.fair_workers.proofs.threads.all_run.Goals as goal
 pub parted-passes-requires-clause-each : goal.parted-passes-requires-clause-each
 parted-passes-requires-clause-each g c =
     let t = c.args.run.now.task.now in
-    have-ended t.limits t.property c.args.ledger c.args.runners.items c.run_listed.new.runners.items c.run_listed.ensures
+    have-ended t.limits c.args.ledger c.args.runners.items c.run_listed.new.runners.items c.run_listed.ensures
 
 pub parted-passes-requires-clause-room : goal.parted-passes-requires-clause-room
 parted-passes-requires-clause-room g c =
     let t = c.args.run.now.task.now in
-    let size = runners-size (task_in t) t.property c.args.ledger c.args.runners.items c.requires.begun in (
+    let size = runners-size (task_in t) c.args.ledger c.args.runners.items c.requires.begun in (
       omega (arith, size, c.run_listed.ensures.0, c.requires.room.0, c.run_listed.new.runners.ok.0),
       omega (arith, size, c.run_listed.ensures.0, c.requires.room.1, c.run_listed.new.runners.ok.0),
     )
@@ -25,8 +25,8 @@ close-board-requires-clause-all g c =
     let task : Task = task_in t in
     let ps = c.parted-passes.result.0.items in
     let es = c.parted-passes.result.1.items in
-    all-back task t.property c.args.ledger ps es
-    (back-of task t.property c.args.ledger c.args.runners.items c.run_listed.new.runners.items ps es c.requires.begun c.run_listed.ensures
+    all-back task c.args.ledger ps es
+    (back-of task c.args.ledger c.args.runners.items c.run_listed.new.runners.items ps es c.requires.begun c.run_listed.ensures
     c.parted-passes.ensures.passes c.parted-passes.ensures.ends)
     c.requires.begun.ledger.workers
 
@@ -36,8 +36,8 @@ close-board-requires-clause-own g c =
     let task : Task = task_in t in
     let ps = c.parted-passes.result.0.items in
     let es = c.parted-passes.result.1.items in
-    of-back task t.property c.args.ledger ps es
-    (back-of task t.property c.args.ledger c.args.runners.items c.run_listed.new.runners.items ps es c.requires.begun c.run_listed.ensures
+    of-back task c.args.ledger ps es
+    (back-of task c.args.ledger c.args.runners.items c.run_listed.new.runners.items ps es c.requires.begun c.run_listed.ensures
     c.parted-passes.ensures.passes c.parted-passes.ensures.ends)
 
 pub returns : goal.returns
@@ -47,7 +47,7 @@ returns g c =
     let l = c.args.ledger in
     let ps = c.parted-passes.result.0.items in
     let es = c.parted-passes.result.1.items in
-    all-done task t.property l (new_passes l 0 task.limits.workers) ps es c.close-board.result c.requires.begun.properties c.requires.begun.ledger c.requires.origins
-    (back-of task t.property l c.args.runners.items c.run_listed.new.runners.items ps es c.requires.begun c.run_listed.ensures
+    all-done task l (new_passes l 0 task.limits.workers) ps es c.close-board.result c.requires.begun.ledger c.requires.origins
+    (back-of task l c.args.runners.items c.run_listed.new.runners.items ps es c.requires.begun c.run_listed.ensures
     c.parted-passes.ensures.passes c.parted-passes.ensures.ends)
     c.close-board.ensures

@@ -1,4 +1,4 @@
-use Rattle.std.proofs.Common.{refl, arith}
+use Rattle.std.proofs.Common.{arith}
 use Rattle.fair_workers.specs.BoardWorkers.{task_in}
 use Rattle.fair_workers.proofs.Threaded.{begun-size, begun-for, may-run-all}
 use Rattle.fair_workers.proofs.threads.begun.Goals as goal
@@ -10,11 +10,11 @@ runners_of-requires-clause-room c =
 
 pub returns-clause-begun : goal.returns-clause-begun
 returns-clause-begun c =
-    begun-for (task_in c.args.task.now) c.args.task.now.property c.in_ok-made.made.0 c.in_ok-made.made.1.items c.runners_of.result.items refl
-    c.requires.property c.in_ok-made.ensures c.runners_of.ensures
+    begun-for (task_in c.args.task.now) c.in_ok-made.made.0 c.in_ok-made.made.1.items c.runners_of.result.items
+    c.requires.served c.in_ok-made.ensures c.runners_of.ensures
 
 pub returns-clause-ready : goal.returns-clause-ready
 returns-clause-ready c =
-    may-run-all (task_in c.args.task.now) c.args.task.now.property c.in_ok-made.made.0 c.runners_of.result.items
-    (begun-for (task_in c.args.task.now) c.args.task.now.property c.in_ok-made.made.0 c.in_ok-made.made.1.items c.runners_of.result.items refl
-    c.requires.property c.in_ok-made.ensures c.runners_of.ensures)
+    may-run-all (task_in c.args.task.now) c.in_ok-made.made.0 c.runners_of.result.items
+    (begun-for (task_in c.args.task.now) c.in_ok-made.made.0 c.in_ok-made.made.1.items c.runners_of.result.items
+    c.requires.served c.in_ok-made.ensures c.runners_of.ensures)

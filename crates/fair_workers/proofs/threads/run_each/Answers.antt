@@ -13,6 +13,6 @@ for_each_mut-requires-send-T g c κs lives = param_send _ _ (arg_send _ yes Runn
 pub for_each_mut-requires-clause-accepts : goal.for_each_mut-requires-clause-accepts
 for_each_mut-requires-clause-accepts g c κs lives = λ i p below at.
     let t = c.args.run.now.task.now in (
-      subst (MayRun t.limits t.property c.args.ledger.now) (sym at) (c.requires.ready i p.now below),
+      subst (MayRun t.limits t.properties.now c.args.ledger.now) (sym at) (c.requires.ready i p.now below),
       (search (rules, sendable, crosses) depth 20, search (rules, sendable, crosses) depth 20),
     )

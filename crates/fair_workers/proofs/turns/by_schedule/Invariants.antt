@@ -4,7 +4,7 @@ use Rattle.fair_workers.proofs.turns.by_schedule.Given as goal
 
 abbrev pub invariant-loop-at : goal.invariant-loop-at
 invariant-loop-at l = record {
-  workers : ServeTask (task_in l.task) l.task.property l.board l.workers;
+  workers : ServeTask (task_in l.task) l.board l.workers;
   due : l.at < length l.schedule → runs_at l.workers (get_or l.schedule l.at 0) ≡ true;
 }
 

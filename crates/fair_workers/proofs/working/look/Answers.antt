@@ -1,9 +1,12 @@
-use Rattle.std.proofs.Common.{◌+◌, ◌<◌, ◌≤◌, sym, subst, arith}
-use Rattle.fair_workers.specs.declared.working.Phase.TheVariants.{Searches, Refused}
-use Rattle.fair_workers.specs.Working.{rank, searches_ahead, Turns}
-use Rattle.fair_workers.proofs.Turned.{kept-turn, look-turn}
+use Rattle.std.proofs.Common.{refl, sym, subst}
+use Rattle.fair_workers.specs.declared.working.Phase.TheVariants.{Looks, Refused}
+use Rattle.fair_workers.specs.Working.{searches_in, Turns}
+use Rattle.fair_workers.proofs.Turned.{one-more-in, runs-in, end-turn, look-turn}
 use Rattle.fair_workers.proofs.working.look.Goals.{in-Ok, in-Err}
 use Rattle.fair_workers.proofs.working.look.Goals as goal
+
+pub look-requires-clause-turns : goal.look-requires-clause-turns
+look-requires-clause-turns g c = one-more-in (g.L.SharedList.known c.args.shared.now) c.args.worker.now Looks c.requires.worker c.requires.phase refl
 
 pub returns-clause-turns : goal.returns-clause-turns
 returns-clause-turns g c =
@@ -12,11 +15,9 @@ returns-clause-turns g c =
     let w = c.args.worker.now in
     elim c.match-look.branch [
       | in-Ok b ↦
-          subst (λ p. Turns c.args._j 0 k w l (record w { phase = p })) (sym b.worker-is)
-          (look-turn c.args._j 0 k l w Searches c.requires.worker b.in-Ok.ensures.ok (subst (λ p. 4 < rank p) (sym c.requires.phase) (omega arith))
-          (subst (λ p. 1 + 0 ≤ searches_ahead p) (sym c.requires.phase) (omega arith)) tt)
+          subst (λ p. Turns 0 k w l (record w { phase = p })) (sym b.worker-is) (look-turn k l w c.requires.worker c.requires.phase b.in-Ok.ensures.ok)
       | in-Err b ↦
-          subst (λ p. Turns c.args._j 0 k w l (record w { phase = p })) (sym b.worker-is)
-          (kept-turn c.args._j 0 k l w Refused c.requires.worker b.in-Err.ensures.err (subst (λ p. 0 < rank p) (sym c.requires.phase) (omega arith))
-          (omega arith) tt)
+          subst (λ p. Turns 0 k w l (record w { phase = p })) (sym b.worker-is)
+          (subst (λ p. Turns (searches_in p) k w l (record w { phase = Refused })) c.requires.phase
+          (end-turn k l w Refused c.requires.worker b.in-Err.ensures.err (runs-in w.phase Looks c.requires.phase refl) refl tt))
     ]

@@ -5,7 +5,7 @@ use Rattle.entry.specs.CheckedEntries.{viewed}
 use Rattle.entry.specs.Laws.{IsGoodList}
 use Rattle.skeleton.specs.Finding.{Asking, IsFound}
 use Rattle.fair_workers.specs.Working.{AreRoundsOf}
-use Rattle.fair_workers.proofs.working.left_in.Goals as goal
+use Rattle.fair_workers.proofs.working.skeleton_in.Goals as goal
 
 pub next-found-requires-clause-good : goal.next-found-requires-clause-good
 next-found-requires-clause-good c =
