@@ -11,11 +11,13 @@ use Rattle.command_lines.specs.Demo.{MeansDemo}
 use Rattle.command_lines.specs.Slice.{MeansSlice}
 use Rattle.command_lines.specs.Safety.{MeansSafety}
 use Rattle.command_lines.specs.Rounds.{MeansRounds}
-use Rattle.command_lines.specs.Commands.{Asked, Solve, Check, Gen, Demo, Wave, Slice, Convert, Safety, Rounds, Trim, Export, Means}
+use Rattle.command_lines.specs.Shortest.{MeansShortest}
+use Rattle.command_lines.specs.Commands.{Asked, Solve, Check, Gen, Demo, Wave, Slice, Convert, Safety, Rounds, Shortest, Trim, Export, Means}
 use Rattle.command_lines.proofs.Values.{SomeOrNone, Asks, solve_or_none, names_or_none, request_or_none, demo_or_none, one_solve, one_pair, one_request, one_demo, Wants, safety_or_none, one_wanted, AsksRounds, rounds_or_none, one_rounds}
 use Rattle.command_lines.specs.Export.{IsItemGiven}
 use Rattle.command_lines.specs.declared.commands.exporting.ExportRequest.{ExportRequest}
 use Rattle.command_lines.proofs.Exports.{Exports, export_or_none, one_export}
+use Rattle.command_lines.proofs.Shortest.{AsksShortest, shortest_or_none, one_shortest}
 
 -- what the values of a command ask for, if they do
 asked_from : {T : Type 0} {P : T → Type 0} → (T → Asked) → SomeOrNone P → Option Asked
@@ -25,7 +27,7 @@ asked_from form (inr none) = None
 -- what a command of this name with these values asks for
 request_in : List ℕ → List Row → Option Asked
 request_in name rows =
-    cond (bytes_eq name (codes "solve")) (asked_from (λ (asks : Asks). Solve asks.0 asks.1) (solve_or_none rows))
+    cond (bytes_eq name (codes "solve")) (asked_from (λ (asks : Asks). Solve asks.0 asks.1 asks.2) (solve_or_none rows))
     (cond (bytes_eq name (codes "check")) (asked_from (λ (names : List ℕ × List ℕ). Check names.0 names.1) (names_or_none rows))
     (cond (bytes_eq name (codes "gen")) (asked_from (λ (request : GenRequest). Gen request) (request_or_none rows))
     (cond (bytes_eq name (codes "demo")) (asked_from (λ (request : DemoRequest). Demo request) (demo_or_none rows))
@@ -34,9 +36,10 @@ request_in name rows =
     (cond (bytes_eq name (codes "convert")) (asked_from (λ (names : List ℕ × List ℕ). Convert names.0 names.1) (names_or_none rows))
     (cond (bytes_eq name (codes "safety")) (asked_from (λ (wants : Wants). Safety wants.0 wants.1) (safety_or_none rows))
     (cond (bytes_eq name (codes "rounds")) (asked_from (λ (asks : AsksRounds). Rounds asks.0 asks.1) (rounds_or_none rows))
+    (cond (bytes_eq name (codes "shortest")) (asked_from (λ (asks : AsksShortest). Shortest asks.0 asks.1) (shortest_or_none rows))
     (cond (bytes_eq name (codes "trim")) (asked_from (λ (names : List ℕ × List ℕ). Trim names.0 names.1) (names_or_none rows))
     (cond (bytes_eq name (codes "export")) (asked_from (λ (exports : Exports). Export exports.0 exports.1 exports.2) (export_or_none rows))
-    None))))))))))
+    None)))))))))))
 
 is_picked : (name own : List ℕ) (rows : List Row) (asked : Asked) (this other : Option Asked) → (name ≡ own → this ≡ Some asked → Means asked name rows)
     → (other ≡ Some asked → Means asked name rows) → cond (bytes_eq name own) this other ≡ Some asked → Means asked name rows
@@ -59,7 +62,7 @@ none_asked name rows asked e = absurd (cc)
 reads_means : (name : List ℕ) (rows : List Row) (asked : Asked) → request_in name rows ≡ Some asked → Means asked name rows
 unfolding request_in
 reads_means name rows asked =
-    is_picked name (codes "solve") rows asked _ _ (λ is. from_means name rows asked (λ (asks : Asks). Solve asks.0 asks.1) (solve_or_none rows) (λ t h. (is, h)))
+    is_picked name (codes "solve") rows asked _ _ (λ is. from_means name rows asked (λ (asks : Asks). Solve asks.0 asks.1 asks.2) (solve_or_none rows) (λ t h. (is, h)))
     (is_picked name (codes "check") rows asked _ _ (λ is. from_means name rows asked (λ (names : List ℕ × List ℕ). Check names.0 names.1) (names_or_none rows) (λ t h. (is, h)))
     (is_picked name (codes "gen") rows asked _ _ (λ is. from_means name rows asked (λ (request : GenRequest). Gen request) (request_or_none rows) (λ t h. (is, h)))
     (is_picked name (codes "demo") rows asked _ _ (λ is. from_means name rows asked (λ (request : DemoRequest). Demo request) (demo_or_none rows) (λ t h. (is, h)))
@@ -68,9 +71,10 @@ reads_means name rows asked =
     (is_picked name (codes "convert") rows asked _ _ (λ is. from_means name rows asked (λ (names : List ℕ × List ℕ). Convert names.0 names.1) (names_or_none rows) (λ t h. (is, h)))
     (is_picked name (codes "safety") rows asked _ _ (λ is. from_means name rows asked (λ (wants : Wants). Safety wants.0 wants.1) (safety_or_none rows) (λ t h. (is, h)))
     (is_picked name (codes "rounds") rows asked _ _ (λ is. from_means name rows asked (λ (asks : AsksRounds). Rounds asks.0 asks.1) (rounds_or_none rows) (λ t h. (is, h)))
+    (is_picked name (codes "shortest") rows asked _ _ (λ is. from_means name rows asked (λ (asks : AsksShortest). Shortest asks.0 asks.1) (shortest_or_none rows) (λ t h. (is, h)))
     (is_picked name (codes "trim") rows asked _ _ (λ is. from_means name rows asked (λ (names : List ℕ × List ℕ). Trim names.0 names.1) (names_or_none rows) (λ t h. (is, h)))
     (is_picked name (codes "export") rows asked _ _ (λ is. from_means name rows asked (λ (exports : Exports). Export exports.0 exports.1 exports.2) (export_or_none rows) (λ t h. (is, h)))
-    (none_asked name rows asked)))))))))))
+    (none_asked name rows asked))))))))))))
 
 -- the values of a command that ask for something ask for nothing else
 from_found : {T : Type 0} {P : T → Type 0} (form : T → Asked) (either : SomeOrNone P) (t : T) → P t
@@ -81,9 +85,10 @@ from_found form (inr none) t h one = absurd (none t h)
 
 means_reads : (name : List ℕ) (rows : List Row) (asked : Asked) → Means asked name rows → request_in name rows ≡ Some asked
 unfolding request_in
-means_reads name rows (Solve model request) h =
+means_reads name rows (Solve model request resume) h =
     ap (λ (n : List ℕ). request_in n rows) h.0
-    ∙ from_found (λ (asks : Asks). Solve asks.0 asks.1) (solve_or_none rows) (model, request) h.1 (λ a b. one_solve rows a.0 b.0 a.1 b.1)
+    ∙ from_found (λ (asks : Asks). Solve asks.0 asks.1 asks.2) (solve_or_none rows) (model, request, resume) h.1
+    (λ a b. one_solve rows a.0 b.0 a.1 b.1 a.2 b.2)
 means_reads name rows (Check model answer) h =
     ap (λ (n : List ℕ). request_in n rows) h.0
     ∙ from_found (λ (names : List ℕ × List ℕ). Check names.0 names.1) (names_or_none rows) (model, answer) h.1 (one_pair rows (λ m a. Check m a))
@@ -108,6 +113,9 @@ means_reads name rows (Safety model property) h =
 means_reads name rows (Rounds model request) h =
     ap (λ (n : List ℕ). request_in n rows) h.0
     ∙ from_found (λ (asks : AsksRounds). Rounds asks.0 asks.1) (rounds_or_none rows) (model, request) h.1 (λ a b. one_rounds rows a.0 b.0 a.1 b.1)
+means_reads name rows (Shortest model request) h =
+    ap (λ (n : List ℕ). request_in n rows) h.0
+    ∙ from_found (λ (asks : AsksShortest). Shortest asks.0 asks.1) (shortest_or_none rows) (model, request) h.1 (λ a b. one_shortest rows a.0 b.0 a.1 b.1)
 means_reads name rows (Trim model answer) h =
     ap (λ (n : List ℕ). request_in n rows) h.0
     ∙ from_found (λ (names : List ℕ × List ℕ). Trim names.0 names.1) (names_or_none rows) (model, answer) h.1 (one_pair rows (λ m a. Trim m a))
@@ -137,9 +145,9 @@ from_none form (inr other) none = refl
 
 -- ---- where a command's values ask for nothing, of commands that want it said
 
-pub no_solve : (rows : List Row) → ((asks : Asks) → MeansSolve rows asks.0 asks.1 → ⊥) → (asked : Asked) → Means asked (codes "solve") rows → ⊥
+pub no_solve : (rows : List Row) → ((asks : Asks) → MeansSolve rows asks.0 asks.1 asks.2 → ⊥) → (asked : Asked) → Means asked (codes "solve") rows → ⊥
 unfolding request_in
-no_solve rows none = none_read (codes "solve") rows (from_none (λ (asks : Asks). Solve asks.0 asks.1) (solve_or_none rows) none)
+no_solve rows none = none_read (codes "solve") rows (from_none (λ (asks : Asks). Solve asks.0 asks.1 asks.2) (solve_or_none rows) none)
 
 pub no_safety : (rows : List Row) → ((wants : Wants) → MeansSafety rows wants.0 wants.1 → ⊥) → (asked : Asked) → Means asked (codes "safety") rows → ⊥
 unfolding request_in
@@ -156,6 +164,10 @@ no_demo rows none = none_read (codes "demo") rows (from_none (λ (request : Demo
 pub no_rounds : (rows : List Row) → ((asks : AsksRounds) → MeansRounds rows asks.0 asks.1 → ⊥) → (asked : Asked) → Means asked (codes "rounds") rows → ⊥
 unfolding request_in
 no_rounds rows none = none_read (codes "rounds") rows (from_none (λ (asks : AsksRounds). Rounds asks.0 asks.1) (rounds_or_none rows) none)
+
+pub no_shortest : (rows : List Row) → ((asks : AsksShortest) → MeansShortest rows asks.0 asks.1 → ⊥) → (asked : Asked) → Means asked (codes "shortest") rows → ⊥
+unfolding request_in
+no_shortest rows none = none_read (codes "shortest") rows (from_none (λ (asks : AsksShortest). Shortest asks.0 asks.1) (shortest_or_none rows) none)
 
 pub no_export : (rows : List Row) → ((request : ExportRequest) → IsItemGiven rows request → ⊥) → (asked : Asked) → Means asked (codes "export") rows → ⊥
 unfolding request_in

@@ -1,5 +1,6 @@
 mod Globals
 mod Values
 mod Exports
+mod Shortest
 mod EachCommand
 pub mod Taken

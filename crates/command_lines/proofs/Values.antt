@@ -17,7 +17,7 @@ use Rattle.command_lines.specs.declared.commands.solving.SolveRequest.{SolveRequ
 use Rattle.command_lines.specs.declared.commands.demonstrating.DemoRequest.{DemoRequest}
 use Rattle.command_lines.specs.declared.commands.counting.RoundsRequest.{RoundsRequest}
 use Rattle.command_lines.specs.Commands.{Asked, Solve, Rounds}
-use Rattle.command_lines.specs.Words.{IsGiven, IsNumberIn, IsNumberGiven, IsNumberOr, flag_in}
+use Rattle.command_lines.specs.Words.{IsGiven, given_in, IsNumberIn, IsNumberGiven, IsNumberOr, flag_in}
 use Rattle.command_lines.specs.Check.{MeansCheck}
 use Rattle.command_lines.specs.Solve.{MeansSolve}
 use Rattle.command_lines.specs.Gen.{name_of_kind, MeansGen}
@@ -124,7 +124,7 @@ names_or_none rows = by (first_of (codes "MODEL") rows) (first_of (codes "ANSWER
 -- ---- `solve`
 
 -- a number that is given, or its default
-number_or_none_given : (rows : List Row) (name : List ℕ) (low high default : ℕ) → high < 2 ^ 64 → SomeOrNone (IsNumberOr rows name low high default)
+pub number_or_none_given : (rows : List Row) (name : List ℕ) (low high default : ℕ) → high < 2 ^ 64 → SomeOrNone (IsNumberOr rows name low high default)
 number_or_none_given rows name low high default small = by (first_of name rows) refl
   where
     of_text : (text : List ℕ) → first_of name rows ≡ Some text → SomeOrNone (IsNumberIn low high text) → SomeOrNone (IsNumberOr rows name low high default)
@@ -138,17 +138,17 @@ number_or_none_given rows name low high default small = by (first_of name rows) 
     by None e = inl (default, inl (e, refl))
     by (Some text) e = of_text text e (number_or_none low high text small)
 
-one_number_or : (rows : List Row) (name : List ℕ) (low high default n m : ℕ) → IsNumberOr rows name low high default n → IsNumberOr rows name low high default m → n ≡ m
+pub one_number_or : (rows : List Row) (name : List ℕ) (low high default n m : ℕ) → IsNumberOr rows name low high default n → IsNumberOr rows name low high default m → n ≡ m
 one_number_or rows name low high default n m (inl a) (inl b) = a.1 ∙ sym b.1
 one_number_or rows name low high default n m (inl a) (inr b) = let wrong : None ≡ Some b.0 = sym a.0 ∙ b.1 in cc
 one_number_or rows name low high default n m (inr a) (inl b) = let wrong : Some a.0 ≡ None = sym a.1 ∙ b.0 in cc
 one_number_or rows name low high default n m (inr a) (inr b) = one_number rows name low high n m a b
 
--- the name and the request of `solve`
+-- the names and the request of `solve`
 abbrev pub Asks : Type 0
-Asks = List ℕ × SolveRequest
+Asks = List ℕ × SolveRequest × Option (List ℕ)
 
-pub solve_or_none : (rows : List Row) → SomeOrNone (λ (asks : Asks). MeansSolve rows asks.0 asks.1)
+pub solve_or_none : (rows : List Row) → SomeOrNone (λ (asks : Asks). MeansSolve rows asks.0 asks.1 asks.2)
 solve_or_none rows =
     by (first_of (codes "MODEL") rows) refl (number_or_none_given rows (codes "property") 0 4294967295 0 (omega arith))
     (number_or_none_given rows (codes "workers") 1 64 1 (omega arith)) (number_or_none_given rows (codes "conflicts") 0 4294967295 1000000 (omega arith))
@@ -157,10 +157,10 @@ solve_or_none rows =
     by : (m : Option (List ℕ)) → first_of (codes "MODEL") rows ≡ m → SomeOrNone (IsNumberOr rows (codes "property") 0 4294967295 0)
         → SomeOrNone (IsNumberOr rows (codes "workers") 1 64 1) → SomeOrNone (IsNumberOr rows (codes "conflicts") 0 4294967295 1000000)
         → SomeOrNone (IsNumberOr rows (codes "steps") 0 4294967295 100000) → SomeOrNone (IsNumberOr rows (codes "skeletons") 0 65536 10000)
-        → SomeOrNone (λ (asks : Asks). MeansSolve rows asks.0 asks.1)
+        → SomeOrNone (λ (asks : Asks). MeansSolve rows asks.0 asks.1 asks.2)
     by (Some model) e (inl p) (inl w) (inl c) (inl s) (inl k) = inl (
-      (model, record { property = p.0; workers = w.0; conflicts = c.0; steps = s.0; skeletons = k.0 }),
-      record { model_name = e; property = p.1; workers = w.1; conflicts = c.1; steps = s.1; skeletons = k.1 },
+      (model, record { property = p.0; workers = w.0; conflicts = c.0; steps = s.0; skeletons = k.0 }, given_in rows (codes "resume")),
+      record { model_name = e; property = p.1; workers = w.1; conflicts = c.1; steps = s.1; skeletons = k.1; answer_name = refl },
     )
     by None e p w c s k = inr (λ asks h. (let wrong : None ≡ Some asks.0 = sym e ∙ h.model_name in cc))
     by (Some model) e (inr none) w c s k = inr (λ asks h. none asks.1.property h.property)
@@ -169,14 +169,15 @@ solve_or_none rows =
     by (Some model) e (inl p) (inl w) (inl c) (inr none) k = inr (λ asks h. none asks.1.steps h.steps)
     by (Some model) e (inl p) (inl w) (inl c) (inl s) (inr none) = inr (λ asks h. none asks.1.skeletons h.skeletons)
 
-same_solve : (m n : List ℕ) (a b : SolveRequest) → m ≡ n → a.property ≡ b.property → a.workers ≡ b.workers → a.conflicts ≡ b.conflicts
-    → a.steps ≡ b.steps → a.skeletons ≡ b.skeletons → Solve m a ≡ Solve n b
-same_solve m n a b e p w c s k =
-    λ i. Solve (e i) (record { property = p i; workers = w i; conflicts = c i; steps = s i; skeletons = k i })
+same_solve : (m n : List ℕ) (a b : SolveRequest) (r q : Option (List ℕ)) → m ≡ n → r ≡ q → a.property ≡ b.property → a.workers ≡ b.workers
+    → a.conflicts ≡ b.conflicts → a.steps ≡ b.steps → a.skeletons ≡ b.skeletons → Solve m a r ≡ Solve n b q
+same_solve m n a b r q e f p w c s k =
+    λ i. Solve (e i) (record { property = p i; workers = w i; conflicts = c i; steps = s i; skeletons = k i }) (f i)
 
-pub one_solve : (rows : List Row) (m n : List ℕ) (a b : SolveRequest) → MeansSolve rows m a → MeansSolve rows n b → Solve m a ≡ Solve n b
-one_solve rows m n a b h k =
-    same_solve m n a b (one_text (first_of (codes "MODEL") rows) m n h.model_name k.model_name)
+pub one_solve : (rows : List Row) (m n : List ℕ) (a b : SolveRequest) (r q : Option (List ℕ)) → MeansSolve rows m a r → MeansSolve rows n b q
+    → Solve m a r ≡ Solve n b q
+one_solve rows m n a b r q h k =
+    same_solve m n a b r q (one_text (first_of (codes "MODEL") rows) m n h.model_name k.model_name) (sym h.answer_name ∙ k.answer_name)
     (one_number_or rows (codes "property") 0 4294967295 0 a.property b.property h.property k.property)
     (one_number_or rows (codes "workers") 1 64 1 a.workers b.workers h.workers k.workers)
     (one_number_or rows (codes "conflicts") 0 4294967295 1000000 a.conflicts b.conflicts h.conflicts k.conflicts)

@@ -8,6 +8,7 @@ pub mod Slice
 pub mod Convert
 pub mod Safety
 pub mod Rounds
+pub mod Shortest
 pub mod Trim
 pub mod Export
 pub mod Commands

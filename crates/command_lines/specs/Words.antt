@@ -1,5 +1,5 @@
 -- The words of the command line, by what `clap` makes of them. The first word is the program's own name.
-use Rattle.std.specs.Prelude.{◌≡◌, ◌≤◌, ◌⊎◌, ℕ, Bool, false, List, map, codes, None, Some, unwrap_or, option_map, String, string_bytes, true}
+use Rattle.std.specs.Prelude.{◌≡◌, ◌≤◌, ◌⊎◌, ℕ, Bool, false, List, map, codes, Option, None, Some, unwrap_or, option_map, String, string_bytes, true}
 use Rattle.std.specs.Str.{bytes_eq}
 use Rattle.std.specs.Str.Parse.{IsNumeral, digits_value, without_leading_plus}
 use Rattle.std.specs.declared.alloc.Global.{Global}
@@ -25,6 +25,10 @@ wanted_number name low high = record (wanted name) { parser = Some (Unsigned low
 abbrev pub number_option : List ℕ → ℕ → ℕ → Rule
 number_option name low high = record (new_rule name) { long = Some name; parser = Some (Unsigned low high) }
 
+-- an option that has a text
+abbrev pub text_option : List ℕ → Rule
+text_option name = record (new_rule name) { long = Some name }
+
 -- an option without a value
 abbrev pub flag : List ℕ → Rule
 flag name = record (new_rule name) { long = Some name; action = Some SetTrue }
@@ -34,6 +38,10 @@ flag name = record (new_rule name) { long = Some name; action = Some SetTrue }
 -- this text is given under the name; an empty text is one, too
 abbrev pub IsGiven : List Row → List ℕ → List ℕ → Type 0
 IsGiven rows name text = first_of name rows ≡ Some text
+
+-- the text that is given under the name, if one is
+abbrev pub given_in : List Row → List ℕ → Option (List ℕ)
+given_in rows name = first_of name rows
 
 -- the text is this number in decimal, from the low one to the high one; a plus sign and zeros may stand in front
 pub record IsNumberIn (low high : ℕ) (text : List ℕ) (n : ℕ) : Type 0 where

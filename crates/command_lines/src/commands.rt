@@ -16,6 +16,7 @@ ghost use Rattle.command_lines.specs.Commands.{Asked as AskedFor, meant, fairliv
 ghost use Rattle.command_lines.specs.Asking.{AsksFor, IsUsage, IsTakenOrUsage, IsTold};
 ghost use Rattle.command_lines.specs.Met.{MetFor, IsRead};
 
+mod bounding;
 mod checking;
 mod converting;
 mod counting;
@@ -28,6 +29,8 @@ mod translating;
 mod trimming;
 mod waving;
 
+pub use bounding::ShortestRequest;
+use bounding::{shortest_of, with_shortest};
 use checking::{check_of, with_check};
 use clap::error::ErrorKind;
 use clap::{ArgMatches, Command, Error};
@@ -51,10 +54,12 @@ use waving::{wave_of, with_wave};
 /// A command with its values.
 #[derive(Clone, Copy)]
 pub enum Asked<'a> {
-    /// Decide a property of the model under the name.
+    /// Decide a property of the model under the name, by a list that begins with the entries of the answer under another,
+    /// where one is given.
     Solve {
         model: &'a str,
         request: SolveRequest,
+        resume: Option<&'a str>,
     },
     /// Check the answer under one name against the model under the other.
     Check {
@@ -90,6 +95,11 @@ pub enum Asked<'a> {
         model: &'a str,
         request: RoundsRequest,
     },
+    /// Print a shortest lasso of a property of the model, or that there is none of so many positions.
+    Shortest {
+        model: &'a str,
+        request: ShortestRequest,
+    },
     /// Write the answer without what it does not need.
     Trim {
         model: &'a str,
@@ -105,7 +115,7 @@ pub enum Asked<'a> {
 
 /// What is written where the words are no command: a line for each command.
 pub const USAGE: &str =
-    "usage: fairlive solve MODEL [--property N] [--workers W] [--conflicts C] [--steps S] [--skeletons K]\n       fairlive check MODEL ANSWER\n       fairlive gen KIND SEED SIZE [--binary]\n       fairlive demo SEED SIZE\n       fairlive wave MODEL ANSWER\n       fairlive slice MODEL [--property N]\n       fairlive convert MODEL ANSWER\n       fairlive safety MODEL [--property N]\n       fairlive rounds MODEL K [--property N] [--conflicts C] [--steps S]\n       fairlive trim MODEL ANSWER\n       fairlive export MODEL ANSWER ENTRY CLAUSE [--lrat]\n";
+    "usage: fairlive solve MODEL [--property N] [--workers W] [--conflicts C] [--steps S] [--skeletons K] [--resume ANSWER]\n       fairlive check MODEL ANSWER\n       fairlive gen KIND SEED SIZE [--binary]\n       fairlive demo SEED SIZE\n       fairlive wave MODEL ANSWER\n       fairlive slice MODEL [--property N]\n       fairlive convert MODEL ANSWER\n       fairlive safety MODEL [--property N]\n       fairlive rounds MODEL K [--property N] [--conflicts C] [--steps S]\n       fairlive shortest MODEL [--property N] [--conflicts C] [--depth D]\n       fairlive trim MODEL ANSWER\n       fairlive export MODEL ANSWER ENTRY CLAUSE [--lrat]\n";
 
 /// Why the words ask for nothing.
 #[derive(Drop)]
@@ -169,6 +179,7 @@ fn program<'a>(alloc: Global) -> Result<Command<'a>, AllocError>
     let program = with_convert(alloc, program)?;
     let program = with_safety(alloc, program)?;
     let program = with_rounds(alloc, program)?;
+    let program = with_shortest(alloc, program)?;
     let program = with_trim(alloc, program)?;
     with_export(alloc, program)
 }
@@ -206,6 +217,7 @@ fn asked_as<'a>(name: &str, given: &ArgMatches<'a>) -> Option<Asked<'a>>
         "convert" => convert_of(given),
         "safety" => safety_of(given),
         "rounds" => rounds_of(given),
+        "shortest" => shortest_of(given),
         "trim" => trim_of(given),
         "export" => export_of(given),
         _ => None,

@@ -8,7 +8,7 @@
 //! |---|---|
 //! | `Asked` | a command with its values: names of texts, a number of a property, or a request |
 //! | `SolveRequest` | what `solve` is asked for; `DEFAULTS`: where only a model is named |
-//! | `GenRequest` with `GenKind`, `DemoRequest`, `RoundsRequest`, `ExportRequest` | what `gen`, `demo`, `rounds` and `export` are asked for |
+//! | `GenRequest` with `GenKind`, `DemoRequest`, `RoundsRequest`, `ShortestRequest`, `ExportRequest` | what `gen`, `demo`, `rounds`, `shortest` and `export` are asked for |
 //! | `WordsEnd` | why the words ask for nothing |
 //! | `USAGE` | a line for each command, for words that are none |
 //!
@@ -20,6 +20,6 @@ mod commands;
 mod words;
 
 pub use commands::{
-    Asked, DEFAULTS, DemoRequest, ExportRequest, GenKind, GenRequest, RoundsRequest, SolveRequest,
-    USAGE, WordsEnd, asked_of,
+    Asked, DEFAULTS, DemoRequest, ExportRequest, GenKind, GenRequest, RoundsRequest,
+    ShortestRequest, SolveRequest, USAGE, WordsEnd, asked_of,
 };

@@ -1,13 +1,15 @@
 //! The words of the command line: the options that commands share, and the values that `clap` found for them.
 
-ghost use Rattle.std.specs.Prelude.{◌≡◌, ◌≤◌, ℕ, Some, option_map, IfSome, IfNone, false};
+ghost use Rattle.std.specs.Prelude.{◌≡◌, ◌≤◌, ℕ, Some, codes, option_map, IfOk, IfSome, IfNone, false};
+ghost use Rattle.clap.specs.Simple.{App, app_of, new_app, with_rule, with_subcommand};
 ghost use Rattle.clap.specs.Walk.{rows_of, rule_of, first_of};
 ghost use Rattle.clap.specs.Matches.{found_of};
-ghost use Rattle.command_lines.specs.Words.{flag, flag_in, number_option, wanted, wanted_number, IsNumberIn, IsNumberGiven, IsNumberOr};
+ghost use Rattle.clap.specs.declared.builder.command.Command.TheViews.{out-Command as fields_of};
+ghost use Rattle.command_lines.specs.Words.{flag, flag_in, number_option, text_option, wanted, wanted_number, IsNumberIn, IsNumberGiven, IsNumberOr};
 
 use clap::builder::ValueParser;
-use clap::{Arg, ArgAction, ArgMatches};
-use std::alloc::Global;
+use clap::{Arg, ArgAction, ArgMatches, Command};
+use std::alloc::{AllocError, Global};
 
 /// A value that has to be given.
 pub(crate) fn required<'a>(alloc: Global, name: &'a str) -> Arg<'a>
@@ -43,6 +45,51 @@ pub(crate) fn number_option<'a>(alloc: Global, name: &'a str, low: u64, high: u6
     Arg::new(alloc, name)
         .long(name)
         .value_parser(ValueParser::unsigned(low, high))
+}
+
+/// An option that has a text.
+pub(crate) fn text_option<'a>(alloc: Global, name: &'a str) -> Arg<'a>
+    ensures rule { rule_of result ≡ text_option name.now }
+    ensures local { result.global ≡ false }
+{
+    Arg::new(alloc, name).long(name)
+}
+
+/// A command of this name that wants the names of a model and of an answer.
+pub(crate) fn for_model_and_answer<'a>(
+    alloc: Global,
+    name: &'a str,
+) -> Result<Command<'a>, AllocError>
+    ensures shape { IfOk result (λ command. app_of command
+        ≡ with_rule (with_rule (new_app name.now) (wanted (codes "MODEL"))) (wanted (codes "ANSWER"))) }
+    ensures local { IfOk result (λ command. (fields_of command).has_globals ≡ false) }
+{
+    Command::new(alloc, name)
+        .arg(required(alloc, "MODEL"))?
+        .arg(required(alloc, "ANSWER"))
+}
+
+/// A command of this name that wants the name of a model, and takes the number of a property.
+pub(crate) fn for_property<'a>(alloc: Global, name: &'a str) -> Result<Command<'a>, AllocError>
+    ensures shape { IfOk result (λ command. app_of command
+        ≡ with_rule (with_rule (new_app name.now) (wanted (codes "MODEL"))) (number_option (codes "property") 0 4294967295)) }
+    ensures local { IfOk result (λ command. (fields_of command).has_globals ≡ false) }
+{
+    Command::new(alloc, name)
+        .arg(required(alloc, "MODEL"))?
+        .arg(number_option(alloc, "property", 0, 4_294_967_295))
+}
+
+/// The program with one more command, where that was made.
+pub(crate) fn attached<'a>(
+    program: Command<'a>,
+    made: Result<Command<'a>, AllocError>,
+) -> Result<Command<'a>, AllocError>
+    requires { IfOk made (λ command. (fields_of command).has_globals ≡ false) }
+    ensures { (app : App) → IfOk made.entry (λ command. app_of command ≡ app)
+        → IfOk result (λ more. app_of more ≡ with_subcommand (app_of program.entry) app.top) }
+{
+    program.subcommand(made?)
 }
 
 /// The number that is given for a name, if it is from the low one to the high one, or the default where none is given.

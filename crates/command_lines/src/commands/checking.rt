@@ -1,32 +1,22 @@
 //! The words of the command `check`.
 
-ghost use Rattle.std.specs.Prelude.{◌≡◌, codes, false, IfOk, IfSome, IfNone};
+ghost use Rattle.std.specs.Prelude.{◌≡◌, codes, IfOk, IfSome, IfNone};
 ghost use Rattle.clap.specs.Simple.{app_of, with_subcommand};
 ghost use Rattle.clap.specs.Walk.{rows_of};
 ghost use Rattle.clap.specs.Matches.{found_of};
-ghost use Rattle.clap.specs.declared.builder.command.Command.TheViews.{out-Command as fields_of};
 ghost use Rattle.command_lines.specs.Commands.{Asked as AskedFor, meant, Means};
 ghost use Rattle.command_lines.specs.Check.{check_command};
 
 use crate::commands::Asked;
-use crate::words::{required, value_of};
+use crate::words::{attached, for_model_and_answer, value_of};
 use clap::{ArgMatches, Command};
 use std::alloc::{AllocError, Global};
-
-fn check_command<'a>(alloc: Global) -> Result<Command<'a>, AllocError>
-    ensures shape { IfOk result (λ command. app_of command ≡ check_command) }
-    ensures local { IfOk result (λ command. (fields_of command).has_globals ≡ false) }
-{
-    Command::new(alloc, "check")
-        .arg(required(alloc, "MODEL"))?
-        .arg(required(alloc, "ANSWER"))
-}
 
 /// The program with this command.
 pub(crate) fn with_check<'a>(alloc: Global, program: Command<'a>) -> Result<Command<'a>, AllocError>
     ensures { IfOk result (λ more. app_of more ≡ with_subcommand (app_of program.entry) check_command.top) }
 {
-    program.subcommand(check_command(alloc)?)
+    attached(program, for_model_and_answer(alloc, "check"))
 }
 
 /// The names that `check` is given.

@@ -1,26 +1,16 @@
 //! The words of the command `convert`.
 
-ghost use Rattle.std.specs.Prelude.{◌≡◌, codes, false, IfOk, IfSome, IfNone};
+ghost use Rattle.std.specs.Prelude.{◌≡◌, codes, IfOk, IfSome, IfNone};
 ghost use Rattle.clap.specs.Simple.{app_of, with_subcommand};
 ghost use Rattle.clap.specs.Walk.{rows_of};
 ghost use Rattle.clap.specs.Matches.{found_of};
-ghost use Rattle.clap.specs.declared.builder.command.Command.TheViews.{out-Command as fields_of};
 ghost use Rattle.command_lines.specs.Commands.{Asked as AskedFor, meant, Means};
 ghost use Rattle.command_lines.specs.Convert.{convert_command};
 
 use crate::commands::Asked;
-use crate::words::{required, value_of};
+use crate::words::{attached, for_model_and_answer, value_of};
 use clap::{ArgMatches, Command};
 use std::alloc::{AllocError, Global};
-
-fn convert_command<'a>(alloc: Global) -> Result<Command<'a>, AllocError>
-    ensures shape { IfOk result (λ command. app_of command ≡ convert_command) }
-    ensures local { IfOk result (λ command. (fields_of command).has_globals ≡ false) }
-{
-    Command::new(alloc, "convert")
-        .arg(required(alloc, "MODEL"))?
-        .arg(required(alloc, "ANSWER"))
-}
 
 /// The program with this command.
 pub(crate) fn with_convert<'a>(
@@ -29,7 +19,7 @@ pub(crate) fn with_convert<'a>(
 ) -> Result<Command<'a>, AllocError>
     ensures { IfOk result (λ more. app_of more ≡ with_subcommand (app_of program.entry) convert_command.top) }
 {
-    program.subcommand(convert_command(alloc)?)
+    attached(program, for_model_and_answer(alloc, "convert"))
 }
 
 /// The names that `convert` is given.

@@ -9,7 +9,9 @@ ghost use Rattle.command_lines.specs.Commands.{Asked as AskedFor, meant, Means};
 ghost use Rattle.command_lines.specs.Rounds.{rounds_command};
 
 use crate::commands::{Asked, DEFAULTS};
-use crate::words::{number_of, number_option, number_or, required, required_number, value_of};
+use crate::words::{
+    attached, number_of, number_option, number_or, required, required_number, value_of,
+};
 use clap::{ArgMatches, Command};
 use std::alloc::{AllocError, Global};
 
@@ -45,7 +47,7 @@ pub(crate) fn with_rounds<'a>(
 ) -> Result<Command<'a>, AllocError>
     ensures { IfOk result (λ more. app_of more ≡ with_subcommand (app_of program.entry) rounds_command.top) }
 {
-    program.subcommand(rounds_command(alloc)?)
+    attached(program, rounds_command(alloc))
 }
 
 /// The name and the numbers that `rounds` is given, with the defaults of `solve`.

@@ -9,7 +9,7 @@ ghost use Rattle.command_lines.specs.Commands.{Asked as AskedFor, meant, Means};
 ghost use Rattle.command_lines.specs.Demo.{demo_command};
 
 use crate::commands::Asked;
-use crate::words::{number_of, required_number};
+use crate::words::{attached, number_of, required_number};
 use clap::{ArgMatches, Command};
 use std::alloc::{AllocError, Global};
 
@@ -35,7 +35,7 @@ fn demo_command<'a>(alloc: Global) -> Result<Command<'a>, AllocError>
 pub(crate) fn with_demo<'a>(alloc: Global, program: Command<'a>) -> Result<Command<'a>, AllocError>
     ensures { IfOk result (λ more. app_of more ≡ with_subcommand (app_of program.entry) demo_command.top) }
 {
-    program.subcommand(demo_command(alloc)?)
+    attached(program, demo_command(alloc))
 }
 
 /// The request that the values of `demo` are.

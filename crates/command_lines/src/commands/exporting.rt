@@ -10,7 +10,7 @@ ghost use Rattle.command_lines.specs.Commands.{Asked as AskedFor, meant, Means};
 ghost use Rattle.command_lines.specs.Export.{export_command, IsItemGiven};
 
 use crate::commands::Asked;
-use crate::words::{flag, flag_of, number_of, required, required_number, value_of};
+use crate::words::{attached, flag, flag_of, number_of, required, required_number, value_of};
 use clap::{ArgMatches, Command};
 use std::alloc::{AllocError, Global};
 
@@ -44,7 +44,7 @@ pub(crate) fn with_export<'a>(
 ) -> Result<Command<'a>, AllocError>
     ensures { IfOk result (λ more. app_of more ≡ with_subcommand (app_of program.entry) export_command.top) }
 {
-    program.subcommand(export_command(alloc)?)
+    attached(program, export_command(alloc))
 }
 
 /// The names and the item that `export` is given.

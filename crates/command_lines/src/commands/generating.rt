@@ -11,7 +11,7 @@ ghost use Rattle.command_lines.specs.Commands.{Asked as AskedFor, meant, Means};
 ghost use Rattle.command_lines.specs.Gen.{gen_command, name_of_kind, MeansGen};
 
 use crate::commands::Asked;
-use crate::words::{flag, flag_of, number_of, required, required_number, value_of};
+use crate::words::{attached, flag, flag_of, number_of, required, required_number, value_of};
 use clap::{ArgMatches, Command};
 use std::alloc::{AllocError, Global};
 
@@ -52,7 +52,7 @@ fn gen_command<'a>(alloc: Global) -> Result<Command<'a>, AllocError>
 pub(crate) fn with_gen<'a>(alloc: Global, program: Command<'a>) -> Result<Command<'a>, AllocError>
     ensures { IfOk result (λ more. app_of more ≡ with_subcommand (app_of program.entry) gen_command.top) }
 {
-    program.subcommand(gen_command(alloc)?)
+    attached(program, gen_command(alloc))
 }
 
 /// The request that the values of `gen` are.

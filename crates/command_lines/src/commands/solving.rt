@@ -9,7 +9,7 @@ ghost use Rattle.command_lines.specs.Commands.{Asked as AskedFor, meant, Means};
 ghost use Rattle.command_lines.specs.Solve.{solve_command};
 
 use crate::commands::Asked;
-use crate::words::{number_option, number_or, required, value_of};
+use crate::words::{attached, number_option, number_or, required, text_option, value_of};
 use clap::{ArgMatches, Command};
 use std::alloc::{AllocError, Global};
 
@@ -47,22 +47,24 @@ fn solve_command<'a>(alloc: Global) -> Result<Command<'a>, AllocError>
         .arg(number_option(alloc, "workers", 1, 64))?
         .arg(number_option(alloc, "conflicts", 0, 4_294_967_295))?
         .arg(number_option(alloc, "steps", 0, 4_294_967_295))?
-        .arg(number_option(alloc, "skeletons", 0, 65_536))
+        .arg(number_option(alloc, "skeletons", 0, 65_536))?
+        .arg(text_option(alloc, "resume"))
 }
 
 /// The program with this command.
 pub(crate) fn with_solve<'a>(alloc: Global, program: Command<'a>) -> Result<Command<'a>, AllocError>
     ensures { IfOk result (λ more. app_of more ≡ with_subcommand (app_of program.entry) solve_command.top) }
 {
-    program.subcommand(solve_command(alloc)?)
+    attached(program, solve_command(alloc))
 }
 
-/// The name and the numbers that `solve` is given, with their defaults.
+/// The names and the numbers that `solve` is given, with the numbers' defaults.
 pub(crate) fn solve_of<'a>(given: &ArgMatches<'a>) -> Option<Asked<'a>>
     ensures found { IfSome result (λ asked. Means (meant asked) (codes "solve") (rows_of (found_of given.now))) }
     ensures none { IfNone result ((asked : AskedFor) → Means asked (codes "solve") (rows_of (found_of given.now)) → ⊥) }
 {
     let model = value_of(given, "MODEL")?;
+    let resume = value_of(given, "resume");
     let property = number_or(
         given,
         "property",
@@ -81,5 +83,9 @@ pub(crate) fn solve_of<'a>(given: &ArgMatches<'a>) -> Option<Asked<'a>>
         steps,
         skeletons: skeletons as u32,
     };
-    Some(Asked::Solve { model, request })
+    Some(Asked::Solve {
+        model,
+        request,
+        resume,
+    })
 }

@@ -1,26 +1,16 @@
 //! The words of the command `safety`.
 
-ghost use Rattle.std.specs.Prelude.{◌≡◌, codes, false, IfOk, IfSome, IfNone};
+ghost use Rattle.std.specs.Prelude.{◌≡◌, codes, IfOk, IfSome, IfNone};
 ghost use Rattle.clap.specs.Simple.{app_of, with_subcommand};
 ghost use Rattle.clap.specs.Walk.{rows_of};
 ghost use Rattle.clap.specs.Matches.{found_of};
-ghost use Rattle.clap.specs.declared.builder.command.Command.TheViews.{out-Command as fields_of};
 ghost use Rattle.command_lines.specs.Commands.{Asked as AskedFor, meant, Means};
 ghost use Rattle.command_lines.specs.Safety.{safety_command};
 
 use crate::commands::Asked;
-use crate::words::{number_option, number_or, required, value_of};
+use crate::words::{attached, for_property, number_or, value_of};
 use clap::{ArgMatches, Command};
 use std::alloc::{AllocError, Global};
-
-fn safety_command<'a>(alloc: Global) -> Result<Command<'a>, AllocError>
-    ensures shape { IfOk result (λ command. app_of command ≡ safety_command) }
-    ensures local { IfOk result (λ command. (fields_of command).has_globals ≡ false) }
-{
-    Command::new(alloc, "safety")
-        .arg(required(alloc, "MODEL"))?
-        .arg(number_option(alloc, "property", 0, 4_294_967_295))
-}
 
 /// The program with this command.
 pub(crate) fn with_safety<'a>(
@@ -29,7 +19,7 @@ pub(crate) fn with_safety<'a>(
 ) -> Result<Command<'a>, AllocError>
     ensures { IfOk result (λ more. app_of more ≡ with_subcommand (app_of program.entry) safety_command.top) }
 {
-    program.subcommand(safety_command(alloc)?)
+    attached(program, for_property(alloc, "safety"))
 }
 
 /// The name and the number that `safety` is given.

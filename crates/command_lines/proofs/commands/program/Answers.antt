@@ -10,6 +10,7 @@ use Rattle.command_lines.specs.Slice.{slice_command}
 use Rattle.command_lines.specs.Convert.{convert_command}
 use Rattle.command_lines.specs.Safety.{safety_command}
 use Rattle.command_lines.specs.Rounds.{rounds_command}
+use Rattle.command_lines.specs.Shortest.{shortest_command}
 use Rattle.command_lines.specs.Trim.{trim_command}
 use Rattle.command_lines.specs.Export.{export_command}
 use Rattle.command_lines.proofs.commands.program.Goals as goal
@@ -28,13 +29,15 @@ returns c =
     (λ command h.
     h
     ∙ ap (λ (a : App). with_subcommand a export_command.top)
-    (c.in_ok-program-10.ensures
+    (c.in_ok-program-11.ensures
     ∙ ap (λ (a : App). with_subcommand a trim_command.top)
+    (c.in_ok-program-10.ensures
+    ∙ ap (λ (a : App). with_subcommand a shortest_command.top)
     (c.in_ok-program-9.ensures
     ∙ ap (λ (a : App). with_subcommand a rounds_command.top)
     (c.in_ok-program-8.ensures
     ∙ ap (λ (a : App). with_subcommand a safety_command.top)
     (c.in_ok-program-7.ensures
     ∙ ap (λ (a : App). with_subcommand a convert_command.top)
-    (c.in_ok-program-6.ensures ∙ ap (λ (a : App). with_subcommand a slice_command.top) first))))))
+    (c.in_ok-program-6.ensures ∙ ap (λ (a : App). with_subcommand a slice_command.top) first)))))))
     c.with_export.ensures

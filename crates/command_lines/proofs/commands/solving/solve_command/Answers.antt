@@ -13,7 +13,8 @@ returns-clause-shape c =
     let with_3 = c.in_ok-arg-3.ensures.shape (search rules) ∙ ap₂ with_rule with_2 c.number_option-2.ensures.rule in
     let with_4 = c.in_ok-arg-4.ensures.shape (search rules) ∙ ap₂ with_rule with_3 c.number_option-3.ensures.rule in
     let with_5 = c.in_ok-arg-5.ensures.shape (search rules) ∙ ap₂ with_rule with_4 c.number_option-4.ensures.rule in
-    IfOk-weaker c.arg-6.result _ _ (λ command h. h.shape (search rules) ∙ ap₂ with_rule with_5 c.number_option-5.ensures.rule) c.arg-6.ensures
+    let with_6 = c.in_ok-arg-6.ensures.shape (search rules) ∙ ap₂ with_rule with_5 c.number_option-5.ensures.rule in
+    IfOk-weaker c.arg-7.result _ _ (λ command h. h.shape (search rules) ∙ ap₂ with_rule with_6 c.text_option.ensures.rule) c.arg-7.ensures
 
 pub returns-clause-local : goal.returns-clause-local
 returns-clause-local c =
@@ -22,4 +23,5 @@ returns-clause-local c =
     let local_3 = none_global _ c.number_option-2.result.global _ c.in_ok-arg-3.ensures.globals local_2 c.number_option-2.ensures.local in
     let local_4 = none_global _ c.number_option-3.result.global _ c.in_ok-arg-4.ensures.globals local_3 c.number_option-3.ensures.local in
     let local_5 = none_global _ c.number_option-4.result.global _ c.in_ok-arg-5.ensures.globals local_4 c.number_option-4.ensures.local in
-    IfOk-weaker c.arg-6.result _ _ (λ command h. none_global _ c.number_option-5.result.global _ h.globals local_5 c.number_option-5.ensures.local) c.arg-6.ensures
+    let local_6 = none_global _ c.number_option-5.result.global _ c.in_ok-arg-6.ensures.globals local_5 c.number_option-5.ensures.local in
+    IfOk-weaker c.arg-7.result _ _ (λ command h. none_global _ c.text_option.result.global _ h.globals local_6 c.text_option.ensures.local) c.arg-7.ensures

@@ -1,0 +1,63 @@
+//! The words of the command `shortest`.
+
+ghost use Rattle.std.specs.Prelude.{◌≡◌, codes, false, IfOk, IfSome, IfNone};
+ghost use Rattle.clap.specs.Simple.{app_of, with_subcommand};
+ghost use Rattle.clap.specs.Walk.{rows_of};
+ghost use Rattle.clap.specs.Matches.{found_of};
+ghost use Rattle.clap.specs.declared.builder.command.Command.TheViews.{out-Command as fields_of};
+ghost use Rattle.command_lines.specs.Commands.{Asked as AskedFor, meant, Means};
+ghost use Rattle.command_lines.specs.Shortest.{shortest_command};
+
+use crate::commands::{Asked, DEFAULTS};
+use crate::words::{attached, number_option, number_or, required, value_of};
+use clap::{ArgMatches, Command};
+use std::alloc::{AllocError, Global};
+
+/// Of which property a shortest lasso is asked for, up to how many positions, and what may be spent on the search.
+#[derive(Clone, Copy)]
+pub struct ShortestRequest {
+    /// The number of the property, counted from 0.
+    pub property: u32,
+    /// How many conflicts may be counted, 0 to 4,294,967,295; the last value means no limit.
+    pub conflicts: u64,
+    /// How many positions a lasso may have, 0 to 65,536.
+    pub depth: u32,
+}
+
+fn shortest_command<'a>(alloc: Global) -> Result<Command<'a>, AllocError>
+    ensures shape { IfOk result (λ command. app_of command ≡ shortest_command) }
+    ensures local { IfOk result (λ command. (fields_of command).has_globals ≡ false) }
+{
+    Command::new(alloc, "shortest")
+        .arg(required(alloc, "MODEL"))?
+        .arg(number_option(alloc, "property", 0, 4_294_967_295))?
+        .arg(number_option(alloc, "conflicts", 0, 4_294_967_295))?
+        .arg(number_option(alloc, "depth", 0, 65_536))
+}
+
+/// The program with this command.
+pub(crate) fn with_shortest<'a>(
+    alloc: Global,
+    program: Command<'a>,
+) -> Result<Command<'a>, AllocError>
+    ensures { IfOk result (λ more. app_of more ≡ with_subcommand (app_of program.entry) shortest_command.top) }
+{
+    attached(program, shortest_command(alloc))
+}
+
+/// The name and the numbers that `shortest` is given, with the defaults of `solve`, and of 100 positions.
+pub(crate) fn shortest_of<'a>(given: &ArgMatches<'a>) -> Option<Asked<'a>>
+    ensures found { IfSome result (λ asked. Means (meant asked) (codes "shortest") (rows_of (found_of given.now))) }
+    ensures none { IfNone result ((asked : AskedFor) → Means asked (codes "shortest") (rows_of (found_of given.now)) → ⊥) }
+{
+    let model = value_of(given, "MODEL")?;
+    let property = number_or(given, "property", 0, 4_294_967_295, 0)?;
+    let conflicts = number_or(given, "conflicts", 0, 4_294_967_295, DEFAULTS.conflicts)?;
+    let depth = number_or(given, "depth", 0, 65_536, 100)?;
+    let request = ShortestRequest {
+        property: property as u32,
+        conflicts,
+        depth: depth as u32,
+    };
+    Some(Asked::Shortest { model, request })
+}
