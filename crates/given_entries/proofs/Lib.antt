@@ -1,0 +1,5 @@
+mod Texts
+mod Entries
+mod Ends
+mod Lists
+mod Named
