@@ -1,5 +1,6 @@
 -- Two runs for one property print one status line.
-use Rattle.std.proofs.Common.{◌≡◌, ℕ, Bool, true, false, List, take, refl, sym, ◌∙◌, ap, subst, codes}
+use Rattle.std.proofs.Common.{◌≡◌, ℕ, Bool, true, false, List, take, refl, sym, ◌∙◌, ap, subst, codes, None, Some}
+use Rattle.std.specs.Prelude.{Option}
 use Rattle.aig_semantics.specs.Circuits.{Circuit}
 use Rattle.aiger_grammar.specs.Models.{Model}
 use Rattle.aiger_grammar.specs.AsciiTexts.{HasOneModel}
@@ -8,8 +9,10 @@ use Rattle.certificate.specs.declared.ends.Accepted.{Accepted}
 use Rattle.certificate.specs.declared.ends.Accepted.TheVariants as accepted
 use Rattle.certificate.specs.Answers.{IsGood}
 use Rattle.certificate.specs.Laws.{VerdictsAgree}
-use Rattle.fair_top.specs.ModelTexts.{is_binary, IsTextIn, IsModelText}
-use Rattle.fair_top.specs.Solve.{property_of, IsWrittenAs, RunsAgree}
+use Rattle.command_lines.specs.declared.commands.solving.SolveRequest.{SolveRequest}
+use Rattle.fair_top.specs.ModelTexts.{is_binary, IsTextIn, IsModelText, OfModel}
+use Rattle.fair_top.specs.ModelGiven.{OfSomeText}
+use Rattle.fair_top.specs.Solve.{property_of, OfAnswer, IsWrittenAs, IsAnswerBy, RunsAgree}
 
 in_form : HasOneModel → BinaryHasOneModel → (binary : Bool) (m n : Model) (text : List ℕ) → IsTextIn binary m text → IsTextIn binary n text → m ≡ n
 in_form ascii binary_one true m n text h k = binary_one m n text h k
@@ -38,12 +41,23 @@ one_line c agree text written (accepted.Holds n entries) (accepted.Lasso m posit
     absurd (agree written text m positions from entries others (subst (λ (j : ℕ). IsGood c text (accepted.Holds j entries)) same good))
 one_line c agree text written (accepted.Holds n entries) (accepted.Holds m count) same good others = refl
 
+-- the answer that a run prints is good for the circuit, and spelled as `solve` spells it
+abbrev pub Printed : Circuit → List ℕ → Accepted → Type 0
+Printed c text found = IsGood c text found × IsWrittenAs c text found
+
+answer_of : (bytes : List ℕ) (answer : Option (Option (List ℕ))) (request : SolveRequest) (found : Accepted) (text : List ℕ)
+    → OfAnswer OfSomeText answer (λ claimed. OfModel bytes (λ k. IsAnswerBy k claimed request found text)) → OfModel bytes (λ k. Printed k text found)
+answer_of bytes None request found text (m, form, (good, spelled, given, begin, within, first)) = (m, form, (good, spelled))
+answer_of bytes (Some told) request found text (claimed, may, (m, form, (good, spelled, given, begin, within, first))) = (m, form, (good, spelled))
+
+printed_of : HasOneModel → BinaryHasOneModel → (c : Circuit) (m : Model) (bytes text : List ℕ) (found : Accepted) → IsModelText m bytes → m.circuit ≡ c
+    → OfSomeText (Some bytes) (λ read. OfModel read (λ k. Printed k text found)) → Printed c text found
+printed_of ascii binary_one c m bytes text found form is (read, told, (n, n_form, p)) =
+    subst (λ (x : Circuit). Printed x text found) (same_circuit ascii binary_one c m n bytes read form is (told bytes refl) n_form) p
+
 pub agreed : HasOneModel → BinaryHasOneModel → (c : Circuit) → VerdictsAgree c → RunsAgree c
-agreed ascii binary_one c agree bytes a b status other text written (m, form, is) same
-    (found, _, of_a, _, (read, told, (n, n_form, (n_good, n_spelled)))) (second, _, of_b, _, (again, told_again, (k, k_form, (k_good, k_spelled)))) =
-    let first_is : n.circuit ≡ c = same_circuit ascii binary_one c m n bytes read form is (told bytes refl) n_form in
-    let second_is : k.circuit ≡ c = same_circuit ascii binary_one c m k bytes again form is (told_again bytes refl) k_form in
-    begins n.circuit text found n_spelled
-    ∙ one_line c agree text written found second (of_a ∙ same ∙ sym of_b) (subst (λ (x : Circuit). IsGood x text found) first_is n_good)
-    (subst (λ (x : Circuit). IsGood x written second) second_is k_good)
-    ∙ sym (begins k.circuit written second k_spelled)
+agreed ascii binary_one c agree bytes answer named a b status other text written (m, form, is) same
+    (found, _, of_a, (read, told, first)) (second, _, of_b, (again, told_again, last)) =
+    let p : Printed c text found = printed_of ascii binary_one c m bytes text found form is (read, told, answer_of read answer a found text first) in
+    let q : Printed c written second = printed_of ascii binary_one c m bytes written second form is (again, told_again, answer_of again named b second written last) in
+    begins c text found p.1 ∙ one_line c agree text written found second (of_a ∙ same ∙ sym of_b) p.0 q.0 ∙ sym (begins c written second q.1)

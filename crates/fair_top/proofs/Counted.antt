@@ -178,6 +178,7 @@ without_gives model request (statuses.Unknown report) (Ok outcome) h text aloud 
 without_gives model request (statuses.NoProperty n) (Ok outcome) h text aloud = absurd h
 without_gives model request (statuses.TooLarge n) (Ok outcome) h text aloud = absurd h
 without_gives model request (statuses.OpenRounds n spent) (Ok outcome) h text aloud = absurd h
+without_gives model request (statuses.OpenDepth n spent) (Ok outcome) h text aloud = absurd h
 without_gives model request (statuses.NoItem entry clause) (Ok outcome) h text aloud = absurd h
 
 bad_exact : (model : Option (List ℕ)) (request : RoundsRequest) (fault : ModelFault) → IsFaultOf model fault
@@ -199,6 +200,7 @@ no_model_exact model request (statuses.Unknown report) h verdict d = absurd h
 no_model_exact model request (statuses.NoProperty n) h verdict d = absurd h
 no_model_exact model request (statuses.TooLarge n) h verdict d = absurd h
 no_model_exact model request (statuses.OpenRounds n spent) h verdict d = absurd h
+no_model_exact model request (statuses.OpenDepth n spent) h verdict d = absurd h
 no_model_exact model request (statuses.NoItem entry clause) h verdict d = absurd h
 
 pub without_exact : (model : Option (List ℕ)) (request : RoundsRequest) (status result : Status) → EndsWithoutModel model status

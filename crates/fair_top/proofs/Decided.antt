@@ -1,9 +1,10 @@
 -- What `solve` gives, from the model and from what it comes to for the circuit.
-use Rattle.std.proofs.Common.{◌≡◌, ◌⊎◌, ◌<◌, ◌≤◌, ◌^◌, ℕ, List, [], ◌∷◌, ◌++◌, map, length, take, refl, sym, ◌∙◌, ap, ap₂, subst, Bool, inl, inr, arith, Ok, Err}
+use Rattle.std.proofs.Common.{◌≡◌, ◌⊎◌, ◌<◌, ◌≤◌, ◌^◌, ℕ, List, [], ◌∷◌, ◌++◌, map, length, take, refl, sym, ◌∙◌, ap, ap₂, subst, Bool, true, false, inl, inr, arith, codes, get_or, None, Some, Ok, Err}
 use Rattle.std.specs.Prelude.{Option, Result, IfOk, IfErr}
 use Rattle.std.proofs.lemmas.List.{map-append, append_assoc, length-map}
+use Rattle.std.proofs.lemmas.List.Elements.{All-nil, All-cons}
 use Rattle.aig_semantics.specs.Circuits.{Circuit}
-use Rattle.aiger_grammar.specs.Models.{Model}
+use Rattle.certificate.specs.declared.ends.Accepted.{Accepted}
 use Rattle.certificate.specs.declared.ends.Accepted.TheVariants as accepted
 use Rattle.round_answers.specs.declared.ends.Judged.{Judged}
 use Rattle.round_answers.specs.declared.ends.Judged.TheVariants as found_as
@@ -22,19 +23,28 @@ use Rattle.fair_top.specs.declared.status.Done.TheVariants as dones
 use Rattle.entry.specs.CheckedEntries.{CheckedEntry}
 use Rattle.entry.specs.Proved.{IsProved, IsGoodRefutation}
 use Rattle.fair_semantics.specs.Entries.{Entry}
-use Rattle.fair_workers.specs.Runs.{IsReport}
-use Rattle.wall_store.specs.Boards.{BoardState, IsBoard, plain, IsSoundList}
+use Rattle.fair_workers.specs.Runs.{IsReport, AreServed}
+use Rattle.wall_store.specs.Boards.{BoardState, IsBoard, plain, IsSoundList, outcome_of}
+use Rattle.wall_store.specs.declared.outcomes.Outcome.{Outcome as Found}
+use Rattle.wall_store.specs.declared.outcomes.Outcome.TheVariants as outcomes
 use Rattle.command_lines.specs.declared.commands.solving.SolveRequest.{SolveRequest}
 use Rattle.fair_top.specs.declared.status.Status.{Status}
 use Rattle.fair_top.specs.declared.status.Status.TheVariants as statuses
 use Rattle.fair_top.specs.declared.texts.Outcome.{Outcome}
 use Rattle.fair_top.specs.Check.{done_by}
 use Rattle.certificate.specs.Writing.{written_entry}
-use Rattle.fair_top.specs.Solve.{task_of, IsWrittenAs, HasAsked, GivesSolve, ShownBySolve, IsStimulusOf}
+use Rattle.given_entries.specs.Beginning.{BeginsWith}
+use Rattle.fair_top.specs.declared.beginnings.Beginning.{Beginning}
+use Rattle.fair_top.specs.ModelTexts.{OfModel}
+use Rattle.fair_top.specs.ModelGiven.{OfSomeText}
+use Rattle.fair_top.specs.Solve.{task_of, most_of, OfAnswer, IsWrittenAs, IsAnswerBy, IsReportBy, HasAsked, GivesSolve, ShownBySolve, IsStimulusOf, IsTextOfOutcome, property_of, BeginsWithGiven}
 use Rattle.fair_top.specs.Solved.{IsPrinted, EndsFor, SolvesUnlessCut}
-use Rattle.fair_top.specs.Statuses.{status_in}
-use Rattle.fair_top.specs.Judged.{IsModelOf, EndsWithoutModel}
+use Rattle.fair_top.specs.Beginnings.{circuit_in, given_in, IsBeginning, SaysBefore, EndsBefore}
+use Rattle.fair_top.specs.Headline.{IsSilent}
+use Rattle.fair_top.specs.Statuses.{status_in, is_read_fault, ends_silently}
+use Rattle.fair_top.specs.Texts.{text_of}
 use Rattle.fair_top.proofs.Judging.{same_accepted}
+use Rattle.fair_top.proofs.Begun.{of_some}
 
 -- Entries of a board.
 
@@ -53,116 +63,195 @@ proved_from c entries before (e ∷ after) same sound =
 pub proved_in_order : (c : Circuit) (entries : List CheckedEntry) → IsSoundList c entries → AreProvedInOrder c [] entries
 proved_in_order c entries sound = proved_from c entries [] entries refl sound
 
--- What it comes to for the circuit of a model.
+-- What a search comes to.
 
-shows : (c : Circuit) (request : SolveRequest) (status : Status) (text : List ℕ) (found : Judged) → EndsFor c request status text
+shows : (c : Circuit) (request : SolveRequest) (given : List CheckedEntry) (status : Status) (text : List ℕ) (found : Judged) → EndsFor c request given status text
     → status ≡ statuses.Done (done_by found) → ShowsText c found
-shows c request status text found (inl (without, e)) is = let wrong : statuses.NoProperty request.property ≡ statuses.Done (done_by found) = sym without.0 ∙ is in cc
-shows c request status text found (inr (inl p)) is = subst (λ (a : Judged). ShowsText c a) (same_accepted (found_as.Answer p.0) found (sym p.1 ∙ is)) p.6
-shows c request status text found (inr (inr (r, e))) is = let wrong : statuses.Unknown r.0 ≡ statuses.Done (done_by found) = sym r.1 ∙ is in cc
+shows c request given status text found (inl p) is = subst (λ (a : Judged). ShowsText c a) (same_accepted (found_as.Answer p.0) found (sym p.1 ∙ is)) p.6
+shows c request given status text found (inr (r, e)) is = let wrong : statuses.Unknown r.0 ≡ statuses.Done (done_by found) = sym r.1 ∙ is in cc
 
-gives : (c : Circuit) (m : Model) (told : Option (List ℕ)) (request : SolveRequest) (status : Status) (text : List ℕ) → c ≡ m.circuit → IsModelOf told m
-    → EndsFor c request status text → GivesSolve told request status text
-gives c m told request status text same h (inl (without, e)) =
-    inr (inl ((without.0, (h.text.0, h.text.1, (m, h.text.2, subst (λ (k : Circuit). length k.justice ≤ request.property) same without.1))), e))
-gives c m told request status text same h (inr (inl p)) =
-    inr (inr (inl (
-      p.0,
-      p.1,
-      p.2,
-      p.3,
-      (h.text.0, h.text.1, (m, h.text.2, (subst (λ (k : Circuit). IsGood k text p.0) same p.4, subst (λ (k : Circuit). IsWrittenAs k text p.0) same p.5))),
-    )))
-gives c m told request status text same h (inr (inr (r, e))) =
-    inr (inr (inr (
-      (
-        r.0,
-        r.1,
-        (
-          h.text.0,
-          h.text.1,
+-- the text of a certificate is none of a stimulus, and that of the board's list begins with what was given
+begins_with_given : (c : Circuit) (j : ℕ) (given more entries : List CheckedEntry) (o : Option Found) (found : Accepted) (text : List ℕ) → property_of found ≡ j
+    → IsWrittenAs c text found → entries ≡ given ++ more → IsTextOfOutcome c j entries o text → BeginsWithGiven given found text
+begins_with_given c j given more entries o (accepted.Lasso n positions from) text of_j spelled same t = tt
+begins_with_given c j given more entries None (accepted.Holds n count) text of_j spelled same t = absurd t
+begins_with_given c j given more entries (Some (outcomes.Lasso lasso)) (accepted.Holds n count) text of_j (certificate, is, counted, version) same (positions, from, stands, other) =
+    let wrong : codes "1\n" ≡ codes "0\n" = sym (ap (take 2) other) ∙ ap (take 2) is in
+    let first : ◌≡◌ {A = ℕ} 49 48 = ap (λ (l : List ℕ). get_or l 0 0) wrong in absurd (omega (arith, first))
+begins_with_given c j given more entries (Some (outcomes.Holds refutation)) (accepted.Holds n count) text of_j spelled same t =
+    (more, refutation, t ∙ ap₂ (λ (i : ℕ) (es : List CheckedEntry). certificate_text i (certificate_of es refutation)) (sym of_j) same)
+
+-- the board has the limit of the task, and its list begins with what was given
+pub printed_by : (c : Circuit) (request : SolveRequest) (given more : List CheckedEntry) (b : BoardState) (result : Result Outcome Status) → b.limit ≡ most_of request given
+    → b.entries ≡ given ++ more → IfOk result (λ outcome. IsPrinted c request b.limit outcome.status outcome.text.items)
+    → IfOk result (λ outcome. IsTextOfOutcome c request.property b.entries (outcome_of b.served request.property) outcome.text.items)
+    → IfOk result (λ outcome. EndsFor c request given outcome.status outcome.text.items)
+printed_by c request given more b (Ok outcome) limit same p t =
+    let q : IsPrinted c request (most_of request given) outcome.status outcome.text.items = subst (λ (n : ℕ). IsPrinted c request n outcome.status outcome.text.items) limit p in
+    inl (q.0, q.1, q.2, q.3, q.4, q.5, q.6, begins_with_given c request.property given more b.entries (outcome_of b.served request.property) q.0 outcome.text.items q.2 q.5 same t)
+printed_by c request given more b (Err status) limit same p t = tt
+
+gives : (model : Option (List ℕ)) (answer : Option (Option (List ℕ))) (request : SolveRequest) (q : Beginning) (status : Status) (text : List ℕ) → IsBeginning model answer request q
+    → EndsFor (circuit_in q) request (given_in q) status text → GivesSolve model answer request status text
+gives model answer request q status text h (inl p) = inr (inr (inr (inl (
+  p.0,
+  p.1,
+  p.2,
+  (
+    h.asked.0,
+    h.asked.1,
+    of_some answer (λ claimed. OfModel h.asked.0 (λ c. (circuit_in q ≡ c) × BeginsWith c claimed (given_in q)))
+        (λ claimed. OfModel h.asked.0 (λ c. IsAnswerBy c claimed request p.0 text))
+        (λ claimed k. (
+          k.0,
+          k.1,
           (
-            m,
-            h.text.2,
-            (
-              subst (λ (k : Circuit). request.property < length k.justice) same r.2,
-              subst (λ (k : Circuit). IsReport (task_of k request) r.0) same r.3,
-            ),
+            subst (λ (c : Circuit). IsGood c text p.0) k.2.0 p.4,
+            subst (λ (c : Circuit). IsWrittenAs c text p.0) k.2.0 p.5,
+            given_in q,
+            k.2.1,
+            p.3,
+            p.7,
           ),
-        ),
-      ),
-      e,
-    )))
+        )) h.asked.2,
+  ),
+))))
+gives model answer request q status text h (inr (r, e)) = inr (inr (inr (inr (
+  (
+    r.0,
+    r.1,
+    (
+      h.asked.0,
+      h.asked.1,
+      of_some answer (λ claimed. OfModel h.asked.0 (λ c. (circuit_in q ≡ c) × BeginsWith c claimed (given_in q)))
+          (λ claimed. OfModel h.asked.0 (λ c. IsReportBy c claimed request r.0))
+          (λ claimed k. (
+            k.0,
+            k.1,
+            (
+              subst (λ (c : Circuit). request.property < length c.justice) k.2.0 h.property,
+              given_in q,
+              k.2.1,
+              subst (λ (c : Circuit). IsReport (task_of c request (given_in q)) r.0) k.2.0 r.2,
+            ),
+          )) h.asked.2,
+    ),
+  ),
+  e,
+))))
 
-pub solved_gives : (c : Circuit) (m : Model) (told : Option (List ℕ)) (request : SolveRequest) (result : Result Outcome Status) → c ≡ m.circuit → IsModelOf told m
-    → IfOk result (λ outcome. EndsFor c request outcome.status outcome.text.items)
-    → IfOk result (λ outcome. GivesSolve told request outcome.status outcome.text.items)
-solved_gives c m told request (Err status) same h ends = tt
-solved_gives c m told request (Ok outcome) same h ends = gives c m told request outcome.status outcome.text.items same h ends
+pub solved_gives : (model : Option (List ℕ)) (answer : Option (Option (List ℕ))) (request : SolveRequest) (q : Beginning) (result : Result Outcome Status) → IsBeginning model answer request q
+    → IfOk result (λ outcome. EndsFor (circuit_in q) request (given_in q) outcome.status outcome.text.items)
+    → IfOk result (λ outcome. GivesSolve model answer request outcome.status outcome.text.items)
+solved_gives model answer request q (Err status) h ends = tt
+solved_gives model answer request q (Ok outcome) h ends = gives model answer request q outcome.status outcome.text.items h ends
 
-pub solved_shown : (c : Circuit) (m : Model) (told : Option (List ℕ)) (request : SolveRequest) (result : Result Outcome Status) → c ≡ m.circuit → IsModelOf told m
-    → IfOk result (λ outcome. EndsFor c request outcome.status outcome.text.items) → IfErr result (λ status. status ≡ statuses.Memory)
-    → (found : Judged) → status_in result ≡ statuses.Done (done_by found) → ShownBySolve told found
-solved_shown c m told request (Err status) same h ends ended found e = let wrong : statuses.Memory ≡ statuses.Done (done_by found) = sym ended ∙ e in cc
-solved_shown c m told request (Ok outcome) same h ends ended found e =
-    (h.text.0, h.text.1, (m, h.text.2, subst (λ (k : Circuit). ShowsText k found) same (shows c request outcome.status outcome.text.items found ends e)))
+-- what is so of each text that the answer may be, and speaks of the model's circuit alone, is so of that
+model_shows : (bytes : List ℕ) (answer : Option (Option (List ℕ))) (q : Beginning) (found : Judged)
+    → OfAnswer OfSomeText answer (λ claimed. OfModel bytes (λ c. (circuit_in q ≡ c) × BeginsWith c claimed (given_in q)))
+    → ShowsText (circuit_in q) found → OfModel bytes (λ c. ShowsText c found)
+model_shows bytes None q found (m, form, (same, begins)) shown = (m, form, subst (λ (c : Circuit). ShowsText c found) same shown)
+model_shows bytes (Some told) q found (text, may, (m, form, (same, begins))) shown = (m, form, subst (λ (c : Circuit). ShowsText c found) same shown)
 
--- Completeness.
+pub solved_shown : (model : Option (List ℕ)) (answer : Option (Option (List ℕ))) (request : SolveRequest) (q : Beginning) (result : Result Outcome Status) → IsBeginning model answer request q
+    → IfOk result (λ outcome. EndsFor (circuit_in q) request (given_in q) outcome.status outcome.text.items) → IfErr result (λ status. status ≡ statuses.Memory)
+    → (found : Judged) → status_in result ≡ statuses.Done (done_by found) → ShownBySolve model found
+solved_shown model answer request q (Err status) h ends ended found e = let wrong : statuses.Memory ≡ statuses.Done (done_by found) = sym ended ∙ e in cc
+solved_shown model answer request q (Ok outcome) h ends ended found e =
+    (h.asked.0, h.asked.1, model_shows h.asked.0 answer q found h.asked.2 (shows (circuit_in q) request (given_in q) outcome.status outcome.text.items found ends e))
 
-ends_solved : (c : Circuit) (request : SolveRequest) (status : Status) (text : List ℕ) → request.property < length c.justice
-    → EndsFor c request status text → SolvesUnlessCut status
-ends_solved c request status text there (inl (without, e)) = absurd (omega (arith, there, without.1))
-ends_solved c request status text there (inr (inl p)) = inl (inl (inl (p.0, p.1)))
-ends_solved c request status text there (inr (inr (r, e))) = inl (inl (inr (r.0, r.1)))
+ends_solved : (c : Circuit) (request : SolveRequest) (given : List CheckedEntry) (status : Status) (text : List ℕ) → EndsFor c request given status text → SolvesUnlessCut status
+ends_solved c request given status text (inl p) = inl (inl (inl (p.0, p.1)))
+ends_solved c request given status text (inr (r, e)) = inl (inl (inr (r.0, r.1)))
 
--- the circuit has the property of which MODEL's told text has it
-has_property : (c : Circuit) (m : Model) (told : Option (List ℕ)) (request : SolveRequest) → c ≡ m.circuit → IsModelOf told m → HasAsked told request
-    → request.property < length c.justice
-has_property c m told request same h (text, e, (n, form, there)) =
-    let is : n.circuit ≡ c = ap (λ (x : Model). x.circuit) (sym (h.one text n e form)) ∙ sym same in
-    subst (λ (k : Circuit). request.property < length k.justice) is there
+pub solved_asked : (c : Circuit) (request : SolveRequest) (given : List CheckedEntry) (result : Result Outcome Status)
+    → IfOk result (λ outcome. EndsFor c request given outcome.status outcome.text.items) → IfErr result (λ status. status ≡ statuses.Memory)
+    → SolvesUnlessCut (status_in result)
+solved_asked c request given (Err status) ends ended = inr ended
+solved_asked c request given (Ok outcome) ends ended = ends_solved c request given outcome.status outcome.text.items ends
 
-pub solved_asked : (c : Circuit) (m : Model) (told : Option (List ℕ)) (request : SolveRequest) (result : Result Outcome Status) → c ≡ m.circuit → IsModelOf told m
-    → IfOk result (λ outcome. EndsFor c request outcome.status outcome.text.items) → IfErr result (λ status. status ≡ statuses.Memory)
-    → HasAsked told request → SolvesUnlessCut (status_in result)
-solved_asked c m told request (Err status) same h ends ended asked = inr ended
-solved_asked c m told request (Ok outcome) same h ends ended asked =
-    ends_solved c request outcome.status outcome.text.items (has_property c m told request same h asked) ends
+solved_unread : (c : Circuit) (request : SolveRequest) (given : List CheckedEntry) (status : Status) (text : List ℕ) → EndsFor c request given status text → is_read_fault status ≡ false
+solved_unread c request given status text (inl p) = ap is_read_fault p.1
+solved_unread c request given status text (inr (r, e)) = ap is_read_fault r.1
 
--- where there is no model, MODEL's told text is none of one, or memory was refused or a read failed
-pub without_asked : (told : Option (List ℕ)) (request : SolveRequest) (status result : Status) → EndsWithoutModel told status
-    → (result ≡ status) ⊎ (result ≡ statuses.Memory) → HasAsked told request → SolvesUnlessCut result
-without_asked told request status result ends (inr memory) asked = inr memory
-without_asked told request (statuses.BadModel fault) result ends (inl same) (text, e, (m, form, there)) = absurd (ends.none text m e form)
-without_asked told request statuses.ReadFault result ends (inl same) asked = inl (inr (inl same))
-without_asked told request statuses.Memory result ends (inl same) asked = inr same
-without_asked told request (statuses.Done done) result ends (inl same) asked = absurd ends
-without_asked told request (statuses.Refused fault) result ends (inl same) asked = absurd ends
-without_asked told request statuses.WriteFault result ends (inl same) asked = absurd ends
-without_asked told request statuses.Usage result ends (inl same) asked = absurd ends
-without_asked told request (statuses.Unknown report) result ends (inl same) asked = absurd ends
-without_asked told request (statuses.NoProperty n) result ends (inl same) asked = absurd ends
-without_asked told request (statuses.TooLarge n) result ends (inl same) asked = absurd ends
-without_asked told request (statuses.OpenRounds n spent) result ends (inl same) asked = absurd ends
-without_asked told request (statuses.NoItem entry clause) result ends (inl same) asked = absurd ends
+pub solved_read : (c : Circuit) (request : SolveRequest) (given : List CheckedEntry) (result : Result Outcome Status)
+    → IfOk result (λ outcome. EndsFor c request given outcome.status outcome.text.items) → IfErr result (λ status. status ≡ statuses.Memory)
+    → is_read_fault (status_in result) ≡ false
+solved_read c request given (Err status) ends ended = ap is_read_fault ended
+solved_read c request given (Ok outcome) ends ended = solved_unread c request given outcome.status outcome.text.items ends
+
+pub solved_aloud : (c : Circuit) (request : SolveRequest) (given : List CheckedEntry) (result : Result Outcome Status)
+    → IfOk result (λ outcome. EndsFor c request given outcome.status outcome.text.items) → IfOk result (λ outcome. is_read_fault outcome.status ≡ false)
+solved_aloud c request given (Err status) ends = tt
+solved_aloud c request given (Ok outcome) ends = solved_unread c request given outcome.status outcome.text.items ends
+
+-- Where there is no search.
+
+before_gives : (model : Option (List ℕ)) (answer : Option (Option (List ℕ))) (request : SolveRequest) (status : Status) (text : List ℕ)
+    → SaysBefore model answer request status → text ≡ text_of status → GivesSolve model answer request status text
+before_gives model answer request status text (inl bad) e = inl (bad, e)
+before_gives model answer request status text (inr (inl none)) e = inr (inl (none, e))
+before_gives model answer request status text (inr (inr refused)) e = inr (inr (inl (refused, e)))
+
+silent_aloud : (status : Status) → IsSilent status → ends_silently status ≡ false → ⊥
+silent_aloud status (inl e) aloud = let wrong : true ≡ false = sym (ap ends_silently e) ∙ aloud in cc
+silent_aloud status (inr e) aloud = let wrong : true ≡ false = sym (ap ends_silently e) ∙ aloud in cc
+
+pub unsearched_gives : (model : Option (List ℕ)) (answer : Option (Option (List ℕ))) (request : SolveRequest) (status : Status) (result : Result Outcome Status)
+    → EndsBefore model answer request status → IfOk result (λ outcome. (outcome.status ≡ status) × (outcome.text.items ≡ text_of status))
+    → IfOk result (λ outcome. ends_silently status ≡ false) → IfOk result (λ outcome. GivesSolve model answer request outcome.status outcome.text.items)
+unsearched_gives model answer request status (Err other) h text aloud = tt
+unsearched_gives model answer request status (Ok outcome) h text aloud = by h.says
+  where
+    by : SaysBefore model answer request status ⊎ IsSilent status → GivesSolve model answer request outcome.status outcome.text.items
+    by (inl says) = before_gives model answer request outcome.status outcome.text.items (subst (SaysBefore model answer request) (sym text.0) says) (text.1 ∙ sym (ap text_of text.0))
+    by (inr silent) = absurd (silent_aloud status silent aloud)
+
+before_hidden : (model : Option (List ℕ)) (answer : Option (Option (List ℕ))) (request : SolveRequest) (status : Status) (found : Judged)
+    → SaysBefore model answer request status ⊎ IsSilent status → status ≡ statuses.Done (done_by found) → ⊥
+before_hidden model answer request status found (inl (inl bad)) is = let wrong : statuses.BadModel bad.0 ≡ statuses.Done (done_by found) = sym bad.1 ∙ is in cc
+before_hidden model answer request status found (inl (inr (inl none))) is = let wrong : statuses.NoProperty request.property ≡ statuses.Done (done_by found) = sym none.0 ∙ is in cc
+before_hidden model answer request status found (inl (inr (inr refused))) is = let wrong : statuses.Refused refused.0 ≡ statuses.Done (done_by found) = sym refused.1 ∙ is in cc
+before_hidden model answer request status found (inr (inl e)) is = let wrong : statuses.ReadFault ≡ statuses.Done (done_by found) = sym e ∙ is in cc
+before_hidden model answer request status found (inr (inr e)) is = let wrong : statuses.Memory ≡ statuses.Done (done_by found) = sym e ∙ is in cc
+
+pub unsearched_shown : (model : Option (List ℕ)) (answer : Option (Option (List ℕ))) (request : SolveRequest) (status result : Status) → EndsBefore model answer request status
+    → (result ≡ status) ⊎ (result ≡ statuses.Memory) → (found : Judged) → result ≡ statuses.Done (done_by found) → ShownBySolve model found
+unsearched_shown model answer request status result h (inl same) found is = absurd (before_hidden model answer request status found h.says (sym same ∙ is))
+unsearched_shown model answer request status result h (inr memory) found is = let wrong : statuses.Memory ≡ statuses.Done (done_by found) = sym memory ∙ is in cc
+
+pub unsearched_asked : (model : Option (List ℕ)) (answer : Option (Option (List ℕ))) (request : SolveRequest) (status result : Status) → EndsBefore model answer request status
+    → (result ≡ status) ⊎ (result ≡ statuses.Memory) → HasAsked model answer request → SolvesUnlessCut result
+unsearched_asked model answer request status result h (inr memory) asked = inr memory
+unsearched_asked model answer request status result h (inl same) asked = by (h.asked asked)
+  where
+    by : IsSilent status → SolvesUnlessCut result
+    by (inl e) = inl (inr (inl (same ∙ e)))
+    by (inr e) = inr (same ∙ e)
 
 -- What is printed.
 
-pub good_stimulus : (c : Circuit) (request : SolveRequest) (s : Stimulus) (positions from : ℕ) (text : List ℕ) → WrittenIsGood c → GoodIsTrue c
+-- of the two calls that may write a text the one that was made
+pub is_printed : (E : Type 0) (c : Circuit) (request : SolveRequest) (most : ℕ) (made written : Result Outcome E) (outcome : Outcome) → written ≡ made → written ≡ Ok outcome
+    → IfOk made (λ o. IsPrinted c request most o.status o.text.items) → IsPrinted c request most outcome.status outcome.text.items
+is_printed E c request most made written outcome is ended p =
+    subst (λ (r : Result Outcome E). IfOk r (λ o. IsPrinted c request most o.status o.text.items)) (sym is ∙ ended) p
+
+pub good_stimulus : (c : Circuit) (request : SolveRequest) (most : ℕ) (s : Stimulus) (positions from : ℕ) (text : List ℕ) → WrittenIsGood c → GoodIsTrue c
     → request.property < 2 ^ 63 → length s.inputs ≡ positions → StandsFor c request.property s positions from → text ≡ answer_text request.property s
-    → length text ≤ most_bytes → IsPrinted c request (statuses.Done (dones.Lasso request.property positions from)) text
-good_stimulus c request s positions from text written true_one small all stands same short =
+    → length text ≤ most_bytes → IsPrinted c request most (statuses.Done (dones.Lasso request.property positions from)) text
+good_stimulus c request most s positions from text written true_one small all stands same short =
     let j = request.property in
     let good : IsGood c text (accepted.Lasso j positions from) = subst (λ (t : List ℕ). IsGood c t (accepted.Lasso j positions from)) (sym same)
     (written j s positions from small stands (subst (λ (t : List ℕ). length t ≤ most_bytes) same short)) in
     (accepted.Lasso j positions from, refl, refl, tt, good, (s, same, all, stands), true_one text (accepted.Lasso j positions from) good)
 
 pub good_certificate : (c : Circuit) (request : SolveRequest) (b : BoardState) (list : List CheckedEntry) (refutation : Refutation) (count : ℕ) (text : List ℕ)
-    → WrittenCertificatesAreGood c → GoodIsTrue c → IsBoard b → b.circuit ≡ c → list ≡ b.entries → length b.entries ≤ request.skeletons
+    → WrittenCertificatesAreGood c → GoodIsTrue c → IsBoard b → b.circuit ≡ c → list ≡ b.entries
     → request.property < length c.justice → IsGoodRefutation c (plain b.entries) request.property refutation.uses refutation.proof → count ≡ length list
     → text ≡ certificate_text request.property (certificate_of list refutation) → length text ≤ most_bytes
-    → IsPrinted c request (statuses.Done (dones.Holds request.property count)) text
-good_certificate c request b list refutation count text written true_one board of_circuit listed within there good counted same short =
+    → IsPrinted c request b.limit (statuses.Done (dones.Holds request.property count)) text
+good_certificate c request b list refutation count text written true_one board of_circuit listed there good counted same short =
     let j = request.property in
     let refuted : IsRefutedBy c j list refutation = record {
       property = there;
@@ -174,7 +263,7 @@ good_certificate c request b list refutation count text written true_one board o
     (written j list refutation refuted (subst (λ (t : List ℕ). length t ≤ most_bytes) same short)).1 in
     let as_text : IsGood c text (accepted.Holds j (length list)) = subst (λ (t : List ℕ). IsGood c t (accepted.Holds j (length list))) (sym same) certificate in
     let as_count : IsGood c text (accepted.Holds j count) = subst (λ (n : ℕ). IsGood c text (accepted.Holds j n)) (sym counted) as_text in
-    let few : count ≤ request.skeletons = omega (arith, within, counted, ap length listed) in
+    let few : count ≤ b.limit = omega (arith, board.within, counted, ap length listed) in
     let entries_are : length (map written_entry list) ≡ count = length-map list written_entry ∙ sym counted in (
       accepted.Holds j count,
       refl,
@@ -199,6 +288,14 @@ text_of_prefix c j lasso short text stands start inputs same = (
 pub nothing_before : (before after : List CheckedEntry) (e : CheckedEntry) → [] ≡ before ++ e ∷ after → ⊥
 nothing_before [] after e wrong = cc
 nothing_before (x ∷ before) after e wrong = cc
+
+-- One property of the circuit may be served.
+pub served_one : (c : Circuit) (j : ℕ) → j < length c.justice → AreServed c (j ∷ [])
+served_one c j below = record {
+  ascend = λ i k d less inside. absurd (let short : k < 1 = inside in omega (arith, less, short));
+  inside = All-cons (λ i. i < length c.justice) j [] below (All-nil (λ i. i < length c.justice));
+  few = (let one : 1 ≤ 536870912 = omega arith in one);
+}
 
 -- Lists of which one stands in front.
 

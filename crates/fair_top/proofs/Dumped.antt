@@ -166,6 +166,7 @@ without_gives model answer (statuses.Unknown report) (Ok outcome) h text aloud =
 without_gives model answer (statuses.NoProperty n) (Ok outcome) h text aloud = absurd h
 without_gives model answer (statuses.TooLarge n) (Ok outcome) h text aloud = absurd h
 without_gives model answer (statuses.OpenRounds n spent) (Ok outcome) h text aloud = absurd h
+without_gives model answer (statuses.OpenDepth n spent) (Ok outcome) h text aloud = absurd h
 without_gives model answer (statuses.NoItem entry clause) (Ok outcome) h text aloud = absurd h
 
 bad_exact : (model answer : Option (List ℕ)) (fault : ModelFault) → IsFaultOf model fault
@@ -187,6 +188,7 @@ no_model_exact model answer (statuses.Unknown report) h verdict d = absurd h
 no_model_exact model answer (statuses.NoProperty n) h verdict d = absurd h
 no_model_exact model answer (statuses.TooLarge n) h verdict d = absurd h
 no_model_exact model answer (statuses.OpenRounds n spent) h verdict d = absurd h
+no_model_exact model answer (statuses.OpenDepth n spent) h verdict d = absurd h
 no_model_exact model answer (statuses.NoItem entry clause) h verdict d = absurd h
 
 pub without_exact : (model answer : Option (List ℕ)) (status result : Status) → EndsWithoutModel model status → (result ≡ status) ⊎ (result ≡ statuses.Memory)
@@ -227,6 +229,7 @@ no_model_accepts_none model (statuses.Unknown report) h = refl
 no_model_accepts_none model (statuses.NoProperty n) h = refl
 no_model_accepts_none model (statuses.TooLarge n) h = refl
 no_model_accepts_none model (statuses.OpenRounds n spent) h = refl
+no_model_accepts_none model (statuses.OpenDepth n spent) h = refl
 no_model_accepts_none model (statuses.NoItem entry clause) h = refl
 
 memory_accepts_none : accepts statuses.Memory ≡ false

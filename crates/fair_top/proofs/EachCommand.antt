@@ -2,10 +2,11 @@
 use Rattle.std.specs.Prelude.{Option}
 use Rattle.std.proofs.Common.{◌≡◌, inr, Bool, false, List, ℕ, sym, subst}
 use Rattle.edge.specs.Writes.{Writes}
+use Rattle.given_entries.specs.Beginning.{told_of}
 use Rattle.fair_top.specs.declared.status.Status.{Status}
 use Rattle.fair_top.specs.declared.status.Status.TheVariants as statuses
 use Rattle.fair_top.specs.Convert.{IsConversion}
-use Rattle.command_lines.specs.Commands.{Asked, Solve, Check, Gen, Demo, Wave, Slice, Convert, Safety, Rounds, Trim, Export}
+use Rattle.command_lines.specs.Commands.{Asked, Solve, Check, Gen, Demo, Wave, Slice, Convert, Safety, Rounds, Shortest, Trim, Export}
 use Rattle.fair_top.specs.Trim.{IsTrimming}
 use Rattle.fair_top.specs.Commands.{CommandGives}
 use Rattle.fair_top.specs.Solved.{SolvesAsked}
@@ -15,12 +16,13 @@ use Rattle.fair_top.proofs.Dumped.{of_wave}
 use Rattle.fair_top.proofs.Remaking.{of_remade}
 use Rattle.fair_top.proofs.Translated.{of_safety}
 use Rattle.fair_top.proofs.Sliced.{of_slice}
+use Rattle.fair_top.proofs.Bounded.{of_shortest}
 use Rattle.fair_top.proofs.Exported.{of_export}
 
 -- ---- where memory is refused
 
 pub memory_solves : (held : List ℕ → Option (List ℕ)) (asked : Asked) (result : Status) → result ≡ statuses.Memory → SolvesAsked held asked result
-memory_solves held (Solve model request) result e = λ given. inr e
+memory_solves held (Solve model request resume) result e = λ given. inr e
 memory_solves held (Check model answer) result e = tt
 memory_solves held (Gen request) result e = tt
 memory_solves held (Demo request) result e = tt
@@ -29,6 +31,7 @@ memory_solves held (Slice model property) result e = tt
 memory_solves held (Convert model answer) result e = tt
 memory_solves held (Safety model property) result e = tt
 memory_solves held (Rounds model request) result e = tt
+memory_solves held (Shortest model request) result e = tt
 memory_solves held (Trim model answer) result e = tt
 memory_solves held (Export model answer request) result e = tt
 
@@ -36,8 +39,8 @@ memory_solves held (Export model answer request) result e = tt
 
 pub of_command : {Sink : Type 0} (Write : Sink → Bool → Sink → Type 0) (held : List ℕ → Option (List ℕ)) (asked : Asked)
     (status : Status) (text : List ℕ) (old new : Sink) → CommandGives held asked status text → Writes Write false old new → HasWritten Write status old new
-of_command Write held (Solve model request) status text old new gives writes =
-    of_solve Write (held model) request status text old new gives writes
+of_command Write held (Solve model request resume) status text old new gives writes =
+    of_solve Write (held model) (told_of held resume) request status text old new gives writes
 of_command Write held (Check model answer) status text old new gives writes =
     of_check Write (held model) (held answer) status old new gives.0 writes
 of_command Write held (Gen request) status text old new gives writes =
@@ -54,6 +57,8 @@ of_command Write held (Safety model property) status text old new gives writes =
     of_safety Write (held model) property status text old new gives writes
 of_command Write held (Rounds model request) status text old new gives writes =
     of_rounds Write (held model) request status text old new gives writes
+of_command Write held (Shortest model request) status text old new gives writes =
+    of_shortest Write (held model) request status text old new gives writes
 of_command Write held (Trim model answer) status text old new gives writes =
     of_remade Write IsTrimming (held model) (held answer) status text old new gives writes
 of_command Write held (Export model answer request) status text old new gives writes =

@@ -48,7 +48,7 @@ pub is_printed : (held : List ℕ → Option (List ℕ)) (words : List (List ℕ
 is_printed held words before now request status asks exact read = by (exact (statuses.Done Printed) (inr (Gen request, asks, refl)))
   where
     unread : ReadFailed held words before now → ⊥
-    unread (other, others, failed) = subst (λ (a : Asked). FailedOf held (names_in a) before now) (one_asked words other (Gen request) others asks) failed
+    unread (other, others, failed, there) = subst (λ (a : Asked). FailedOf held (names_in a) before now) (one_asked words other (Gen request) others asks) failed
 
     by : IsAnswered (statuses.Done Printed) status → (status ≡ statuses.Done Printed) ⊎ ((status ≡ statuses.Memory) ⊎ (status ≡ statuses.WriteFault))
     by (inl (inl (inl e))) = inl e
@@ -96,7 +96,7 @@ pub demo_is_silent : (held : List ℕ → Option (List ℕ)) (words : List (List
 demo_is_silent held words before now request status asks (inl e) read = absurd (unread (read e))
   where
     unread : ReadFailed held words before now → ⊥
-    unread (other, others, failed) = subst (λ (a : Asked). FailedOf held (names_in a) before now) (one_asked words other (Demo request) others asks) failed
+    unread (other, others, failed, there) = subst (λ (a : Asked). FailedOf held (names_in a) before now) (one_asked words other (Demo request) others asks) failed
 demo_is_silent held words before now request status asks (inr e) read = inr e
 
 -- no read failed where the text of the end was not written whole

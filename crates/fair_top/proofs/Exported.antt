@@ -165,6 +165,7 @@ without_gives request model answer (statuses.Unknown report) (Ok outcome) h text
 without_gives request model answer (statuses.NoProperty n) (Ok outcome) h text aloud = absurd h
 without_gives request model answer (statuses.TooLarge n) (Ok outcome) h text aloud = absurd h
 without_gives request model answer (statuses.OpenRounds n spent) (Ok outcome) h text aloud = absurd h
+without_gives request model answer (statuses.OpenDepth n spent) (Ok outcome) h text aloud = absurd h
 without_gives request model answer (statuses.NoItem entry clause) (Ok outcome) h text aloud = absurd h
 
 bad_exact : (request : ExportRequest) (model answer : Option (List ℕ)) (fault : ModelFault) → IsFaultOf model fault
@@ -186,6 +187,7 @@ no_model_exact request model answer (statuses.Unknown report) h verdict d = absu
 no_model_exact request model answer (statuses.NoProperty n) h verdict d = absurd h
 no_model_exact request model answer (statuses.TooLarge n) h verdict d = absurd h
 no_model_exact request model answer (statuses.OpenRounds n spent) h verdict d = absurd h
+no_model_exact request model answer (statuses.OpenDepth n spent) h verdict d = absurd h
 no_model_exact request model answer (statuses.NoItem entry clause) h verdict d = absurd h
 
 pub without_exact : (request : ExportRequest) (model answer : Option (List ℕ)) (status result : Status) → EndsWithoutModel model status → (result ≡ status) ⊎ (result ≡ statuses.Memory)

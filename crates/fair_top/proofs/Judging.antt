@@ -90,6 +90,7 @@ without_model model answer (statuses.Unknown report) h = absurd h
 without_model model answer (statuses.NoProperty n) h = absurd h
 without_model model answer (statuses.TooLarge n) h = absurd h
 without_model model answer (statuses.OpenRounds n spent) h = absurd h
+without_model model answer (statuses.OpenDepth n spent) h = absurd h
 without_model model answer (statuses.NoItem entry clause) h = absurd h
 
 pub same_bad : (f g : ModelFault) → SameFault f g → IsAnswered (statuses.BadModel g) (statuses.BadModel f)
@@ -117,6 +118,7 @@ without_model_exact model answer (statuses.Unknown report) h verdict d = absurd 
 without_model_exact model answer (statuses.NoProperty n) h verdict d = absurd h
 without_model_exact model answer (statuses.TooLarge n) h verdict d = absurd h
 without_model_exact model answer (statuses.OpenRounds n spent) h verdict d = absurd h
+without_model_exact model answer (statuses.OpenDepth n spent) h verdict d = absurd h
 without_model_exact model answer (statuses.NoItem entry clause) h verdict d = absurd h
 
 -- What is shown.

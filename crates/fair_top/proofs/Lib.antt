@@ -1,5 +1,6 @@
 mod TextsRead
 mod Judging
+mod Begun
 mod Decided
 mod Sinks
 mod Dumped
@@ -9,6 +10,7 @@ mod Trimmed
 mod Exported
 mod Translated
 mod Counted
+mod Bounded
 mod Sliced
 mod EachCommand
 mod Ending

@@ -116,6 +116,7 @@ without_gives M model answer (statuses.Unknown report) (Ok outcome) h text aloud
 without_gives M model answer (statuses.NoProperty n) (Ok outcome) h text aloud = absurd h
 without_gives M model answer (statuses.TooLarge n) (Ok outcome) h text aloud = absurd h
 without_gives M model answer (statuses.OpenRounds n spent) (Ok outcome) h text aloud = absurd h
+without_gives M model answer (statuses.OpenDepth n spent) (Ok outcome) h text aloud = absurd h
 without_gives M model answer (statuses.NoItem entry clause) (Ok outcome) h text aloud = absurd h
 
 bad_exact : (model answer : Option (List ℕ)) (fault : ModelFault) → IsFaultOf model fault
@@ -137,6 +138,7 @@ no_model_exact model answer (statuses.Unknown report) h verdict d = absurd h
 no_model_exact model answer (statuses.NoProperty n) h verdict d = absurd h
 no_model_exact model answer (statuses.TooLarge n) h verdict d = absurd h
 no_model_exact model answer (statuses.OpenRounds n spent) h verdict d = absurd h
+no_model_exact model answer (statuses.OpenDepth n spent) h verdict d = absurd h
 no_model_exact model answer (statuses.NoItem entry clause) h verdict d = absurd h
 
 pub without_exact : (model answer : Option (List ℕ)) (status result : Status) → EndsWithoutModel model status → (result ≡ status) ⊎ (result ≡ statuses.Memory)

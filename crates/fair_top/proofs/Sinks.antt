@@ -34,12 +34,13 @@ of_check Write model answer status old new (inl (fault, e, bad)) writes =
 of_check Write model answer status old new (inr (end, e, (_, _, (claimed, _, (m, _, said))))) writes =
     subst (λ (s : Status). HasWritten Write s old new) (sym e) (of_answer Write m.circuit claimed end old new said writes)
 
-pub of_solve : {Sink : Type 0} (Write : Sink → Bool → Sink → Type 0) (model : Option (List ℕ)) (request : SolveRequest) (status : Status)
-    (text : List ℕ) (old new : Sink) → GivesSolve model request status text → Writes Write false old new → HasWritten Write status old new
-of_solve Write model request status text old new (inl ((fault, e, bad), t)) writes = subst (λ (s : Status). HasWritten Write s old new) (sym e) writes
-of_solve Write model request status text old new (inr (inl ((e, none), t))) writes = subst (λ (s : Status). HasWritten Write s old new) (sym e) writes
-of_solve Write model request status text old new (inr (inr (inl p))) writes = subst (λ (s : Status). HasWritten Write s old new) (sym p.1) writes
-of_solve Write model request status text old new (inr (inr (inr (r, t)))) writes = subst (λ (s : Status). HasWritten Write s old new) (sym r.1) writes
+pub of_solve : {Sink : Type 0} (Write : Sink → Bool → Sink → Type 0) (model : Option (List ℕ)) (answer : Option (Option (List ℕ))) (request : SolveRequest) (status : Status)
+    (text : List ℕ) (old new : Sink) → GivesSolve model answer request status text → Writes Write false old new → HasWritten Write status old new
+of_solve Write model answer request status text old new (inl ((fault, e, bad), t)) writes = subst (λ (s : Status). HasWritten Write s old new) (sym e) writes
+of_solve Write model answer request status text old new (inr (inl ((e, none), t))) writes = subst (λ (s : Status). HasWritten Write s old new) (sym e) writes
+of_solve Write model answer request status text old new (inr (inr (inl (refused, t)))) writes = subst (λ (s : Status). HasWritten Write s old new) (sym refused.1) writes
+of_solve Write model answer request status text old new (inr (inr (inr (inl p)))) writes = subst (λ (s : Status). HasWritten Write s old new) (sym p.1) writes
+of_solve Write model answer request status text old new (inr (inr (inr (inr (r, t))))) writes = subst (λ (s : Status). HasWritten Write s old new) (sym r.1) writes
 
 pub of_demo : {Sink : Type 0} (Write : Sink → Bool → Sink → Type 0) (request : DemoRequest) (status : Status) (text : List ℕ) (old new : Sink)
     → GivesDemo request status text → Writes Write false old new → HasWritten Write status old new

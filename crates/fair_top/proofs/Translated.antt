@@ -120,6 +120,7 @@ without_gives model j (statuses.Unknown report) (Ok outcome) h text aloud = absu
 without_gives model j (statuses.NoProperty n) (Ok outcome) h text aloud = absurd h
 without_gives model j (statuses.TooLarge n) (Ok outcome) h text aloud = absurd h
 without_gives model j (statuses.OpenRounds n spent) (Ok outcome) h text aloud = absurd h
+without_gives model j (statuses.OpenDepth n spent) (Ok outcome) h text aloud = absurd h
 without_gives model j (statuses.NoItem entry clause) (Ok outcome) h text aloud = absurd h
 
 bad_exact : (model : Option (List ℕ)) (j : ℕ) (fault : ModelFault) → IsFaultOf model fault
@@ -141,6 +142,7 @@ no_model_exact model j (statuses.Unknown report) h verdict d = absurd h
 no_model_exact model j (statuses.NoProperty n) h verdict d = absurd h
 no_model_exact model j (statuses.TooLarge n) h verdict d = absurd h
 no_model_exact model j (statuses.OpenRounds n spent) h verdict d = absurd h
+no_model_exact model j (statuses.OpenDepth n spent) h verdict d = absurd h
 no_model_exact model j (statuses.NoItem entry clause) h verdict d = absurd h
 
 pub without_exact : (model : Option (List ℕ)) (j : ℕ) (status result : Status) → EndsWithoutModel model status → (result ≡ status) ⊎ (result ≡ statuses.Memory)

@@ -2,7 +2,8 @@
 -- definition.
 use Rattle.std.specs.Prelude.{ℕ, List, Option}
 use Rattle.round_answers.specs.declared.ends.Judged.{Judged}
-use Rattle.command_lines.specs.Commands.{Asked, Solve, Check, Gen, Demo, Wave, Slice, Convert, Safety, Rounds, Trim, Export}
+use Rattle.command_lines.specs.Commands.{Asked, Solve, Check, Gen, Demo, Wave, Slice, Convert, Safety, Rounds, Shortest, Trim, Export}
+use Rattle.given_entries.specs.Beginning.{told_of}
 use Rattle.fair_top.specs.declared.status.Status.{Status}
 use Rattle.fair_top.specs.Solve.{GivesSolve, DecidesSolve, ShownBySolve}
 use Rattle.fair_top.specs.Check.{GivesCheck, DecidesCheck, ShownByCheck}
@@ -14,12 +15,13 @@ use Rattle.fair_top.specs.Remade.{DecidesRemade}
 use Rattle.fair_top.specs.Convert.{GivesConvert}
 use Rattle.fair_top.specs.Safety.{GivesSafety, DecidesSafety}
 use Rattle.fair_top.specs.Rounds.{GivesRounds, DecidesRounds, ShownByRounds}
+use Rattle.fair_top.specs.Shortest.{GivesShortest, DecidesShortest, ShownByShortest}
 use Rattle.fair_top.specs.Trim.{GivesTrim}
 use Rattle.fair_top.specs.Export.{GivesExport, DecidesExport}
 
 -- What is so of the texts that the shelf tells where a run that asks for this ends with this status, and writes this text.
 abbrev pub CommandGives : (List ℕ → Option (List ℕ)) → Asked → Status → List ℕ → Type 0
-CommandGives held (Solve model request) status text = GivesSolve (held model) request status text
+CommandGives held (Solve model request resume) status text = GivesSolve (held model) (told_of held resume) request status text
 CommandGives held (Check model answer) status text = GivesCheck (held model) (held answer) status text
 CommandGives held (Gen request) status text = GivesGen request status text
 CommandGives held (Demo request) status text = GivesDemo request status text
@@ -28,12 +30,13 @@ CommandGives held (Slice model property) status text = GivesSlice (held model) p
 CommandGives held (Convert model answer) status text = GivesConvert (held model) (held answer) status text
 CommandGives held (Safety model property) status text = GivesSafety (held model) property status text
 CommandGives held (Rounds model request) status text = GivesRounds (held model) request status text
+CommandGives held (Shortest model request) status text = GivesShortest (held model) request status text
 CommandGives held (Trim model answer) status text = GivesTrim (held model) (held answer) status text
 CommandGives held (Export model answer request) status text = GivesExport (held model) (held answer) request status text
 
 -- the status is the only right one, by what is asked for and by the texts that the shelf tells; of `demo` none is
 abbrev pub Decides : (List ℕ → Option (List ℕ)) → Asked → Status → Type 0
-Decides held (Solve model request) status = DecidesSolve (held model) request status
+Decides held (Solve model request resume) status = DecidesSolve (held model) (told_of held resume) request status
 Decides held (Check model answer) status = DecidesCheck (held model) (held answer) status
 Decides held (Gen request) status = DecidesGen request status
 Decides held (Demo request) status = ⊥
@@ -42,13 +45,14 @@ Decides held (Slice model property) status = DecidesSlice (held model) property 
 Decides held (Convert model answer) status = DecidesRemade (held model) (held answer) status
 Decides held (Safety model property) status = DecidesSafety (held model) property status
 Decides held (Rounds model request) status = DecidesRounds (held model) request status
+Decides held (Shortest model request) status = DecidesShortest (held model) request status
 Decides held (Trim model answer) status = DecidesRemade (held model) (held answer) status
 Decides held (Export model answer request) status = DecidesExport (held model) (held answer) request status
 
 -- what is so of the texts on the shelf where a run that asks for this accepts an answer or a text about rounds; `gen`, `demo`,
 -- `wave`, `slice`, `convert`, `safety`, `trim` and `export` never do
 abbrev pub ShownBy : (List ℕ → Option (List ℕ)) → Asked → Judged → Type 0
-ShownBy held (Solve model request) accepted = ShownBySolve (held model) accepted
+ShownBy held (Solve model request resume) accepted = ShownBySolve (held model) accepted
 ShownBy held (Check model answer) accepted = ShownByCheck (held model) accepted
 ShownBy held (Gen request) accepted = ⊥
 ShownBy held (Demo request) accepted = ⊥
@@ -57,5 +61,6 @@ ShownBy held (Slice model property) accepted = ⊥
 ShownBy held (Convert model answer) accepted = ⊥
 ShownBy held (Safety model property) accepted = ⊥
 ShownBy held (Rounds model request) accepted = ShownByRounds (held model) accepted
+ShownBy held (Shortest model request) accepted = ShownByShortest (held model) accepted
 ShownBy held (Trim model answer) accepted = ⊥
 ShownBy held (Export model answer request) accepted = ⊥

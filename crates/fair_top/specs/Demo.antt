@@ -1,6 +1,6 @@
 -- The command `demo SEED SIZE`, for which two workers decide property 0 of a generated model, the answer is checked, and a
 -- summary is printed: what it gives.
-use Rattle.std.specs.Prelude.{◌≡◌, ◌⊎◌, ℕ, List, ◌++◌, length, decimal, codes, Option, Some, None}
+use Rattle.std.specs.Prelude.{◌≡◌, ◌⊎◌, ℕ, List, [], ◌++◌, length, decimal, codes, Option, Some, None}
 use Rattle.aig_semantics.specs.Circuits.{Circuit}
 use Rattle.model_gen.specs.Generated.{scramble_circuit}
 use Rattle.certificate.specs.declared.ends.Accepted.{Accepted}
@@ -27,7 +27,7 @@ abbrev pub demo_request : SolveRequest
 demo_request = record default_request { workers = 2 }
 
 abbrev pub demo_task : Circuit → Task
-demo_task c = task_of c demo_request
+demo_task c = task_of c demo_request []
 
 -- 1 for a fair lasso, 0 where there is none, 2 without an outcome
 abbrev pub verdict_text : Option Outcome → List ℕ

@@ -1,5 +1,5 @@
 -- What a run of the program answers, writes and reads, whatever its commands are.
-use Rattle.std.specs.Prelude.{◌≡◌, ◌⊎◌, ◌+◌, ℕ, Bool, true, false, List, [], ◌∷◌, Option}
+use Rattle.std.specs.Prelude.{◌≡◌, ◌⊎◌, ◌+◌, ◌<◌, ℕ, Bool, true, false, List, [], ◌∷◌, length, Option}
 use Rattle.aig_semantics.specs.declared.limits.TheConstants.{MAX_MODEL_BYTES}
 use Rattle.circuit.specs.declared.faults.ModelFault.TheVariants.{Cycle}
 use Rattle.edge.specs.Told.{IfTold}
@@ -12,7 +12,7 @@ use Rattle.fair_top.specs.declared.status.Status.{Status}
 use Rattle.fair_top.specs.declared.status.Status.TheVariants as statuses
 use Rattle.fair_top.specs.ModelTexts.{OfModel}
 use Rattle.fair_top.specs.Check.{done_by}
-use Rattle.command_lines.specs.Commands.{Asked, names_in, usage_text}
+use Rattle.command_lines.specs.Commands.{Asked, Solve, names_in, usage_text}
 use Rattle.command_lines.specs.Asking.{AsksFor, IsUsage}
 use Rattle.fair_top.specs.Commands.{CommandGives, Decides, ShownBy}
 use Rattle.fair_top.specs.Statuses.{is_read_fault}
@@ -95,8 +95,19 @@ FailedOf held [] before now = ⊥
 FailedOf held (model ∷ others) before now =
     Rose (before model) (now model) ⊎ (HoldsModel held model × FailedAmong others before now)
 
+-- reads failed of MODEL, or it is the text of a model that has the property, where it is told
+abbrev pub FailedFor : (List ℕ → Option (List ℕ)) → List ℕ → ℕ → (List ℕ → ℕ) → (List ℕ → ℕ) → Type 0
+FailedFor held model property before now =
+    Rose (before model) (now model) ⊎ IfTold (held model) (λ text. OfModel text (λ c. property < length c.justice))
+
+-- the answer that is named for a search is read only where the model has the property
+abbrev pub MayHaveFailed : (List ℕ → Option (List ℕ)) → Asked → (List ℕ → ℕ) → (List ℕ → ℕ) → Type 0
+MayHaveFailed held (Solve model request resume) before now = FailedFor held model request.property before now
+MayHaveFailed held _ before now = Unit {0}
+
 abbrev pub ReadFailed : (List ℕ → Option (List ℕ)) → List (List ℕ) → (List ℕ → ℕ) → (List ℕ → ℕ) → Type 0
-ReadFailed held words before now = (asked : Asked) × AsksFor words asked × FailedOf held (names_in asked) before now
+ReadFailed held words before now =
+    (asked : Asked) × AsksFor words asked × FailedOf held (names_in asked) before now × MayHaveFailed held asked before now
 
 -- Which reads lead from one state of a shelf to another, where `Read old name from room failed new` says that one read does.
 -- A failed read is the last one.

@@ -14,10 +14,12 @@ pub mod Export
 pub mod Exporting
 pub mod Safety
 pub mod Rounds
+pub mod Shortest
 pub mod Slice
 pub mod Commands
 pub mod Statuses
 pub mod Texts
 pub mod Solved
+pub mod Beginnings
 pub mod Headline
 pub mod Judged

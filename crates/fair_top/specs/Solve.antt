@@ -1,6 +1,7 @@
--- The command `solve MODEL [--property N] [--workers W] [--conflicts C] [--steps S] [--skeletons K]`: what it gives. The
--- search is FAIR (Bradley, Somenzi, Hassan, Zhang, 2011).
-use Rattle.std.specs.Prelude.{◌≡◌, ◌⊎◌, ◌≤◌, ◌<◌, ℕ, List, [], ◌∷◌, length, take, Option, None, Some}
+-- The command `solve MODEL [--property N] [--workers W] [--conflicts C] [--steps S] [--skeletons K] [--resume ANSWER]`: what
+-- it gives. The search is FAIR (Bradley, Somenzi, Hassan, Zhang, 2011); that its list may begin with the entries of an answer
+-- is this program's.
+use Rattle.std.specs.Prelude.{◌≡◌, ◌⊎◌, ◌≤◌, ◌<◌, ◌+◌, min, ℕ, List, [], ◌∷◌, ◌++◌, length, take, Option, None, Some}
 use Rattle.aig_semantics.specs.declared.traces.Lasso.{Lasso}
 use Rattle.aig_semantics.specs.declared.traces.Stimulus.{Stimulus}
 use Rattle.aig_semantics.specs.Circuits.{Circuit}
@@ -9,14 +10,18 @@ use Rattle.stimulus.specs.Texts.{answer_text}
 use Rattle.certificate_lines.specs.declared.words.Version.TheVariants.{Two}
 use Rattle.certificate.specs.declared.ends.Accepted.{Accepted}
 use Rattle.certificate.specs.declared.ends.Accepted.TheVariants as accepted
+use Rattle.certificate.specs.declared.ends.AnswerFault.{AnswerFault}
 use Rattle.certificate.specs.Answers.{IsGood}
 use Rattle.round_answers.specs.declared.ends.Judged.{Judged}
 use Rattle.certificate.specs.declared.loaded.Certificate.{Certificate}
 use Rattle.certificate.specs.Writing.{certificate_of, certificate_text}
+use Rattle.entry.specs.declared.refutations.Refutation.{Refutation}
 use Rattle.entry.specs.CheckedEntries.{CheckedEntry}
 use Rattle.lasso_join.specs.Prefixes.{stimulus_of}
+use Rattle.wall_store.specs.Boards.{most_entries}
 use Rattle.wall_store.specs.declared.outcomes.Outcome.{Outcome}
 use Rattle.wall_store.specs.declared.outcomes.Outcome.TheVariants as outcomes
+use Rattle.given_entries.specs.Beginning.{BeginsWith, HasNoList}
 use Rattle.fair_workers.specs.declared.limits.Limits.{Limits}
 use Rattle.fair_workers.specs.declared.limits.Report.{Report}
 use Rattle.fair_workers.specs.Runs.{Task, IsReport}
@@ -37,14 +42,23 @@ limits_of request = record {
   skeletons = request.skeletons;
 }
 
--- what workers are asked for
-abbrev pub task_of : Circuit → SolveRequest → Task
-task_of c request = record {
+-- what workers are asked for, whose list begins with this one
+abbrev pub task_of : Circuit → SolveRequest → List CheckedEntry → Task
+task_of c request given = record {
   circuit = c;
   properties = request.property ∷ [];
   limits = limits_of request;
-  given = [];
+  given = given;
 }
+
+-- How many entries their list may have: it may grow by as many as are asked for, and no list has more than 65,536.
+abbrev pub most_of : SolveRequest → List CheckedEntry → ℕ
+most_of request given = min (length given + request.skeletons) most_entries
+
+-- the claim holds of no text where no answer is named, and else of the answer's
+abbrev pub OfAnswer : Taking → Option (Option (List ℕ)) → (Option (List ℕ) → Type 0) → Type 0
+OfAnswer Of None Claim = Claim None
+OfAnswer Of (Some told) Claim = Of told (λ text. Claim (Some text))
 
 -- the property that an answer is for
 abbrev pub property_of : Accepted → ℕ
@@ -56,6 +70,13 @@ abbrev pub SaysNoProperty : Taking → Option (List ℕ) → SolveRequest → St
 SaysNoProperty Of model request status =
     (status ≡ statuses.NoProperty request.property)
     × Of model (λ text. OfModel text (λ c. length c.justice ≤ request.property))
+
+-- the circuit has the property, and an answer is named that gives no entries: the status says its first fault, as `check` says
+-- it, and of a stimulus that its status is unknown
+abbrev pub RefusesAnswer : Taking → Option (List ℕ) → Option (Option (List ℕ)) → SolveRequest → Status → Type 0
+RefusesAnswer Of model answer request status =
+    (fault : AnswerFault) × (status ≡ statuses.Refused fault)
+    × Of model (λ text. OfAnswer Of answer (λ claimed. OfModel text (λ c. (request.property < length c.justice) × HasNoList c claimed fault)))
 
 -- The text is as `solve` spells it. Of a stimulus all positions are needed: it stands for a fair lasso of so many, and
 -- none of its prefixes with fewer has a fair lasso of the property. A certificate is of version 2.
@@ -78,41 +99,63 @@ IsTextOfOutcome c j entries (Some (outcomes.Lasso lasso)) answer = IsStimulusOf 
 IsTextOfOutcome c j entries (Some (outcomes.Holds refutation)) answer = answer ≡ certificate_text j (certificate_of entries refutation)
 IsTextOfOutcome c j entries None answer = ⊥
 
--- a certificate has at most so many entries (it has the whole list, which begins with none)
+-- a certificate has at most so many entries
 abbrev pub IsWithinList : ℕ → Accepted → Type 0
 IsWithinList most (accepted.Lasso n positions from) = Unit {0}
 IsWithinList most (accepted.Holds n entries) = entries ≤ most
 
--- The text is a good answer for the property, spelled as `solve` writes it, with no more entries than the list may
--- grow by, and the status says what `check` says of it.
-abbrev pub PrintsAnswer : Option (List ℕ) → SolveRequest → Status → List ℕ → Type 0
-PrintsAnswer model request status text =
+-- a certificate is that of a list which begins with these entries, and of a refutation
+abbrev pub BeginsWithGiven : List CheckedEntry → Accepted → List ℕ → Type 0
+BeginsWithGiven given (accepted.Lasso n positions from) text = Unit {0}
+BeginsWithGiven given (accepted.Holds n entries) text =
+    (found : List CheckedEntry) × (refutation : Refutation) × (text ≡ certificate_text n (certificate_of (given ++ found) refutation))
+
+-- The text is a good answer of the circuit, spelled as `solve` writes it. A certificate is that of a list which begins with
+-- the entries of the named answer, and has no more entries than that list may have.
+abbrev pub IsAnswerBy : Circuit → Option (List ℕ) → SolveRequest → Accepted → List ℕ → Type 0
+IsAnswerBy c claimed request found text =
+    IsGood c text found × IsWrittenAs c text found
+    × (given : List CheckedEntry) × BeginsWith c claimed given × IsWithinList (most_of request given) found × BeginsWithGiven given found text
+
+-- The text is such an answer for the property, and the status says what `check` says of it.
+abbrev pub PrintsAnswer : Option (List ℕ) → Option (Option (List ℕ)) → SolveRequest → Status → List ℕ → Type 0
+PrintsAnswer model answer request status text =
     (found : Accepted) × (status ≡ statuses.Done (done_of found)) × (property_of found ≡ request.property)
-    × IsWithinList request.skeletons found
-    × OfSomeText model (λ bytes. OfModel bytes (λ c. IsGood c text found × IsWrittenAs c text found))
+    × OfSomeText model (λ bytes. OfAnswer OfSomeText answer (λ claimed. OfModel bytes (λ c. IsAnswerBy c claimed request found text)))
 
--- The status carries a report: the list is full and leaves a skeleton, or each worker has spent its conflicts or its steps.
-abbrev pub SaysUnknown : Option (List ℕ) → SolveRequest → Status → Type 0
-SaysUnknown model request status =
+-- The report is one of workers whose list began with the entries of the named answer: it is full and leaves a skeleton, or
+-- each worker has spent its conflicts or its steps.
+abbrev pub IsReportBy : Circuit → Option (List ℕ) → SolveRequest → Report → Type 0
+IsReportBy c claimed request report =
+    (request.property < length c.justice)
+    × (given : List CheckedEntry) × BeginsWith c claimed given × IsReport (task_of c request given) report
+
+-- The status carries such a report.
+abbrev pub SaysUnknown : Option (List ℕ) → Option (Option (List ℕ)) → SolveRequest → Status → Type 0
+SaysUnknown model answer request status =
     (report : Report) × (status ≡ statuses.Unknown report)
-    × OfSomeText model (λ bytes. OfModel bytes (λ c. (request.property < length c.justice) × IsReport (task_of c request) report))
+    × OfSomeText model (λ bytes. OfAnswer OfSomeText answer (λ claimed. OfModel bytes (λ c. IsReportBy c claimed request report)))
 
--- What is so of the text that the shelf tells where `solve` ends with this status, and writes this text: MODEL is bad, or
--- has no such property; or the text is a good answer, and so `check` accepts it; or a budget is spent, of entries or of
--- each worker. There is no other status.
-abbrev pub GivesSolve : Option (List ℕ) → SolveRequest → Status → List ℕ → Type 0
-GivesSolve model request status text =
+-- What is so of the texts that the shelf tells where `solve` ends with this status, and writes this text: MODEL is bad, or
+-- has no such property; or ANSWER, where it is named, gives no entries; or the text is a good answer, and so `check` accepts
+-- it; or a budget is spent, of entries or of each worker. There is no other status.
+abbrev pub GivesSolve : Option (List ℕ) → Option (Option (List ℕ)) → SolveRequest → Status → List ℕ → Type 0
+GivesSolve model answer request status text =
     (SaysBadModel OfSomeText model status × (text ≡ text_of status))
     ⊎ ((SaysNoProperty OfSomeText model request status × (text ≡ text_of status))
-    ⊎ (PrintsAnswer model request status text ⊎ (SaysUnknown model request status × (text ≡ text_of status))))
+    ⊎ ((RefusesAnswer OfSomeText model answer request status × (text ≡ text_of status))
+    ⊎ (PrintsAnswer model answer request status text ⊎ (SaysUnknown model answer request status × (text ≡ text_of status)))))
 
--- the status that the text decides, where it is told: MODEL is bad, or has no such property
-abbrev pub DecidesSolve : Option (List ℕ) → SolveRequest → Status → Type 0
-DecidesSolve model request status = SaysBadModel OfText model status ⊎ SaysNoProperty OfText model request status
+-- the status that the texts decide, where they are told: MODEL is bad, or has no such property, or ANSWER gives no entries
+abbrev pub DecidesSolve : Option (List ℕ) → Option (Option (List ℕ)) → SolveRequest → Status → Type 0
+DecidesSolve model answer request status =
+    SaysBadModel OfText model status ⊎ (SaysNoProperty OfText model request status ⊎ RefusesAnswer OfText model answer request status)
 
--- MODEL is told, and is the text of a model that has the property
-abbrev pub HasAsked : Option (List ℕ) → SolveRequest → Type 0
-HasAsked model request = OfText model (λ text. OfModel text (λ c. request.property < length c.justice))
+-- MODEL is told, and is the text of a model that has the property, and ANSWER, where it is named, is told and gives entries
+abbrev pub HasAsked : Option (List ℕ) → Option (Option (List ℕ)) → SolveRequest → Type 0
+HasAsked model answer request =
+    OfText model (λ text. OfAnswer OfText answer (λ claimed. OfModel text (λ c.
+    (request.property < length c.justice) × (given : List CheckedEntry) × BeginsWith c claimed given)))
 
 -- a verdict, or a report
 abbrev pub IsSolved : Status → Type 0
@@ -120,12 +163,12 @@ IsSolved status =
     ((found : Accepted) × (status ≡ statuses.Done (done_of found))) ⊎ ((report : Report) × (status ≡ statuses.Unknown report))
 
 -- Two runs of `solve` for one property of a model with this circuit that both print an answer print the same status line,
--- a digit and a line feed.
+-- a digit and a line feed, whatever entries each began with.
 abbrev pub RunsAgree : Circuit → Type 0
 RunsAgree c =
-    (bytes : List ℕ) (a b : SolveRequest) (status other : Status) (text written : List ℕ)
+    (bytes : List ℕ) (answer named : Option (Option (List ℕ))) (a b : SolveRequest) (status other : Status) (text written : List ℕ)
     → OfModel bytes (λ k. k ≡ c) → a.property ≡ b.property
-    → PrintsAnswer (Some bytes) a status text → PrintsAnswer (Some bytes) b other written → take 2 text ≡ take 2 written
+    → PrintsAnswer (Some bytes) answer a status text → PrintsAnswer (Some bytes) named b other written → take 2 text ≡ take 2 written
 
 -- what is true where `solve` prints an answer, as where `check` accepts it
 abbrev pub ShownBySolve : Option (List ℕ) → Judged → Type 0

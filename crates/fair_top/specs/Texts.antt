@@ -15,7 +15,7 @@ use Rattle.command_lines.specs.declared.commands.TheConstants.{USAGE}
 use Rattle.fair_top.specs.declared.status.Status.{Status}
 use Rattle.fair_top.specs.declared.status.Status.TheVariants as statuses
 use Rattle.fair_top.specs.declared.status.Done.{Done}
-use Rattle.fair_top.specs.declared.status.Done.TheVariants.{Lasso, Holds, Rounds, Printed, Demo}
+use Rattle.fair_top.specs.declared.status.Done.TheVariants.{Lasso, Holds, Rounds, NoneWithin, Printed, Demo}
 use Rattle.certificate.specs.declared.ends.AnswerFault.{AnswerFault}
 use Rattle.certificate.specs.declared.ends.AnswerFault.TheVariants as answers
 
@@ -24,6 +24,7 @@ exit_number (statuses.Done done) = 0
 exit_number (statuses.Refused fault) = 1
 exit_number (statuses.Unknown report) = 2
 exit_number (statuses.OpenRounds property spent) = 2
+exit_number (statuses.OpenDepth done spent) = 2
 exit_number (statuses.BadModel fault) = 3
 exit_number statuses.ReadFault = 4
 exit_number statuses.WriteFault = 5
@@ -93,7 +94,7 @@ abbrev pub ending_word : Bool → List ℕ
 ending_word true = codes " reached\n"
 ending_word false = codes " fewer\n"
 
--- what `check` writes of an accepted answer, or of a text about rounds
+-- what `check` writes of an accepted answer, or of a text about rounds; and what `shortest` writes where there is no lasso
 abbrev pub done_text : Done → List ℕ
 done_text (Lasso property positions from) =
     codes "accepted lasso j" ++ decimal property ++ codes " positions " ++ decimal positions ++ codes " loop " ++ decimal from ++ codes "\n"
@@ -101,6 +102,7 @@ done_text (Holds property entries) =
     codes "accepted certificate j" ++ decimal property ++ codes " entries " ++ decimal entries ++ codes "\n"
 done_text (Rounds property k reached) =
     codes "accepted rounds " ++ decimal k ++ codes " j" ++ decimal property ++ ending_word reached
+done_text (NoneWithin property depth) = line_with (codes "no lasso within " ++ decimal depth ++ codes " j") property
 done_text Printed = []
 done_text (Demo board) = []
 
@@ -138,13 +140,21 @@ abbrev pub open_text : ℕ → Spendings → List ℕ
 open_text property spent =
     codes "2\nj" ++ decimal property ++ codes "\nc entries 0 of 65536\n" ++ worker_text 0 spent ++ codes ".\n"
 
--- The text that a status tells, where the command has none of its own: `solve` writes the answer for a verdict, `gen` the
--- model, and `demo` its summary. The usage text is the code's constant here, and `Ends` has it word for word.
+-- the same of a search for a shortest lasso of a property: up to how many positions there is none, of those that were asked for
+abbrev pub depth_text : ℕ → ℕ → ℕ → Spendings → List ℕ
+depth_text property most depth spent =
+    codes "2\nj" ++ decimal property ++ codes "\nc entries 0 of 0\nc worker 0" ++ codes " conflicts " ++ decimal spent.conflicts ++ codes " of "
+    ++ decimal (limit_number spent.conflict_limit) ++ codes " depth " ++ decimal most ++ codes " of " ++ decimal depth ++ codes "\n.\n"
+
+-- The text that a status tells, where the command has none of its own. `solve` has the answer for a verdict, `gen` the model,
+-- `demo` its summary, and `shortest` has one where its search is cut short. The usage text is the code's constant here, and
+-- `Ends` has it word for word.
 abbrev pub text_of : Status → List ℕ
 text_of (statuses.Done done) = done_text done
 text_of (statuses.Refused fault) = refusal_text fault
 text_of (statuses.Unknown report) = unknown_text report
 text_of (statuses.OpenRounds property spent) = open_text property spent
+text_of (statuses.OpenDepth done spent) = []
 text_of (statuses.BadModel fault) = bad_model_text fault
 text_of statuses.ReadFault = []
 text_of statuses.WriteFault = []

@@ -15,11 +15,12 @@ ghost use Rattle.fair_top.specs.Check.{done_by};
 ghost use Rattle.command_lines.specs.Commands.{Asked as AskedFor, names_in, meant};
 ghost use Rattle.fair_top.specs.Commands.{CommandGives, Decides, ShownBy};
 ghost use Rattle.command_lines.specs.Asking.{AsksFor, IsUsage, IsTakenOrUsage};
-ghost use Rattle.fair_top.specs.Headline.{ReadsNothing, Ends, IsSilent, IsVerdict, IsAnswered, IsShown, FailedOf, ReadFailed, ReadsModelFirst, HasRead};
+ghost use Rattle.fair_top.specs.Headline.{ReadsNothing, Ends, IsSilent, IsVerdict, IsAnswered, IsShown, FailedOf, MayHaveFailed, ReadFailed, ReadsModelFirst, HasRead};
 ghost use Rattle.fair_top.specs.Solved.{SolvesAsked, IsSearch};
-ghost use Rattle.std.specs.Arc.{arc_value};
+ghost use Rattle.fair_top.specs.Beginnings.{circuit_in, given_in};
 ghost use Rattle.fair_top.specs.Statuses.{status_in, is_read_fault};
 
+mod bounding;
 mod checking;
 mod converting;
 mod counting;
@@ -33,10 +34,11 @@ mod translating;
 mod trimming;
 mod waving;
 
+use crate::beginnings::Beginning;
 use crate::status::Status;
 use crate::texts::{Outcome, with_text};
+use bounding::find_shortest;
 use checking::check;
-use circuit::Circuit;
 use command_lines::{Asked, SolveRequest, WordsEnd, asked_of};
 use converting::Conversion;
 use counting::count_rounds;
@@ -50,20 +52,19 @@ use slicing::write_slice;
 pub(crate) use solving::limits_of;
 use solving::solve;
 use std::alloc::Global;
-use std::sync::Arc;
 use translating::safety;
 use trimming::Trimming;
 use waving::wave;
 
 /// The status with which a run ends and the text that it writes, but for its writing; or the status of a run that
 /// writes nothing, `ReadFault` or `Memory`. The workers of `solve` search as `search` lets them.
-pub(crate) fn outcome_of<S: Fn(&Arc<Circuit>, SolveRequest) -> Result<Report, Ended>, H: Shelf>(
+pub(crate) fn outcome_of<S: Fn(&Beginning, SolveRequest) -> Result<Report, Ended>, H: Shelf>(
     search: &S,
     alloc: Global,
     words: &[String],
     shelf: &mut H,
 ) -> Result<Outcome, Status>
-    requires search { IsSearch (λ c. arc_value c.now) (S.pre search.now) (S.post search.now) }
+    requires search { IsSearch (λ q. circuit_in q.now) (λ q. given_in q.now) (S.pre search.now) (S.post search.now) }
     ensures found { IfOk result (λ outcome. Ends (H.held shelf.old) (bytes_of words.now) outcome.status outcome.text.items) }
     ensures silent { IfErr result IsSilent }
     ensures aloud { IfOk result (λ outcome. is_read_fault outcome.status ≡ false) }
@@ -97,13 +98,13 @@ fn asked_for<'a>(alloc: Global, words: &'a [String]) -> Result<Asked<'a>, Status
 }
 
 /// The outcome of what is asked for: a case for each command.
-fn outcome_for<S: Fn(&Arc<Circuit>, SolveRequest) -> Result<Report, Ended>, H: Shelf>(
+fn outcome_for<S: Fn(&Beginning, SolveRequest) -> Result<Report, Ended>, H: Shelf>(
     search: &S,
     alloc: Global,
     asked: Asked,
     shelf: &mut H,
 ) -> Result<Outcome, Status>
-    requires search { IsSearch (λ c. arc_value c.now) (S.pre search.now) (S.post search.now) }
+    requires search { IsSearch (λ q. circuit_in q.now) (λ q. given_in q.now) (S.pre search.now) (S.post search.now) }
     requires asked { (words : List (List ℕ)) × AsksFor words (meant asked) }
     ensures found { IfOk result (λ outcome. CommandGives (H.held shelf.old) (meant asked.entry) outcome.status outcome.text.items) }
     ensures silent { IfErr result IsSilent }
@@ -112,12 +113,17 @@ fn outcome_for<S: Fn(&Arc<Circuit>, SolveRequest) -> Result<Report, Ended>, H: S
     ensures shown { (accepted : JudgedOf) → status_in result ≡ Status.Done (done_by accepted) → ShownBy (H.held shelf.old) (meant asked.entry) accepted }
     ensures solved { SolvesAsked (H.held shelf.old) (meant asked.entry) (status_in result) }
     ensures read { status_in result ≡ Status.ReadFault → FailedOf (H.held shelf.old) (names_in (meant asked.entry)) (H.faults shelf.old) (H.faults shelf.new) }
+    ensures there { status_in result ≡ Status.ReadFault → MayHaveFailed (H.held shelf.old) (meant asked.entry) (H.faults shelf.old) (H.faults shelf.new) }
     ensures reads { ReadsModelFirst H.reads (H.held shelf.old) (names_in (meant asked.entry)) (is_read_fault (status_in result)) shelf.old shelf.new }
     ensures counts { NoneFell (H.faults shelf.old) (H.faults shelf.new) }
     ensures kept { KeepsTexts (H.held shelf.old) (H.held shelf.new) }
 {
     match asked {
-        Asked::Solve { model, request } => solve(search, alloc, shelf, model, &request),
+        Asked::Solve {
+            model,
+            request,
+            resume,
+        } => solve(search, alloc, shelf, model, resume, &request),
         Asked::Check { model, answer } => with_text(alloc, check(alloc, shelf, model, answer)),
         Asked::Gen(request) => generate(alloc, &request),
         Asked::Demo(request) => demonstrate(alloc, &request),
@@ -126,6 +132,7 @@ fn outcome_for<S: Fn(&Arc<Circuit>, SolveRequest) -> Result<Report, Ended>, H: S
         Asked::Convert { model, answer } => remake(alloc, shelf, model, answer, &Conversion {}),
         Asked::Safety { model, property } => safety(alloc, shelf, model, property),
         Asked::Rounds { model, request } => count_rounds(alloc, shelf, model, &request),
+        Asked::Shortest { model, request } => find_shortest(alloc, shelf, model, &request),
         Asked::Trim { model, answer } => remake(alloc, shelf, model, answer, &Trimming {}),
         Asked::Export {
             model,

@@ -11,6 +11,7 @@
 //! `src/commands/checking.rt` are, and a line, or a case, in each list of the files that `src/commands.rt` names.
 #![tactic(auto)]
 
+mod beginnings;
 mod commands;
 mod laws;
 mod models;

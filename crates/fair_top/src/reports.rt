@@ -1,8 +1,10 @@
-//! The texts of searches of which a stated budget is spent. The main calls are `text_of_report` and `text_of_open`.
+//! The texts of searches of which a stated budget is spent. The main calls are `text_of_report`, `text_of_open` and
+//! `text_of_depth`.
 
 ghost use Rattle.std.specs.Prelude.{◌≡◌, ◌++◌, OnOk, IfOk, codes, decimal};
-ghost use Rattle.fair_top.specs.Texts.{limit_number, worker_text, workers_text, first_property, unknown_text, open_text};
+ghost use Rattle.fair_top.specs.Texts.{limit_number, worker_text, workers_text, first_property, unknown_text, open_text, depth_text};
 
+use command_lines::ShortestRequest;
 use edge::Spending;
 use fair_workers::Report;
 use std::alloc::{AllocError, Global};
@@ -38,6 +40,34 @@ pub(crate) fn text_of_open(
     text.extend_from_slice(b"\nc entries 0 of 65536\n")?;
     push_worker(&mut text, 0, spent)?;
     text.extend_from_slice(b".\n")?;
+    Ok(text)
+}
+
+/// The same of a search for a shortest lasso, which has done so many positions.
+pub(crate) fn text_of_depth(
+    alloc: Global,
+    request: &ShortestRequest,
+    done: u32,
+    spent: &Spending,
+) -> Result<Vec<u8>, AllocError>
+    ensures { IfOk result (λ text. text.items ≡ depth_text request.now.property done request.now.depth spent.now) }
+{
+    let mut text = Vec::from_slice(alloc, b"2\nj")?;
+    push_number(&mut text, u64::from(request.property))?;
+    text.extend_from_slice(b"\nc entries 0 of 0\nc worker 0")?;
+    push_count(
+        &mut text,
+        " conflicts ",
+        spent.conflicts(),
+        spent.conflict_limit(),
+    )?;
+    push_count(
+        &mut text,
+        " depth ",
+        u64::from(done),
+        Some(u64::from(request.depth)),
+    )?;
+    text.extend_from_slice(b"\n.\n")?;
     Ok(text)
 }
 

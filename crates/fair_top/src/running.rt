@@ -1,9 +1,10 @@
 //! The top call: the one place that decides what a run of the program answers and writes.
 
-ghost use Rattle.std.specs.Prelude.{◌≡◌, ◌<◌, ◌≤◌, ◌⊎◌, ℕ, List, length, IfOk, IfErr};
-ghost use Rattle.std.specs.Arc.{arc_value};
+ghost use Rattle.std.specs.Prelude.{◌≡◌, ◌<◌, ◌≤◌, ◌⊎◌, ℕ, List, Option, length, IfOk, IfErr};
 ghost use Rattle.fair_workers.specs.Runs.{IsAnswer, IsEnded};
-ghost use Rattle.fair_top.specs.Solved.{AreWithin, IsSearch};
+ghost use Rattle.given_entries.specs.Beginning.{told_of};
+ghost use Rattle.fair_top.specs.Beginnings.{circuit_in, given_in};
+ghost use Rattle.fair_top.specs.Solved.{AreWithin, MayBegin, IsSearch};
 ghost use Rattle.edge.specs.Faults.{Rose, NoneFell};
 ghost use Rattle.edge.specs.Reads.{KeepsTexts};
 ghost use Rattle.command_lines.specs.Words.{bytes_of};
@@ -18,16 +19,16 @@ ghost use Rattle.command_lines.specs.declared.commands.solving.SolveRequest.{Sol
 ghost use Rattle.unless_memory.specs.Answers.{GivesSome};
 ghost use Rattle.fair_top.specs.declared.status.Done.TheVariants.{Printed};
 
+use crate::beginnings::Beginning;
 use crate::commands::outcome_of;
 use crate::searching::{in_turns, on_threads};
 use crate::status::Status;
 use crate::texts::Outcome;
-use circuit::Circuit;
 use command_lines::SolveRequest;
 use edge::{Gate, Shelf, Sink, write_all};
 use fair_workers::{Ended, Report};
 use std::alloc::Global;
-use std::sync::{Arc, Wait};
+use std::sync::Wait;
 use std::thread::Threads;
 
 /// Runs the command that the words name, of which the first is the program's own name: reads the texts from the
@@ -47,7 +48,8 @@ pub fn run<R: Threads + Wait + Sync, H: Shelf, O: Sink, G: Gate>(
     ensures shown { IsShown (H.held shelf.old) (bytes_of words.now) result }
     ensures words { IsTakenOrUsage (bytes_of words.now) }
     ensures printed { (request : GenRequest) → AsksFor (bytes_of words.now) (Gen request) → (result ≡ Status.Done Printed) ⊎ ((result ≡ Status.Memory) ⊎ (result ≡ Status.WriteFault)) }
-    ensures solved { (model : List ℕ) (request : SolveRequest) → AsksFor (bytes_of words.now) (Solve model request) → HasAsked (H.held shelf.old model) request
+    ensures solved { (model : List ℕ) (request : SolveRequest) (resume : Option (List ℕ)) → AsksFor (bytes_of words.now) (Solve model request resume)
+        → HasAsked (H.held shelf.old model) (told_of (H.held shelf.old) resume) request
         → GivesSome Status.Memory (λ status. IsSolved status ⊎ IsCut status) result }
     ensures summed { (request : DemoRequest) → AsksFor (bytes_of words.now) (Demo request)
         → GivesSome Status.Memory (λ status. IsSummedUp status ⊎ (status ≡ Status.WriteFault)) result }
@@ -62,12 +64,13 @@ pub fn run<R: Threads + Wait + Sync, H: Shelf, O: Sink, G: Gate>(
     ensures unread { ReadsNothing (bytes_of words.now) → shelf.new ≡ shelf.old }
     ensures writes { O.faults out.old ≤ O.faults out.new }
 {
-    let search = |circuit: &Arc<Circuit>, request: SolveRequest| -> Result<Report, Ended>
+    let search = |beginning: &Beginning, request: SolveRequest| -> Result<Report, Ended>
         requires within { AreWithin request }
-        requires property { request.property < length (arc_value circuit.now).justice }
-        ensures answer { IfOk result (IsAnswer (task_of (arc_value circuit.now) request)) }
-        ensures ended { IfErr result (IsEnded (task_of (arc_value circuit.now) request)) }
-    { on_threads(rt, gate, alloc, circuit, &request) };
+        requires property { request.property < length (circuit_in beginning.now).justice }
+        requires begins { MayBegin (circuit_in beginning.now) (given_in beginning.now) }
+        ensures answer { IfOk result (IsAnswer (task_of (circuit_in beginning.now) request (given_in beginning.now))) }
+        ensures ended { IfErr result (IsEnded (task_of (circuit_in beginning.now) request (given_in beginning.now))) }
+    { on_threads(rt, gate, alloc, beginning, &request) };
     run_by(&search, alloc, words, shelf, out)
 }
 
@@ -90,9 +93,10 @@ pub fn run_alone<H: Shelf, O: Sink>(
     // is refused or a write fails.
     ensures words { IsTakenOrUsage (bytes_of words.now) }
     ensures printed { (request : GenRequest) → AsksFor (bytes_of words.now) (Gen request) → (result ≡ Status.Done Printed) ⊎ ((result ≡ Status.Memory) ⊎ (result ≡ Status.WriteFault)) }
-    // `solve` of a model that is told and has the property comes to a verdict or to a report, unless memory is refused or
-    // a read or write fails.
-    ensures solved { (model : List ℕ) (request : SolveRequest) → AsksFor (bytes_of words.now) (Solve model request) → HasAsked (H.held shelf.old model) request
+    // `solve` of a model that is told and has the property, and of an answer, where one is named, that is told and gives
+    // entries, comes to a verdict or to a report, unless memory is refused or a read or write fails.
+    ensures solved { (model : List ℕ) (request : SolveRequest) (resume : Option (List ℕ)) → AsksFor (bytes_of words.now) (Solve model request resume)
+        → HasAsked (H.held shelf.old model) (told_of (H.held shelf.old) resume) request
         → GivesSome Status.Memory (λ status. IsSolved status ⊎ IsCut status) result }
     // `demo` comes to a board with an outcome or to a report, unless memory is refused or a write fails.
     ensures summed { (request : DemoRequest) → AsksFor (bytes_of words.now) (Demo request)
@@ -118,30 +122,32 @@ pub fn run_alone<H: Shelf, O: Sink>(
     ensures unread { ReadsNothing (bytes_of words.now) → shelf.new ≡ shelf.old }
     ensures writes { O.faults out.old ≤ O.faults out.new }
 {
-    let search = |circuit: &Arc<Circuit>, request: SolveRequest| -> Result<Report, Ended>
+    let search = |beginning: &Beginning, request: SolveRequest| -> Result<Report, Ended>
         requires within { AreWithin request }
-        requires property { request.property < length (arc_value circuit.now).justice }
-        ensures answer { IfOk result (IsAnswer (task_of (arc_value circuit.now) request)) }
-        ensures ended { IfErr result (IsEnded (task_of (arc_value circuit.now) request)) }
-    { in_turns(alloc, circuit, &request) };
+        requires property { request.property < length (circuit_in beginning.now).justice }
+        requires begins { MayBegin (circuit_in beginning.now) (given_in beginning.now) }
+        ensures answer { IfOk result (IsAnswer (task_of (circuit_in beginning.now) request (given_in beginning.now))) }
+        ensures ended { IfErr result (IsEnded (task_of (circuit_in beginning.now) request (given_in beginning.now))) }
+    { in_turns(alloc, beginning, &request) };
     run_by(&search, alloc, words, shelf, out)
 }
 
 // The same with workers that search by this closure. The clauses are those of `run_alone`.
-fn run_by<S: Fn(&Arc<Circuit>, SolveRequest) -> Result<Report, Ended>, H: Shelf, O: Sink>(
+fn run_by<S: Fn(&Beginning, SolveRequest) -> Result<Report, Ended>, H: Shelf, O: Sink>(
     search: &S,
     alloc: Global,
     words: &[String],
     shelf: &mut H,
     out: &mut O,
 ) -> Status
-    requires search { IsSearch (λ c. arc_value c.now) (S.pre search.now) (S.post search.now) }
+    requires search { IsSearch (λ q. circuit_in q.now) (λ q. given_in q.now) (S.pre search.now) (S.post search.now) }
     ensures found { IsFound (H.held shelf.old) (bytes_of words.now) result }
     ensures exactly { (verdict : Status) → IsVerdict (H.held shelf.old) (bytes_of words.now) verdict → IsAnswered verdict result }
     ensures shown { IsShown (H.held shelf.old) (bytes_of words.now) result }
     ensures words { IsTakenOrUsage (bytes_of words.now) }
     ensures printed { (request : GenRequest) → AsksFor (bytes_of words.now) (Gen request) → (result ≡ Status.Done Printed) ⊎ ((result ≡ Status.Memory) ⊎ (result ≡ Status.WriteFault)) }
-    ensures solved { (model : List ℕ) (request : SolveRequest) → AsksFor (bytes_of words.now) (Solve model request) → HasAsked (H.held shelf.old model) request
+    ensures solved { (model : List ℕ) (request : SolveRequest) (resume : Option (List ℕ)) → AsksFor (bytes_of words.now) (Solve model request resume)
+        → HasAsked (H.held shelf.old model) (told_of (H.held shelf.old) resume) request
         → GivesSome Status.Memory (λ status. IsSolved status ⊎ IsCut status) result }
     ensures summed { (request : DemoRequest) → AsksFor (bytes_of words.now) (Demo request)
         → GivesSome Status.Memory (λ status. IsSummedUp status ⊎ (status ≡ Status.WriteFault)) result }

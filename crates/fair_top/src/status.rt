@@ -13,7 +13,7 @@ use fair_workers::{Board, Report};
 pub enum Status {
     /// The command did its work.
     Done(Done),
-    /// `check`: the answer is not a good one, and this is its first failing item.
+    /// `check`: the answer is not a good one, and this is its first failing item; `solve`: it gives no entries, for this fault.
     Refused(AnswerFault),
     /// `solve` and `demo`: a stated budget is spent, of entries of the list or of each worker, as the report shows: a board
     /// without an outcome, and what each worker has spent.
@@ -21,6 +21,8 @@ pub enum Status {
     /// `rounds`: the count of conflicts or that of steps is at its limit, and this was spent; nothing is known of the rounds of
     /// this property, counted from 0.
     OpenRounds { property: u32, spent: Spending },
+    /// `shortest`: the count of conflicts is at its limit, and this was spent; no fair lasso has at most so many positions.
+    OpenDepth { done: u32, spent: Spending },
     /// The bytes of MODEL are the text of no model, and this is their first fault.
     BadModel(ModelFault),
     /// A read of MODEL or ANSWER failed. Nothing was written.
@@ -29,7 +31,7 @@ pub enum Status {
     WriteFault,
     /// Memory was refused. Nothing was written.
     Memory,
-    /// `solve`, `safety`, `slice` and `rounds`: the model has no property with this number, counted from 0.
+    /// `solve`, `safety`, `slice`, `rounds` and `shortest`: the model has no property with this number, counted from 0.
     NoProperty(u32),
     /// `safety`, `rounds`, and `check` of a text about rounds: the greatest variable of the translation, or of the property's
     /// monitor, would be this one, above the limit on models.
@@ -63,6 +65,11 @@ pub enum Done {
         k: u32,
         reached: bool,
     },
+    /// `shortest`: no fair lasso of this property, counted from 0, has at most so many positions.
+    NoneWithin {
+        property: u32,
+        depth: u32,
+    },
     /// `gen` and `safety`: the text of the model was written; `wave`: that of the waves; `export`: that of the item.
     Printed,
     /// `demo`: property 0 of the generated model was decided, and this is a board with its outcome.
@@ -72,14 +79,15 @@ pub enum Done {
 impl Status {
     /// The number with which the program ends: 0 for work done, 1 for a refused answer, 2 for a search of which a stated
     /// budget is spent, 3 for a bad model, 4 and 5 for failed reads and writes, 6 for want of memory, 8 for a property that
-    /// is not there, 9 for a model that would be too large, 10 for an item that an answer does not have, and 64 for words that are no command, or whose values are no request of it.
+    /// is not there, 9 for a model that would be too large, 10 for an item that an answer does not have, and 64 for words
+    /// that are no command, or whose values are no request of it.
     pub fn number(&self) -> u8
         ensures { result ≡ exit_number self.now }
     {
         match self {
             Status::Done(_) => 0,
             Status::Refused(_) => 1,
-            Status::Unknown(_) | Status::OpenRounds { .. } => 2,
+            Status::Unknown(_) | Status::OpenRounds { .. } | Status::OpenDepth { .. } => 2,
             Status::BadModel(_) => 3,
             Status::ReadFault => 4,
             Status::WriteFault => 5,

@@ -60,7 +60,9 @@ fn status_text(alloc: Global, status: &Status) -> Result<Vec<u8>, AllocError>
         Status::TooLarge(n) => numbered(alloc, "too large ", *n),
         Status::NoItem(entry, clause) => text_of_no_item(alloc, *entry, *clause),
         Status::Usage => words(alloc, USAGE),
-        Status::ReadFault | Status::WriteFault | Status::Memory => Ok(Vec::new(alloc)),
+        Status::ReadFault | Status::WriteFault | Status::Memory | Status::OpenDepth { .. } => {
+            Ok(Vec::new(alloc))
+        }
     }
 }
 
@@ -214,6 +216,7 @@ fn text_of_done(alloc: Global, done: &Done) -> Result<Vec<u8>, AllocError>
             k,
             reached,
         } => text_of_rounds(alloc, property, k, reached),
+        Done::NoneWithin { property, depth } => text_of_none(alloc, property, depth),
         Done::Printed | Done::Demo(_) => Ok(Vec::new(alloc)),
     }
 }
@@ -244,6 +247,15 @@ fn text_of_certificate(alloc: Global, property: u32, entries: u32) -> Result<Vec
     line.extend_from_slice(b" entries ")?;
     push_number(&mut line, u64::from(entries))?;
     line.push(b'\n')?;
+    Ok(line)
+}
+
+fn text_of_none(alloc: Global, property: u32, depth: u32) -> Result<Vec<u8>, AllocError>
+    ensures { IfOk result (λ line. line.items ≡ done_text (Done.NoneWithin property depth)) }
+{
+    let mut line = words(alloc, "no lasso within ")?;
+    push_number(&mut line, u64::from(depth))?;
+    push_numbered(&mut line, " j", u64::from(property))?;
     Ok(line)
 }
 

@@ -69,7 +69,7 @@ fn run_for(alloc: Global, request: &DemoRequest, circuit: &Arc<Circuit>) -> Resu
     ensures ended { IfErr result (λ status. status ≡ Status.Memory) }
 {
     let limits = limits_of(&REQUEST);
-    match run_turns(alloc, circuit, REQUEST.property, limits, &[], &[]) {
+    match run_turns(alloc, circuit, &[REQUEST.property], limits, &[], &[]) {
         Ok(report) => answered(alloc, request, circuit, report),
         Err(Ended::Spent(report)) => reported(alloc, request, circuit, report),
         Err(Ended::Memory) => Err(Status::Memory),

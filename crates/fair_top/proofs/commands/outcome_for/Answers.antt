@@ -4,7 +4,7 @@ use Rattle.command_lines.specs.declared.commands.Asked.{Asked as AskedInCode}
 use Rattle.command_lines.specs.Commands.{meant, names_in}
 use Rattle.fair_top.specs.Commands.{CommandGives, Decides, ShownBy}
 use Rattle.fair_top.specs.declared.status.Status.TheVariants as statuses
-use Rattle.fair_top.specs.Headline.{FailedOf, ReadsModelFirst}
+use Rattle.fair_top.specs.Headline.{FailedOf, MayHaveFailed, ReadsModelFirst}
 use Rattle.fair_top.specs.Solved.{SolvesAsked}
 use Rattle.fair_top.specs.Statuses.{status_in, is_read_fault}
 use Rattle.fair_top.proofs.Ending.{still_answered}
@@ -99,6 +99,29 @@ returns-in-Rounds-clause-reads g c =
     ReadsModelFirst g.H.Shelf.reads (g.H.Shelf.held c.args.shelf.now) (names_in (meant a)) (is_read_fault (status_in c.count_rounds.result)) c.args.shelf.now c.count_rounds.new.shelf)
     (sym c.in-Rounds.is) c.count_rounds.ensures.reads
 
+pub returns-in-Shortest-clause-exactly : goal.returns-in-Shortest-clause-exactly
+returns-in-Shortest-clause-exactly g c = λ verdict d.
+    c.find_shortest.ensures.exactly verdict (subst (λ (a : AskedInCode). Decides (g.H.Shelf.held c.args.shelf.now) (meant a) verdict) c.in-Shortest.is d)
+
+pub returns-in-Shortest-clause-found : goal.returns-in-Shortest-clause-found
+returns-in-Shortest-clause-found g c =
+    subst (λ (a : AskedInCode). IfOk c.find_shortest.result (λ outcome. CommandGives (g.H.Shelf.held c.args.shelf.now) (meant a) outcome.status outcome.text.items))
+    (sym c.in-Shortest.is) c.find_shortest.ensures.found
+
+pub returns-in-Shortest-clause-shown : goal.returns-in-Shortest-clause-shown
+returns-in-Shortest-clause-shown g c = λ accepted e.
+    subst (λ (a : AskedInCode). ShownBy (g.H.Shelf.held c.args.shelf.now) (meant a) accepted) (sym c.in-Shortest.is) (c.find_shortest.ensures.shown accepted e)
+
+pub returns-in-Shortest-clause-solved : goal.returns-in-Shortest-clause-solved
+returns-in-Shortest-clause-solved g c =
+    subst (λ (a : AskedInCode). SolvesAsked (g.H.Shelf.held c.args.shelf.now) (meant a) (status_in c.find_shortest.result)) (sym c.in-Shortest.is) tt
+
+pub returns-in-Shortest-clause-reads : goal.returns-in-Shortest-clause-reads
+returns-in-Shortest-clause-reads g c =
+    subst (λ (a : AskedInCode).
+    ReadsModelFirst g.H.Shelf.reads (g.H.Shelf.held c.args.shelf.now) (names_in (meant a)) (is_read_fault (status_in c.find_shortest.result)) c.args.shelf.now c.find_shortest.new.shelf)
+    (sym c.in-Shortest.is) c.find_shortest.ensures.reads
+
 pub returns-in-Trim-clause-exactly : goal.returns-in-Trim-clause-exactly
 returns-in-Trim-clause-exactly g c = λ verdict d.
     c.remake-in-Trim.ensures.exactly verdict (subst (λ (a : AskedInCode). Decides (g.H.Shelf.held c.args.shelf.now) (meant a) verdict) c.in-Trim.is d)
@@ -117,3 +140,63 @@ returns-in-Export-clause-read g c =
     subst (λ (a : AskedInCode). status_in c.export_item.result ≡ statuses.ReadFault
     → FailedOf (g.H.Shelf.held c.args.shelf.now) (names_in (meant a)) (g.H.Shelf.faults c.args.shelf.now) (g.H.Shelf.faults c.export_item.new.shelf))
     (sym c.in-Export.is) c.export_item.ensures.read
+
+pub returns-in-Solve-clause-there : goal.returns-in-Solve-clause-there
+returns-in-Solve-clause-there g c = λ e.
+    subst (λ (a : AskedInCode). MayHaveFailed (g.H.Shelf.held c.args.shelf.now) (meant a) (g.H.Shelf.faults c.args.shelf.now) (g.H.Shelf.faults c.solve.new.shelf))
+    (sym c.in-Solve.is) (c.solve.ensures.there e)
+
+pub returns-in-Check-clause-there : goal.returns-in-Check-clause-there
+returns-in-Check-clause-there g c = λ e.
+    subst (λ (a : AskedInCode). MayHaveFailed (g.H.Shelf.held c.args.shelf.now) (meant a) (g.H.Shelf.faults c.args.shelf.now) (g.H.Shelf.faults c.check.new.shelf))
+    (sym c.in-Check.is) tt
+
+pub returns-in-Gen-clause-there : goal.returns-in-Gen-clause-there
+returns-in-Gen-clause-there g c = λ e.
+    subst (λ (a : AskedInCode). MayHaveFailed (g.H.Shelf.held c.args.shelf.now) (meant a) (g.H.Shelf.faults c.args.shelf.now) (g.H.Shelf.faults c.args.shelf.now))
+    (sym c.in-Gen.is) tt
+
+pub returns-in-Demo-clause-there : goal.returns-in-Demo-clause-there
+returns-in-Demo-clause-there g c = λ e.
+    subst (λ (a : AskedInCode). MayHaveFailed (g.H.Shelf.held c.args.shelf.now) (meant a) (g.H.Shelf.faults c.args.shelf.now) (g.H.Shelf.faults c.args.shelf.now))
+    (sym c.in-Demo.is) tt
+
+pub returns-in-Wave-clause-there : goal.returns-in-Wave-clause-there
+returns-in-Wave-clause-there g c = λ e.
+    subst (λ (a : AskedInCode). MayHaveFailed (g.H.Shelf.held c.args.shelf.now) (meant a) (g.H.Shelf.faults c.args.shelf.now) (g.H.Shelf.faults c.wave.new.shelf))
+    (sym c.in-Wave.is) tt
+
+pub returns-in-Slice-clause-there : goal.returns-in-Slice-clause-there
+returns-in-Slice-clause-there g c = λ e.
+    subst (λ (a : AskedInCode). MayHaveFailed (g.H.Shelf.held c.args.shelf.now) (meant a) (g.H.Shelf.faults c.args.shelf.now) (g.H.Shelf.faults c.write_slice.new.shelf))
+    (sym c.in-Slice.is) tt
+
+pub returns-in-Convert-clause-there : goal.returns-in-Convert-clause-there
+returns-in-Convert-clause-there g c = λ e.
+    subst (λ (a : AskedInCode). MayHaveFailed (g.H.Shelf.held c.args.shelf.now) (meant a) (g.H.Shelf.faults c.args.shelf.now) (g.H.Shelf.faults c.remake.new.shelf))
+    (sym c.in-Convert.is) tt
+
+pub returns-in-Safety-clause-there : goal.returns-in-Safety-clause-there
+returns-in-Safety-clause-there g c = λ e.
+    subst (λ (a : AskedInCode). MayHaveFailed (g.H.Shelf.held c.args.shelf.now) (meant a) (g.H.Shelf.faults c.args.shelf.now) (g.H.Shelf.faults c.safety.new.shelf))
+    (sym c.in-Safety.is) tt
+
+pub returns-in-Rounds-clause-there : goal.returns-in-Rounds-clause-there
+returns-in-Rounds-clause-there g c = λ e.
+    subst (λ (a : AskedInCode). MayHaveFailed (g.H.Shelf.held c.args.shelf.now) (meant a) (g.H.Shelf.faults c.args.shelf.now) (g.H.Shelf.faults c.count_rounds.new.shelf))
+    (sym c.in-Rounds.is) tt
+
+pub returns-in-Shortest-clause-there : goal.returns-in-Shortest-clause-there
+returns-in-Shortest-clause-there g c = λ e.
+    subst (λ (a : AskedInCode). MayHaveFailed (g.H.Shelf.held c.args.shelf.now) (meant a) (g.H.Shelf.faults c.args.shelf.now) (g.H.Shelf.faults c.find_shortest.new.shelf))
+    (sym c.in-Shortest.is) tt
+
+pub returns-in-Trim-clause-there : goal.returns-in-Trim-clause-there
+returns-in-Trim-clause-there g c = λ e.
+    subst (λ (a : AskedInCode). MayHaveFailed (g.H.Shelf.held c.args.shelf.now) (meant a) (g.H.Shelf.faults c.args.shelf.now) (g.H.Shelf.faults c.remake-in-Trim.new.shelf))
+    (sym c.in-Trim.is) tt
+
+pub returns-in-Export-clause-there : goal.returns-in-Export-clause-there
+returns-in-Export-clause-there g c = λ e.
+    subst (λ (a : AskedInCode). MayHaveFailed (g.H.Shelf.held c.args.shelf.now) (meant a) (g.H.Shelf.faults c.args.shelf.now) (g.H.Shelf.faults c.export_item.new.shelf))
+    (sym c.in-Export.is) tt

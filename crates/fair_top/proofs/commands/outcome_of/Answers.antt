@@ -10,6 +10,9 @@ returns-in-Ok-clause-exactly g c =
     exact_for (g.H.Shelf.held c.args.shelf.now) (bytes_of c.args.words.now) (meant c.in-Ok.asked) (status_in c.outcome_for.result)
     c.in-Ok.ensures.found c.outcome_for.ensures.exactly
 
+pub returns-in-Ok-clause-read : goal.returns-in-Ok-clause-read
+returns-in-Ok-clause-read g c = λ e. (meant c.in-Ok.asked, c.in-Ok.ensures.found, c.outcome_for.ensures.read e, c.outcome_for.ensures.there e)
+
 pub returns-in-Err-clause-reads : goal.returns-in-Err-clause-reads
 returns-in-Err-clause-reads g c =
     nothing_read g.H.Shelf.reads (g.H.Shelf.held c.args.shelf.now) (bytes_of c.args.words.now) (status_in c.with_text.result) c.args.shelf.now

@@ -30,13 +30,13 @@ returns-in-Ok-write_all-clause-written g c =
     c.args.out.now c.write_all.new.sink c.in-Ok.ensures.found c.in-Ok-write_all.ensures.writes
 
 pub returns-in-Ok-write_all-clause-solved : goal.returns-in-Ok-write_all-clause-solved
-returns-in-Ok-write_all-clause-solved g c = λ model request asks. c.in-Ok.ensures.solved (Solve model request) asks
+returns-in-Ok-write_all-clause-solved g c = λ model request resume asks. c.in-Ok.ensures.solved (Solve model request resume) asks
 
 pub returns-in-Err-write_all-clause-solved : goal.returns-in-Err-write_all-clause-solved
-returns-in-Err-write_all-clause-solved g c = λ model request asks has. inl (inr (inr refl))
+returns-in-Err-write_all-clause-solved g c = λ model request resume asks has. inl (inr (inr refl))
 
 pub returns-in-Err-clause-solved : goal.returns-in-Err-clause-solved
-returns-in-Err-clause-solved g c = λ model request asks. c.in-Err.ensures.solved (Solve model request) asks
+returns-in-Err-clause-solved g c = λ model request resume asks. c.in-Err.ensures.solved (Solve model request resume) asks
 
 pub returns-in-Ok-write_all-clause-summed : goal.returns-in-Ok-write_all-clause-summed
 returns-in-Ok-write_all-clause-summed g c = λ request asks.

@@ -3,10 +3,10 @@ use Rattle.fair_top.proofs.Decided.{good_stimulus, text_of_prefix}
 use Rattle.fair_top.proofs.commands.solving.stimulus_text.Goals as goal
 
 pub returns-clause-printed : goal.returns-clause-printed
-returns-clause-printed c =
+returns-clause-printed c = λ most.
     let short = c.in_ok-short.short in
     let small : c.args.request.now.property < 2 ^ 32 = search rules in
-    good_stimulus c.args.circuit.now c.args.request.now (record { latches = short.start; inputs = short.inputs }) c.len-positions.result short.from c.in_ok-text.text.items
+    good_stimulus c.args.circuit.now c.args.request.now most (record { latches = short.start; inputs = short.inputs }) c.len-positions.result short.from c.in_ok-text.text.items
     c.written_stimuli_are_good.ensures c.good_answers_are_true.ensures (omega (arith, small))
     (search rules) (search rules) c.in_ok-text.ensures.text (omega (arith, c.in_ok-text.text.ok, c.in_ok-text.text.small))
 
