@@ -26,7 +26,7 @@ const FEWER: &str =
 const LARGE: &str = "aag 16777216 1 0 0 0 0 0 1 0\n2\n0\n";
 
 // Of two inputs, that they differ and are equal, each by gates of its own: no run has a round, which no propagation shows.
-const PARITY: &str =
+pub(crate) const PARITY: &str =
     "aag 9 2 0 0 7 0 0 1 0\n2\n4\n1\n18\n6 4 2\n8 5 3\n10 9 7\n12 5 2\n14 4 3\n16 15 13\n18 16 10\n";
 
 pub(crate) const REACHED: &str = "rounds 2\nj0\nrun\n0\n\n\n\n\n.\n";

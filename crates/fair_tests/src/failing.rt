@@ -20,7 +20,7 @@ type Row = (
     &'static str,
 );
 
-const ROWS: [Row; 24] = [
+const ROWS: [Row; 27] = [
     (&["fairlive", "solve", "m"], TOGGLE, "", 1, 0, TWO_POSITIONS),
     (
         &["fairlive", "solve", "m"],
@@ -61,6 +61,30 @@ const ROWS: [Row; 24] = [
         1,
         3,
         "model refused cycle 2\n",
+    ),
+    (
+        &["fairlive", "solve", "m", "--resume", "a"],
+        RISES,
+        WALL,
+        2,
+        0,
+        "0\nj0\nversion 2\n",
+    ),
+    (
+        &["fairlive", "solve", "m", "--resume", "a"],
+        TOGGLE,
+        TWO_POSITIONS,
+        2,
+        1,
+        "refused unknown status\n",
+    ),
+    (
+        &["fairlive", "solve", "m", "--resume", "a", "--property", "1"],
+        TOGGLE,
+        TWO_POSITIONS,
+        1,
+        8,
+        "no property 1\n",
     ),
     (
         &["fairlive", "check", "m", "a"],

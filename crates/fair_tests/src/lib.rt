@@ -2,6 +2,8 @@
 #![tactic(auto)]
 
 #[cfg(test)]
+mod bounding;
+#[cfg(test)]
 mod certificates;
 #[cfg(test)]
 mod converting;
@@ -17,6 +19,8 @@ mod exporting;
 mod failing;
 #[cfg(test)]
 mod generated;
+#[cfg(test)]
+mod resuming;
 #[cfg(test)]
 mod runs;
 #[cfg(test)]

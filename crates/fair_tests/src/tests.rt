@@ -34,7 +34,7 @@ const FOLLOWS: &str = "aag 2 1 1 0 0 0 1 1 0\n2\n4 2\n5\n1\n1\n";
 // The latch is 1 from the second position on; fairness asks that it is 0.
 const ON_STEM: &str = "aag 1 0 1 0 0 0 0 1 1\n2 1\n1\n2\n3\n";
 
-const NO_LATCH: &str = "aag 1 1 0 0 0 0 0 1 0\n2\n1\n2\n";
+pub(crate) const NO_LATCH: &str = "aag 1 1 0 0 0 0 0 1 0\n2\n1\n2\n";
 
 const NO_LITERAL: &str = "aag 1 0 1 0 0 0 0 1 0\n2 3\n0\n";
 
