@@ -1,8 +1,8 @@
 mod Replaying
 mod Ended
 mod Reached
-mod Others
-mod Statuses
+pub mod Others
+pub mod Statuses
 mod Entering
 mod EnteringProofs
 mod EnteringEntries

@@ -66,10 +66,10 @@ sheet_no_rounds [] h = absurd (false≢true h)
 sheet_no_rounds (line ∷ lines) h = opens_no_rounds line h
 
 -- the one fault that it has there
-sheet_fault : (c : Circuit) (text : List ℕ) → opens_as_sheet text ≡ true → IsRefusedAnswer c text UnknownStatus
+pub sheet_fault : (c : Circuit) (text : List ℕ) → opens_as_sheet text ≡ true → IsRefusedAnswer c text UnknownStatus
 sheet_fault c text is = subst (λ (r : answers.Stepped). IsAnswersFault c text r UnknownStatus) (sym (sheet_unknown c (kept_readable text) is)) refl
 
-same_fault : (c : Circuit) (text : List ℕ) (fault : AnswerFault) → opens_as_sheet text ≡ true → IsRefusedAnswer c text fault → fault ≡ UnknownStatus
+pub same_fault : (c : Circuit) (text : List ℕ) (fault : AnswerFault) → opens_as_sheet text ≡ true → IsRefusedAnswer c text fault → fault ≡ UnknownStatus
 same_fault c text fault is h = subst (λ (r : answers.Stepped). IsAnswersFault c text r fault) (sheet_unknown c (kept_readable text) is) h
 
 -- ---- how the check of another text ends on a sheet
