@@ -18,6 +18,8 @@ use Rattle.command_lines.specs.Export.{IsItemGiven}
 use Rattle.command_lines.specs.declared.commands.exporting.ExportRequest.{ExportRequest}
 use Rattle.command_lines.proofs.Exports.{Exports, export_or_none, one_export}
 use Rattle.command_lines.proofs.Shortest.{AsksShortest, shortest_or_none, one_shortest}
+use Rattle.command_lines.specs.Wave.{MeansWave}
+use Rattle.command_lines.proofs.Waves.{Waves, wave_or_none, one_wave}
 
 -- what the values of a command ask for, if they do
 asked_from : {T : Type 0} {P : T → Type 0} → (T → Asked) → SomeOrNone P → Option Asked
@@ -31,7 +33,7 @@ request_in name rows =
     (cond (bytes_eq name (codes "check")) (asked_from (λ (names : List ℕ × List ℕ). Check names.0 names.1) (names_or_none rows))
     (cond (bytes_eq name (codes "gen")) (asked_from (λ (request : GenRequest). Gen request) (request_or_none rows))
     (cond (bytes_eq name (codes "demo")) (asked_from (λ (request : DemoRequest). Demo request) (demo_or_none rows))
-    (cond (bytes_eq name (codes "wave")) (asked_from (λ (names : List ℕ × List ℕ). Wave names.0 names.1) (names_or_none rows))
+    (cond (bytes_eq name (codes "wave")) (asked_from (λ (waves : Waves). Wave waves.0 waves.1 waves.2) (wave_or_none rows))
     (cond (bytes_eq name (codes "slice")) (asked_from (λ (wants : Wants). Slice wants.0 wants.1) (safety_or_none rows))
     (cond (bytes_eq name (codes "convert")) (asked_from (λ (names : List ℕ × List ℕ). Convert names.0 names.1) (names_or_none rows))
     (cond (bytes_eq name (codes "safety")) (asked_from (λ (wants : Wants). Safety wants.0 wants.1) (safety_or_none rows))
@@ -66,7 +68,7 @@ reads_means name rows asked =
     (is_picked name (codes "check") rows asked _ _ (λ is. from_means name rows asked (λ (names : List ℕ × List ℕ). Check names.0 names.1) (names_or_none rows) (λ t h. (is, h)))
     (is_picked name (codes "gen") rows asked _ _ (λ is. from_means name rows asked (λ (request : GenRequest). Gen request) (request_or_none rows) (λ t h. (is, h)))
     (is_picked name (codes "demo") rows asked _ _ (λ is. from_means name rows asked (λ (request : DemoRequest). Demo request) (demo_or_none rows) (λ t h. (is, h)))
-    (is_picked name (codes "wave") rows asked _ _ (λ is. from_means name rows asked (λ (names : List ℕ × List ℕ). Wave names.0 names.1) (names_or_none rows) (λ t h. (is, h)))
+    (is_picked name (codes "wave") rows asked _ _ (λ is. from_means name rows asked (λ (waves : Waves). Wave waves.0 waves.1 waves.2) (wave_or_none rows) (λ t h. (is, h)))
     (is_picked name (codes "slice") rows asked _ _ (λ is. from_means name rows asked (λ (wants : Wants). Slice wants.0 wants.1) (safety_or_none rows) (λ t h. (is, h)))
     (is_picked name (codes "convert") rows asked _ _ (λ is. from_means name rows asked (λ (names : List ℕ × List ℕ). Convert names.0 names.1) (names_or_none rows) (λ t h. (is, h)))
     (is_picked name (codes "safety") rows asked _ _ (λ is. from_means name rows asked (λ (wants : Wants). Safety wants.0 wants.1) (safety_or_none rows) (λ t h. (is, h)))
@@ -98,9 +100,9 @@ means_reads name rows (Gen request) h =
 means_reads name rows (Demo request) h =
     ap (λ (n : List ℕ). request_in n rows) h.0
     ∙ from_found (λ (request : DemoRequest). Demo request) (demo_or_none rows) request h.1 (λ a b k l. ap (λ (r : DemoRequest). Demo r) (one_demo rows a b k l))
-means_reads name rows (Wave model answer) h =
+means_reads name rows (Wave model answer property) h =
     ap (λ (n : List ℕ). request_in n rows) h.0
-    ∙ from_found (λ (names : List ℕ × List ℕ). Wave names.0 names.1) (names_or_none rows) (model, answer) h.1 (one_pair rows (λ m a. Wave m a))
+    ∙ from_found (λ (waves : Waves). Wave waves.0 waves.1 waves.2) (wave_or_none rows) (model, answer, property) h.1 (one_wave rows)
 means_reads name rows (Slice model property) h =
     ap (λ (n : List ℕ). request_in n rows) h.0
     ∙ from_found (λ (wants : Wants). Slice wants.0 wants.1) (safety_or_none rows) (model, property) h.1 (one_wanted rows (λ m p. Slice m p))
@@ -156,6 +158,10 @@ no_safety rows none = none_read (codes "safety") rows (from_none (λ (wants : Wa
 pub no_slice : (rows : List Row) → ((wants : Wants) → MeansSlice rows wants.0 wants.1 → ⊥) → (asked : Asked) → Means asked (codes "slice") rows → ⊥
 unfolding request_in
 no_slice rows none = none_read (codes "slice") rows (from_none (λ (wants : Wants). Slice wants.0 wants.1) (safety_or_none rows) none)
+
+pub no_wave : (rows : List Row) → ((waves : Waves) → MeansWave rows waves.0 waves.1 waves.2 → ⊥) → (asked : Asked) → Means asked (codes "wave") rows → ⊥
+unfolding request_in
+no_wave rows none = none_read (codes "wave") rows (from_none (λ (waves : Waves). Wave waves.0 waves.1 waves.2) (wave_or_none rows) none)
 
 pub no_demo : (rows : List Row) → ((request : DemoRequest) → MeansDemo rows request → ⊥) → (asked : Asked) → Means asked (codes "demo") rows → ⊥
 unfolding request_in

@@ -2,5 +2,6 @@ mod Globals
 mod Values
 mod Exports
 mod Shortest
+mod Waves
 mod EachCommand
 pub mod Taken

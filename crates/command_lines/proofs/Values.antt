@@ -159,8 +159,8 @@ solve_or_none rows =
         → SomeOrNone (IsNumberOr rows (codes "steps") 0 4294967295 100000) → SomeOrNone (IsNumberOr rows (codes "skeletons") 0 65536 10000)
         → SomeOrNone (λ (asks : Asks). MeansSolve rows asks.0 asks.1 asks.2)
     by (Some model) e (inl p) (inl w) (inl c) (inl s) (inl k) = inl (
-      (model, record { property = p.0; workers = w.0; conflicts = c.0; steps = s.0; skeletons = k.0 }, given_in rows (codes "resume")),
-      record { model_name = e; property = p.1; workers = w.1; conflicts = c.1; steps = s.1; skeletons = k.1; answer_name = refl },
+      (model, record { property = p.0; workers = w.0; conflicts = c.0; steps = s.0; skeletons = k.0; all = flag_in rows (codes "all") }, given_in rows (codes "resume")),
+      record { model_name = e; property = p.1; workers = w.1; conflicts = c.1; steps = s.1; skeletons = k.1; each = refl; answer_name = refl },
     )
     by None e p w c s k = inr (λ asks h. (let wrong : None ≡ Some asks.0 = sym e ∙ h.model_name in cc))
     by (Some model) e (inr none) w c s k = inr (λ asks h. none asks.1.property h.property)
@@ -170,9 +170,9 @@ solve_or_none rows =
     by (Some model) e (inl p) (inl w) (inl c) (inl s) (inr none) = inr (λ asks h. none asks.1.skeletons h.skeletons)
 
 same_solve : (m n : List ℕ) (a b : SolveRequest) (r q : Option (List ℕ)) → m ≡ n → r ≡ q → a.property ≡ b.property → a.workers ≡ b.workers
-    → a.conflicts ≡ b.conflicts → a.steps ≡ b.steps → a.skeletons ≡ b.skeletons → Solve m a r ≡ Solve n b q
-same_solve m n a b r q e f p w c s k =
-    λ i. Solve (e i) (record { property = p i; workers = w i; conflicts = c i; steps = s i; skeletons = k i }) (f i)
+    → a.conflicts ≡ b.conflicts → a.steps ≡ b.steps → a.skeletons ≡ b.skeletons → a.all ≡ b.all → Solve m a r ≡ Solve n b q
+same_solve m n a b r q e f p w c s k l =
+    λ i. Solve (e i) (record { property = p i; workers = w i; conflicts = c i; steps = s i; skeletons = k i; all = l i }) (f i)
 
 pub one_solve : (rows : List Row) (m n : List ℕ) (a b : SolveRequest) (r q : Option (List ℕ)) → MeansSolve rows m a r → MeansSolve rows n b q
     → Solve m a r ≡ Solve n b q
@@ -182,7 +182,7 @@ one_solve rows m n a b r q h k =
     (one_number_or rows (codes "workers") 1 64 1 a.workers b.workers h.workers k.workers)
     (one_number_or rows (codes "conflicts") 0 4294967295 1000000 a.conflicts b.conflicts h.conflicts k.conflicts)
     (one_number_or rows (codes "steps") 0 4294967295 100000 a.steps b.steps h.steps k.steps)
-    (one_number_or rows (codes "skeletons") 0 65536 10000 a.skeletons b.skeletons h.skeletons k.skeletons)
+    (one_number_or rows (codes "skeletons") 0 65536 10000 a.skeletons b.skeletons h.skeletons k.skeletons) (sym h.each ∙ k.each)
 
 -- ---- `demo`
 

@@ -26,8 +26,8 @@ use Rattle.command_lines.specs.Export.{export_command, MeansExport}
 
 -- what the words may ask for
 pub data Asked : Type 0 where
-  -- decide a property of the model under the name, by a list that begins with the entries of the answer under another, where
-  -- one is given
+  -- decide a property, or all, of the model under the name, by a list that begins with the entries of the answer under another,
+  -- where one is given
   Solve : (model : List ℕ) (request : SolveRequest) (resume : Option (List ℕ)) → Asked
   -- check the answer under one name against the model under the other
   Check : (model : List ℕ) (answer : List ℕ) → Asked
@@ -35,8 +35,8 @@ pub data Asked : Type 0 where
   Gen : (request : GenRequest) → Asked
   -- decide a property of a generated model, and print a summary
   Demo : (request : DemoRequest) → Asked
-  -- write the waves of the answer's lasso
-  Wave : (model : List ℕ) (answer : List ℕ) → Asked
+  -- write the waves of the answer's lasso; of a sheet those of the lasso of this property
+  Wave : (model : List ℕ) (answer : List ℕ) (property : ℕ) → Asked
   -- write what of the model lies in the cone of a property
   Slice : (model : List ℕ) (property : ℕ) → Asked
   -- write the answer in the current version
@@ -63,7 +63,7 @@ names_in (Solve model request resume) = model ∷ name_in resume
 names_in (Check model answer) = model ∷ answer ∷ []
 names_in (Gen request) = []
 names_in (Demo request) = []
-names_in (Wave model answer) = model ∷ answer ∷ []
+names_in (Wave model answer property) = model ∷ answer ∷ []
 names_in (Slice model property) = model ∷ []
 names_in (Convert model answer) = model ∷ answer ∷ []
 names_in (Safety model property) = model ∷ []
@@ -78,7 +78,7 @@ meant (code.Solve model request resume) = Solve model.now request (option_map (�
 meant (code.Check model answer) = Check model.now answer.now
 meant (code.Gen request) = Gen request
 meant (code.Demo request) = Demo request
-meant (code.Wave model answer) = Wave model.now answer.now
+meant (code.Wave model answer property) = Wave model.now answer.now property
 meant (code.Slice model property) = Slice model.now property
 meant (code.Convert model answer) = Convert model.now answer.now
 meant (code.Safety model property) = Safety model.now property
@@ -89,7 +89,7 @@ meant (code.Export model answer request) = Export model.now answer.now request
 
 -- what is written where the words are no command
 abbrev pub usage_text : List ℕ
-usage_text = codes "usage: fairlive solve MODEL [--property N] [--workers W] [--conflicts C] [--steps S] [--skeletons K] [--resume ANSWER]\n       fairlive check MODEL ANSWER\n       fairlive gen KIND SEED SIZE [--binary]\n       fairlive demo SEED SIZE\n       fairlive wave MODEL ANSWER\n       fairlive slice MODEL [--property N]\n       fairlive convert MODEL ANSWER\n       fairlive safety MODEL [--property N]\n       fairlive rounds MODEL K [--property N] [--conflicts C] [--steps S]\n       fairlive shortest MODEL [--property N] [--conflicts C] [--depth D]\n       fairlive trim MODEL ANSWER\n       fairlive export MODEL ANSWER ENTRY CLAUSE [--lrat]\n"
+usage_text = codes "usage: fairlive solve MODEL [--property N] [--workers W] [--conflicts C] [--steps S] [--skeletons K] [--all] [--resume ANSWER]\n       fairlive check MODEL ANSWER\n       fairlive gen KIND SEED SIZE [--binary]\n       fairlive demo SEED SIZE\n       fairlive wave MODEL ANSWER [--property N]\n       fairlive slice MODEL [--property N]\n       fairlive convert MODEL ANSWER\n       fairlive safety MODEL [--property N]\n       fairlive rounds MODEL K [--property N] [--conflicts C] [--steps S]\n       fairlive shortest MODEL [--property N] [--conflicts C] [--depth D]\n       fairlive trim MODEL ANSWER\n       fairlive export MODEL ANSWER ENTRY CLAUSE [--lrat]\n"
 
 -- the program, which wants a command
 abbrev pub fairlive : App
@@ -106,7 +106,7 @@ Means (Solve model request resume) name rows = (name ≡ codes "solve") × Means
 Means (Check model answer) name rows = (name ≡ codes "check") × MeansCheck rows model answer
 Means (Gen request) name rows = (name ≡ codes "gen") × MeansGen rows request
 Means (Demo request) name rows = (name ≡ codes "demo") × MeansDemo rows request
-Means (Wave model answer) name rows = (name ≡ codes "wave") × MeansWave rows model answer
+Means (Wave model answer property) name rows = (name ≡ codes "wave") × MeansWave rows model answer property
 Means (Slice model property) name rows = (name ≡ codes "slice") × MeansSlice rows model property
 Means (Convert model answer) name rows = (name ≡ codes "convert") × MeansConvert rows model answer
 Means (Safety model property) name rows = (name ≡ codes "safety") × MeansSafety rows model property

@@ -54,8 +54,8 @@ use waving::{wave_of, with_wave};
 /// A command with its values.
 #[derive(Clone, Copy)]
 pub enum Asked<'a> {
-    /// Decide a property of the model under the name, by a list that begins with the entries of the answer under another,
-    /// where one is given.
+    /// Decide a property, or all, of the model under the name, by a list that begins with the entries of the answer under
+    /// another, where one is given.
     Solve {
         model: &'a str,
         request: SolveRequest,
@@ -70,10 +70,11 @@ pub enum Asked<'a> {
     Gen(GenRequest),
     /// Decide a property of a generated model, and print a summary.
     Demo(DemoRequest),
-    /// Write the waves of the answer's lasso.
+    /// Write the waves of the answer's lasso; of a sheet those of a property's.
     Wave {
         model: &'a str,
         answer: &'a str,
+        property: u32,
     },
     /// Write what of the model lies in the cone of a property.
     Slice {
@@ -115,7 +116,7 @@ pub enum Asked<'a> {
 
 /// What is written where the words are no command: a line for each command.
 pub const USAGE: &str =
-    "usage: fairlive solve MODEL [--property N] [--workers W] [--conflicts C] [--steps S] [--skeletons K] [--resume ANSWER]\n       fairlive check MODEL ANSWER\n       fairlive gen KIND SEED SIZE [--binary]\n       fairlive demo SEED SIZE\n       fairlive wave MODEL ANSWER\n       fairlive slice MODEL [--property N]\n       fairlive convert MODEL ANSWER\n       fairlive safety MODEL [--property N]\n       fairlive rounds MODEL K [--property N] [--conflicts C] [--steps S]\n       fairlive shortest MODEL [--property N] [--conflicts C] [--depth D]\n       fairlive trim MODEL ANSWER\n       fairlive export MODEL ANSWER ENTRY CLAUSE [--lrat]\n";
+    "usage: fairlive solve MODEL [--property N] [--workers W] [--conflicts C] [--steps S] [--skeletons K] [--all] [--resume ANSWER]\n       fairlive check MODEL ANSWER\n       fairlive gen KIND SEED SIZE [--binary]\n       fairlive demo SEED SIZE\n       fairlive wave MODEL ANSWER [--property N]\n       fairlive slice MODEL [--property N]\n       fairlive convert MODEL ANSWER\n       fairlive safety MODEL [--property N]\n       fairlive rounds MODEL K [--property N] [--conflicts C] [--steps S]\n       fairlive shortest MODEL [--property N] [--conflicts C] [--depth D]\n       fairlive trim MODEL ANSWER\n       fairlive export MODEL ANSWER ENTRY CLAUSE [--lrat]\n";
 
 /// Why the words ask for nothing.
 #[derive(Drop)]

@@ -9,11 +9,13 @@ ghost use Rattle.command_lines.specs.Commands.{Asked as AskedFor, meant, Means};
 ghost use Rattle.command_lines.specs.Solve.{solve_command};
 
 use crate::commands::Asked;
-use crate::words::{attached, number_option, number_or, required, text_option, value_of};
+use crate::words::{
+    attached, flag, flag_of, number_option, number_or, required, text_option, value_of,
+};
 use clap::{ArgMatches, Command};
 use std::alloc::{AllocError, Global};
 
-/// Which property is to be decided, and by what means.
+/// Which property is to be decided, or that all are, and by what means.
 #[derive(Clone, Copy)]
 pub struct SolveRequest {
     /// The number of the property, counted from 0.
@@ -26,6 +28,8 @@ pub struct SolveRequest {
     pub steps: u64,
     /// By how many entries the shared list may grow, 0 to 65,536.
     pub skeletons: u32,
+    /// Whether all properties are to be decided; the number of one plays then no part.
+    pub all: bool,
 }
 
 /// What is asked for where only a model is named.
@@ -35,6 +39,7 @@ pub const DEFAULTS: SolveRequest = SolveRequest {
     conflicts: 1_000_000,
     steps: 100_000,
     skeletons: 10_000,
+    all: false,
 };
 
 fn solve_command<'a>(alloc: Global) -> Result<Command<'a>, AllocError>
@@ -48,6 +53,7 @@ fn solve_command<'a>(alloc: Global) -> Result<Command<'a>, AllocError>
         .arg(number_option(alloc, "conflicts", 0, 4_294_967_295))?
         .arg(number_option(alloc, "steps", 0, 4_294_967_295))?
         .arg(number_option(alloc, "skeletons", 0, 65_536))?
+        .arg(flag(alloc, "all"))?
         .arg(text_option(alloc, "resume"))
 }
 
@@ -76,12 +82,14 @@ pub(crate) fn solve_of<'a>(given: &ArgMatches<'a>) -> Option<Asked<'a>>
     let conflicts = number_or(given, "conflicts", 0, 4_294_967_295, DEFAULTS.conflicts)?;
     let steps = number_or(given, "steps", 0, 4_294_967_295, DEFAULTS.steps)?;
     let skeletons = number_or(given, "skeletons", 0, 65_536, u64::from(DEFAULTS.skeletons))?;
+    let all = flag_of(given, "all");
     let request = SolveRequest {
         property: property as u32,
         workers: workers as u32,
         conflicts,
         steps,
         skeletons: skeletons as u32,
+        all,
     };
     Some(Asked::Solve {
         model,

@@ -1,30 +1,43 @@
 //! The words of the command `wave`.
 
-ghost use Rattle.std.specs.Prelude.{◌≡◌, codes, IfOk, IfSome, IfNone};
+ghost use Rattle.std.specs.Prelude.{◌≡◌, codes, false, IfOk, IfSome, IfNone};
 ghost use Rattle.clap.specs.Simple.{app_of, with_subcommand};
 ghost use Rattle.clap.specs.Walk.{rows_of};
 ghost use Rattle.clap.specs.Matches.{found_of};
+ghost use Rattle.clap.specs.declared.builder.command.Command.TheViews.{out-Command as fields_of};
 ghost use Rattle.command_lines.specs.Commands.{Asked as AskedFor, meant, Means};
 ghost use Rattle.command_lines.specs.Wave.{wave_command};
 
 use crate::commands::Asked;
-use crate::words::{attached, for_model_and_answer, value_of};
+use crate::words::{attached, for_model_and_answer, number_option, number_or, value_of};
 use clap::{ArgMatches, Command};
 use std::alloc::{AllocError, Global};
+
+fn wave_command<'a>(alloc: Global) -> Result<Command<'a>, AllocError>
+    ensures shape { IfOk result (λ command. app_of command ≡ wave_command) }
+    ensures local { IfOk result (λ command. (fields_of command).has_globals ≡ false) }
+{
+    for_model_and_answer(alloc, "wave")?.arg(number_option(alloc, "property", 0, 4_294_967_295))
+}
 
 /// The program with this command.
 pub(crate) fn with_wave<'a>(alloc: Global, program: Command<'a>) -> Result<Command<'a>, AllocError>
     ensures { IfOk result (λ more. app_of more ≡ with_subcommand (app_of program.entry) wave_command.top) }
 {
-    attached(program, for_model_and_answer(alloc, "wave"))
+    attached(program, wave_command(alloc))
 }
 
-/// The names that `wave` is given.
+/// The names and the number that `wave` is given.
 pub(crate) fn wave_of<'a>(given: &ArgMatches<'a>) -> Option<Asked<'a>>
     ensures found { IfSome result (λ asked. Means (meant asked) (codes "wave") (rows_of (found_of given.now))) }
     ensures none { IfNone result ((asked : AskedFor) → Means asked (codes "wave") (rows_of (found_of given.now)) → ⊥) }
 {
     let model = value_of(given, "MODEL")?;
     let answer = value_of(given, "ANSWER")?;
-    Some(Asked::Wave { model, answer })
+    let property = number_or(given, "property", 0, 4_294_967_295, 0)?;
+    Some(Asked::Wave {
+        model,
+        answer,
+        property: property as u32,
+    })
 }

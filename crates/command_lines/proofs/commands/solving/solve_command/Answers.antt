@@ -14,7 +14,8 @@ returns-clause-shape c =
     let with_4 = c.in_ok-arg-4.ensures.shape (search rules) ∙ ap₂ with_rule with_3 c.number_option-3.ensures.rule in
     let with_5 = c.in_ok-arg-5.ensures.shape (search rules) ∙ ap₂ with_rule with_4 c.number_option-4.ensures.rule in
     let with_6 = c.in_ok-arg-6.ensures.shape (search rules) ∙ ap₂ with_rule with_5 c.number_option-5.ensures.rule in
-    IfOk-weaker c.arg-7.result _ _ (λ command h. h.shape (search rules) ∙ ap₂ with_rule with_6 c.text_option.ensures.rule) c.arg-7.ensures
+    let with_7 = c.in_ok-arg-7.ensures.shape (search rules) ∙ ap₂ with_rule with_6 c.flag.ensures.rule in
+    IfOk-weaker c.arg-8.result _ _ (λ command h. h.shape (search rules) ∙ ap₂ with_rule with_7 c.text_option.ensures.rule) c.arg-8.ensures
 
 pub returns-clause-local : goal.returns-clause-local
 returns-clause-local c =
@@ -24,4 +25,5 @@ returns-clause-local c =
     let local_4 = none_global _ c.number_option-3.result.global _ c.in_ok-arg-4.ensures.globals local_3 c.number_option-3.ensures.local in
     let local_5 = none_global _ c.number_option-4.result.global _ c.in_ok-arg-5.ensures.globals local_4 c.number_option-4.ensures.local in
     let local_6 = none_global _ c.number_option-5.result.global _ c.in_ok-arg-6.ensures.globals local_5 c.number_option-5.ensures.local in
-    IfOk-weaker c.arg-7.result _ _ (λ command h. none_global _ c.text_option.result.global _ h.globals local_6 c.text_option.ensures.local) c.arg-7.ensures
+    let local_7 = none_global _ c.flag.result.global _ c.in_ok-arg-7.ensures.globals local_6 c.flag.ensures.local in
+    IfOk-weaker c.arg-8.result _ _ (λ command h. none_global _ c.text_option.result.global _ h.globals local_7 c.text_option.ensures.local) c.arg-8.ensures
