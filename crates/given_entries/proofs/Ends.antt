@@ -1,4 +1,4 @@
--- How the loading of entries ends.
+-- How the loading of the entries of an answer ends.
 use Rattle.std.proofs.Common.{◌≡◌, inl, inr, ℕ, ◌<◌, ◌≤◌, Bool, true, false, List, [], length, take, refl, sym, ap, ◌∙◌, subst, arith, codes, Some, Ok, Err}
 use Rattle.std.specs.Prelude.{Option, Result, IfOk}
 use Rattle.std.proofs.lemmas.Bool.{false≢true}
@@ -25,7 +25,7 @@ use Rattle.certificate.specs.Loading.{HoldsAnswer, IsHeld, IsHeldOf, accepted_of
 use Rattle.certificate.proofs.Printed.{held_is_good}
 use Rattle.cert_tools.specs.Laws.{OneHeld}
 use Rattle.text_grammar.specs.Lines.{lines_of}
-use Rattle.given_entries.specs.Given.{claims_lasso, AreEntriesOf, HasEntries, IsRefusedFor, HasNoEntries, DecidesEntries, SaysOfEntries, EndsWith, AreProvedInTurn}
+use Rattle.given_entries.specs.Given.{claims_lasso, AreEntriesOf, HasEntries, IsRefusedFor, HasNoEntries, DecidesEntries, AreProvedInTurn}
 use Rattle.given_entries.specs.Taking.{IsNoLasso, IsTaken}
 use Rattle.given_entries.proofs.Texts.{claims_first, claims_readable, whole}
 use Rattle.given_entries.proofs.Entries.{one_list, as_many, proved_in_turn}
@@ -82,12 +82,7 @@ pub unknown_decides : (c : Circuit) (text : List ℕ) → length text ≤ most_b
 unknown_decides c text short claims =
     subst (λ (b : Bool). IsRefusedFor b c text UnknownStatus) (sym (claims_readable text short ∙ claims)) refl
 
--- ---- what the end says
-
-pub says : (c : Circuit) (told : Option (List ℕ)) (text : List ℕ) (result : Given) → MayBe told text → GivesSome (Err ends.Memory) (DecidesEntries c text) result
-    → SaysOfEntries c told result
-says c told text result may (inl decides) = inl (inr (text, may, decides))
-says c told text result may (inr memory) = inr memory
+-- ---- one end
 
 -- a text decides one end
 refused_two : (c : Circuit) (text : List ℕ) (b : Bool) (f g : AnswerFault) → OneFault c → IsRefusedFor b c text f → IsRefusedFor b c text g → f ≡ g
@@ -109,7 +104,7 @@ entries_two c text a b one (n, first, h, ones) (m, second, k, others) =
     let certificate : first ≡ second = cc same in
     one_list c second.entries a b (subst (λ (x : Certificate). AreEntriesOf c x.entries a) certificate ones) others
 
-decides_two : (c : Circuit) (text : List ℕ) (a b : Given) → OneHeld c → GoodHasNoFault c → OneFault c → DecidesEntries c text a → DecidesEntries c text b → a ≡ b
+pub decides_two : (c : Circuit) (text : List ℕ) (a b : Given) → OneHeld c → GoodHasNoFault c → OneFault c → DecidesEntries c text a → DecidesEntries c text b → a ≡ b
 decides_two c text (Ok a) (Ok b) one apart fault h k = ap Ok (entries_two c text a b one h k)
 decides_two c text (Ok a) (Err (ends.Refused f)) one apart fault h k = absurd (never_both c text a f apart h k)
 decides_two c text (Err (ends.Refused f)) (Ok b) one apart fault h k = absurd (never_both c text b f apart k h)
@@ -122,11 +117,6 @@ decides_two c text (Err (ends.Refused f)) (Err ends.Memory) one apart fault h k 
 decides_two c text (Err ends.ReadFault) b one apart fault h k = absurd h
 decides_two c text (Err ends.Memory) b one apart fault h k = absurd h
 
-pub exactly : (c : Circuit) (text : List ℕ) (result verdict : Given) → OneHeld c → GoodHasNoFault c → OneFault c → GivesSome (Err ends.Memory) (DecidesEntries c text) result
-    → DecidesEntries c text verdict → EndsWith result verdict
-exactly c text result verdict one apart fault (inl decides) h = inl (inl (decides_two c text result verdict one apart fault decides h))
-exactly c text result verdict one apart fault (inr memory) h = inr memory
-
 -- no read failed
 pub was_read : (c : Circuit) (text : List ℕ) (result : Given) → GivesSome (Err ends.Memory) (DecidesEntries c text) result → has_unread result ≡ false
 was_read c text (Ok entries) h = refl
@@ -134,9 +124,6 @@ was_read c text (Err (ends.Refused fault)) h = refl
 was_read c text (Err ends.ReadFault) (inl h) = absurd h
 was_read c text (Err ends.ReadFault) (inr wrong) = absurd (cc wrong)
 was_read c text (Err ends.Memory) h = refl
-
-pub not_unread : (c : Circuit) (text : List ℕ) (result : Given) → GivesSome (Err ends.Memory) (DecidesEntries c text) result → result ≡ Err ends.ReadFault → ⊥
-not_unread c text result h is = false≢true (sym (was_read c text result h) ∙ ap has_unread is)
 
 pub each_proved : (c : Circuit) (text : List ℕ) (result : Given) → GivesSome (Err ends.Memory) (DecidesEntries c text) result → IfOk result (AreProvedInTurn c [])
 each_proved c text (Ok entries) (inl (n, certificate, (there, short, has, good), are)) = proved_in_turn c [] good.entries certificate.entries entries good.proved are
@@ -147,11 +134,6 @@ pub few : (c : Circuit) (text : List ℕ) (result : Given) → GivesSome (Err en
 few c text (Ok entries) (inl (n, certificate, (there, short, has, good), are)) = (let count = as_many c certificate.entries entries are in omega (arith, count, good.few))
 few c text (Ok entries) (inr wrong) = absurd (cc wrong)
 few c text (Err end) h = tt
-
-pub found_exactly : (c : Circuit) (told : Option (List ℕ)) (bytes : List ℕ) (result : Given) → OneHeld c → GoodHasNoFault c → OneFault c → MayBe told bytes
-    → GivesSome (Err ends.Memory) (DecidesEntries c bytes) result → (text : List ℕ) (verdict : Given) → told ≡ Some text → DecidesEntries c text verdict → EndsWith result verdict
-found_exactly c told bytes result one apart fault may decides text verdict e d =
-    exactly c bytes result verdict one apart fault decides (subst (λ (t : List ℕ). DecidesEntries c t verdict) (may text e) d)
 
 -- what was read below the limit is the text
 pub may_be : (told : Option (List ℕ)) (bytes : List ℕ) (n : ℕ) → length bytes < n → IfTold told (λ text. bytes ≡ take n text) → MayBe told bytes

@@ -1,5 +1,6 @@
 mod Texts
 mod Entries
 mod Ends
+mod Listed
 mod Lists
 mod Named

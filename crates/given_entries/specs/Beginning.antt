@@ -7,10 +7,11 @@ use Rattle.edge.specs.Told.{MayBe}
 use Rattle.edge.specs.Reads.{ReadsOf, Reads}
 use Rattle.entry.specs.declared.entries.Entry.{Entry as WithProofs}
 use Rattle.entry.specs.CheckedEntries.{CheckedEntry}
-use Rattle.certificate.specs.declared.ends.AnswerFault.{AnswerFault}
-use Rattle.certificate.specs.declared.ends.AnswerEnd.{AnswerEnd}
-use Rattle.certificate.specs.declared.ends.AnswerEnd.TheVariants as ends
-use Rattle.given_entries.specs.Given.{HasEntries, HasNoEntries, list_of}
+use Rattle.certificate.specs.declared.ends.AnswerEnd.TheVariants as answer_ends
+use Rattle.sheet_answers.specs.declared.ends.JudgeEnd.{JudgeEnd}
+use Rattle.sheet_answers.specs.Ends.{refused_memory}
+use Rattle.given_entries.specs.Given.{list_of}
+use Rattle.given_entries.specs.Listing.{ended, Lists, ListsNone}
 
 -- what a shelf tells of the answer, where one is named
 abbrev pub told_of : (List ℕ → Option (List ℕ)) → Option (List ℕ) → Option (Option (List ℕ))
@@ -30,28 +31,31 @@ IsClaimed (Some told) claimed = (text : List ℕ) × (told ≡ Some text) × (cl
 -- The search begins with this list: with none where no answer is named, and else with the entries of the answer.
 abbrev pub BeginsWith : Circuit → Option (List ℕ) → List CheckedEntry → Type 0
 BeginsWith c None list = list ≡ []
-BeginsWith c (Some text) list = (entries : List WithProofs) × HasEntries c text entries × (list ≡ list_of c entries)
+BeginsWith c (Some text) list = (entries : List WithProofs) × Lists c text entries × (list ≡ list_of c entries)
 
 -- an answer is named that gives no entries, and this is why
-abbrev pub HasNoList : Circuit → Option (List ℕ) → AnswerFault → Type 0
-HasNoList c None fault = ⊥
-HasNoList c (Some text) fault = HasNoEntries c text fault
+abbrev pub HasNoList : Circuit → Option (List ℕ) → JudgeEnd → Type 0
+HasNoList c None end = ⊥
+HasNoList c (Some text) end = ListsNone c text end
+
+abbrev pub read_failed : JudgeEnd
+read_failed = ended answer_ends.ReadFault
 
 -- a read failed, or memory was refused
-abbrev pub IsUnended : AnswerEnd → Type 0
-IsUnended end = (end ≡ ends.ReadFault) ⊎ (end ≡ ends.Memory)
+abbrev pub IsUnended : JudgeEnd → Type 0
+IsUnended end = (end ≡ read_failed) ⊎ (end ≡ refused_memory)
 
--- the call ended with this fault, or unended
-abbrev pub IsRefusedWith : {T : Type 0} → AnswerFault → Result T AnswerEnd → Type 0
-IsRefusedWith fault (Ok found) = ⊥
-IsRefusedWith fault (Err end) = (end ≡ ends.Refused fault) ⊎ IsUnended end
+-- the call ended so, or unended
+abbrev pub IsRefusedWith : {T : Type 0} → JudgeEnd → Result T JudgeEnd → Type 0
+IsRefusedWith refusal (Ok found) = ⊥
+IsRefusedWith refusal (Err end) = (end ≡ refusal) ⊎ IsUnended end
 
 -- a shared list, as the list of what is shared
 abbrev pub shared_list : {Z : Type 0} → List (Arc CheckedEntry Z) → List CheckedEntry
 shared_list list = map (λ shared. arc_value {X = CheckedEntry} shared) list
 
 -- the call gave this list, or ended unended
-abbrev pub GivesList : {Z A : Type 0} → List CheckedEntry → Result (Vec (Arc CheckedEntry Z) A) AnswerEnd → Type 0
+abbrev pub GivesList : {Z A : Type 0} → List CheckedEntry → Result (Vec (Arc CheckedEntry Z) A) JudgeEnd → Type 0
 GivesList list (Ok found) = shared_list found.items ≡ list
 GivesList list (Err end) = IsUnended end
 

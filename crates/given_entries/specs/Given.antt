@@ -1,12 +1,10 @@
--- Entries with which a search begins: those of a certificate that is accepted, after the walls and reachability sets of FAIR
+-- Entries with which a search begins: those of an answer that is accepted, after the walls and reachability sets of FAIR
 -- (Bradley, Somenzi, Hassan, Zhang, 2011). That a search is handed those of an earlier one is this program's.
-use Rattle.std.specs.Prelude.{◌≡◌, ◌⊎◌, ℕ, Bool, true, false, List, [], ◌∷◌, ◌++◌, Option, Result, Ok, Err, codes, if◌then◌else◌}
+use Rattle.std.specs.Prelude.{◌≡◌, ℕ, Bool, true, false, List, [], ◌∷◌, ◌++◌, Result, Ok, Err, codes, if◌then◌else◌}
 use Rattle.std.specs.Str.{bytes_eq}
 use Rattle.aig_semantics.specs.Circuits.{Circuit}
 use Rattle.fair_semantics.specs.Entries.{Entry}
 use Rattle.stimulus.specs.Texts.{is_skipped}
-use Rattle.edge.specs.Told.{MayBe}
-use Rattle.unless_memory.specs.Answers.{GivesSome}
 use Rattle.entry.specs.declared.entries.Entry.{Entry as WithProofs}
 use Rattle.entry.specs.declared.origins.Origin.TheVariants.{Given}
 use Rattle.entry.specs.Entries.{said}
@@ -24,7 +22,7 @@ use Rattle.certificate.specs.Certificates.{AreClausesOf}
 use Rattle.certificate.specs.Loading.{HoldsAnswer}
 use Rattle.certificate.specs.Ends.{IsRefused}
 
--- Which entries a text gives.
+-- Which entries an answer gives; a text may be a sheet, too (Listing).
 
 -- the first of these lines that is not skipped is the status of a stimulus
 abbrev pub claims_lasso : List (List ℕ) → Bool
@@ -64,15 +62,6 @@ DecidesEntries c text (Ok entries) = HasEntries c text entries
 DecidesEntries c text (Err (ends.Refused fault)) = HasNoEntries c text fault
 DecidesEntries c text (Err ends.ReadFault) = ⊥
 DecidesEntries c text (Err ends.Memory) = ⊥
-
--- what the end says of the text that the shelf may hold, unless memory is refused; a failed read says nothing of it
-abbrev pub SaysOfEntries : Circuit → Option (List ℕ) → Result (List WithProofs) AnswerEnd → Type 0
-SaysOfEntries c told result =
-    GivesSome (Err ends.Memory) (λ end. (end ≡ Err ends.ReadFault) ⊎ ((text : List ℕ) × MayBe told text × DecidesEntries c text end)) result
-
--- this end comes, unless memory is refused or a read fails
-abbrev pub EndsWith : Result (List WithProofs) AnswerEnd → Result (List WithProofs) AnswerEnd → Type 0
-EndsWith result verdict = GivesSome (Err ends.Memory) (λ end. (end ≡ verdict) ⊎ (end ≡ Err ends.ReadFault)) result
 
 -- The list that they make.
 

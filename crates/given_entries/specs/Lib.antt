@@ -1,3 +1,4 @@
 pub mod Given
+pub mod Listing
 pub mod Taking
 pub mod Beginning

@@ -1,26 +1,26 @@
 //! The list with which a search begins. The main call is `load_list`.
 
-ghost use Rattle.std.specs.Prelude.{◌≡◌, ◌≤◌, ℕ, List, [], Option, Some, Err, map, length, option_map, All, IfOk, IfErr};
+ghost use Rattle.std.specs.Prelude.{◌≡◌, ◌⊎◌, ◌≤◌, ℕ, List, [], Option, Some, Err, map, length, option_map, All, IfOk, IfErr};
 ghost use Rattle.std.specs.Arc.{arc_value};
 ghost use Rattle.edge.specs.Faults.{Rose, NoneFell};
 ghost use Rattle.edge.specs.Reads.{KeepsTexts, Reads};
 ghost use Rattle.edge.specs.Told.{MayBe};
 ghost use Rattle.entry.specs.declared.origins.Origin.TheVariants.{Given};
 ghost use Rattle.entry.specs.CheckedEntries.{CheckedEntry};
-ghost use Rattle.certificate.specs.declared.ends.AnswerFault.{AnswerFault as FaultOf};
-ghost use Rattle.certificate.specs.declared.ends.AnswerEnd.TheVariants.{Refused};
-ghost use Rattle.certificate.specs.Ends.{has_unread};
+ghost use Rattle.sheet_answers.specs.Ends.{has_unread, refused_memory};
 ghost use Rattle.wall_store.specs.Boards.{IsSoundList, most_entries};
-ghost use Rattle.given_entries.specs.Given.{HasNoEntries, AreProvedInTurn, list_of};
-ghost use Rattle.given_entries.specs.Beginning.{told_of, OfClaimed, IsClaimed, BeginsWith, HasNoList, IsRefusedWith, GivesList, ReadsIfNamed};
+ghost use Rattle.given_entries.specs.Given.{AreProvedInTurn, list_of};
+ghost use Rattle.given_entries.specs.Listing.{DecidesList};
+ghost use Rattle.given_entries.specs.Beginning.{told_of, OfClaimed, IsClaimed, BeginsWith, HasNoList, read_failed, IsUnended, IsRefusedWith, GivesList, ReadsIfNamed};
 
 use crate::listing::given_list;
-use crate::loading::load_entries;
+use crate::loading::{ended, load_entries};
 use certificate::AnswerEnd;
 use circuit::Circuit;
 use edge::Shelf;
 use entry::{Checked, Entry};
 use items::Items;
+use sheet_answers::JudgeEnd;
 use std::alloc::Global;
 use std::sync::Arc;
 
@@ -31,16 +31,16 @@ pub fn load_list<H: Shelf>(
     circuit: &Arc<Circuit>,
     shelf: &mut H,
     answer: Option<&str>,
-) -> Result<Vec<Arc<Checked>>, AnswerEnd>
+) -> Result<Vec<Arc<Checked>>, JudgeEnd>
     // What is answered is so, of the text that the shelf tells;
     ensures list { IfOk result (λ list. OfClaimed (told_of (H.held shelf.old) (option_map (λ name. name.now) answer.entry))
         (λ claimed. BeginsWith (arc_value circuit.now) claimed (map arc_value list.items))) }
-    ensures fault { (fault : FaultOf) → result ≡ Err (Refused fault)
-        → OfClaimed (told_of (H.held shelf.old) (option_map (λ name. name.now) answer.entry)) (λ claimed. HasNoList (arc_value circuit.now) claimed fault) }
+    ensures fault { IfErr result (λ end. IsUnended end
+        ⊎ OfClaimed (told_of (H.held shelf.old) (option_map (λ name. name.now) answer.entry)) (λ claimed. HasNoList (arc_value circuit.now) claimed end)) }
     // and what is so is answered, unless memory is refused or a read fails.
-    ensures refused { (claimed : Option (List ℕ)) (fault : FaultOf)
+    ensures refused { (claimed : Option (List ℕ)) (end : JudgeEnd)
         → IsClaimed (told_of (H.held shelf.old) (option_map (λ name. name.now) answer.entry)) claimed
-        → HasNoList (arc_value circuit.now) claimed fault → IsRefusedWith fault result }
+        → HasNoList (arc_value circuit.now) claimed end → IsRefusedWith end result }
     ensures accepted { (claimed : Option (List ℕ)) (list : List CheckedEntry)
         → IsClaimed (told_of (H.held shelf.old) (option_map (λ name. name.now) answer.entry)) claimed
         → BeginsWith (arc_value circuit.now) claimed list → GivesList list result }
@@ -48,7 +48,7 @@ pub fn load_list<H: Shelf>(
     ensures few { IfOk result (λ list. length list.items ≤ most_entries) }
     ensures sound { IfOk result (λ list. IsSoundList (arc_value circuit.now) (map arc_value list.items)) }
     ensures origins { IfOk result (λ list. All (λ e. e.origin ≡ Given) (map arc_value list.items)) }
-    ensures read { result ≡ Err AnswerEnd.ReadFault
+    ensures read { result ≡ Err read_failed
         → (name : List ℕ) × (option_map (λ name. name.now) answer.entry ≡ Some name) × Rose (H.faults shelf.old name) (H.faults shelf.new name) }
     ensures reads { ReadsIfNamed H.reads (option_map (λ name. name.now) answer.entry) (has_unread result) shelf.old shelf.new }
     ensures counts { NoneFell (H.faults shelf.old) (H.faults shelf.new) }
@@ -66,19 +66,19 @@ fn listed<H: Shelf>(
     circuit: &Arc<Circuit>,
     shelf: &mut H,
     name: &str,
-) -> Result<Vec<Arc<Checked>>, AnswerEnd>
+) -> Result<Vec<Arc<Checked>>, JudgeEnd>
     ensures list { IfOk result (λ list. (text : List ℕ) × MayBe (H.held shelf.old name.now) text
         × BeginsWith (arc_value circuit.now) (Some text) (map arc_value list.items)) }
-    ensures fault { (fault : FaultOf) → result ≡ Err (Refused fault)
-        → (text : List ℕ) × MayBe (H.held shelf.old name.now) text × HasNoEntries (arc_value circuit.now) text fault }
-    ensures refused { (text : List ℕ) (fault : FaultOf) → H.held shelf.old name.now ≡ Some text
-        → HasNoEntries (arc_value circuit.now) text fault → IsRefusedWith fault result }
+    ensures fault { IfErr result (λ end. IsUnended end
+        ⊎ ((text : List ℕ) × MayBe (H.held shelf.old name.now) text × DecidesList (arc_value circuit.now) text (Err end))) }
+    ensures refused { (text : List ℕ) (end : JudgeEnd) → H.held shelf.old name.now ≡ Some text
+        → DecidesList (arc_value circuit.now) text (Err end) → IsRefusedWith end result }
     ensures accepted { (text : List ℕ) (list : List CheckedEntry) → H.held shelf.old name.now ≡ Some text
         → BeginsWith (arc_value circuit.now) (Some text) list → GivesList list result }
     ensures few { IfOk result (λ list. length list.items ≤ most_entries) }
     ensures sound { IfOk result (λ list. IsSoundList (arc_value circuit.now) (map arc_value list.items)) }
     ensures origins { IfOk result (λ list. All (λ e. e.origin ≡ Given) (map arc_value list.items)) }
-    ensures read { result ≡ Err AnswerEnd.ReadFault → Rose (H.faults shelf.old name.now) (H.faults shelf.new name.now) }
+    ensures read { result ≡ Err read_failed → Rose (H.faults shelf.old name.now) (H.faults shelf.new name.now) }
     ensures reads { Reads H.reads name.now (has_unread result) shelf.old shelf.new }
     ensures counts { NoneFell (H.faults shelf.old) (H.faults shelf.new) }
     ensures kept { KeepsTexts (H.held shelf.old) (H.held shelf.new) }
@@ -94,16 +94,16 @@ fn list_from(
     alloc: Global,
     circuit: &Arc<Circuit>,
     entries: Items<Entry>,
-) -> Result<Vec<Arc<Checked>>, AnswerEnd>
+) -> Result<Vec<Arc<Checked>>, JudgeEnd>
     requires { AreProvedInTurn (arc_value circuit.now) [] entries }
     ensures list { IfOk result (λ list. map arc_value list.items ≡ list_of (arc_value circuit.now) entries) }
     ensures count { IfOk result (λ list. length list.items ≡ length entries) }
     ensures sound { IfOk result (λ list. IsSoundList (arc_value circuit.now) (map arc_value list.items)) }
     ensures origins { IfOk result (λ list. All (λ e. e.origin ≡ Given) (map arc_value list.items)) }
-    ensures ended { IfErr result (λ end. end ≡ AnswerEnd.Memory) }
+    ensures ended { IfErr result (λ end. end ≡ refused_memory) }
 {
     match given_list(alloc, circuit, entries) {
         Ok(list) => Ok(list),
-        Err(_) => Err(AnswerEnd::Memory),
+        Err(_) => Err(ended(AnswerEnd::Memory)),
     }
 }

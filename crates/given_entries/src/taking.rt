@@ -1,4 +1,4 @@
-//! The entries out of an answer that is held. The main call is `entries_in`.
+//! The entries out of an answer that is held. The main calls are `entries_in`, and `written_entries`.
 
 ghost use Rattle.std.specs.Prelude.{◌≡◌, ◌∷◌, ◌++◌, List, [], Ok, IfOk, OnOk};
 ghost use Rattle.proof_semantics.specs.declared.literals.Lit.{Lit as LitOf};
@@ -48,8 +48,20 @@ fn certificate_entries(
     ensures { IfOk result (AreEntriesOf circuit.now certificate.entries) }
 {
     let Certificate { entries, .. } = certificate;
+    written_entries(alloc, circuit, entries)
+}
+
+/// Written entries, over the numbers of the latches.
+pub(crate) fn written_entries(
+    alloc: Global,
+    circuit: &Circuit,
+    written: Items<Written>,
+) -> Result<Items<Entry>, AllocError>
+    requires { (all : List EntryOf) × AreProvedBehind circuit.now [] written all }
+    ensures { IfOk result (AreEntriesOf circuit.now written) }
+{
     let mut list = Items::new(alloc);
-    match take_all(alloc, circuit, entries, &mut list) {
+    match take_all(alloc, circuit, written, &mut list) {
         Ok(()) => Ok(list),
         Err(refused) => Err(refused),
     }

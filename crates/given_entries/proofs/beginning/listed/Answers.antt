@@ -2,9 +2,8 @@ use Rattle.std.proofs.Common.{rules, ◌≡◌, Bool, [], sym, subst}
 use Rattle.std.specs.Arc.{arc_value}
 use Rattle.aig_semantics.specs.Circuits.{Circuit}
 use Rattle.edge.specs.Reads.{Reads}
-use Rattle.certificate.specs.declared.ends.AnswerEnd.TheVariants as ends
 use Rattle.given_entries.specs.Given.{AreProvedInTurn}
-use Rattle.given_entries.proofs.Named.{list_made, gives_list, has_list, fault_told, refused_told, accepted_told, memory_only, none_unread, few_made}
+use Rattle.given_entries.proofs.Named.{list_made, gives_list, has_list, fault_told, refused_told, accepted_told, only_memory, never_failed, none_unread, few_made}
 use Rattle.given_entries.proofs.beginning.listed.Goals as goal
 
 pub list_from-requires : goal.list_from-requires
@@ -19,8 +18,7 @@ returns-in-Ok-clause-list g c =
     c.in-Ok.ensures.found c.list_from.ensures.list
 
 pub returns-in-Ok-clause-fault : goal.returns-in-Ok-clause-fault
-returns-in-Ok-clause-fault g c = λ fault e.
-    let wrong : ends.Refused fault ≡ ends.Memory = memory_only c.list_from.result (ends.Refused fault) c.list_from.ensures.ended e in absurd (cc wrong)
+returns-in-Ok-clause-fault g c = only_memory c.list_from.result _ c.list_from.ensures.ended
 
 pub returns-in-Ok-clause-refused : goal.returns-in-Ok-clause-refused
 returns-in-Ok-clause-refused g c = λ text fault told none.
@@ -38,8 +36,7 @@ pub returns-in-Ok-clause-few : goal.returns-in-Ok-clause-few
 returns-in-Ok-clause-few g c = few_made c.in-Ok.entries c.list_from.result c.in-Ok.ensures.few c.list_from.ensures.count
 
 pub returns-in-Ok-clause-read : goal.returns-in-Ok-clause-read
-returns-in-Ok-clause-read g c = λ e.
-    let wrong : ends.ReadFault ≡ ends.Memory = memory_only c.list_from.result ends.ReadFault c.list_from.ensures.ended e in absurd (cc wrong)
+returns-in-Ok-clause-read g c = λ e. absurd (never_failed c.list_from.result c.list_from.ensures.ended e)
 
 pub returns-in-Ok-clause-reads : goal.returns-in-Ok-clause-reads
 returns-in-Ok-clause-reads g c =
@@ -47,10 +44,9 @@ returns-in-Ok-clause-reads g c =
     (sym (none_unread c.list_from.result c.list_from.ensures.ended)) c.in-Ok.ensures.reads
 
 pub returns-in-Err-clause-fault : goal.returns-in-Err-clause-fault
-returns-in-Err-clause-fault g c = λ fault e.
+returns-in-Err-clause-fault g c =
     let is : c.deref.result.now ≡ arc_value c.args.circuit.now = search rules in
-    let same : c.in-Err.end ≡ ends.Refused fault = cc e in
-    fault_told c.deref.result.now (arc_value c.args.circuit.now) (g.H.Shelf.held c.args.shelf.now c.args.name.now) c.in-Err.end fault is c.in-Err.ensures.found same
+    fault_told c.deref.result.now (arc_value c.args.circuit.now) (g.H.Shelf.held c.args.shelf.now c.args.name.now) c.in-Err.end is c.in-Err.ensures.found
 
 pub returns-in-Err-clause-refused : goal.returns-in-Err-clause-refused
 returns-in-Err-clause-refused g c =

@@ -1,8 +1,8 @@
 use Rattle.std.proofs.Common.{false, map, sym, refl, subst}
-use Rattle.std.specs.Prelude.{IfOk, option_map}
+use Rattle.std.specs.Prelude.{◌⊎◌, IfOk, IfErr, option_map}
 use Rattle.std.specs.Arc.{arc_value}
-use Rattle.certificate.specs.Ends.{has_unread}
-use Rattle.given_entries.specs.Beginning.{told_of, OfClaimed, IsClaimed, BeginsWith, HasNoList, ReadsIfNamed}
+use Rattle.sheet_answers.specs.Ends.{has_unread}
+use Rattle.given_entries.specs.Beginning.{told_of, OfClaimed, IsClaimed, BeginsWith, HasNoList, IsUnended, ReadsIfNamed}
 use Rattle.given_entries.proofs.Named.{refused_named, accepted_named}
 use Rattle.given_entries.proofs.beginning.load_list.Goals as goal
 
@@ -12,9 +12,10 @@ returns-in-Some-clause-list g c =
     (λ claimed. BeginsWith (arc_value c.args.circuit.now) claimed (map arc_value list.items)))) (sym c.in-Some.is) c.listed.ensures.list
 
 pub returns-in-Some-clause-fault : goal.returns-in-Some-clause-fault
-returns-in-Some-clause-fault g c = λ fault e.
-    subst (λ a. OfClaimed (told_of (g.H.Shelf.held c.args.shelf.now) (option_map (λ name. name.now) a)) (λ claimed. HasNoList (arc_value c.args.circuit.now) claimed fault))
-    (sym c.in-Some.is) (c.listed.ensures.fault fault e)
+returns-in-Some-clause-fault g c =
+    subst (λ a. IfErr c.listed.result (λ end. IsUnended end
+    ⊎ OfClaimed (told_of (g.H.Shelf.held c.args.shelf.now) (option_map (λ name. name.now) a)) (λ claimed. HasNoList (arc_value c.args.circuit.now) claimed end)))
+    (sym c.in-Some.is) c.listed.ensures.fault
 
 pub returns-in-Some-clause-refused : goal.returns-in-Some-clause-refused
 returns-in-Some-clause-refused g c = λ claimed fault claims none.
