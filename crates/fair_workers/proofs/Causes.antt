@@ -10,7 +10,7 @@ use Rattle.wall_store.specs.Boards.{BoardState}
 use Rattle.wall_store.specs.Events.{IsOpen, IsSettled}
 use Rattle.fair_round.specs.Spending.{IsSpent}
 use Rattle.fair_workers.specs.declared.ending.WorkerEnd.{WorkerEnd}
-use Rattle.fair_workers.specs.declared.limits.Report.{Report}
+use Rattle.search_reports.specs.declared.limits.Report.{Report}
 use Rattle.fair_workers.specs.declared.working.Phase.{Phase}
 use Rattle.fair_workers.specs.declared.working.Phase.TheVariants as phases
 use Rattle.fair_workers.specs.Runs.{Task, IsSpentOn, AreSpentOn, IsFull, IsAnswer, IsReport, most_steps}

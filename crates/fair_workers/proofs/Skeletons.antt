@@ -22,7 +22,7 @@ use Rattle.entry.specs.declared.origins.Origin.{Origin}
 use Rattle.entry.specs.declared.origins.Origin.TheVariants.{Given, Worker as FoundBy}
 use Rattle.wall_store.specs.Boards.{BoardState, plain, Allow, FromWorker, IsFind, properties_of, most_entries}
 use Rattle.fair_round.specs.Spending.{IsSpent}
-use Rattle.fair_workers.specs.declared.limits.Report.{Report}
+use Rattle.search_reports.specs.declared.limits.Report.{Report}
 use Rattle.fair_workers.specs.Runs.{Task, AreLimits, IsFull, IsReport}
 use Rattle.fair_workers.specs.Laws.{skeleton_lists, NoReportWithoutLimits}
 use Rattle.fair_workers.proofs.Ahead.{member}

@@ -18,7 +18,7 @@ use Rattle.wall_store.proofs.Ascending.{none_found, ascend_empty, ascend_later, 
 use Rattle.wall_ledger.specs.Passes.{Marked, PassState, LedgerState, GoesOn, OwnTurns, blank, shown_of, new_pass, new_passes}
 use Rattle.wall_ledger.specs.Turns.{IsBegun, IsClosed, AreAll, AreOf}
 use Rattle.fair_workers.specs.declared.ending.WorkerEnd.{WorkerEnd}
-use Rattle.fair_workers.specs.declared.limits.Limits.{Limits}
+use Rattle.search_reports.specs.declared.limits.Limits.{Limits}
 use Rattle.fair_workers.specs.declared.runners.Runner.{Runner}
 use Rattle.fair_workers.specs.declared.working.Phase.{Phase}
 use Rattle.fair_workers.specs.declared.working.Phase.TheVariants as phases

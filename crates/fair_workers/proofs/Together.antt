@@ -17,7 +17,7 @@ use Rattle.skeleton.specs.Finding.{Asking, IsAllowed}
 use Rattle.wall_store.specs.Boards.{BoardState, IsBoard, FromWorker, is_by, found_by, turn_of, AscendBy, Ascend, plain, properties_of, outcome_of, most_entries, first_board}
 use Rattle.wall_store.specs.Events.{seen_by, list_of, IsSettled}
 use Rattle.wall_store.proofs.Ascending.{ascend_empty, ascend_later, ascend_push, found_own, found_others}
-use Rattle.fair_workers.specs.declared.limits.Limits.{Limits}
+use Rattle.search_reports.specs.declared.limits.Limits.{Limits}
 use Rattle.fair_workers.specs.declared.working.Phase.{Phase}
 use Rattle.fair_workers.specs.declared.working.Phase.TheVariants as phases
 use Rattle.fair_workers.specs.declared.working.Worker.{Worker}

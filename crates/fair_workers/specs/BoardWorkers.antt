@@ -8,7 +8,7 @@ use Rattle.wall_store.specs.Events.{seen_by, list_of}
 use Rattle.fair_workers.specs.declared.working.Phase.TheVariants as phases
 use Rattle.fair_workers.specs.declared.lending.LentBoard.{LentBoard}
 use Rattle.fair_workers.specs.declared.board_workers.BoardWorker.{BoardWorker}
-use Rattle.fair_workers.specs.declared.limits.Limits.{Limits}
+use Rattle.search_reports.specs.declared.limits.Limits.{Limits}
 use Rattle.fair_workers.specs.declared.board_workers.RunTask.{RunTask}
 use Rattle.fair_workers.specs.Runs.{Task, AreServed, IsFoundWithin, IsBoardOf, IsWithLimits}
 use Rattle.fair_workers.specs.Knowing.{Known}

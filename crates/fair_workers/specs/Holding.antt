@@ -8,7 +8,7 @@ use Rattle.wall_ledger.specs.declared.marks.Shown.TheVariants as shows
 use Rattle.wall_ledger.specs.Passes.{PassState, LedgerState, OwnTurns, shown_of, new_passes}
 use Rattle.wall_ledger.specs.Turns.{IsBegun}
 use Rattle.fair_workers.specs.declared.ending.WorkerEnd.{WorkerEnd}
-use Rattle.fair_workers.specs.declared.limits.Limits.{Limits}
+use Rattle.search_reports.specs.declared.limits.Limits.{Limits}
 use Rattle.fair_workers.specs.declared.runners.Runner.{Runner}
 use Rattle.fair_workers.specs.declared.working.Worker.{Worker}
 use Rattle.fair_workers.specs.Runs.{Task, AreServed, IsInBudget, IsWithLimits}

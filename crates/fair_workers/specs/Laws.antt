@@ -3,7 +3,7 @@ use Rattle.std.specs.Prelude.{◌≡◌, ℕ, ◌+◌, ◌*◌, ◌^◌, ◌≤�
 use Rattle.aig_semantics.specs.Circuits.{Circuit, fair_literals}
 use Rattle.edge.specs.Units.{limit_of}
 use Rattle.wall_store.specs.Boards.{most_entries}
-use Rattle.fair_workers.specs.declared.limits.Report.{Report}
+use Rattle.search_reports.specs.declared.limits.Report.{Report}
 use Rattle.fair_workers.specs.Runs.{Task, AreLimits, IsReport}
 
 -- how many lists of latch and input values could be a skeleton of one of these properties, each counted by itself

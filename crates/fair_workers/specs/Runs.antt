@@ -11,10 +11,10 @@ use Rattle.skeleton.specs.Finding.{IsAllowed}
 use Rattle.wall_store.specs.Boards.{BoardState, IsBoard, FromWorker, AscendBy, plain, most_entries, properties_of}
 use Rattle.wall_store.specs.Events.{IsOpen, IsSettled}
 use Rattle.fair_round.specs.Spending.{IsSpent, path_steps}
-use Rattle.fair_workers.specs.declared.limits.Limits.{Limits}
-use Rattle.fair_workers.specs.declared.limits.Report.{Report}
-use Rattle.fair_workers.specs.declared.limits.Ended.{Ended}
-use Rattle.fair_workers.specs.declared.limits.Ended.TheVariants.{Spent, Memory}
+use Rattle.search_reports.specs.declared.limits.Limits.{Limits}
+use Rattle.search_reports.specs.declared.limits.Report.{Report}
+use Rattle.search_reports.specs.declared.limits.Ended.{Ended}
+use Rattle.search_reports.specs.declared.limits.Ended.TheVariants.{Spent, Memory}
 
 -- What is asked of workers: the circuit, the properties, what they may spend, and the entries that are given.
 pub record Task : Type 0 where

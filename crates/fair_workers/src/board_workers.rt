@@ -10,11 +10,11 @@ ghost use Rattle.fair_workers.specs.BoardWorkers.{task_in, IsFresh, IsBoardWorke
 
 use crate::ending::{WorkerEnd, end_of};
 use crate::lending::LentBoard;
-use crate::limits::Limits;
 use crate::working::{Phase, Worker, first_property, take_turn};
 use circuit::Circuit;
 use edge::Meter;
 use entry::Checked;
+use search_reports::Limits;
 use std::alloc::{AllocError, Global};
 use std::sync::Arc;
 use wall_store::Board;

@@ -8,10 +8,10 @@ ghost use Rattle.fair_workers.specs.BoardWorkers.{task_in};
 ghost use Rattle.fair_workers.specs.Ends.{AreDone, any_refused};
 
 use crate::board_workers::RunTask;
-use crate::limits::{Ended, Report};
 use crate::working::{Phase, Worker};
 use edge::{Meter, Spending};
 use items::Items;
+use search_reports::{Ended, Report};
 use wall_store::Board;
 
 /// What a worker had spent when it ended, and the phase in which it did.

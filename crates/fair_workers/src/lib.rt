@@ -25,7 +25,6 @@ mod ending;
 mod held;
 mod laws;
 mod lending;
-mod limits;
 mod runners;
 mod shared_list;
 mod threads;
@@ -33,7 +32,7 @@ mod turns;
 mod working;
 
 pub use laws::no_report_without_limits;
-pub use limits::{Ended, Limits, Report};
+pub use search_reports::{Ended, Limits, Report};
 pub use threads::run_all;
 pub use turns::run_turns;
 pub use wall_store::{Board, Outcome};

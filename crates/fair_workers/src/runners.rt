@@ -6,10 +6,10 @@ ghost use Rattle.fair_workers.specs.Holding.{fresh_meter, Goes, IsReady, IsThrou
 
 use crate::ending::{WorkerEnd, spending_of};
 use crate::held::Held;
-use crate::limits::Limits;
 use crate::shared_list::SharedList;
 use crate::working::{Phase, Worker, first_property, take_turn};
 use edge::{Bell, Gate, Meter, Point};
+use search_reports::Limits;
 use std::alloc::Global;
 use std::sync::{Arc, Wait};
 use wall_ledger::{Ledger, Pass};

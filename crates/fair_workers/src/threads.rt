@@ -11,11 +11,11 @@ ghost use Rattle.fair_workers.specs.Holding.{MayRun, HasRun, HaveRun, IsBegunFor
 
 use crate::board_workers::RunTask;
 use crate::ending::{WorkerEnd, ended};
-use crate::limits::{Ended, Limits, Report};
 use crate::runners::{Crew, Runner, parted, run_through, runners_of};
 use circuit::Circuit;
 use edge::{Bell, Gate};
 use entry::Checked;
+use search_reports::{Ended, Limits, Report};
 use std::alloc::{AllocError, Global};
 use std::sync::{Arc, Wait};
 use std::thread;

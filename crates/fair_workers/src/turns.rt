@@ -9,9 +9,9 @@ ghost use Rattle.fair_workers.specs.Ends.{AreDone};
 
 use crate::board_workers::{BoardWorker, RunTask, due, ends_of, next_running, turn_of, workers_on};
 use crate::ending::{WorkerEnd, ended};
-use crate::limits::{Ended, Limits, Report};
 use circuit::Circuit;
 use entry::Checked;
+use search_reports::{Ended, Limits, Report};
 use std::alloc::Global;
 use std::sync::Arc;
 use wall_store::Board;

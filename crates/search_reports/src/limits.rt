@@ -33,7 +33,7 @@ pub enum Ended {
 
 impl From<AllocError> for Ended {
     ghost use Rattle.std.specs.Prelude.{◌≡◌};
-    ghost use Rattle.fair_workers.specs.declared.limits.Ended.TheVariants.{Memory};
+    ghost use Rattle.search_reports.specs.declared.limits.Ended.TheVariants.{Memory};
 
     ghost from_gives = { λ _ end. end ≡ Memory };
 
