@@ -10,9 +10,10 @@ use Rattle.certificate.specs.declared.ends.Accepted.TheVariants as accepted
 use Rattle.certificate.specs.Answers.{IsGood}
 use Rattle.certificate.specs.Laws.{VerdictsAgree}
 use Rattle.command_lines.specs.declared.commands.solving.SolveRequest.{SolveRequest}
-use Rattle.fair_top.specs.ModelTexts.{is_binary, IsTextIn, IsModelText, OfModel}
-use Rattle.fair_top.specs.ModelGiven.{OfSomeText}
-use Rattle.fair_top.specs.Solve.{property_of, OfAnswer, IsWrittenAs, IsAnswerBy, RunsAgree}
+use Rattle.plain_commands.specs.ModelTexts.{is_binary, IsTextIn, IsModelText, OfModel}
+use Rattle.plain_commands.specs.ModelGiven.{OfSomeText}
+use Rattle.fair_top.specs.Solve.{property_of, OfAnswer, IsAnswerBy, RunsAgree}
+use Rattle.plain_commands.specs.Spelled.{IsWrittenAs}
 
 in_form : HasOneModel → BinaryHasOneModel → (binary : Bool) (m n : Model) (text : List ℕ) → IsTextIn binary m text → IsTextIn binary n text → m ≡ n
 in_form ascii binary_one true m n text h k = binary_one m n text h k

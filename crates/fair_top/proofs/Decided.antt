@@ -1,16 +1,21 @@
 -- What `solve` gives, from the model and from what it comes to for the circuit.
-use Rattle.std.proofs.Common.{◌≡◌, ◌⊎◌, ◌<◌, ◌≤◌, ◌^◌, ℕ, List, [], ◌∷◌, ◌++◌, map, length, take, refl, sym, ◌∙◌, ap, ap₂, subst, Bool, true, false, inl, inr, arith, codes, get_or, None, Some, Ok, Err}
+use Rattle.std.proofs.Common.{◌≡◌, ◌⊎◌, ◌<◌, ◌≤◌, ◌+◌, ◌^◌, ℕ, List, [], ◌∷◌, ◌++◌, map, length, take, refl, sym, ◌∙◌, ap, ap₂, subst, Bool, true, false, inl, inr, arith, codes, get_or, None, Some, Ok, Err}
 use Rattle.std.specs.Prelude.{Option, Result, IfOk, IfErr}
-use Rattle.std.proofs.lemmas.List.{map-append, append_assoc, length-map}
-use Rattle.std.proofs.lemmas.List.Elements.{All-nil, All-cons}
+use Rattle.std.proofs.lemmas.List.{length-map}
 use Rattle.aig_semantics.specs.Circuits.{Circuit}
 use Rattle.certificate.specs.declared.ends.Accepted.{Accepted}
 use Rattle.certificate.specs.declared.ends.Accepted.TheVariants as accepted
-use Rattle.round_answers.specs.declared.ends.Judged.{Judged}
-use Rattle.round_answers.specs.declared.ends.Judged.TheVariants as found_as
-use Rattle.round_answers.specs.Answers.{ShowsText}
+use Rattle.sheet_answers.specs.declared.ends.Judged.{Judged}
+use Rattle.round_answers.specs.declared.ends.Judged.TheVariants as texts
+use Rattle.sheet_answers.specs.declared.ends.Judged.TheVariants as found_as
+use Rattle.sheet_answers.specs.declared.counts.Counts.{Counts}
+use Rattle.sheet_answers.specs.Sheets.{IsSheetWith, ShowsSheet}
+use Rattle.sheet_answers.specs.Ends.{ShowsText}
+use Rattle.sheet_commands.specs.Each.{each_of}
+use Rattle.sheet_commands.specs.Boards.{IsSheetOf}
+use Rattle.sheet_commands.proofs.BoardBlocks.{proved_in_order, settled_counts}
 use Rattle.certificate.specs.Answers.{IsGood}
-use Rattle.certificate.specs.Writing.{AreProvedInOrder, IsRefutedBy, certificate_of, certificate_text}
+use Rattle.certificate.specs.Writing.{IsRefutedBy, certificate_of, certificate_text}
 use Rattle.certificate.specs.Laws.{GoodIsTrue, WrittenIsGood, WrittenCertificatesAreGood}
 use Rattle.answer_lines.specs.Left.{most_bytes}
 use Rattle.aig_semantics.specs.Stimuli.{StandsFor}
@@ -19,56 +24,54 @@ use Rattle.aig_semantics.specs.declared.traces.Stimulus.{Stimulus}
 use Rattle.lasso_join.specs.Prefixes.{stimulus_of}
 use Rattle.stimulus.specs.Texts.{answer_text}
 use Rattle.entry.specs.declared.refutations.Refutation.{Refutation}
-use Rattle.fair_top.specs.declared.status.Done.TheVariants as dones
+use Rattle.plain_commands.specs.declared.status.Done.TheVariants as dones
 use Rattle.entry.specs.CheckedEntries.{CheckedEntry}
-use Rattle.entry.specs.Proved.{IsProved, IsGoodRefutation}
-use Rattle.fair_semantics.specs.Entries.{Entry}
-use Rattle.fair_workers.specs.Runs.{IsReport, AreServed}
-use Rattle.wall_store.specs.Boards.{BoardState, IsBoard, plain, IsSoundList, outcome_of}
+use Rattle.entry.specs.Proved.{IsGoodRefutation}
+use Rattle.fair_workers.specs.Runs.{IsReport, IsAnswered as IsAnsweredBy}
+use Rattle.std.specs.List.{Contains, range_with_len}
+use Rattle.std.proofs.lemmas.List.FromFn.{length-range_with_len, get_or-range_with_len}
 use Rattle.wall_store.specs.declared.outcomes.Outcome.{Outcome as Found}
 use Rattle.wall_store.specs.declared.outcomes.Outcome.TheVariants as outcomes
+use Rattle.wall_store.specs.declared.outcomes.Served.{Served}
+use Rattle.wall_store.specs.Events.{IsSettled}
+use Rattle.wall_store.specs.Boards.{BoardState, IsBoard, plain, IsSoundList, properties_of, outcome_of}
+use Rattle.search_reports.specs.declared.limits.Report.{Report}
 use Rattle.command_lines.specs.declared.commands.solving.SolveRequest.{SolveRequest}
-use Rattle.fair_top.specs.declared.status.Status.{Status}
-use Rattle.fair_top.specs.declared.status.Status.TheVariants as statuses
-use Rattle.fair_top.specs.declared.texts.Outcome.{Outcome}
-use Rattle.fair_top.specs.Check.{done_by}
+use Rattle.plain_commands.specs.declared.status.Status.{Status}
+use Rattle.plain_commands.specs.declared.status.Status.TheVariants as statuses
+use Rattle.plain_commands.specs.declared.texts.Outcome.{Outcome}
+use Rattle.plain_commands.specs.Check.{done_by}
 use Rattle.certificate.specs.Writing.{written_entry}
 use Rattle.given_entries.specs.Beginning.{BeginsWith}
 use Rattle.fair_top.specs.declared.beginnings.Beginning.{Beginning}
-use Rattle.fair_top.specs.ModelTexts.{OfModel}
-use Rattle.fair_top.specs.ModelGiven.{OfSomeText}
-use Rattle.fair_top.specs.Solve.{task_of, most_of, OfAnswer, IsWrittenAs, IsAnswerBy, IsReportBy, HasAsked, GivesSolve, ShownBySolve, IsStimulusOf, IsTextOfOutcome, property_of, BeginsWithGiven}
-use Rattle.fair_top.specs.Solved.{IsPrinted, EndsFor, SolvesUnlessCut}
+use Rattle.plain_commands.specs.ModelTexts.{OfModel}
+use Rattle.plain_commands.specs.ModelGiven.{OfSomeText}
+use Rattle.fair_top.specs.Solve.{asked_in, task_for, task_of, most_of, property_of, HasProperty, OfAnswer, IsAnswerBy, BeginsWithGiven, IsReportBy, IsSheetBy, IsSheetOfReport, HasAsked, Solves, GivesSolve, ShownBySolve, IsStimulusOf, IsTextOfOutcome}
+use Rattle.plain_commands.specs.Spelled.{IsWrittenAs}
+use Rattle.fair_top.specs.Solved.{IsPrinted, IsPrintedFor, IsSheetPrinted, EndsAs, EndsFor, SolvesUnlessCut}
 use Rattle.fair_top.specs.Beginnings.{circuit_in, given_in, IsBeginning, SaysBefore, EndsBefore}
-use Rattle.fair_top.specs.Headline.{IsSilent}
-use Rattle.fair_top.specs.Statuses.{status_in, is_read_fault, ends_silently}
-use Rattle.fair_top.specs.Texts.{text_of}
-use Rattle.fair_top.proofs.Judging.{same_accepted}
+use Rattle.plain_commands.specs.Answering.{IsSilent}
+use Rattle.plain_commands.specs.Statuses.{status_in, is_read_fault, ends_silently}
+use Rattle.plain_commands.specs.Texts.{text_of}
+use Rattle.plain_commands.proofs.Judging.{same_accepted, end_hidden}
 use Rattle.fair_top.proofs.Begun.{of_some}
-
--- Entries of a board.
-
--- each entry that is sound behind those before it is proved behind them
-proved_from : (c : Circuit) (entries before after : List CheckedEntry) → entries ≡ before ++ after → IsSoundList c entries → AreProvedInOrder c (plain before) after
-proved_from c entries before [] same sound = tt
-proved_from c entries before (e ∷ after) same sound =
-    let s = sound before after e same in
-    let longer : plain (before ++ e ∷ []) ≡ plain before ++ e.entry ∷ [] = map-append (λ (x : CheckedEntry). x.entry) before (e ∷ []) in (
-      s.circuit,
-      subst (λ (k : Circuit). IsProved k (plain before) e.entry e.proofs) s.circuit s.holds.proved,
-      subst (λ (b : List Entry). AreProvedInOrder c b after) longer
-          (proved_from c entries (before ++ e ∷ []) after (same ∙ sym (append_assoc before (e ∷ []) after)) sound),
-    )
-
-pub proved_in_order : (c : Circuit) (entries : List CheckedEntry) → IsSoundList c entries → AreProvedInOrder c [] entries
-proved_in_order c entries sound = proved_from c entries [] entries refl sound
 
 -- What a search comes to.
 
-shows : (c : Circuit) (request : SolveRequest) (given : List CheckedEntry) (status : Status) (text : List ℕ) (found : Judged) → EndsFor c request given status text
+shows : (all : Bool) (c : Circuit) (request : SolveRequest) (given : List CheckedEntry) (status : Status) (text : List ℕ) (found : Judged) → EndsAs all c request given status text
     → status ≡ statuses.Done (done_by found) → ShowsText c found
-shows c request given status text found (inl p) is = subst (λ (a : Judged). ShowsText c a) (same_accepted (found_as.Answer p.0) found (sym p.1 ∙ is)) p.6
-shows c request given status text found (inr (r, e)) is = let wrong : statuses.Unknown r.0 ≡ statuses.Done (done_by found) = sym r.1 ∙ is in cc
+shows false c request given status text found (inl p) is =
+    subst (λ (a : Judged). ShowsText c a) (same_accepted (found_as.Text (texts.Answer p.0)) found (sym p.1 ∙ is)) p.6
+shows false c request given status text found (inr (r, e)) is = let wrong : statuses.Unknown r.0 ≡ statuses.Done (done_by found) = sym r.1 ∙ is in cc
+shows true c request given status text found (inl (b, answered, (counts, entries, e, counted, good, none, sheet, shown))) is =
+    subst (λ (a : Judged). ShowsText c a) (same_accepted (found_as.Sheet counts entries) found (sym e ∙ is)) shown
+shows true c request given status text found (inr r) is = let wrong : statuses.Unknown r.0 ≡ statuses.Done (done_by found) = sym r.1 ∙ is in cc
+
+-- where one property was asked for, the board serves that one
+pub one_answered : (c : Circuit) (request : SolveRequest) (given : List CheckedEntry) (b : BoardState) → request.all ≡ false → IsAnsweredBy (task_of c request given) b
+    → IsAnsweredBy (task_for c (request.property ∷ []) request given) b
+one_answered c request given b one h =
+    subst (λ (ps : List ℕ). IsAnsweredBy (task_for c ps request given) b) (ap (λ (all : Bool). asked_in all c request.property) one) h
 
 -- the text of a certificate is none of a stimulus, and that of the board's list begins with what was given
 begins_with_given : (c : Circuit) (j : ℕ) (given more entries : List CheckedEntry) (o : Option Found) (found : Accepted) (text : List ℕ) → property_of found ≡ j
@@ -82,18 +85,45 @@ begins_with_given c j given more entries (Some (outcomes.Holds refutation)) (acc
     (more, refutation, t ∙ ap₂ (λ (i : ℕ) (es : List CheckedEntry). certificate_text i (certificate_of es refutation)) (sym of_j) same)
 
 -- the board has the limit of the task, and its list begins with what was given
-pub printed_by : (c : Circuit) (request : SolveRequest) (given more : List CheckedEntry) (b : BoardState) (result : Result Outcome Status) → b.limit ≡ most_of request given
-    → b.entries ≡ given ++ more → IfOk result (λ outcome. IsPrinted c request b.limit outcome.status outcome.text.items)
+pub printed_by : (c : Circuit) (request : SolveRequest) (given more : List CheckedEntry) (b : BoardState) (result : Result Outcome Status) → request.all ≡ false
+    → b.limit ≡ most_of request given → b.entries ≡ given ++ more → IfOk result (λ outcome. IsPrinted c request b.limit outcome.status outcome.text.items)
     → IfOk result (λ outcome. IsTextOfOutcome c request.property b.entries (outcome_of b.served request.property) outcome.text.items)
     → IfOk result (λ outcome. EndsFor c request given outcome.status outcome.text.items)
-printed_by c request given more b (Ok outcome) limit same p t =
+printed_by c request given more b (Ok outcome) one limit same p t =
     let q : IsPrinted c request (most_of request given) outcome.status outcome.text.items = subst (λ (n : ℕ). IsPrinted c request n outcome.status outcome.text.items) limit p in
-    inl (q.0, q.1, q.2, q.3, q.4, q.5, q.6, begins_with_given c request.property given more b.entries (outcome_of b.served request.property) q.0 outcome.text.items q.2 q.5 same t)
-printed_by c request given more b (Err status) limit same p t = tt
+    let begins : BeginsWithGiven given q.0 outcome.text.items =
+    begins_with_given c request.property given more b.entries (outcome_of b.served request.property) q.0 outcome.text.items q.2 q.5 same t in
+    let all_of : IsPrintedFor c request given outcome.status outcome.text.items = (q.0, q.1, q.2, q.3, q.4, q.5, q.6, begins) in
+    subst (λ (all : Bool). EndsAs all c request given outcome.status outcome.text.items) (sym one) (inl all_of)
+printed_by c request given more b (Err status) one limit same p t = tt
 
-gives : (model : Option (List ℕ)) (answer : Option (Option (List ℕ))) (request : SolveRequest) (q : Beginning) (status : Status) (text : List ℕ) → IsBeginning model answer request q
-    → EndsFor (circuit_in q) request (given_in q) status text → GivesSolve model answer request status text
-gives model answer request q status text h (inl p) = inr (inr (inr (inl (
+pub sheet_by : (c : Circuit) (request : SolveRequest) (given : List CheckedEntry) (b : BoardState) (result : Result Outcome Status) → request.all ≡ true
+    → IsAnsweredBy (task_of c request given) b → IfOk result (λ outcome. IsSheetPrinted c b outcome.status outcome.text.items)
+    → IfOk result (λ outcome. EndsFor c request given outcome.status outcome.text.items)
+sheet_by c request given b (Ok outcome) each answered p =
+    subst (λ (all : Bool). EndsAs all c request given outcome.status outcome.text.items) (sym each) (inl (b, answered, p))
+sheet_by c request given b (Err status) each answered p = tt
+
+pub unknown_by : (c : Circuit) (request : SolveRequest) (given : List CheckedEntry) (report : Report) (result : Result Outcome Status) → request.all ≡ false
+    → IsReport (task_of c request given) report
+    → IfOk result (λ outcome. (outcome.status ≡ statuses.Unknown report) × (outcome.text.items ≡ text_of (statuses.Unknown report)))
+    → IfOk result (λ outcome. EndsFor c request given outcome.status outcome.text.items)
+unknown_by c request given report (Ok outcome) one is text =
+    subst (λ (all : Bool). EndsAs all c request given outcome.status outcome.text.items) (sym one)
+    (inr ((report, text.0, is), text.1 ∙ sym (ap text_of text.0)))
+unknown_by c request given report (Err status) one is text = tt
+
+pub open_by : (c : Circuit) (request : SolveRequest) (given : List CheckedEntry) (report : Report) (result : Result Outcome Status) → request.all ≡ true
+    → IsReport (task_of c request given) report → IfOk result (λ outcome. outcome.status ≡ statuses.Unknown report)
+    → IfOk result (λ outcome. IsSheetOfReport c report outcome.text.items)
+    → IfOk result (λ outcome. EndsFor c request given outcome.status outcome.text.items)
+open_by c request given report (Ok outcome) each is status text =
+    subst (λ (all : Bool). EndsAs all c request given outcome.status outcome.text.items) (sym each) (inr (report, status, is, text))
+open_by c request given report (Err status) each is e text = tt
+
+gives : (all : Bool) (model : Option (List ℕ)) (answer : Option (Option (List ℕ))) (request : SolveRequest) (q : Beginning) (status : Status) (text : List ℕ) → IsBeginning model answer request q
+    → EndsAs all (circuit_in q) request (given_in q) status text → Solves all model answer request status text
+gives false model answer request q status text h (inl p) = inl (
   p.0,
   p.1,
   p.2,
@@ -115,8 +145,8 @@ gives model answer request q status text h (inl p) = inr (inr (inr (inl (
           ),
         )) h.asked.2,
   ),
-))))
-gives model answer request q status text h (inr (r, e)) = inr (inr (inr (inr (
+)
+gives false model answer request q status text h (inr (r, e)) = inr (
   (
     r.0,
     r.1,
@@ -129,7 +159,7 @@ gives model answer request q status text h (inr (r, e)) = inr (inr (inr (inr (
             k.0,
             k.1,
             (
-              subst (λ (c : Circuit). request.property < length c.justice) k.2.0 h.property,
+              subst (λ (c : Circuit). HasProperty c request) k.2.0 h.property,
               given_in q,
               k.2.1,
               subst (λ (c : Circuit). IsReport (task_of c request (given_in q)) r.0) k.2.0 r.2,
@@ -138,13 +168,61 @@ gives model answer request q status text h (inr (r, e)) = inr (inr (inr (inr (
     ),
   ),
   e,
-))))
+)
+gives true model answer request q status text h (inl (b, answered, (counts, entries, e, counted, good, none, sheet, shown))) = inl (
+  counts,
+  entries,
+  e,
+  (
+    h.asked.0,
+    h.asked.1,
+    of_some answer (λ claimed. OfModel h.asked.0 (λ c. (circuit_in q ≡ c) × BeginsWith c claimed (given_in q)))
+        (λ claimed. OfModel h.asked.0 (λ c. IsSheetBy c claimed request counts entries text))
+        (λ claimed k. (
+          k.0,
+          k.1,
+          (
+            subst (λ (c : Circuit). IsSheetWith c text counts entries) k.2.0 good,
+            none,
+            given_in q,
+            k.2.1,
+            b,
+            subst (λ (c : Circuit). IsAnsweredBy (task_of c request (given_in q)) b) k.2.0 answered,
+            counted,
+            subst (λ (c : Circuit). IsSheetOf c b counts text) k.2.0 sheet,
+          ),
+        )) h.asked.2,
+  ),
+)
+gives true model answer request q status text h (inr (report, e, is, sheet)) = inr (
+  report,
+  e,
+  (
+    h.asked.0,
+    h.asked.1,
+    of_some answer (λ claimed. OfModel h.asked.0 (λ c. (circuit_in q ≡ c) × BeginsWith c claimed (given_in q)))
+        (λ claimed. OfModel h.asked.0 (λ c. IsReportBy c claimed request report × IsSheetOfReport c report text))
+        (λ claimed k. (
+          k.0,
+          k.1,
+          (
+            (
+              subst (λ (c : Circuit). HasProperty c request) k.2.0 h.property,
+              given_in q,
+              k.2.1,
+              subst (λ (c : Circuit). IsReport (task_of c request (given_in q)) report) k.2.0 is,
+            ),
+            subst (λ (c : Circuit). IsSheetOfReport c report text) k.2.0 sheet,
+          ),
+        )) h.asked.2,
+  ),
+)
 
 pub solved_gives : (model : Option (List ℕ)) (answer : Option (Option (List ℕ))) (request : SolveRequest) (q : Beginning) (result : Result Outcome Status) → IsBeginning model answer request q
     → IfOk result (λ outcome. EndsFor (circuit_in q) request (given_in q) outcome.status outcome.text.items)
     → IfOk result (λ outcome. GivesSolve model answer request outcome.status outcome.text.items)
 solved_gives model answer request q (Err status) h ends = tt
-solved_gives model answer request q (Ok outcome) h ends = gives model answer request q outcome.status outcome.text.items h ends
+solved_gives model answer request q (Ok outcome) h ends = inr (inr (inr (gives request.all model answer request q outcome.status outcome.text.items h ends)))
 
 -- what is so of each text that the answer may be, and speaks of the model's circuit alone, is so of that
 model_shows : (bytes : List ℕ) (answer : Option (Option (List ℕ))) (q : Beginning) (found : Judged)
@@ -158,32 +236,36 @@ pub solved_shown : (model : Option (List ℕ)) (answer : Option (Option (List �
     → (found : Judged) → status_in result ≡ statuses.Done (done_by found) → ShownBySolve model found
 solved_shown model answer request q (Err status) h ends ended found e = let wrong : statuses.Memory ≡ statuses.Done (done_by found) = sym ended ∙ e in cc
 solved_shown model answer request q (Ok outcome) h ends ended found e =
-    (h.asked.0, h.asked.1, model_shows h.asked.0 answer q found h.asked.2 (shows (circuit_in q) request (given_in q) outcome.status outcome.text.items found ends e))
+    (h.asked.0, h.asked.1, model_shows h.asked.0 answer q found h.asked.2 (shows request.all (circuit_in q) request (given_in q) outcome.status outcome.text.items found ends e))
 
-ends_solved : (c : Circuit) (request : SolveRequest) (given : List CheckedEntry) (status : Status) (text : List ℕ) → EndsFor c request given status text → SolvesUnlessCut status
-ends_solved c request given status text (inl p) = inl (inl (inl (p.0, p.1)))
-ends_solved c request given status text (inr (r, e)) = inl (inl (inr (r.0, r.1)))
+ends_solved : (all : Bool) (c : Circuit) (request : SolveRequest) (given : List CheckedEntry) (status : Status) (text : List ℕ) → EndsAs all c request given status text → SolvesUnlessCut all status
+ends_solved false c request given status text (inl p) = inl (inl (inl (p.0, p.1)))
+ends_solved false c request given status text (inr (r, e)) = inl (inl (inr (r.0, r.1)))
+ends_solved true c request given status text (inl (b, answered, (counts, entries, e, counted, good, none, sheet, shown))) = inl (inl (inl (counts, entries, e)))
+ends_solved true c request given status text (inr r) = inl (inl (inr (r.0, r.1)))
 
 pub solved_asked : (c : Circuit) (request : SolveRequest) (given : List CheckedEntry) (result : Result Outcome Status)
     → IfOk result (λ outcome. EndsFor c request given outcome.status outcome.text.items) → IfErr result (λ status. status ≡ statuses.Memory)
-    → SolvesUnlessCut (status_in result)
+    → SolvesUnlessCut request.all (status_in result)
 solved_asked c request given (Err status) ends ended = inr ended
-solved_asked c request given (Ok outcome) ends ended = ends_solved c request given outcome.status outcome.text.items ends
+solved_asked c request given (Ok outcome) ends ended = ends_solved request.all c request given outcome.status outcome.text.items ends
 
-solved_unread : (c : Circuit) (request : SolveRequest) (given : List CheckedEntry) (status : Status) (text : List ℕ) → EndsFor c request given status text → is_read_fault status ≡ false
-solved_unread c request given status text (inl p) = ap is_read_fault p.1
-solved_unread c request given status text (inr (r, e)) = ap is_read_fault r.1
+solved_unread : (all : Bool) (c : Circuit) (request : SolveRequest) (given : List CheckedEntry) (status : Status) (text : List ℕ) → EndsAs all c request given status text → is_read_fault status ≡ false
+solved_unread false c request given status text (inl p) = ap is_read_fault p.1
+solved_unread false c request given status text (inr (r, e)) = ap is_read_fault r.1
+solved_unread true c request given status text (inl (b, answered, (counts, entries, e, counted, good, none, sheet, shown))) = ap is_read_fault e
+solved_unread true c request given status text (inr r) = ap is_read_fault r.1
 
 pub solved_read : (c : Circuit) (request : SolveRequest) (given : List CheckedEntry) (result : Result Outcome Status)
     → IfOk result (λ outcome. EndsFor c request given outcome.status outcome.text.items) → IfErr result (λ status. status ≡ statuses.Memory)
     → is_read_fault (status_in result) ≡ false
 solved_read c request given (Err status) ends ended = ap is_read_fault ended
-solved_read c request given (Ok outcome) ends ended = solved_unread c request given outcome.status outcome.text.items ends
+solved_read c request given (Ok outcome) ends ended = solved_unread request.all c request given outcome.status outcome.text.items ends
 
 pub solved_aloud : (c : Circuit) (request : SolveRequest) (given : List CheckedEntry) (result : Result Outcome Status)
     → IfOk result (λ outcome. EndsFor c request given outcome.status outcome.text.items) → IfOk result (λ outcome. is_read_fault outcome.status ≡ false)
 solved_aloud c request given (Err status) ends = tt
-solved_aloud c request given (Ok outcome) ends = solved_unread c request given outcome.status outcome.text.items ends
+solved_aloud c request given (Ok outcome) ends = solved_unread request.all c request given outcome.status outcome.text.items ends
 
 -- Where there is no search.
 
@@ -193,7 +275,7 @@ before_gives model answer request status text (inl bad) e = inl (bad, e)
 before_gives model answer request status text (inr (inl none)) e = inr (inl (none, e))
 before_gives model answer request status text (inr (inr refused)) e = inr (inr (inl (refused, e)))
 
-silent_aloud : (status : Status) → IsSilent status → ends_silently status ≡ false → ⊥
+pub silent_aloud : (status : Status) → IsSilent status → ends_silently status ≡ false → ⊥
 silent_aloud status (inl e) aloud = let wrong : true ≡ false = sym (ap ends_silently e) ∙ aloud in cc
 silent_aloud status (inr e) aloud = let wrong : true ≡ false = sym (ap ends_silently e) ∙ aloud in cc
 
@@ -211,7 +293,7 @@ before_hidden : (model : Option (List ℕ)) (answer : Option (Option (List ℕ))
     → SaysBefore model answer request status ⊎ IsSilent status → status ≡ statuses.Done (done_by found) → ⊥
 before_hidden model answer request status found (inl (inl bad)) is = let wrong : statuses.BadModel bad.0 ≡ statuses.Done (done_by found) = sym bad.1 ∙ is in cc
 before_hidden model answer request status found (inl (inr (inl none))) is = let wrong : statuses.NoProperty request.property ≡ statuses.Done (done_by found) = sym none.0 ∙ is in cc
-before_hidden model answer request status found (inl (inr (inr refused))) is = let wrong : statuses.Refused refused.0 ≡ statuses.Done (done_by found) = sym refused.1 ∙ is in cc
+before_hidden model answer request status found (inl (inr (inr refused))) is = end_hidden refused.0 found (sym refused.1 ∙ is)
 before_hidden model answer request status found (inr (inl e)) is = let wrong : statuses.ReadFault ≡ statuses.Done (done_by found) = sym e ∙ is in cc
 before_hidden model answer request status found (inr (inr e)) is = let wrong : statuses.Memory ≡ statuses.Done (done_by found) = sym e ∙ is in cc
 
@@ -221,13 +303,39 @@ unsearched_shown model answer request status result h (inl same) found is = absu
 unsearched_shown model answer request status result h (inr memory) found is = let wrong : statuses.Memory ≡ statuses.Done (done_by found) = sym memory ∙ is in cc
 
 pub unsearched_asked : (model : Option (List ℕ)) (answer : Option (Option (List ℕ))) (request : SolveRequest) (status result : Status) → EndsBefore model answer request status
-    → (result ≡ status) ⊎ (result ≡ statuses.Memory) → HasAsked model answer request → SolvesUnlessCut result
+    → (result ≡ status) ⊎ (result ≡ statuses.Memory) → HasAsked model answer request → SolvesUnlessCut request.all result
 unsearched_asked model answer request status result h (inr memory) asked = inr memory
 unsearched_asked model answer request status result h (inl same) asked = by (h.asked asked)
   where
-    by : IsSilent status → SolvesUnlessCut result
+    by : IsSilent status → SolvesUnlessCut request.all result
     by (inl e) = inl (inr (inl (same ∙ e)))
     by (inr e) = inr (same ∙ e)
+
+-- What is printed of all properties.
+
+range_contains : (n more k j : ℕ) → j ≡ n + k → k < more → Contains (range_with_len n more) j
+range_contains n more k j is below = (k, omega (arith, length-range_with_len n more, below), get_or-range_with_len n more k j below ∙ sym is)
+
+each_contained : (served : List Served) (count k : ℕ) → properties_of served ≡ range_with_len 0 count → k < count → Contains (properties_of served) k
+each_contained served count k is below = subst (λ (ps : List ℕ). Contains ps k) (sym is) (range_contains 0 count k k (omega arith) below)
+
+pub sheet_printed : (c : Circuit) (b : BoardState) (counts : Counts) (entries : ℕ) (text : List ℕ) → properties_of b.served ≡ each_of c → IsSettled b.served
+    → entries ≡ length b.entries → IsSheetOf c b counts text → IsSheetWith c text counts (length b.entries) → ShowsSheet c counts
+    → IsSheetPrinted c b (statuses.Done (done_by (found_as.Sheet counts entries))) text
+sheet_printed c b counts entries text each settled counted sheet good shown = (
+  counts,
+  entries,
+  refl,
+  counted,
+  subst (λ (n : ℕ). IsSheetWith c text counts n) (sym counted) good,
+  settled_counts c b counts text (λ k below none. settled k (each_contained b.served (length c.justice) k each below, none)) sheet,
+  sheet,
+  shown,
+)
+
+pub sheet_reported : (c : Circuit) (report : Report) (counts : Counts) (text : List ℕ) → IsSheetOf c report.board counts text → IsSheetWith c text counts (length report.board.entries)
+    → ShowsSheet c counts → IsSheetOfReport c report text
+sheet_reported c report counts text sheet good shown = (counts, sheet, good, shown)
 
 -- What is printed.
 
@@ -288,18 +396,3 @@ text_of_prefix c j lasso short text stands start inputs same = (
 pub nothing_before : (before after : List CheckedEntry) (e : CheckedEntry) → [] ≡ before ++ e ∷ after → ⊥
 nothing_before [] after e wrong = cc
 nothing_before (x ∷ before) after e wrong = cc
-
--- One property of the circuit may be served.
-pub served_one : (c : Circuit) (j : ℕ) → j < length c.justice → AreServed c (j ∷ [])
-served_one c j below = record {
-  ascend = λ i k d less inside. absurd (let short : k < 1 = inside in omega (arith, less, short));
-  inside = All-cons (λ i. i < length c.justice) j [] below (All-nil (λ i. i < length c.justice));
-  few = (let one : 1 ≤ 536870912 = omega arith in one);
-}
-
--- Lists of which one stands in front.
-
-pub regrouped : (old a b c d e f g h i j k : List ℕ)
-    → old ++ a ++ b ++ c ++ d ++ e ++ f ++ g ++ h ++ i ++ j ++ k ≡ old ++ (a ++ b ++ c ++ d ++ e ++ f ++ g ++ h ++ i ++ j ++ k)
-regrouped [] a b c d e f g h i j k = refl
-regrouped (x ∷ old) a b c d e f g h i j k = ap (λ (rest : List ℕ). x ∷ rest) (regrouped old a b c d e f g h i j k)

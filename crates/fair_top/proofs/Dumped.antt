@@ -1,6 +1,6 @@
 -- What `wave` gives, from the model, the end of the check of the answer and the lasso that was kept.
 use Rattle.std.proofs.Common.{◌≡◌, ◌⊎◌, ℕ, ◌<◌, Bool, true, false, List, [], ◌∷◌, length, take, None, Some, refl, sym, ◌∙◌, ap, subst, inl, inr, arith, Ok, Err}
-use Rattle.std.specs.Prelude.{Option, Result, IfOk, IfErr}
+use Rattle.std.specs.Prelude.{Option, Result, IfOk, IfErr, codes, slice_get}
 use Rattle.std.specs.List.{All}
 use Rattle.std.proofs.lemmas.List.Elements.{All-take}
 use Rattle.aig_semantics.specs.declared.traces.Lasso.{Lasso as LassoOf}
@@ -11,28 +11,42 @@ use Rattle.edge.specs.Reads.{ReadsOf, Reads}
 use Rattle.edge.specs.Writes.{Writes}
 use Rattle.certificate.specs.declared.ends.Accepted.{Accepted}
 use Rattle.certificate.specs.declared.ends.Accepted.TheVariants.{Lasso, Holds}
-use Rattle.round_answers.specs.declared.ends.Judged.{Judged}
-use Rattle.round_answers.specs.declared.ends.Judged.TheVariants as found_as
+use Rattle.sheet_answers.specs.declared.ends.Judged.{Judged}
+use Rattle.round_answers.specs.declared.ends.Judged.TheVariants as texts
+use Rattle.sheet_answers.specs.declared.ends.JudgeEnd.{JudgeEnd}
+use Rattle.sheet_answers.specs.declared.blocks.Block.{Block}
+use Rattle.sheet_answers.specs.declared.blocks.Block.TheVariants as blocks
+use Rattle.sheet_answers.proofs.Statuses.{sheet_fault, same_fault}
+use Rattle.round_answers.specs.Texts.{is_about_rounds}
+use Rattle.sheet_answers.proofs.Others.{no_other}
+use Rattle.certificate.specs.Answers.{IsGood}
+use Rattle.edge.specs.Told.{MayBe}
+use Rattle.sheet_commands.specs.declared.blocks.BlockLasso.{BlockLasso}
+use Rattle.sheet_commands.specs.Blocks.{DecidesBlock, DecidesSheet, DecidesIn, DecidesAs as CutAs, refused as cut_refused}
 use Rattle.certificate.specs.declared.ends.AnswerEnd.TheVariants as ends
 use Rattle.certificate.specs.declared.ends.AnswerFault.{AnswerFault}
-use Rattle.certificate.specs.declared.ends.AnswerFault.TheVariants.{UnknownStatus}
+use Rattle.certificate.specs.declared.ends.AnswerFault.TheVariants.{NoProperty, UnknownStatus}
 use Rattle.certificate.specs.Ends.{DecidesEnd, CheckSays, EndsWith, has_unread}
 use Rattle.certificate.specs.Lassos.{HasGoodLasso, KeepsLasso}
 use Rattle.waves.specs.Dumps.{waves_text}
 use Rattle.waves.proofs.Lines.{length_simulated}
-use Rattle.fair_top.specs.declared.status.Status.{Status}
-use Rattle.fair_top.specs.declared.status.Status.TheVariants as statuses
-use Rattle.fair_top.specs.declared.status.Done.TheVariants.{Printed}
-use Rattle.fair_top.specs.declared.texts.Outcome.{Outcome}
-use Rattle.fair_top.specs.ModelGiven.{OfSomeText}
-use Rattle.fair_top.specs.Check.{done_by}
-use Rattle.fair_top.specs.Wave.{EndsWave, GivesWave, wave_status, DecidesWave}
-use Rattle.fair_top.specs.Waved.{CarriesLasso, IsWritten, IsWaved}
-use Rattle.fair_top.specs.Statuses.{is_read_fault, ends_silently, status_in}
-use Rattle.fair_top.specs.Texts.{text_of}
-use Rattle.fair_top.specs.Headline.{IsSilent, IsAnswered, HoldsModel, ReadsModel, ReadsModelFirst, HasWritten}
-use Rattle.fair_top.specs.Judged.{IsModelOf, IsFaultOf, EndsWithoutModel}
-use Rattle.fair_top.proofs.Judging.{End, same_bad}
+use Rattle.plain_commands.specs.declared.status.Status.{Status}
+use Rattle.plain_commands.specs.declared.status.Status.TheVariants as statuses
+use Rattle.plain_commands.specs.declared.status.Done.TheVariants.{Printed}
+use Rattle.plain_commands.specs.declared.texts.Outcome.{Outcome}
+use Rattle.plain_commands.specs.ModelGiven.{OfSomeText}
+use Rattle.plain_commands.specs.Check.{done_by, status_of_end}
+use Rattle.sheet_answers.specs.First.{opens_as_sheet}
+use Rattle.fair_top.specs.Wave.{EndsWaveAs, EndsWaved, EndsBlockWaved, EndsWave, GivesWave, wave_status, block_status, DecidesWaveAs, DecidesWave}
+use Rattle.fair_top.specs.Waved.{CarriesLasso, IsGoodLasso, IsWaved, unknown, BlockWaved}
+use Rattle.plain_commands.specs.Written.{accepts}
+use Rattle.plain_commands.specs.Statuses.{is_read_fault, ends_silently, status_in}
+use Rattle.plain_commands.specs.Texts.{text_of}
+use Rattle.plain_commands.specs.Answering.{IsSilent, IsAnswered, HoldsModel, ReadsModel, ReadsModelFirst, HasWritten}
+use Rattle.plain_commands.specs.Judged.{IsModelOf, IsFaultOf, EndsWithoutModel}
+use Rattle.plain_commands.proofs.Judging.{End, same_bad}
+use Rattle.fair_top.proofs.Sinks.{of_refusal}
+use Rattle.plain_commands.proofs.Written.{memory_accepts_none, not_both, still, written_status, written_unread}
 
 -- A good lasso fits its circuit.
 
@@ -42,8 +56,9 @@ pub record Fits (c : Circuit) (n : ℕ) (lasso : LassoOf) : Type 0 where
   pub start : length lasso.start ≡ length c.latches
   pub inputs : All (λ now. length now ≡ length c.inputs) lasso.inputs
 
-pub good_fits : (c : Circuit) (text : List ℕ) (n : ℕ) (lasso : LassoOf) → HasGoodLasso c text n lasso → Fits c n lasso
-good_fits c text n lasso (there, _, stimulus, _, stands, is) =
+pub good_fits : (m : Model) (n : ℕ) (lasso : LassoOf) → IsGoodLasso m n lasso → Fits m.circuit n lasso
+good_fits m n lasso (there, stimulus, stands, is) =
+    let c : Circuit = m.circuit in
     let k : ℕ = length lasso.inputs in
     let inputs : lasso.inputs ≡ take k stimulus.inputs = ap (λ (l : LassoOf). l.inputs) is in
     record {
@@ -55,22 +70,15 @@ good_fits c text n lasso (there, _, stimulus, _, stands, is) =
 
 -- A status with its text.
 
-pub refused_written : (result : Result Outcome Status) (fault : AnswerFault) → (status_in result ≡ statuses.Refused fault) ⊎ (status_in result ≡ statuses.Memory)
-    → IfOk result (λ outcome. (outcome.status ≡ statuses.Refused fault) × (outcome.text.items ≡ text_of (statuses.Refused fault)))
-    → IfErr result (λ other. ends_silently other ≡ true) → IsWritten result (statuses.Refused fault) (text_of (statuses.Refused fault))
-refused_written (Ok outcome) fault status text silent = text
-refused_written (Err other) fault (inr e) text silent = e
-refused_written (Err other) fault (inl e) text silent = let wrong : false ≡ true = sym (ap ends_silently e) ∙ silent in absurd (cc wrong)
-
-pub written_status : (result : Result Outcome Status) (status : Status) (text : List ℕ) → IsWritten result status text → (status_in result ≡ status) ⊎ (status_in result ≡ statuses.Memory)
-written_status (Ok outcome) status text h = inl h.0
-written_status (Err other) status text h = inr h
+-- the lasso of a good answer is one
+stands_so : (m : Model) (text : List ℕ) (n : ℕ) (lasso : LassoOf) → HasGoodLasso m.circuit text n lasso → IsGoodLasso m n lasso
+stands_so m text n lasso (there, short, stimulus, has, stands, is) = (there, stimulus, stands, is)
 
 -- where a stimulus is accepted its lasso was kept
 pub carries : (c : Circuit) (m : Model) (told : Option (List ℕ)) (end : End) (kept : Option LassoOf) → c ≡ m.circuit
     → IfOk end (λ accepted. KeepsLasso c told accepted kept) → CarriesLasso m end kept
 carries c m told (Ok (Lasso n positions from)) kept same (text, may, lasso, is, good, many, place) =
-    (lasso, is, (text, subst (λ (k : Circuit). HasGoodLasso k text n lasso) same good))
+    (lasso, is, stands_so m text n lasso (subst (λ (k : Circuit). HasGoodLasso k text n lasso) same good))
 carries c m told (Ok (Holds n entries)) kept same h = tt
 carries c m told (Err end) kept same h = tt
 
@@ -91,36 +99,55 @@ waved_status m (Err (ends.Refused fault)) kept result c h = written_status resul
 waved_status m (Err ends.ReadFault) kept result c h = inl (ap status_in h)
 waved_status m (Err ends.Memory) kept result c h = inl (ap status_in h)
 
--- What is so of both texts.
+-- What is so of the answer.
+
+good_lasso : (c : Circuit) (text : List ℕ) (n : ℕ) (lasso : LassoOf) (positions from : ℕ) → HasGoodLasso c text n lasso → length lasso.inputs ≡ positions → lasso.from ≡ from
+    → IsGood c text (Lasso n positions from)
+good_lasso c text n lasso positions from (there, short, stimulus, has, stands, is) many place =
+    subst (λ (k : ℕ). IsGood c text (Lasso n positions k)) place
+    (subst (λ (k : ℕ). IsGood c text (Lasso n k lasso.from)) many (there, short, stimulus, has, stands))
 
 of_answer : (m : Model) (answer : Option (List ℕ)) (end : End) (kept : Option LassoOf) (outcome : Outcome) → CheckSays m.circuit answer end
     → IfOk end (λ accepted. KeepsLasso m.circuit answer accepted kept) → IsWaved m end kept (Ok outcome)
-    → OfSomeText answer (λ claimed. EndsWave m claimed outcome.status outcome.text.items)
-of_answer m answer (Ok (Lasso n positions from)) kept outcome says (text, may, lasso, is, good, many, place) h = (text, may, inl (n, lasso, good, (h lasso is).0, (h lasso is).1))
+    → OfSomeText answer (λ claimed. DecidesEnd m.circuit claimed end × EndsWaved m claimed outcome.status outcome.text.items)
+of_answer m answer (Ok (Lasso n positions from)) kept outcome says (text, may, lasso, is, good, many, place) h =
+    (text, may, (good_lasso m.circuit text n lasso positions from good many place, inl (n, lasso, good, (h lasso is).0, (h lasso is).1)))
 of_answer m answer (Ok (Holds n entries)) kept outcome (inl (inr (text, may, good))) keeps h =
-    (text, may, inr (UnknownStatus, inr (refl, n, entries, good), h.0, h.1 ∙ sym (ap text_of h.0)))
+    (text, may, (good, inr (UnknownStatus, inr (refl, n, entries, good), h.0, h.1 ∙ sym (ap text_of h.0))))
 of_answer m answer (Ok (Holds n entries)) kept outcome (inl (inl wrong)) keeps h = absurd (cc wrong)
 of_answer m answer (Ok (Holds n entries)) kept outcome (inr wrong) keeps h = absurd (cc wrong)
 of_answer m answer (Err (ends.Refused fault)) kept outcome (inl (inr (text, may, bad))) keeps h =
-    (text, may, inr (fault, inl bad, h.0, h.1 ∙ sym (ap text_of h.0)))
+    (text, may, (bad, inr (fault, inl bad, h.0, h.1 ∙ sym (ap text_of h.0))))
 of_answer m answer (Err (ends.Refused fault)) kept outcome (inl (inl wrong)) keeps h = absurd (cc wrong)
 of_answer m answer (Err (ends.Refused fault)) kept outcome (inr wrong) keeps h = absurd (cc wrong)
 of_answer m answer (Err ends.ReadFault) kept outcome says keeps h = absurd (cc h)
 of_answer m answer (Err ends.Memory) kept outcome says keeps h = absurd (cc h)
 
-given : (m : Model) (model answer : Option (List ℕ)) (end : End) (kept : Option LassoOf) (result : Result Outcome Status) → IsModelOf model m
-    → CheckSays m.circuit answer end → IfOk end (λ accepted. KeepsLasso m.circuit answer accepted kept) → IsWaved m end kept result
-    → IfOk result (λ outcome. GivesWave model answer outcome.status outcome.text.items)
-given m model answer end kept (Err status) h says keeps w = tt
-given m model answer end kept (Ok outcome) h says keeps w = inr (h.text.0, h.text.1, (m, h.text.2, of_answer m answer end kept outcome says keeps w))
+good_no_sheet : (c : Circuit) (text : List ℕ) (accepted : Accepted) → opens_as_sheet text ≡ true → IsGood c text accepted → ⊥
+good_no_sheet c text (Lasso n positions from) is (there, short, s, (others, (small, opens), spells), stands) =
+    no_other c text (texts.Answer (Lasso n positions from)) is (ap is_about_rounds opens, (there, short, s, (others, (small, opens), spells), stands))
+good_no_sheet c text (Holds n entries) is (there, short, certificate, (small, opens), good, count) =
+    no_other c text (texts.Answer (Holds n entries)) is (ap is_about_rounds opens, (there, short, certificate, (small, opens), good, count))
 
-pub waves_given : (c : Circuit) (m : Model) (model now answer : Option (List ℕ)) (end : End) (kept : Option LassoOf) (result : Result Outcome Status) → c ≡ m.circuit → now ≡ answer
-    → IsModelOf model m → CheckSays c now end → IfOk end (λ accepted. KeepsLasso c now accepted kept) → IsWaved m end kept result
-    → IfOk result (λ outcome. GivesWave model answer outcome.status outcome.text.items)
-waves_given c m model now answer end kept result same told h says keeps w =
-    given m model answer end kept result h
-    (subst (λ (x : Circuit). CheckSays x answer end) same (subst (λ (t : Option (List ℕ)). CheckSays c t end) told says))
-    (subst (λ (x : Circuit). IfOk end (λ accepted. KeepsLasso x answer accepted kept)) same (subst (λ (t : Option (List ℕ)). IfOk end (λ accepted. KeepsLasso c t accepted kept)) told keeps)) w
+abbrev refused_as : AnswerFault → End
+refused_as fault = Err (ends.Refused fault)
+
+-- a text that an answer's check ends otherwise than as of unknown status is no sheet
+no_sheet : (c : Circuit) (text : List ℕ) (end : End) (test : Bool) → opens_as_sheet text ≡ test → (end ≡ unknown → ⊥) → DecidesEnd c text end → test ≡ false
+no_sheet c text end false is known h = refl
+no_sheet c text (Ok accepted) true is known h = absurd (good_no_sheet c text accepted is h)
+no_sheet c text (Err (ends.Refused fault)) true is known h = absurd (known (ap refused_as (same_fault c text fault is h)))
+no_sheet c text (Err ends.ReadFault) true is known h = absurd h
+no_sheet c text (Err ends.Memory) true is known h = absurd h
+
+pub waved_found : (m : Model) (answer : Option (List ℕ)) (n : ℕ) (end : End) (kept : Option LassoOf) (result : Result Outcome Status) → (end ≡ unknown → ⊥)
+    → CheckSays m.circuit answer end → IfOk end (λ accepted. KeepsLasso m.circuit answer accepted kept) → IsWaved m end kept result
+    → IfOk result (λ outcome. OfSomeText answer (λ claimed. EndsWave m claimed n outcome.status outcome.text.items))
+waved_found m answer n end kept (Err status) known says keeps w = tt
+waved_found m answer n end kept (Ok outcome) known says keeps w =
+    let (text, may, (decides, waves)) = of_answer m answer end kept outcome says keeps w in
+    let other : opens_as_sheet text ≡ false = no_sheet m.circuit text end (opens_as_sheet text) refl known decides in
+    (text, may, subst (λ (b : Bool). EndsWaveAs b m text n outcome.status outcome.text.items) (sym other) waves)
 
 -- What is decided.
 
@@ -130,83 +157,154 @@ as_status end verdict h = elim h [
   | inr e ↦ inr (ap wave_status e)
 ]
 
-exact_by : (m : Model) (model answer : Option (List ℕ)) (end : End) → IsModelOf model m
-    → ((text : List ℕ) (verdict : End) → answer ≡ Some text → DecidesEnd m.circuit text verdict → EndsWith end verdict)
-    → (verdict : Status) → DecidesWave model answer verdict → IsAnswered verdict (wave_status end)
-exact_by m model answer end h exact verdict (inl (fault, e, (text, told, bad))) = absurd (h.faultless text fault told bad)
-exact_by m model answer end h exact verdict (inr (other, e, (text, told, (claimed, claim_told, (n, form, said))))) =
-    let decided : DecidesEnd m.circuit claimed other = subst (λ (x : Model). DecidesEnd x.circuit claimed other) (sym (h.one text n told form)) said in
-    subst (λ (v : Status). IsAnswered v (wave_status end)) (sym e) (as_status end other (exact claimed other claim_told decided))
+-- where the check ends otherwise than as of unknown status, though the text is a sheet, a read failed or memory was refused
+cut_short : (end : End) (verdict : Status) → (end ≡ unknown → ⊥) → EndsWith end unknown → IsAnswered verdict (wave_status end)
+cut_short end verdict known (inl (inl same)) = absurd (known same)
+cut_short end verdict known (inl (inr unread)) = inl (inr (inl (ap wave_status unread)))
+cut_short end verdict known (inr memory) = inr (ap wave_status memory)
 
-pub still : (verdict status result : Status) → (result ≡ status) ⊎ (result ≡ statuses.Memory) → IsAnswered verdict status → IsAnswered verdict result
-still verdict status result (inl same) h = subst (λ (s : Status). IsAnswered verdict s) (sym same) h
-still verdict status result (inr memory) h = inr memory
+exact_by : (c : Circuit) (claimed : List ℕ) (n : ℕ) (end : End) (verdict : Status) (test : Bool) → opens_as_sheet claimed ≡ test → (end ≡ unknown → ⊥)
+    → ((v : End) → DecidesEnd c claimed v → EndsWith end v) → DecidesWaveAs test c claimed n verdict → IsAnswered verdict (wave_status end)
+exact_by c claimed n end verdict false is known exact (other, e, said) =
+    subst (λ (v : Status). IsAnswered v (wave_status end)) (sym e) (as_status end other (exact other said))
+exact_by c claimed n end verdict true is known exact said = cut_short end verdict known (exact unknown (sheet_fault c claimed is))
 
-pub waves_exact : (c : Circuit) (m : Model) (model now answer : Option (List ℕ)) (end : End) (kept : Option LassoOf) (result : Result Outcome Status) → c ≡ m.circuit → now ≡ answer
-    → IsModelOf model m → ((text : List ℕ) (verdict : End) → now ≡ Some text → DecidesEnd c text verdict → EndsWith end verdict)
-    → CarriesLasso m end kept → IsWaved m end kept result → (verdict : Status) → DecidesWave model answer verdict → IsAnswered verdict (status_in result)
-waves_exact c m model now answer end kept result same told h exact carried w verdict d =
+pub waved_exactly : (m : Model) (answer : Option (List ℕ)) (n : ℕ) (end : End) (kept : Option LassoOf) (result : Result Outcome Status) → (end ≡ unknown → ⊥)
+    → ((text : List ℕ) (v : End) → answer ≡ Some text → DecidesEnd m.circuit text v → EndsWith end v) → CarriesLasso m end kept → IsWaved m end kept result
+    → (claimed : List ℕ) (verdict : Status) → answer ≡ Some claimed → DecidesWaveAs (opens_as_sheet claimed) m.circuit claimed n verdict → IsAnswered verdict (status_in result)
+waved_exactly m answer n end kept result known exact carried w claimed verdict told d =
     still verdict (wave_status end) (status_in result) (waved_status m end kept result carried w)
-    (exact_by m model answer end h (λ text v e k. exact text v (told ∙ e) (subst (λ (x : Circuit). DecidesEnd x text v) (sym same) k)) verdict d)
+    (exact_by m.circuit claimed n end verdict (opens_as_sheet claimed) refl known (λ v h. exact claimed v told h) d)
+
+-- Of an answer whose status is unknown.
+
+-- a block that is no sheet's
+other_status : (m : Model) (claimed : List ℕ) (n : ℕ) (status : Status) (text : List ℕ) → opens_as_sheet claimed ≡ false → EndsBlockWaved m claimed n status text
+    → (status ≡ statuses.Refused UnknownStatus) × (text ≡ text_of status)
+other_status m claimed n status text is (inl (found, decides, e, t)) = absurd (wrong (subst (λ (b : Bool). CutAs b m.circuit claimed n (Ok found)) is decides))
+  where
+    wrong : ◌≡◌ {A = Result BlockLasso JudgeEnd} (Ok found) (Err (cut_refused UnknownStatus)) → ⊥
+    wrong h = cc h
+other_status m claimed n status text is (inr (end, decides, e, t)) =
+    (e ∙ ap status_of_end (end_of (subst (λ (b : Bool). CutAs b m.circuit claimed n (Err end)) is decides)), t)
+  where
+    end_of : ◌≡◌ {A = Result BlockLasso JudgeEnd} (Err end) (Err (cut_refused UnknownStatus)) → end ≡ cut_refused UnknownStatus
+    end_of h = cc h
+
+two_waved : (m : Model) (n : ℕ) (status : Status) (text : List ℕ) → status ≡ statuses.Refused UnknownStatus → text ≡ text_of status → EndsWave m (codes "2") n status text
+two_waved m n status text e t = inr (UnknownStatus, inl refl, e, t)
+
+as_other : (m : Model) (answer : Option (List ℕ)) (n : ℕ) (claimed : List ℕ) (status : Status) (text : List ℕ) → CheckSays m.circuit answer unknown → MayBe answer claimed
+    → opens_as_sheet claimed ≡ false → status ≡ statuses.Refused UnknownStatus → text ≡ text_of status → OfSomeText answer (λ k. EndsWave m k n status text)
+as_other m None n claimed status text says may is e t = (codes "2", λ k wrong. absurd (cc wrong), two_waved m n status text e t)
+as_other m (Some told) n claimed status text (inl (inl wrong)) may is e t = absurd (cc wrong)
+as_other m (Some told) n claimed status text (inr wrong) may is e t = absurd (cc wrong)
+as_other m (Some told) n claimed status text (inl (inr (other, other_may, bad))) may is e t =
+    let same : other ≡ claimed = sym (other_may told refl) ∙ may told refl in
+    (claimed, may, subst (λ (b : Bool). EndsWaveAs b m claimed n status text) (sym is) (inr (UnknownStatus, inl (subst (λ (k : List ℕ). DecidesEnd m.circuit k unknown) same bad), e, t)))
+
+block_ends : (m : Model) (answer : Option (List ℕ)) (n : ℕ) (claimed : List ℕ) (status : Status) (text : List ℕ) (test : Bool) → opens_as_sheet claimed ≡ test
+    → CheckSays m.circuit answer unknown → MayBe answer claimed → EndsBlockWaved m claimed n status text → OfSomeText answer (λ k. EndsWave m k n status text)
+block_ends m answer n claimed status text true is says may waves = (claimed, may, subst (λ (b : Bool). EndsWaveAs b m claimed n status text) (sym is) waves)
+block_ends m answer n claimed status text false is says may waves =
+    let is_unknown = other_status m claimed n status text is waves in
+    as_other m answer n claimed status text says may is is_unknown.0 is_unknown.1
+
+pub block_found : (m : Model) (now answer : Option (List ℕ)) (n : ℕ) (result : Result Outcome Status) → now ≡ answer → CheckSays m.circuit answer unknown → BlockWaved m now n result
+    → IfOk result (λ outcome. OfSomeText answer (λ claimed. EndsWave m claimed n outcome.status outcome.text.items))
+block_found m now answer n (Err status) told says w = tt
+block_found m now answer n (Ok outcome) told says (claimed, may, waves) =
+    block_ends m answer n claimed outcome.status outcome.text.items (opens_as_sheet claimed) refl says (subst (λ (t : Option (List ℕ)). MayBe t claimed) told may) waves
+
+block_exact : (c : Circuit) (claimed : List ℕ) (n : ℕ) (verdict result : Status) (test : Bool) → opens_as_sheet claimed ≡ test
+    → ((end : Result BlockLasso JudgeEnd) → DecidesBlock c claimed n end → IsAnswered (block_status end) result)
+    → ((v : End) → DecidesEnd c claimed v → EndsWith unknown v) → DecidesWaveAs test c claimed n verdict → IsAnswered verdict result
+block_exact c claimed n verdict result true is exact one (end, e, said) = subst (λ (v : Status). IsAnswered v result) (sym e) (exact end said)
+block_exact c claimed n verdict result false is exact one (other, e, said) =
+    subst (λ (v : Status). IsAnswered v result) (sym (e ∙ ap wave_status (only other (one other said))))
+    (exact (Err (cut_refused UnknownStatus)) (subst (λ (b : Bool). CutAs b c claimed n (Err (cut_refused UnknownStatus))) (sym is) refl))
+  where
+    only : (v : End) → EndsWith unknown v → v ≡ unknown
+    only v (inl (inl same)) = sym same
+    only v (inl (inr wrong)) = absurd (cc wrong)
+    only v (inr wrong) = absurd (cc wrong)
+
+pub block_exactly : (m : Model) (now answer : Option (List ℕ)) (n : ℕ) (result : Result Outcome Status) → now ≡ answer
+    → ((claimed : List ℕ) (end : Result BlockLasso JudgeEnd) → now ≡ Some claimed → DecidesBlock m.circuit claimed n end → IsAnswered (block_status end) (status_in result))
+    → ((text : List ℕ) (v : End) → answer ≡ Some text → DecidesEnd m.circuit text v → EndsWith unknown v)
+    → (claimed : List ℕ) (verdict : Status) → answer ≡ Some claimed → DecidesWaveAs (opens_as_sheet claimed) m.circuit claimed n verdict → IsAnswered verdict (status_in result)
+block_exactly m now answer n result told exact one claimed verdict is d =
+    block_exact m.circuit claimed n verdict (status_in result) (opens_as_sheet claimed) refl (λ end h. exact claimed end (told ∙ is) h) (λ v h. one claimed v is h) d
+
+pub block_silent : (m : Model) (told : Option (List ℕ)) (n : ℕ) (result : Result Outcome Status) → BlockWaved m told n result → IfErr result IsSilent
+block_silent m told n (Ok outcome) w = tt
+block_silent m told n (Err status) w = w
+
+-- What is so of both texts.
+
+pub waves_given : (m : Model) (model now answer : Option (List ℕ)) (n : ℕ) (result : Result Outcome Status) → now ≡ answer → IsModelOf model m
+    → IfOk result (λ outcome. OfSomeText now (λ claimed. EndsWave m claimed n outcome.status outcome.text.items))
+    → IfOk result (λ outcome. GivesWave model answer n outcome.status outcome.text.items)
+waves_given m model now answer n (Err status) told h w = tt
+waves_given m model now answer n (Ok outcome) told h w =
+    inr (h.text.0, h.text.1, (m, h.text.2, subst (λ (t : Option (List ℕ)). OfSomeText t (λ claimed. EndsWave m claimed n outcome.status outcome.text.items)) told w))
+
+pub waves_exact : (m : Model) (model now answer : Option (List ℕ)) (n : ℕ) (result : Status) → now ≡ answer → IsModelOf model m
+    → ((claimed : List ℕ) (verdict : Status) → now ≡ Some claimed → DecidesWaveAs (opens_as_sheet claimed) m.circuit claimed n verdict → IsAnswered verdict result)
+    → (verdict : Status) → DecidesWave model answer n verdict → IsAnswered verdict result
+waves_exact m model now answer n result told h exact verdict (inl (fault, e, (text, is, bad))) = absurd (h.faultless text fault is bad)
+waves_exact m model now answer n result told h exact verdict (inr (text, is, (claimed, claim_told, (k, form, said)))) =
+    exact claimed verdict (told ∙ claim_told) (subst (λ (x : Model). DecidesWaveAs (opens_as_sheet claimed) x.circuit claimed n verdict) (sym (h.one text k is form)) said)
 
 -- Where there is no model.
 
-pub without_gives : (model answer : Option (List ℕ)) (status : Status) (result : Result Outcome Status) → EndsWithoutModel model status
+pub without_gives : (model answer : Option (List ℕ)) (j : ℕ) (status : Status) (result : Result Outcome Status) → EndsWithoutModel model status
     → IfOk result (λ outcome. (outcome.status ≡ status) × (outcome.text.items ≡ text_of status)) → IfOk result (λ outcome. ends_silently status ≡ false)
-    → IfOk result (λ outcome. GivesWave model answer outcome.status outcome.text.items)
-without_gives model answer status (Err other) h text aloud = tt
-without_gives model answer (statuses.BadModel fault) (Ok outcome) h text aloud = inl ((fault, text.0, h.text), text.1 ∙ sym (ap text_of text.0))
-without_gives model answer statuses.ReadFault (Ok outcome) h text aloud = absurd (cc aloud)
-without_gives model answer statuses.Memory (Ok outcome) h text aloud = absurd (cc aloud)
-without_gives model answer (statuses.Done done) (Ok outcome) h text aloud = absurd h
-without_gives model answer (statuses.Refused fault) (Ok outcome) h text aloud = absurd h
-without_gives model answer statuses.WriteFault (Ok outcome) h text aloud = absurd h
-without_gives model answer statuses.Usage (Ok outcome) h text aloud = absurd h
-without_gives model answer (statuses.Unknown report) (Ok outcome) h text aloud = absurd h
-without_gives model answer (statuses.NoProperty n) (Ok outcome) h text aloud = absurd h
-without_gives model answer (statuses.TooLarge n) (Ok outcome) h text aloud = absurd h
-without_gives model answer (statuses.OpenRounds n spent) (Ok outcome) h text aloud = absurd h
-without_gives model answer (statuses.OpenDepth n spent) (Ok outcome) h text aloud = absurd h
-without_gives model answer (statuses.NoItem entry clause) (Ok outcome) h text aloud = absurd h
+    → IfOk result (λ outcome. GivesWave model answer j outcome.status outcome.text.items)
+without_gives model answer j status (Err other) h text aloud = tt
+without_gives model answer j (statuses.BadModel fault) (Ok outcome) h text aloud = inl ((fault, text.0, h.text), text.1 ∙ sym (ap text_of text.0))
+without_gives model answer j statuses.ReadFault (Ok outcome) h text aloud = absurd (cc aloud)
+without_gives model answer j statuses.Memory (Ok outcome) h text aloud = absurd (cc aloud)
+without_gives model answer j (statuses.Done done) (Ok outcome) h text aloud = absurd h
+without_gives model answer j (statuses.Refused fault) (Ok outcome) h text aloud = absurd h
+without_gives model answer j (statuses.RefusedBlock n fault) (Ok outcome) h text aloud = absurd h
+without_gives model answer j statuses.WriteFault (Ok outcome) h text aloud = absurd h
+without_gives model answer j statuses.Usage (Ok outcome) h text aloud = absurd h
+without_gives model answer j (statuses.Unknown report) (Ok outcome) h text aloud = absurd h
+without_gives model answer j (statuses.NoProperty n) (Ok outcome) h text aloud = absurd h
+without_gives model answer j (statuses.TooLarge n) (Ok outcome) h text aloud = absurd h
+without_gives model answer j (statuses.OpenRounds n spent) (Ok outcome) h text aloud = absurd h
+without_gives model answer j (statuses.OpenDepth n spent) (Ok outcome) h text aloud = absurd h
+without_gives model answer j (statuses.NoItem entry clause) (Ok outcome) h text aloud = absurd h
 
-bad_exact : (model answer : Option (List ℕ)) (fault : ModelFault) → IsFaultOf model fault
-    → (verdict : Status) → DecidesWave model answer verdict → IsAnswered verdict (statuses.BadModel fault)
-bad_exact model answer fault h verdict (inl (other, e, (text, told, bad))) =
+bad_exact : (model answer : Option (List ℕ)) (j : ℕ) (fault : ModelFault) → IsFaultOf model fault
+    → (verdict : Status) → DecidesWave model answer j verdict → IsAnswered verdict (statuses.BadModel fault)
+bad_exact model answer j fault h verdict (inl (other, e, (text, told, bad))) =
     subst (λ (v : Status). IsAnswered v (statuses.BadModel fault)) (sym e) (same_bad fault other (h.one text other told bad))
-bad_exact model answer fault h verdict (inr (other, e, (text, told, (claimed, claim_told, (m, form, said))))) = absurd (h.none text m told form)
+bad_exact model answer j fault h verdict (inr (text, told, (claimed, claim_told, (m, form, said)))) = absurd (h.none text m told form)
 
-no_model_exact : (model answer : Option (List ℕ)) (status : Status) → EndsWithoutModel model status
-    → (verdict : Status) → DecidesWave model answer verdict → IsAnswered verdict status
-no_model_exact model answer (statuses.BadModel fault) h verdict d = bad_exact model answer fault h verdict d
-no_model_exact model answer statuses.ReadFault h verdict d = inl (inr (inl refl))
-no_model_exact model answer statuses.Memory h verdict d = inr refl
-no_model_exact model answer (statuses.Done done) h verdict d = absurd h
-no_model_exact model answer (statuses.Refused fault) h verdict d = absurd h
-no_model_exact model answer statuses.WriteFault h verdict d = absurd h
-no_model_exact model answer statuses.Usage h verdict d = absurd h
-no_model_exact model answer (statuses.Unknown report) h verdict d = absurd h
-no_model_exact model answer (statuses.NoProperty n) h verdict d = absurd h
-no_model_exact model answer (statuses.TooLarge n) h verdict d = absurd h
-no_model_exact model answer (statuses.OpenRounds n spent) h verdict d = absurd h
-no_model_exact model answer (statuses.OpenDepth n spent) h verdict d = absurd h
-no_model_exact model answer (statuses.NoItem entry clause) h verdict d = absurd h
+no_model_exact : (model answer : Option (List ℕ)) (j : ℕ) (status : Status) → EndsWithoutModel model status
+    → (verdict : Status) → DecidesWave model answer j verdict → IsAnswered verdict status
+no_model_exact model answer j (statuses.BadModel fault) h verdict d = bad_exact model answer j fault h verdict d
+no_model_exact model answer j statuses.ReadFault h verdict d = inl (inr (inl refl))
+no_model_exact model answer j statuses.Memory h verdict d = inr refl
+no_model_exact model answer j (statuses.Done done) h verdict d = absurd h
+no_model_exact model answer j (statuses.Refused fault) h verdict d = absurd h
+no_model_exact model answer j (statuses.RefusedBlock n fault) h verdict d = absurd h
+no_model_exact model answer j statuses.WriteFault h verdict d = absurd h
+no_model_exact model answer j statuses.Usage h verdict d = absurd h
+no_model_exact model answer j (statuses.Unknown report) h verdict d = absurd h
+no_model_exact model answer j (statuses.NoProperty n) h verdict d = absurd h
+no_model_exact model answer j (statuses.TooLarge n) h verdict d = absurd h
+no_model_exact model answer j (statuses.OpenRounds n spent) h verdict d = absurd h
+no_model_exact model answer j (statuses.OpenDepth n spent) h verdict d = absurd h
+no_model_exact model answer j (statuses.NoItem entry clause) h verdict d = absurd h
 
-pub without_exact : (model answer : Option (List ℕ)) (status result : Status) → EndsWithoutModel model status → (result ≡ status) ⊎ (result ≡ statuses.Memory)
-    → (verdict : Status) → DecidesWave model answer verdict → IsAnswered verdict result
-without_exact model answer status result h is verdict d = still verdict status result is (no_model_exact model answer status h verdict d)
+pub without_exact : (model answer : Option (List ℕ)) (j : ℕ) (status result : Status) → EndsWithoutModel model status → (result ≡ status) ⊎ (result ≡ statuses.Memory)
+    → (verdict : Status) → DecidesWave model answer j verdict → IsAnswered verdict result
+without_exact model answer j status result h is verdict d = still verdict status result is (no_model_exact model answer j status h verdict d)
 
 -- No answer is accepted.
-
-unfoldable pub accepts : Status → Bool
-accepts (statuses.Done Printed) = false
-accepts (statuses.Done done) = true
-accepts _ = false
-
-accepts_done : (a : Judged) → accepts (statuses.Done (done_by a)) ≡ true
-unfolding accepts
-accepts_done (found_as.Answer (Lasso n positions from)) = refl
-accepts_done (found_as.Answer (Holds n entries)) = refl
-accepts_done (found_as.Rounds n k r) = refl
 
 waves_accept_none : (end : End) → accepts (wave_status end) ≡ false
 unfolding accepts
@@ -216,45 +314,17 @@ waves_accept_none (Err (ends.Refused fault)) = refl
 waves_accept_none (Err ends.ReadFault) = refl
 waves_accept_none (Err ends.Memory) = refl
 
-pub no_model_accepts_none : (model : Option (List ℕ)) (status : Status) → EndsWithoutModel model status → accepts status ≡ false
-unfolding accepts
-no_model_accepts_none model (statuses.BadModel fault) h = refl
-no_model_accepts_none model statuses.ReadFault h = refl
-no_model_accepts_none model statuses.Memory h = refl
-no_model_accepts_none model (statuses.Done done) h = absurd h
-no_model_accepts_none model (statuses.Refused fault) h = refl
-no_model_accepts_none model statuses.WriteFault h = refl
-no_model_accepts_none model statuses.Usage h = refl
-no_model_accepts_none model (statuses.Unknown report) h = refl
-no_model_accepts_none model (statuses.NoProperty n) h = refl
-no_model_accepts_none model (statuses.TooLarge n) h = refl
-no_model_accepts_none model (statuses.OpenRounds n spent) h = refl
-no_model_accepts_none model (statuses.OpenDepth n spent) h = refl
-no_model_accepts_none model (statuses.NoItem entry clause) h = refl
+pub waved_hidden : (m : Model) (end : End) (kept : Option LassoOf) (result : Result Outcome Status) → CarriesLasso m end kept → IsWaved m end kept result → accepts (status_in result) ≡ false
+waved_hidden m end kept result carried w = by (waved_status m end kept result carried w)
+  where
+    by : (status_in result ≡ wave_status end) ⊎ (status_in result ≡ statuses.Memory) → accepts (status_in result) ≡ false
+    by (inl e) = ap accepts e ∙ waves_accept_none end
+    by (inr e) = ap accepts e ∙ memory_accepts_none
 
-memory_accepts_none : accepts statuses.Memory ≡ false
-unfolding accepts
-memory_accepts_none = refl
-
-pub not_both : (a : Judged) (status result : Status) → accepts status ≡ false → (result ≡ status) ⊎ (result ≡ statuses.Memory) → result ≡ statuses.Done (done_by a) → ⊥
-not_both a status result none (inl e) is =
-    let wrong : true ≡ false = sym (accepts_done a) ∙ sym (ap accepts is) ∙ ap accepts e ∙ none in cc wrong
-not_both a status result none (inr e) is =
-    let wrong : true ≡ false = sym (accepts_done a) ∙ sym (ap accepts is) ∙ ap accepts e ∙ memory_accepts_none in cc wrong
-
-pub waves_shown : (m : Model) (end : End) (kept : Option LassoOf) (result : Result Outcome Status) → CarriesLasso m end kept → IsWaved m end kept result
-    → (a : Judged) → status_in result ≡ statuses.Done (done_by a) → ⊥
-waves_shown m end kept result carried w a is = not_both a (wave_status end) (status_in result) (waves_accept_none end) (waved_status m end kept result carried w) is
-
-pub without_shown : (model : Option (List ℕ)) (status result : Status) → EndsWithoutModel model status → (result ≡ status) ⊎ (result ≡ statuses.Memory)
-    → (a : Judged) → result ≡ statuses.Done (done_by a) → ⊥
-without_shown model status result h either a is = not_both a status result (no_model_accepts_none model status h) either is
+pub never_shown : (a : Judged) (result : Status) → accepts result ≡ false → result ≡ statuses.Done (done_by a) → ⊥
+never_shown a result none is = not_both a result result none (inl refl) is
 
 -- Reads and silence.
-
-pub written_unread : (result : Result Outcome Status) (status : Status) (text : List ℕ) → is_read_fault status ≡ false → IsWritten result status text → is_read_fault (status_in result) ≡ false
-written_unread (Ok outcome) status text none h = ap is_read_fault h.0 ∙ none
-written_unread (Err other) status text none h = ap is_read_fault h
 
 -- the status says that a read failed exactly where the check ended so
 pub waved_unread : (m : Model) (end : End) (kept : Option LassoOf) (result : Result Outcome Status) → CarriesLasso m end kept → IsWaved m end kept result
@@ -293,6 +363,11 @@ waved_aloud m (Err ends.ReadFault) kept (Ok outcome) carried w = absurd (cc w)
 waved_aloud m (Err ends.Memory) kept (Ok outcome) carried w = absurd (cc w)
 
 -- ANSWER was read after a model
+pub model_first : {Shelf : Type 0} (Read : ReadsOf Shelf) (held : List ℕ → Option (List ℕ)) (model answer : List ℕ)
+    (status : Status) (old mid new : Shelf) → ReadsModel Read model false old mid → HoldsModel held model
+    → Reads Read answer (is_read_fault status) mid new → ReadsModelFirst Read held (model ∷ answer ∷ []) (is_read_fault status) old new
+model_first Read held model answer status old mid new first holds second = inr (mid, first, holds, inl second)
+
 pub both_read : {Shelf : Type 0} (Read : ReadsOf Shelf) (held : List ℕ → Option (List ℕ)) (model answer : List ℕ)
     (end : End) (status : Status) (old mid new : Shelf) → is_read_fault status ≡ has_unread end → ReadsModel Read model false old mid → HoldsModel held model
     → Reads Read answer (has_unread end) mid new → ReadsModelFirst Read held (model ∷ answer ∷ []) (is_read_fault status) old new
@@ -301,8 +376,35 @@ both_read Read held model answer end status old mid new same first holds second 
 
 -- The writes that a sink saw.
 
-pub of_wave : {Sink : Type 0} (Write : Sink → Bool → Sink → Type 0) (model answer : Option (List ℕ)) (status : Status)
-    (text : List ℕ) (old new : Sink) → GivesWave model answer status text → Writes Write false old new → HasWritten Write status old new
-of_wave Write model answer status text old new (inl ((fault, e, bad), t)) writes = subst (λ (s : Status). HasWritten Write s old new) (sym e) writes
-of_wave Write model answer status text old new (inr (_, _, (m, _, (_, _, inl (n, lasso, good, e, t))))) writes = subst (λ (s : Status). HasWritten Write s old new) (sym e) writes
-of_wave Write model answer status text old new (inr (_, _, (m, _, (_, _, inr (fault, none, e, t))))) writes = subst (λ (s : Status). HasWritten Write s old new) (sym e) writes
+-- the status of the end of a block
+of_cut : {Sink : Type 0} (Write : Sink → Bool → Sink → Type 0) (c : Circuit) (claimed : List ℕ) (n : ℕ) (end : JudgeEnd) (old new : Sink) → DecidesSheet c claimed n (Err end)
+    → Writes Write false old new → HasWritten Write (status_of_end end) old new
+of_cut Write c claimed n end old new (inl (sheet, of, decided)) writes = by (slice_get sheet.blocks n) decided
+  where
+    of_fault : (fault : AnswerFault) → ◌≡◌ {A = Result BlockLasso JudgeEnd} (Err end) (Err (cut_refused fault)) → HasWritten Write (status_of_end end) old new
+    of_fault fault same =
+        let one : end ≡ cut_refused fault = cc same in
+        subst (λ (x : JudgeEnd). HasWritten Write (status_of_end x) old new) (sym one) writes
+
+    by : (o : Option Block) → DecidesIn c n o (Err end) → HasWritten Write (status_of_end end) old new
+    by (Some (blocks.Lasso s)) wrong = absurd wrong
+    by (Some (blocks.Holds r)) same = of_fault UnknownStatus same
+    by (Some blocks.Open) same = of_fault UnknownStatus same
+    by None same = of_fault (NoProperty n) same
+of_cut Write c claimed n end old new (inr (other, decides, same)) writes =
+    let one : end ≡ other = cc same in
+    subst (λ (x : JudgeEnd). HasWritten Write (status_of_end x) old new) (sym one) (of_refusal Write c claimed (opens_as_sheet claimed) other old new decides writes)
+
+of_waved : {Sink : Type 0} (Write : Sink → Bool → Sink → Type 0) (m : Model) (claimed : List ℕ) (n : ℕ) (status : Status) (text : List ℕ) (old new : Sink) (test : Bool)
+    → opens_as_sheet claimed ≡ test → EndsWaveAs test m claimed n status text → Writes Write false old new → HasWritten Write status old new
+of_waved Write m claimed n status text old new false is (inl (k, lasso, good, e, t)) writes = subst (λ (s : Status). HasWritten Write s old new) (sym e) writes
+of_waved Write m claimed n status text old new false is (inr (fault, none, e, t)) writes = subst (λ (s : Status). HasWritten Write s old new) (sym e) writes
+of_waved Write m claimed n status text old new true is (inl (found, decides, e, t)) writes = subst (λ (s : Status). HasWritten Write s old new) (sym e) writes
+of_waved Write m claimed n status text old new true is (inr (end, decides, e, t)) writes =
+    subst (λ (s : Status). HasWritten Write s old new) (sym e) (of_cut Write m.circuit claimed n end old new (subst (λ (b : Bool). CutAs b m.circuit claimed n (Err end)) is decides) writes)
+
+pub of_wave : {Sink : Type 0} (Write : Sink → Bool → Sink → Type 0) (model answer : Option (List ℕ)) (n : ℕ) (status : Status)
+    (text : List ℕ) (old new : Sink) → GivesWave model answer n status text → Writes Write false old new → HasWritten Write status old new
+of_wave Write model answer n status text old new (inl ((fault, e, bad), t)) writes = subst (λ (s : Status). HasWritten Write s old new) (sym e) writes
+of_wave Write model answer n status text old new (inr (_, _, (m, _, (claimed, _, ends_so)))) writes =
+    of_waved Write m claimed n status text old new (opens_as_sheet claimed) refl ends_so writes

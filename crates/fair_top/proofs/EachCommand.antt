@@ -3,21 +3,21 @@ use Rattle.std.specs.Prelude.{Option}
 use Rattle.std.proofs.Common.{◌≡◌, inr, Bool, false, List, ℕ, sym, subst}
 use Rattle.edge.specs.Writes.{Writes}
 use Rattle.given_entries.specs.Beginning.{told_of}
-use Rattle.fair_top.specs.declared.status.Status.{Status}
-use Rattle.fair_top.specs.declared.status.Status.TheVariants as statuses
-use Rattle.fair_top.specs.Convert.{IsConversion}
+use Rattle.plain_commands.specs.declared.status.Status.{Status}
+use Rattle.plain_commands.specs.declared.status.Status.TheVariants as statuses
+use Rattle.plain_commands.specs.Convert.{IsConversion}
 use Rattle.command_lines.specs.Commands.{Asked, Solve, Check, Gen, Demo, Wave, Slice, Convert, Safety, Rounds, Shortest, Trim, Export}
-use Rattle.fair_top.specs.Trim.{IsTrimming}
+use Rattle.plain_commands.specs.Trim.{IsTrimming}
 use Rattle.fair_top.specs.Commands.{CommandGives}
 use Rattle.fair_top.specs.Solved.{SolvesAsked}
-use Rattle.fair_top.specs.Headline.{HasWritten}
+use Rattle.plain_commands.specs.Answering.{HasWritten}
 use Rattle.fair_top.proofs.Sinks.{of_check, of_solve, of_demo, of_rounds}
 use Rattle.fair_top.proofs.Dumped.{of_wave}
-use Rattle.fair_top.proofs.Remaking.{of_remade}
-use Rattle.fair_top.proofs.Translated.{of_safety}
-use Rattle.fair_top.proofs.Sliced.{of_slice}
-use Rattle.fair_top.proofs.Bounded.{of_shortest}
-use Rattle.fair_top.proofs.Exported.{of_export}
+use Rattle.plain_commands.proofs.Remaking.{of_remade}
+use Rattle.plain_commands.proofs.Translated.{of_safety}
+use Rattle.plain_commands.proofs.Sliced.{of_slice}
+use Rattle.plain_commands.proofs.Bounded.{of_shortest}
+use Rattle.plain_commands.proofs.Exported.{of_export}
 
 -- ---- where memory is refused
 
@@ -26,7 +26,7 @@ memory_solves held (Solve model request resume) result e = λ given. inr e
 memory_solves held (Check model answer) result e = tt
 memory_solves held (Gen request) result e = tt
 memory_solves held (Demo request) result e = tt
-memory_solves held (Wave model answer) result e = tt
+memory_solves held (Wave model answer property) result e = tt
 memory_solves held (Slice model property) result e = tt
 memory_solves held (Convert model answer) result e = tt
 memory_solves held (Safety model property) result e = tt
@@ -47,8 +47,8 @@ of_command Write held (Gen request) status text old new gives writes =
     subst (λ (s : Status). HasWritten Write s old new) (sym gives.0) writes
 of_command Write held (Demo request) status text old new gives writes =
     of_demo Write request status text old new gives writes
-of_command Write held (Wave model answer) status text old new gives writes =
-    of_wave Write (held model) (held answer) status text old new gives writes
+of_command Write held (Wave model answer property) status text old new gives writes =
+    of_wave Write (held model) (held answer) property status text old new gives writes
 of_command Write held (Slice model property) status text old new gives writes =
     of_slice Write (held model) property status text old new gives writes
 of_command Write held (Convert model answer) status text old new gives writes =

@@ -1,25 +1,30 @@
 -- How a run ends, from what is asked for and from what its command gives.
 use Rattle.std.proofs.Common.{◌≡◌, ◌⊎◌, inl, inr, ℕ, Bool, true, false, List, [], ◌∷◌, refl, sym, ◌∙◌, ap, subst, Ok, Err}
+use Rattle.std.proofs.lemmas.Bool.{true≢false}
 use Rattle.std.specs.Prelude.{Option, Result, IfOk}
 use Rattle.edge.specs.Reads.{ReadsOf}
 use Rattle.edge.specs.Writes.{Adds, AddsPart, Writes}
 use Rattle.command_lines.specs.declared.commands.generating.GenRequest.{GenRequest}
-use Rattle.fair_top.specs.declared.status.Status.{Status}
-use Rattle.fair_top.specs.declared.status.Status.TheVariants as statuses
-use Rattle.fair_top.specs.declared.status.Done.TheVariants.{Printed}
+use Rattle.plain_commands.specs.declared.status.Status.{Status}
+use Rattle.plain_commands.specs.declared.status.Status.TheVariants as statuses
+use Rattle.plain_commands.specs.declared.status.Done.TheVariants.{Printed}
 use Rattle.command_lines.specs.declared.commands.demonstrating.DemoRequest.{DemoRequest}
 use Rattle.fair_top.specs.Demo.{GivesDemo, IsSummedUp, demo_circuit}
 use Rattle.fair_top.specs.Solved.{SolvesAsked}
+use Rattle.plain_commands.specs.ModelGiven.{OfSomeText}
+use Rattle.plain_commands.specs.Check.{JudgesAs, GivesCheck}
 use Rattle.command_lines.specs.Commands.{Asked, Gen, Demo, names_in}
 use Rattle.fair_top.specs.Commands.{CommandGives, Decides}
 use Rattle.command_lines.specs.Asking.{AsksFor, IsUsage, IsTakenOrUsage}
-use Rattle.fair_top.specs.Headline.{Ends, IsVerdict, IsAnswered, IsSilent, HasTaken, HasWritten, FailedOf, ReadFailed, ReadsModelFirst, HasRead}
-use Rattle.fair_top.specs.Statuses.{is_read_fault, ends_silently}
-use Rattle.fair_top.specs.Texts.{text_of}
-use Rattle.fair_top.specs.declared.texts.Outcome.{Outcome}
+use Rattle.fair_top.specs.Headline.{Ends, IsVerdict, HasTaken, ReadFailed, HasRead}
+use Rattle.plain_commands.specs.Answering.{IsAnswered, IsSilent, HasWritten, FailedOf, ReadsModelFirst}
+use Rattle.plain_commands.specs.Statuses.{is_read_fault, ends_silently}
+use Rattle.plain_commands.specs.Texts.{text_of}
+use Rattle.plain_commands.specs.declared.texts.Outcome.{Outcome}
 use Rattle.unless_memory.specs.Answers.{GivesSome}
 use Rattle.fair_top.proofs.EachCommand.{memory_solves, of_command}
 use Rattle.fair_top.proofs.Summed.{sums_up}
+use Rattle.fair_top.proofs.Decided.{silent_aloud}
 use Rattle.command_lines.proofs.Taken.{one_asked, not_usage}
 
 -- what is decided for what is asked for is decided for the words
@@ -142,3 +147,34 @@ good_writes Write held words status text old new (inl (usage, e, same)) writes =
     subst (λ (s : Status). HasWritten Write s old new) (sym e) writes
 good_writes Write held words status text old new (inr (asked, asks, gives)) writes =
     of_command Write held asked status text old new gives writes
+
+-- a run that ends silently writes nothing
+pub silent_writes : {Sink : Type 0} (Write : Sink → Bool → Sink → Type 0) (status : Status) (old new : Sink) → HasWritten Write status old new → IsSilent status → new ≡ old
+silent_writes Write status old new h (inl e) = subst (λ (s : Status). HasWritten Write s old new) e h
+silent_writes Write status old new h (inr e) = subst (λ (s : Status). HasWritten Write s old new) e h
+
+abbrev Never : ℕ → Bool → ℕ → Type 0
+Never old failed new = failed ≡ false
+
+never_fails : Writes Never true 0 0 → ⊥
+never_fails (n, last, before, wrong) = true≢false wrong
+
+-- no run ends with a failed write by itself
+pub not_a_write : (held : List ℕ → Option (List ℕ)) (words : List (List ℕ)) (status : Status) (text : List ℕ) → Ends held words status text → status ≡ statuses.WriteFault → ⊥
+not_a_write held words status text ends e =
+    never_fails (subst (λ (s : Status). HasWritten Never s 0 0) e (good_writes Never held words status text 0 0 ends (0, refl)))
+
+-- What `check` gives.
+
+pub check_gives : (model answer : Option (List ℕ)) (status : Status) (result : Result Outcome Status) → JudgesAs OfSomeText model answer status ⊎ IsSilent status
+    → IfOk result (λ outcome. (outcome.status ≡ status) × (outcome.text.items ≡ text_of status)) → IfOk result (λ outcome. ends_silently status ≡ false)
+    → IfOk result (λ outcome. GivesCheck model answer outcome.status outcome.text.items)
+check_gives model answer status (Err other) says text aloud = tt
+check_gives model answer status (Ok outcome) (inl says) text aloud =
+    (subst (λ (s : Status). JudgesAs OfSomeText model answer s) (sym text.0) says, text.1 ∙ sym (ap text_of text.0))
+check_gives model answer status (Ok outcome) (inr silent) text aloud = absurd (silent_aloud status silent aloud)
+
+-- a failed read that is written is that of the status
+pub read_of_status : (status result : Status) → (result ≡ status) ⊎ (result ≡ statuses.Memory) → result ≡ statuses.ReadFault → status ≡ statuses.ReadFault
+read_of_status status result (inl same) e = sym same ∙ e
+read_of_status status result (inr memory) e = let wrong : statuses.Memory ≡ statuses.ReadFault = sym memory ∙ e in absurd (cc wrong)

@@ -4,8 +4,9 @@ use Rattle.std.specs.Prelude.{Result, IfOk, IfErr}
 use Rattle.aig_semantics.specs.Circuits.{Circuit}
 use Rattle.certificate.specs.declared.ends.Accepted.{Accepted}
 use Rattle.certificate.specs.declared.ends.Accepted.TheVariants as accepted
-use Rattle.round_answers.specs.declared.ends.Judged.{Judged}
-use Rattle.round_answers.specs.declared.ends.Judged.TheVariants as found_as
+use Rattle.sheet_answers.specs.declared.ends.Judged.{Judged}
+use Rattle.round_answers.specs.declared.ends.Judged.TheVariants as texts
+use Rattle.sheet_answers.specs.declared.ends.Judged.TheVariants as found_as
 use Rattle.certificate.specs.declared.ends.AnswerEnd.{AnswerEnd}
 use Rattle.certificate.specs.declared.ends.AnswerEnd.TheVariants as ends
 use Rattle.certificate.specs.declared.ends.AnswerFault.{AnswerFault}
@@ -15,14 +16,14 @@ use Rattle.edge.specs.Reads.{Reads}
 use Rattle.edge.proofs.Steady.{ReadsInMemory, no_read_fails}
 use Rattle.wall_store.specs.Boards.{BoardState}
 use Rattle.command_lines.specs.declared.commands.demonstrating.DemoRequest.{DemoRequest}
-use Rattle.fair_top.specs.declared.status.Status.{Status}
-use Rattle.fair_top.specs.declared.status.Status.TheVariants as statuses
-use Rattle.fair_top.specs.declared.status.Done.TheVariants as dones
-use Rattle.fair_top.specs.declared.texts.Outcome.{Outcome}
-use Rattle.fair_top.specs.Check.{done_by}
-use Rattle.fair_top.specs.Statuses.{status_in, is_read_fault}
+use Rattle.plain_commands.specs.declared.status.Status.{Status}
+use Rattle.plain_commands.specs.declared.status.Status.TheVariants as statuses
+use Rattle.plain_commands.specs.declared.status.Done.TheVariants as dones
+use Rattle.plain_commands.specs.declared.texts.Outcome.{Outcome}
+use Rattle.plain_commands.specs.Check.{done_by}
+use Rattle.plain_commands.specs.Statuses.{status_in, is_read_fault}
 use Rattle.fair_top.specs.Demo.{SumsUp, IsSummedUp}
-use Rattle.fair_top.proofs.Judging.{End}
+use Rattle.plain_commands.proofs.Judging.{End}
 
 -- The check of a good answer.
 
@@ -50,9 +51,10 @@ no_fault status (inl (board, e)) = ap is_read_fault e
 no_fault status (inr (report, e)) = ap is_read_fault e
 
 not_accepted : (board : BoardState) (found : Judged) → ◌≡◌ {A = Status} (statuses.Done (dones.Demo board)) (statuses.Done (done_by found)) → ⊥
-not_accepted board (found_as.Answer (accepted.Lasso j p f)) e = absurd (cc)
-not_accepted board (found_as.Answer (accepted.Holds j n)) e = absurd (cc)
-not_accepted board (found_as.Rounds j k r) e = absurd (cc)
+not_accepted board (found_as.Text (texts.Answer (accepted.Lasso j p f))) e = absurd (cc)
+not_accepted board (found_as.Text (texts.Answer (accepted.Holds j n))) e = absurd (cc)
+not_accepted board (found_as.Text (texts.Rounds j k r)) e = absurd (cc)
+not_accepted board (found_as.Sheet counts entries) e = absurd (cc)
 
 no_answer : (status : Status) → IsSummedUp status → (found : Judged) → status ≡ statuses.Done (done_by found) → ⊥
 no_answer status (inl (board, e)) found is = not_accepted board found (sym e ∙ is)

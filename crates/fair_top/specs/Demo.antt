@@ -8,13 +8,13 @@ use Rattle.certificate.specs.Answers.{IsGood}
 use Rattle.wall_store.specs.declared.outcomes.Outcome.{Outcome}
 use Rattle.wall_store.specs.declared.outcomes.Outcome.TheVariants.{Lasso, Holds}
 use Rattle.wall_store.specs.Boards.{BoardState, outcome_of}
-use Rattle.fair_workers.specs.declared.limits.Report.{Report}
+use Rattle.search_reports.specs.declared.limits.Report.{Report}
 use Rattle.fair_workers.specs.Runs.{Task, IsAnswered, IsReport}
 use Rattle.command_lines.specs.declared.commands.demonstrating.DemoRequest.{DemoRequest}
 use Rattle.command_lines.specs.declared.commands.solving.SolveRequest.{SolveRequest}
-use Rattle.fair_top.specs.declared.status.Status.{Status}
-use Rattle.fair_top.specs.declared.status.Status.TheVariants as statuses
-use Rattle.fair_top.specs.declared.status.Done.TheVariants as done
+use Rattle.plain_commands.specs.declared.status.Status.{Status}
+use Rattle.plain_commands.specs.declared.status.Status.TheVariants as statuses
+use Rattle.plain_commands.specs.declared.status.Done.TheVariants as done
 use Rattle.command_lines.specs.Solve.{default_request}
 use Rattle.fair_top.specs.Solve.{task_of, IsTextOfOutcome}
 

@@ -9,51 +9,37 @@
 ghost use Rattle.std.specs.Prelude.{◌≡◌, ◌⊎◌, List, ℕ, false, IfOk, IfErr};
 ghost use Rattle.edge.specs.Faults.{NoneFell};
 ghost use Rattle.edge.specs.Reads.{KeepsTexts};
-ghost use Rattle.round_answers.specs.declared.ends.Judged.{Judged as JudgedOf};
+ghost use Rattle.sheet_answers.specs.declared.ends.Judged.{Judged as JudgedOf};
 ghost use Rattle.command_lines.specs.Words.{bytes_of};
-ghost use Rattle.fair_top.specs.Check.{done_by};
+ghost use Rattle.plain_commands.specs.Check.{done_by};
 ghost use Rattle.command_lines.specs.Commands.{Asked as AskedFor, names_in, meant};
 ghost use Rattle.fair_top.specs.Commands.{CommandGives, Decides, ShownBy};
 ghost use Rattle.command_lines.specs.Asking.{AsksFor, IsUsage, IsTakenOrUsage};
-ghost use Rattle.fair_top.specs.Headline.{ReadsNothing, Ends, IsSilent, IsVerdict, IsAnswered, IsShown, FailedOf, MayHaveFailed, ReadFailed, ReadsModelFirst, HasRead};
+ghost use Rattle.fair_top.specs.Headline.{ReadsNothing, Ends, IsVerdict, IsShown, MayHaveFailed, ReadFailed, HasRead};
+ghost use Rattle.plain_commands.specs.Answering.{IsSilent, IsAnswered, FailedOf, ReadsModelFirst};
 ghost use Rattle.fair_top.specs.Solved.{SolvesAsked, IsSearch};
-ghost use Rattle.fair_top.specs.Beginnings.{circuit_in, given_in};
-ghost use Rattle.fair_top.specs.Statuses.{status_in, is_read_fault};
+ghost use Rattle.fair_top.specs.Beginnings.{circuit_in, served_in, given_in};
+ghost use Rattle.plain_commands.specs.Statuses.{status_in, is_read_fault};
 
-mod bounding;
 mod checking;
-mod converting;
-mod counting;
 mod demonstrating;
-mod exporting;
-mod generating;
-mod remaking;
-mod slicing;
 mod solving;
-mod translating;
-mod trimming;
 mod waving;
 
 use crate::beginnings::Beginning;
-use crate::status::Status;
-use crate::texts::{Outcome, with_text};
-use bounding::find_shortest;
 use checking::check;
+pub(crate) use checking::status_of_end;
 use command_lines::{Asked, SolveRequest, WordsEnd, asked_of};
-use converting::Conversion;
-use counting::count_rounds;
 use demonstrating::demonstrate;
 use edge::Shelf;
-use exporting::export_item;
 use fair_workers::{Ended, Report};
-use generating::generate;
-use remaking::remake;
-use slicing::write_slice;
+use plain_commands::{
+    Conversion, Outcome, Status, Trimming, count_rounds, export_item, find_shortest, generate,
+    remake, safety, with_text, write_slice,
+};
 pub(crate) use solving::limits_of;
 use solving::solve;
 use std::alloc::Global;
-use translating::safety;
-use trimming::Trimming;
 use waving::wave;
 
 /// The status with which a run ends and the text that it writes, but for its writing; or the status of a run that
@@ -64,7 +50,7 @@ pub(crate) fn outcome_of<S: Fn(&Beginning, SolveRequest) -> Result<Report, Ended
     words: &[String],
     shelf: &mut H,
 ) -> Result<Outcome, Status>
-    requires search { IsSearch (λ q. circuit_in q.now) (λ q. given_in q.now) (S.pre search.now) (S.post search.now) }
+    requires search { IsSearch (λ q. circuit_in q.now) (λ q. served_in q.now) (λ q. given_in q.now) (S.pre search.now) (S.post search.now) }
     ensures found { IfOk result (λ outcome. Ends (H.held shelf.old) (bytes_of words.now) outcome.status outcome.text.items) }
     ensures silent { IfErr result IsSilent }
     ensures aloud { IfOk result (λ outcome. is_read_fault outcome.status ≡ false) }
@@ -104,7 +90,7 @@ fn outcome_for<S: Fn(&Beginning, SolveRequest) -> Result<Report, Ended>, H: Shel
     asked: Asked,
     shelf: &mut H,
 ) -> Result<Outcome, Status>
-    requires search { IsSearch (λ q. circuit_in q.now) (λ q. given_in q.now) (S.pre search.now) (S.post search.now) }
+    requires search { IsSearch (λ q. circuit_in q.now) (λ q. served_in q.now) (λ q. given_in q.now) (S.pre search.now) (S.post search.now) }
     requires asked { (words : List (List ℕ)) × AsksFor words (meant asked) }
     ensures found { IfOk result (λ outcome. CommandGives (H.held shelf.old) (meant asked.entry) outcome.status outcome.text.items) }
     ensures silent { IfErr result IsSilent }
@@ -127,7 +113,11 @@ fn outcome_for<S: Fn(&Beginning, SolveRequest) -> Result<Report, Ended>, H: Shel
         Asked::Check { model, answer } => with_text(alloc, check(alloc, shelf, model, answer)),
         Asked::Gen(request) => generate(alloc, &request),
         Asked::Demo(request) => demonstrate(alloc, &request),
-        Asked::Wave { model, answer } => wave(alloc, shelf, model, answer),
+        Asked::Wave {
+            model,
+            answer,
+            property,
+        } => wave(alloc, shelf, model, answer, property),
         Asked::Slice { model, property } => write_slice(alloc, shelf, model, property),
         Asked::Convert { model, answer } => remake(alloc, shelf, model, answer, &Conversion {}),
         Asked::Safety { model, property } => safety(alloc, shelf, model, property),

@@ -14,13 +14,9 @@
 mod beginnings;
 mod commands;
 mod laws;
-mod models;
-mod reports;
 mod running;
 mod searching;
-mod status;
-mod texts;
 
 pub use laws::runs_agree;
+pub use plain_commands::{Done, Status};
 pub use running::{run, run_alone};
-pub use status::{Done, Status};

@@ -1,32 +1,32 @@
 //! The top call: the one place that decides what a run of the program answers and writes.
 
-ghost use Rattle.std.specs.Prelude.{◌≡◌, ◌<◌, ◌≤◌, ◌⊎◌, ℕ, List, Option, length, IfOk, IfErr};
-ghost use Rattle.fair_workers.specs.Runs.{IsAnswer, IsEnded};
+ghost use Rattle.std.specs.Prelude.{◌≡◌, ◌≤◌, ◌⊎◌, ℕ, List, Option, IfOk, IfErr};
+ghost use Rattle.fair_workers.specs.Runs.{AreServed, IsAnswer, IsEnded};
 ghost use Rattle.given_entries.specs.Beginning.{told_of};
-ghost use Rattle.fair_top.specs.Beginnings.{circuit_in, given_in};
+ghost use Rattle.fair_top.specs.Beginnings.{circuit_in, served_in, given_in};
 ghost use Rattle.fair_top.specs.Solved.{AreWithin, MayBegin, IsSearch};
 ghost use Rattle.edge.specs.Faults.{Rose, NoneFell};
 ghost use Rattle.edge.specs.Reads.{KeepsTexts};
 ghost use Rattle.command_lines.specs.Words.{bytes_of};
 ghost use Rattle.command_lines.specs.Commands.Asked.{Solve, Gen, Demo};
-ghost use Rattle.fair_top.specs.Solve.{HasAsked, IsSolved, task_of};
+ghost use Rattle.fair_top.specs.Solve.{HasAsked, IsSolved, task_for};
 ghost use Rattle.fair_top.specs.Demo.{IsSummedUp};
 ghost use Rattle.command_lines.specs.Asking.{AsksFor, IsTakenOrUsage};
-ghost use Rattle.fair_top.specs.Headline.{ReadsNothing, IsFound, IsVerdict, IsAnswered, IsCut, IsShown, IsSilent, HasTaken, ReadFailed, HasRead, HasWritten};
+ghost use Rattle.fair_top.specs.Headline.{ReadsNothing, IsFound, IsVerdict, IsShown, HasTaken, ReadFailed, HasRead};
+ghost use Rattle.plain_commands.specs.Answering.{IsAnswered, IsCut, IsSilent, HasWritten};
 ghost use Rattle.command_lines.specs.declared.commands.demonstrating.DemoRequest.{DemoRequest};
 ghost use Rattle.command_lines.specs.declared.commands.generating.GenRequest.{GenRequest};
 ghost use Rattle.command_lines.specs.declared.commands.solving.SolveRequest.{SolveRequest};
 ghost use Rattle.unless_memory.specs.Answers.{GivesSome};
-ghost use Rattle.fair_top.specs.declared.status.Done.TheVariants.{Printed};
+ghost use Rattle.plain_commands.specs.declared.status.Done.TheVariants.{Printed};
 
 use crate::beginnings::Beginning;
 use crate::commands::outcome_of;
 use crate::searching::{in_turns, on_threads};
-use crate::status::Status;
-use crate::texts::Outcome;
 use command_lines::SolveRequest;
 use edge::{Gate, Shelf, Sink, write_all};
 use fair_workers::{Ended, Report};
+use plain_commands::{Outcome, Status};
 use std::alloc::Global;
 use std::sync::Wait;
 use std::thread::Threads;
@@ -50,7 +50,7 @@ pub fn run<R: Threads + Wait + Sync, H: Shelf, O: Sink, G: Gate>(
     ensures printed { (request : GenRequest) → AsksFor (bytes_of words.now) (Gen request) → (result ≡ Status.Done Printed) ⊎ ((result ≡ Status.Memory) ⊎ (result ≡ Status.WriteFault)) }
     ensures solved { (model : List ℕ) (request : SolveRequest) (resume : Option (List ℕ)) → AsksFor (bytes_of words.now) (Solve model request resume)
         → HasAsked (H.held shelf.old model) (told_of (H.held shelf.old) resume) request
-        → GivesSome Status.Memory (λ status. IsSolved status ⊎ IsCut status) result }
+        → GivesSome Status.Memory (λ status. IsSolved request.all status ⊎ IsCut status) result }
     ensures summed { (request : DemoRequest) → AsksFor (bytes_of words.now) (Demo request)
         → GivesSome Status.Memory (λ status. IsSummedUp status ⊎ (status ≡ Status.WriteFault)) result }
     ensures text { HasTaken (H.held shelf.old) (bytes_of words.now) (O.taken out.old) (O.taken out.new) result }
@@ -66,10 +66,10 @@ pub fn run<R: Threads + Wait + Sync, H: Shelf, O: Sink, G: Gate>(
 {
     let search = |beginning: &Beginning, request: SolveRequest| -> Result<Report, Ended>
         requires within { AreWithin request }
-        requires property { request.property < length (circuit_in beginning.now).justice }
+        requires serves { AreServed (circuit_in beginning.now) (served_in beginning.now) }
         requires begins { MayBegin (circuit_in beginning.now) (given_in beginning.now) }
-        ensures answer { IfOk result (IsAnswer (task_of (circuit_in beginning.now) request (given_in beginning.now))) }
-        ensures ended { IfErr result (IsEnded (task_of (circuit_in beginning.now) request (given_in beginning.now))) }
+        ensures answer { IfOk result (IsAnswer (task_for (circuit_in beginning.now) (served_in beginning.now) request (given_in beginning.now))) }
+        ensures ended { IfErr result (IsEnded (task_for (circuit_in beginning.now) (served_in beginning.now) request (given_in beginning.now))) }
     { on_threads(rt, gate, alloc, beginning, &request) };
     run_by(&search, alloc, words, shelf, out)
 }
@@ -87,17 +87,17 @@ pub fn run_alone<H: Shelf, O: Sink>(
     // and what is decided once is answered, unless memory is refused or a read or write fails.
     ensures exactly { (verdict : Status) → IsVerdict (H.held shelf.old) (bytes_of words.now) verdict → IsAnswered verdict result }
     // What `check` accepts or `solve` prints is true: the circuit of MODEL has such a fair lasso, or has none of the
-    // property.
+    // property; of a sheet there is a block for each property, as many of each kind as are told, and what they say is so.
     ensures shown { IsShown (H.held shelf.old) (bytes_of words.now) result }
     // Words are a command with its values, or are refused; and those of `gen` are answered with a model, unless memory
     // is refused or a write fails.
     ensures words { IsTakenOrUsage (bytes_of words.now) }
     ensures printed { (request : GenRequest) → AsksFor (bytes_of words.now) (Gen request) → (result ≡ Status.Done Printed) ⊎ ((result ≡ Status.Memory) ⊎ (result ≡ Status.WriteFault)) }
-    // `solve` of a model that is told and has the property, and of an answer, where one is named, that is told and gives
-    // entries, comes to a verdict or to a report, unless memory is refused or a read or write fails.
+    // `solve` of a model that is told and has what is asked for, and of an answer, where one is named, that is told and gives
+    // entries, comes to a verdict, on the property or on all, or to a report, unless memory is refused or a read or write fails.
     ensures solved { (model : List ℕ) (request : SolveRequest) (resume : Option (List ℕ)) → AsksFor (bytes_of words.now) (Solve model request resume)
         → HasAsked (H.held shelf.old model) (told_of (H.held shelf.old) resume) request
-        → GivesSome Status.Memory (λ status. IsSolved status ⊎ IsCut status) result }
+        → GivesSome Status.Memory (λ status. IsSolved request.all status ⊎ IsCut status) result }
     // `demo` comes to a board with an outcome or to a report, unless memory is refused or a write fails.
     ensures summed { (request : DemoRequest) → AsksFor (bytes_of words.now) (Demo request)
         → GivesSome Status.Memory (λ status. IsSummedUp status ⊎ (status ≡ Status.WriteFault)) result }
@@ -124,10 +124,10 @@ pub fn run_alone<H: Shelf, O: Sink>(
 {
     let search = |beginning: &Beginning, request: SolveRequest| -> Result<Report, Ended>
         requires within { AreWithin request }
-        requires property { request.property < length (circuit_in beginning.now).justice }
+        requires serves { AreServed (circuit_in beginning.now) (served_in beginning.now) }
         requires begins { MayBegin (circuit_in beginning.now) (given_in beginning.now) }
-        ensures answer { IfOk result (IsAnswer (task_of (circuit_in beginning.now) request (given_in beginning.now))) }
-        ensures ended { IfErr result (IsEnded (task_of (circuit_in beginning.now) request (given_in beginning.now))) }
+        ensures answer { IfOk result (IsAnswer (task_for (circuit_in beginning.now) (served_in beginning.now) request (given_in beginning.now))) }
+        ensures ended { IfErr result (IsEnded (task_for (circuit_in beginning.now) (served_in beginning.now) request (given_in beginning.now))) }
     { in_turns(alloc, beginning, &request) };
     run_by(&search, alloc, words, shelf, out)
 }
@@ -140,7 +140,7 @@ fn run_by<S: Fn(&Beginning, SolveRequest) -> Result<Report, Ended>, H: Shelf, O:
     shelf: &mut H,
     out: &mut O,
 ) -> Status
-    requires search { IsSearch (λ q. circuit_in q.now) (λ q. given_in q.now) (S.pre search.now) (S.post search.now) }
+    requires search { IsSearch (λ q. circuit_in q.now) (λ q. served_in q.now) (λ q. given_in q.now) (S.pre search.now) (S.post search.now) }
     ensures found { IsFound (H.held shelf.old) (bytes_of words.now) result }
     ensures exactly { (verdict : Status) → IsVerdict (H.held shelf.old) (bytes_of words.now) verdict → IsAnswered verdict result }
     ensures shown { IsShown (H.held shelf.old) (bytes_of words.now) result }
@@ -148,7 +148,7 @@ fn run_by<S: Fn(&Beginning, SolveRequest) -> Result<Report, Ended>, H: Shelf, O:
     ensures printed { (request : GenRequest) → AsksFor (bytes_of words.now) (Gen request) → (result ≡ Status.Done Printed) ⊎ ((result ≡ Status.Memory) ⊎ (result ≡ Status.WriteFault)) }
     ensures solved { (model : List ℕ) (request : SolveRequest) (resume : Option (List ℕ)) → AsksFor (bytes_of words.now) (Solve model request resume)
         → HasAsked (H.held shelf.old model) (told_of (H.held shelf.old) resume) request
-        → GivesSome Status.Memory (λ status. IsSolved status ⊎ IsCut status) result }
+        → GivesSome Status.Memory (λ status. IsSolved request.all status ⊎ IsCut status) result }
     ensures summed { (request : DemoRequest) → AsksFor (bytes_of words.now) (Demo request)
         → GivesSome Status.Memory (λ status. IsSummedUp status ⊎ (status ≡ Status.WriteFault)) result }
     ensures text { HasTaken (H.held shelf.old) (bytes_of words.now) (O.taken out.old) (O.taken out.new) result }

@@ -1,10 +1,10 @@
 //! How the workers of `solve` search: on threads, or in turns on one thread. Code above is generic over a closure that
 //! calls one of the two.
 
-ghost use Rattle.std.specs.Prelude.{◌<◌, length, IfOk, IfErr};
-ghost use Rattle.fair_workers.specs.Runs.{IsAnswer, IsEnded};
-ghost use Rattle.fair_top.specs.Beginnings.{circuit_in, given_in};
-ghost use Rattle.fair_top.specs.Solve.{task_of};
+ghost use Rattle.std.specs.Prelude.{IfOk, IfErr};
+ghost use Rattle.fair_workers.specs.Runs.{AreServed, IsAnswer, IsEnded};
+ghost use Rattle.fair_top.specs.Beginnings.{circuit_in, served_in, given_in};
+ghost use Rattle.fair_top.specs.Solve.{task_for};
 ghost use Rattle.fair_top.specs.Solved.{AreWithin, MayBegin};
 
 use crate::beginnings::Beginning;
@@ -23,21 +23,15 @@ pub(crate) fn in_turns(
     request: &SolveRequest,
 ) -> Result<Report, Ended>
     requires within { AreWithin request.now }
-    requires property { request.now.property < length (circuit_in beginning.now).justice }
+    requires serves { AreServed (circuit_in beginning.now) (served_in beginning.now) }
     requires begins { MayBegin (circuit_in beginning.now) (given_in beginning.now) }
-    ensures answer { IfOk result (IsAnswer (task_of (circuit_in beginning.now) request.now (given_in beginning.now))) }
-    ensures ended { IfErr result (IsEnded (task_of (circuit_in beginning.now) request.now (given_in beginning.now))) }
+    ensures answer { IfOk result (IsAnswer (task_for (circuit_in beginning.now) (served_in beginning.now) request.now (given_in beginning.now))) }
+    ensures ended { IfErr result (IsEnded (task_for (circuit_in beginning.now) (served_in beginning.now) request.now (given_in beginning.now))) }
 {
     let limits = limits_of(request);
+    let served = beginning.served.as_slice();
     let given = beginning.given.as_slice();
-    run_turns(
-        alloc,
-        &beginning.circuit,
-        &[request.property],
-        limits,
-        &[],
-        given,
-    )
+    run_turns(alloc, &beginning.circuit, served, limits, &[], given)
 }
 
 /// What workers leave that have a thread each, and pass a gate between their rounds.
@@ -49,20 +43,13 @@ pub(crate) fn on_threads<R: Threads + Wait + Sync, G: Gate>(
     request: &SolveRequest,
 ) -> Result<Report, Ended>
     requires within { AreWithin request.now }
-    requires property { request.now.property < length (circuit_in beginning.now).justice }
+    requires serves { AreServed (circuit_in beginning.now) (served_in beginning.now) }
     requires begins { MayBegin (circuit_in beginning.now) (given_in beginning.now) }
-    ensures answer { IfOk result (IsAnswer (task_of (circuit_in beginning.now) request.now (given_in beginning.now))) }
-    ensures ended { IfErr result (IsEnded (task_of (circuit_in beginning.now) request.now (given_in beginning.now))) }
+    ensures answer { IfOk result (IsAnswer (task_for (circuit_in beginning.now) (served_in beginning.now) request.now (given_in beginning.now))) }
+    ensures ended { IfErr result (IsEnded (task_for (circuit_in beginning.now) (served_in beginning.now) request.now (given_in beginning.now))) }
 {
     let limits = limits_of(request);
+    let served = beginning.served.as_slice();
     let given = beginning.given.as_slice();
-    run_all(
-        rt,
-        alloc,
-        &beginning.circuit,
-        &[request.property],
-        limits,
-        given,
-        gate,
-    )
+    run_all(rt, alloc, &beginning.circuit, served, limits, given, gate)
 }

@@ -1,19 +1,19 @@
-//! The command `check`: reads MODEL and ANSWER, and judges the answer, or the text about rounds. Writes nothing.
+//! The command `check`: reads MODEL and ANSWER, and judges the answer, the text about rounds or the sheet. Writes nothing.
 
 ghost use Rattle.std.specs.Prelude.{◌≡◌, ◌⊎◌, [], ◌∷◌};
 ghost use Rattle.edge.specs.Faults.{NoneFell};
 ghost use Rattle.edge.specs.Reads.{KeepsTexts};
-ghost use Rattle.round_answers.specs.declared.ends.Judged.{Judged as JudgedOf};
-ghost use Rattle.fair_top.specs.ModelGiven.{OfSomeText};
-ghost use Rattle.fair_top.specs.Check.{status_of, JudgesAs, DecidesCheck, ShownByCheck, done_by, done_of};
-ghost use Rattle.fair_top.specs.Headline.{IsSilent, IsAnswered, FailedOf, ReadsModelFirst};
-ghost use Rattle.fair_top.specs.Statuses.{is_read_fault};
+ghost use Rattle.sheet_answers.specs.declared.ends.Judged.{Judged as JudgedOf};
+ghost use Rattle.plain_commands.specs.ModelGiven.{OfSomeText};
+ghost use Rattle.plain_commands.specs.Check.{status_of, status_of_end, JudgesAs, DecidesCheck, ShownByCheck, done_by, done_of_text, done_of};
+ghost use Rattle.plain_commands.specs.Answering.{IsSilent, IsAnswered, FailedOf, ReadsModelFirst};
+ghost use Rattle.plain_commands.specs.Statuses.{is_read_fault};
 
-use crate::models::model_of;
-use crate::status::{Done, Status};
 use certificate::{Accepted, AnswerEnd};
 use edge::Shelf;
-use round_answers::{JudgeEnd, Judged, check_answer};
+use plain_commands::{Done, Status, model_of};
+use round_answers::{JudgeEnd as TextEnd, Judged as TextJudged};
+use sheet_answers::{JudgeEnd, Judged, check_answer};
 use std::alloc::Global;
 
 /// Reads the texts under both names and judges the answer: the status with which the command ends, but for its writing.
@@ -38,10 +38,20 @@ fn checked(end: Result<Judged, JudgeEnd>) -> Status
 {
     match end {
         Ok(found) => Status::Done(done_by(found)),
-        Err(JudgeEnd::Answer(AnswerEnd::Refused(fault))) => Status::Refused(fault),
-        Err(JudgeEnd::Answer(AnswerEnd::ReadFault)) => Status::ReadFault,
-        Err(JudgeEnd::Answer(AnswerEnd::Memory)) => Status::Memory,
-        Err(JudgeEnd::TooLarge(variable)) => Status::TooLarge(variable),
+        Err(end) => status_of_end(end),
+    }
+}
+
+/// The status of a run that refused a text, or ended before its text was judged.
+pub(crate) fn status_of_end(end: JudgeEnd) -> Status
+    ensures { result ≡ status_of_end end }
+{
+    match end {
+        JudgeEnd::Text(TextEnd::Answer(AnswerEnd::Refused(fault))) => Status::Refused(fault),
+        JudgeEnd::Text(TextEnd::Answer(AnswerEnd::ReadFault)) => Status::ReadFault,
+        JudgeEnd::Text(TextEnd::Answer(AnswerEnd::Memory)) => Status::Memory,
+        JudgeEnd::Text(TextEnd::TooLarge(variable)) => Status::TooLarge(variable),
+        JudgeEnd::Block(property, fault) => Status::RefusedBlock(property, fault),
     }
 }
 
@@ -50,8 +60,23 @@ fn done_by(found: Judged) -> Done
     ensures { result ≡ done_by found }
 {
     match found {
-        Judged::Answer(accepted) => done_of(accepted),
-        Judged::Rounds {
+        Judged::Text(judged) => done_of_text(judged),
+        Judged::Sheet(counts, entries) => Done::All {
+            lassos: counts.lassos,
+            holds: counts.holds,
+            unknown: counts.unknown,
+            entries,
+        },
+    }
+}
+
+/// What was done where a text that is no sheet was accepted.
+fn done_of_text(found: TextJudged) -> Done
+    ensures { result ≡ done_of_text found }
+{
+    match found {
+        TextJudged::Answer(accepted) => done_of(accepted),
+        TextJudged::Rounds {
             property,
             k,
             reached,

@@ -4,24 +4,23 @@
 ghost use Rattle.std.specs.Prelude.{◌≡◌, ◌≤◌, [], Some, length, codes, false, IfOk, IfErr};
 ghost use Rattle.std.specs.Arc.{arc_value};
 ghost use Rattle.certificate.specs.declared.ends.Accepted.{Accepted as AcceptedOf};
-ghost use Rattle.round_answers.specs.declared.ends.Judged.{Judged as JudgedOf};
+ghost use Rattle.sheet_answers.specs.declared.ends.Judged.{Judged as JudgedOf};
 ghost use Rattle.certificate.specs.Answers.{IsGood};
 ghost use Rattle.wall_store.specs.Boards.{outcome_of};
 ghost use Rattle.fair_workers.specs.Runs.{IsAnswered as IsAnsweredBy, IsAnswer, IsReport};
-ghost use Rattle.fair_top.specs.Check.{done_by};
+ghost use Rattle.plain_commands.specs.Check.{done_by};
 ghost use Rattle.fair_top.specs.Demo.{demo_task, verdict_text, summary_text, SumsUpAnswer, SumsUpBoard, SumsUpReport, SumsUp, GivesDemo};
 ghost use Rattle.fair_top.specs.Solve.{IsTextOfOutcome};
-ghost use Rattle.fair_top.specs.Statuses.{status_in, is_read_fault};
+ghost use Rattle.plain_commands.specs.Statuses.{status_in, is_read_fault};
 
 use crate::commands::solving::{entry_count, limits_of, printed};
-use crate::status::{Done, Status};
-use crate::texts::Outcome;
 use certificate::{AnswerEnd, check_answer};
 use circuit::Circuit;
 use command_lines::{DEFAULTS, DemoRequest, SolveRequest};
 use edge::{MemShelf, Shelf};
 use fair_workers::{Board, Ended, Report, run_turns};
 use model_gen::scramble;
+use plain_commands::{Done, Outcome, Status};
 use std::alloc::{AllocError, Global};
 use std::sync::Arc;
 use text_grammar::push_number;

@@ -1,28 +1,29 @@
 //! The command `solve`: lets workers search for what is asked, and makes the text of what they found. The main call is
 //! `solve`. Writes nothing.
 
-ghost use Rattle.std.specs.Prelude.{◌≡◌, ◌<◌, ◌∷◌, ℕ, List, length, option_map, false, IfOk, IfErr};
+ghost use Rattle.std.specs.Prelude.{◌≡◌, ◌<◌, [], ◌∷◌, ℕ, List, length, option_map, false, IfOk, IfErr};
 ghost use Rattle.aig_semantics.specs.Stimuli.{IsFairLassoOf};
 ghost use Rattle.edge.specs.Faults.{NoneFell};
 ghost use Rattle.edge.specs.Reads.{KeepsTexts};
-ghost use Rattle.round_answers.specs.declared.ends.Judged.{Judged as JudgedOf};
+ghost use Rattle.sheet_answers.specs.declared.ends.Judged.{Judged as JudgedOf};
 ghost use Rattle.certificate.specs.Writing.{certificate_of, certificate_text};
 ghost use Rattle.entry.specs.CheckedEntries.{CheckedEntry};
 ghost use Rattle.entry.specs.Proved.{IsGoodRefutation};
 ghost use Rattle.given_entries.specs.Beginning.{told_of};
 ghost use Rattle.command_lines.specs.Commands.{name_in};
-ghost use Rattle.fair_workers.specs.Runs.{IsAnswered as IsAnsweredBy, IsAnswer, IsEnded};
-ghost use Rattle.wall_store.specs.Boards.{outcome_of, plain};
-ghost use Rattle.fair_top.specs.Check.{done_by};
-ghost use Rattle.fair_top.specs.Solve.{limits_of, task_of, HasAsked, GivesSolve, DecidesSolve, ShownBySolve, IsStimulusOf, IsTextOfOutcome};
-ghost use Rattle.fair_top.specs.Solved.{AreWithin, MayBegin, IsSearch, EndsFor, IsPrinted, SolvesUnlessCut};
-ghost use Rattle.fair_top.specs.Beginnings.{circuit_in, given_in};
-ghost use Rattle.fair_top.specs.Headline.{IsSilent, IsAnswered, FailedOf, FailedFor, ReadsModelFirst};
-ghost use Rattle.fair_top.specs.Statuses.{status_in, is_read_fault};
+ghost use Rattle.fair_workers.specs.Runs.{AreServed, IsAnswered as IsAnsweredBy, IsAnswer, IsReport, IsEnded};
+ghost use Rattle.wall_store.specs.Boards.{properties_of, outcome_of, plain};
+ghost use Rattle.wall_store.specs.Events.{IsSettled};
+ghost use Rattle.sheet_commands.specs.Each.{each_of};
+ghost use Rattle.plain_commands.specs.Check.{done_by};
+ghost use Rattle.fair_top.specs.Solve.{limits_of, asked_in, task_for, task_of, HasProperty, HasAsked, GivesSolve, DecidesSolve, ShownBySolve, IsStimulusOf, IsTextOfOutcome, IsSheetOfReport};
+ghost use Rattle.fair_top.specs.Solved.{AreWithin, MayBegin, IsSearch, EndsFor, IsPrinted, IsSheetPrinted, SolvesUnlessCut};
+ghost use Rattle.fair_top.specs.Beginnings.{circuit_in, served_in, given_in};
+ghost use Rattle.plain_commands.specs.Answering.{IsSilent, IsAnswered, FailedOf, ReadsModelFirst};
+ghost use Rattle.fair_top.specs.Headline.{FailedFor};
+ghost use Rattle.plain_commands.specs.Statuses.{status_in, is_read_fault};
 
 use crate::beginnings::{Beginning, beginning_of};
-use crate::status::{Done, Status};
-use crate::texts::{Outcome, with_text};
 use aig_semantics::Lasso;
 use certificate::{good_answers_are_true, written_certificates_are_good, written_stimuli_are_good};
 use circuit::Circuit;
@@ -30,13 +31,13 @@ use command_lines::SolveRequest;
 use edge::Shelf;
 use entry::Refutation;
 use fair_workers::{Board, Ended, Limits, Report};
-use items::Items;
-use lasso_join::shortest_prefix;
+use plain_commands::{Done, Outcome, Status, with_text};
+use sheet_commands::{BoardSheet, board_sheet, first_lasso};
 use std::alloc::{AllocError, Global};
 use stimulus::Stimulus;
 use wall_store::Outcome as Found;
 
-/// Reads the model, and the answer where one is named, and lets workers decide the property: the status with which the
+/// Reads the model, and the answer where one is named, and lets workers decide the property, or all: the status with which the
 /// command ends and the text that it writes, but for its writing; or the status of a run that writes nothing, `ReadFault` or
 /// `Memory`.
 pub(crate) fn solve<S: Fn(&Beginning, SolveRequest) -> Result<Report, Ended>, H: Shelf>(
@@ -47,7 +48,7 @@ pub(crate) fn solve<S: Fn(&Beginning, SolveRequest) -> Result<Report, Ended>, H:
     resume: Option<&str>,
     request: &SolveRequest,
 ) -> Result<Outcome, Status>
-    requires search { IsSearch (λ q. circuit_in q.now) (λ q. given_in q.now) (S.pre search.now) (S.post search.now) }
+    requires search { IsSearch (λ q. circuit_in q.now) (λ q. served_in q.now) (λ q. given_in q.now) (S.pre search.now) (S.post search.now) }
     requires within { AreWithin request.now }
     ensures found { IfOk result (λ outcome. GivesSolve (H.held shelf.old model.now)
         (told_of (H.held shelf.old) (option_map (λ name. name.now) resume.entry)) request.now outcome.status outcome.text.items) }
@@ -57,11 +58,11 @@ pub(crate) fn solve<S: Fn(&Beginning, SolveRequest) -> Result<Report, Ended>, H:
         (told_of (H.held shelf.old) (option_map (λ name. name.now) resume.entry)) request.now verdict → IsAnswered verdict (status_in result) }
     ensures shown { (accepted : JudgedOf) → status_in result ≡ Status.Done (done_by accepted) → ShownBySolve (H.held shelf.old model.now) accepted }
     ensures solved { HasAsked (H.held shelf.old model.now) (told_of (H.held shelf.old) (option_map (λ name. name.now) resume.entry)) request.now
-        → SolvesUnlessCut (status_in result) }
+        → SolvesUnlessCut request.now.all (status_in result) }
     ensures read { status_in result ≡ Status.ReadFault
         → FailedOf (H.held shelf.old) (model.now ∷ name_in (option_map (λ name. name.now) resume.entry)) (H.faults shelf.old) (H.faults shelf.new) }
     ensures there { status_in result ≡ Status.ReadFault
-        → FailedFor (H.held shelf.old) model.now request.now.property (H.faults shelf.old) (H.faults shelf.new) }
+        → FailedFor (H.held shelf.old) model.now request.now (H.faults shelf.old) (H.faults shelf.new) }
     ensures reads { ReadsModelFirst H.reads (H.held shelf.old) (model.now ∷ name_in (option_map (λ name. name.now) resume.entry))
         (is_read_fault (status_in result)) shelf.old shelf.new }
     ensures counts { NoneFell (H.faults shelf.old) (H.faults shelf.new) }
@@ -80,16 +81,18 @@ fn run_for<S: Fn(&Beginning, SolveRequest) -> Result<Report, Ended>>(
     beginning: &Beginning,
     request: &SolveRequest,
 ) -> Result<Outcome, Status>
-    requires search { IsSearch (λ q. circuit_in q.now) (λ q. given_in q.now) (S.pre search.now) (S.post search.now) }
+    requires search { IsSearch (λ q. circuit_in q.now) (λ q. served_in q.now) (λ q. given_in q.now) (S.pre search.now) (S.post search.now) }
     requires within { AreWithin request.now }
-    requires property { request.now.property < length (circuit_in beginning.now).justice }
+    requires property { HasProperty (circuit_in beginning.now) request.now }
+    requires served { served_in beginning.now ≡ asked_in request.now.all (circuit_in beginning.now) request.now.property }
+    requires serves { AreServed (circuit_in beginning.now) (served_in beginning.now) }
     requires begins { MayBegin (circuit_in beginning.now) (given_in beginning.now) }
     ensures found { IfOk result (λ outcome. EndsFor (circuit_in beginning.now) request.now (given_in beginning.now) outcome.status outcome.text.items) }
     ensures ended { IfErr result (λ status. status ≡ Status.Memory) }
 {
     match searched(search, beginning, request) {
-        Ok(report) => printed(alloc, &beginning.circuit, request, &report.board),
-        Err(Ended::Spent(report)) => with_text(alloc, Status::Unknown(report)),
+        Ok(report) => decided(alloc, &beginning.circuit, request, &report.board),
+        Err(Ended::Spent(report)) => undecided(alloc, &beginning.circuit, request, report),
         Err(Ended::Memory) => Err(Status::Memory),
     }
 }
@@ -100,14 +103,90 @@ fn searched<S: Fn(&Beginning, SolveRequest) -> Result<Report, Ended>>(
     beginning: &Beginning,
     request: &SolveRequest,
 ) -> Result<Report, Ended>
-    requires search { IsSearch (λ q. circuit_in q.now) (λ q. given_in q.now) (S.pre search.now) (S.post search.now) }
+    requires search { IsSearch (λ q. circuit_in q.now) (λ q. served_in q.now) (λ q. given_in q.now) (S.pre search.now) (S.post search.now) }
     requires within { AreWithin request.now }
-    requires property { request.now.property < length (circuit_in beginning.now).justice }
+    requires served { served_in beginning.now ≡ asked_in request.now.all (circuit_in beginning.now) request.now.property }
+    requires serves { AreServed (circuit_in beginning.now) (served_in beginning.now) }
     requires begins { MayBegin (circuit_in beginning.now) (given_in beginning.now) }
     ensures answer { IfOk result (IsAnswer (task_of (circuit_in beginning.now) request.now (given_in beginning.now))) }
     ensures ended { IfErr result (IsEnded (task_of (circuit_in beginning.now) request.now (given_in beginning.now))) }
 {
     search(beginning, *request)
+}
+
+// The text of a board on which each property that was asked for has an outcome: a sheet where all were, else an answer.
+fn decided(
+    alloc: Global,
+    circuit: &Circuit,
+    request: &SolveRequest,
+    board: &Board,
+) -> Result<Outcome, Status>
+    requires answered { (given : List CheckedEntry) × IsAnsweredBy (task_of circuit.now request.now given) board.now }
+    requires property { HasProperty circuit.now request.now }
+    ensures found { (given : List CheckedEntry) → IsAnsweredBy (task_of circuit.now request.now given) board.now
+        → IfOk result (λ outcome. EndsFor circuit.now request.now given outcome.status outcome.text.items) }
+    ensures ended { IfErr result (λ status. status ≡ Status.Memory) }
+{
+    if request.all {
+        return sheet_printed(alloc, circuit, board);
+    }
+    printed(alloc, circuit, request, board)
+}
+
+// The sheet of a board on which each property has an outcome.
+fn sheet_printed(alloc: Global, circuit: &Circuit, board: &Board) -> Result<Outcome, Status>
+    requires circuit { board.now.circuit ≡ circuit.now }
+    requires each { properties_of board.now.served ≡ each_of circuit.now }
+    requires settled { IsSettled board.now.served }
+    ensures found { IfOk result (λ outcome. IsSheetPrinted circuit.now board.now outcome.status outcome.text.items) }
+    ensures ended { IfErr result (λ status. status ≡ Status.Memory) }
+{
+    match board_sheet(alloc, circuit, board) {
+        Ok(BoardSheet { counts, text }) => Ok(Outcome {
+            status: Status::Done(Done::All {
+                lassos: counts.lassos,
+                holds: counts.holds,
+                unknown: counts.unknown,
+                entries: entry_count(board),
+            }),
+            text,
+        }),
+        Err(_) => Err(Status::Memory),
+    }
+}
+
+// The text of a report: the sheet of its board where all properties were asked for, else what was spent.
+fn undecided(
+    alloc: Global,
+    circuit: &Circuit,
+    request: &SolveRequest,
+    report: Report,
+) -> Result<Outcome, Status>
+    requires report { (given : List CheckedEntry) × IsReport (task_of circuit.now request.now given) report }
+    ensures found { (given : List CheckedEntry) → IsReport (task_of circuit.now request.now given) report
+        → IfOk result (λ outcome. EndsFor circuit.now request.now given outcome.status outcome.text.items) }
+    ensures ended { IfErr result (λ status. status ≡ Status.Memory) }
+{
+    if request.all {
+        return sheet_open(alloc, circuit, report);
+    }
+    with_text(alloc, Status::Unknown(report))
+}
+
+// The report with the sheet of its board.
+fn sheet_open(alloc: Global, circuit: &Circuit, report: Report) -> Result<Outcome, Status>
+    requires { report.board.circuit ≡ circuit.now }
+    ensures status { IfOk result (λ outcome. outcome.status ≡ Status.Unknown report) }
+    ensures text { IfOk result (λ outcome. IsSheetOfReport circuit.now report outcome.text.items) }
+    ensures ended { IfErr result (λ status. status ≡ Status.Memory) }
+{
+    match board_sheet(alloc, circuit, &report.board) {
+        Ok(BoardSheet { text, .. }) => Ok(Outcome {
+            status: Status::Unknown(report),
+            text,
+        }),
+        Err(_) => Err(Status::Memory),
+    }
 }
 
 pub(crate) fn limits_of(request: &SolveRequest) -> Limits
@@ -128,7 +207,7 @@ pub(crate) fn printed(
     request: &SolveRequest,
     board: &Board,
 ) -> Result<Outcome, Status>
-    requires answered { (given : List CheckedEntry) × IsAnsweredBy (task_of circuit.now request.now given) board.now }
+    requires answered { (given : List CheckedEntry) × IsAnsweredBy (task_for circuit.now (request.now.property ∷ []) request.now given) board.now }
     requires property { request.now.property < length circuit.now.justice }
     ensures found { IfOk result (λ outcome. IsPrinted circuit.now request.now board.now.limit outcome.status outcome.text.items) }
     ensures text { IfOk result (λ outcome. IsTextOfOutcome circuit.now request.now.property board.now.entries
@@ -148,20 +227,6 @@ pub(crate) fn printed(
     }
 }
 
-fn copied(alloc: Global, lasso: &Lasso) -> Result<Lasso, AllocError>
-    ensures { IfOk result (λ copy. copy ≡ lasso.now) }
-{
-    let mut inputs = Items::new(alloc);
-    for values in lasso.inputs.as_slice() {
-        inputs.push(values.try_copy(alloc)?)?;
-    }
-    Ok(Lasso {
-        start: lasso.start.try_copy(alloc)?,
-        inputs,
-        from: lasso.from,
-    })
-}
-
 // The answer with the stimulus of the lasso, cut where it first stands for one.
 fn stimulus_text(
     alloc: Global,
@@ -177,7 +242,7 @@ fn stimulus_text(
     written_stimuli_are_good(circuit);
     good_answers_are_true(circuit);
     let j = request.property;
-    let short = shortest_prefix(alloc, circuit, j, copied(alloc, lasso)?)?;
+    let short = first_lasso(alloc, circuit, j, lasso)?;
     let Lasso {
         start,
         inputs,

@@ -1,9 +1,9 @@
 use Rattle.std.proofs.Common.{inr}
 use Rattle.std.specs.Prelude.{option_map}
 use Rattle.given_entries.specs.Beginning.{told_of}
-use Rattle.fair_top.specs.Statuses.{has_read_fault}
-use Rattle.fair_top.proofs.Judging.{told_form}
-use Rattle.fair_top.proofs.Begun.{told_again, beginnings_now, before_now, before_model, failed_of_answer, property_there, read_named}
+use Rattle.plain_commands.specs.Statuses.{has_read_fault}
+use Rattle.plain_commands.proofs.Judging.{told_form}
+use Rattle.fair_top.proofs.Begun.{told_again, beginnings_now, before_now, before_model, failed_of_answer, asked_there, read_named}
 use Rattle.fair_top.proofs.beginnings.beginning_of.Goals as goal
 
 pub returns-in-Ok-clause-asked : goal.returns-in-Ok-clause-asked
@@ -32,7 +32,7 @@ returns-in-Ok-clause-read g c = λ e.
 pub returns-in-Ok-clause-there : goal.returns-in-Ok-clause-there
 returns-in-Ok-clause-there g c = λ e.
     let held = g.H.Shelf.held c.args.shelf.now in
-    inr (property_there c.into_circuit.result c.in-Ok.found (held c.args.model.now) (told_of (g.H.Shelf.held c.model_of.new.shelf) (option_map (λ name. name.now) c.args.resume))
+    inr (asked_there c.into_circuit.result c.in-Ok.found (held c.args.model.now) (told_of (g.H.Shelf.held c.model_of.new.shelf) (option_map (λ name. name.now) c.args.resume))
     c.args.request.now c.beginning_about.result c.into_circuit.ensures c.in-Ok.ensures.found c.beginning_about.ensures.ended e)
 
 pub returns-in-Ok-clause-reads : goal.returns-in-Ok-clause-reads

@@ -1,20 +1,29 @@
-use Rattle.std.proofs.Common.{rules, ◌≡◌}
+use Rattle.std.proofs.Common.{rules, ◌≡◌, sym, subst}
 use Rattle.std.specs.Prelude.{option_map}
 use Rattle.std.specs.Arc.{arc_value}
+use Rattle.aig_semantics.specs.Circuits.{Circuit}
 use Rattle.given_entries.specs.Beginning.{told_of}
-use Rattle.fair_top.proofs.Begun.{asking_asked, asking_ended, asking_refused, asking_accepted, asking_read, asking_reads, no_reads}
+use Rattle.fair_top.specs.Solve.{HasProperty}
+use Rattle.fair_top.proofs.Begun.{begun_of, asking_asked, asking_ended, asking_refused, asking_accepted, asking_read, asking_reads, no_reads}
 use Rattle.fair_top.proofs.beginnings.beginning_on.Goals as goal
+
+pub begun-requires : goal.begun-requires
+begun-requires g c =
+    let is : arc_value c.in-Ok.circuit ≡ c.args.circuit = search rules in
+    record { property = subst (λ (k : Circuit). HasProperty k c.args.request.now) (sym is) c.requires.property }
 
 pub returns-in-Ok-clause-asked : goal.returns-in-Ok-clause-asked
 returns-in-Ok-clause-asked g c =
     let is : arc_value c.in-Ok.circuit ≡ c.args.circuit = search rules in
-    asking_asked (arc_value c.in-Ok.circuit) c.args.circuit (told_of (g.H.Shelf.held c.args.shelf.now) (option_map (λ name. name.now) c.args.resume)) c.args._request.now c.begun.result c.asked_as.result
-    is c.asked_as.ensures c.requires.property c.begun.ensures.circuit c.begun.ensures.list c.begun.ensures.begins
+    let answer = told_of (g.H.Shelf.held c.args.shelf.now) (option_map (λ name. name.now) c.args.resume) in
+    asking_asked (arc_value c.in-Ok.circuit) c.args.circuit answer c.args.request.now c.begun.result c.asked_as.result is c.asked_as.ensures c.requires.property
+    (begun_of (arc_value c.in-Ok.circuit) answer c.args.request.now c.begun.result c.begun.ensures.circuit c.begun.ensures.served c.begun.ensures.serves c.begun.ensures.list
+    c.begun.ensures.begins)
 
 pub returns-in-Ok-clause-ended : goal.returns-in-Ok-clause-ended
 returns-in-Ok-clause-ended g c =
     let is : arc_value c.in-Ok.circuit ≡ c.args.circuit = search rules in
-    asking_ended (arc_value c.in-Ok.circuit) c.args.circuit (told_of (g.H.Shelf.held c.args.shelf.now) (option_map (λ name. name.now) c.args.resume)) c.args._request.now c.begun.result c.asked_as.result
+    asking_ended (arc_value c.in-Ok.circuit) c.args.circuit (told_of (g.H.Shelf.held c.args.shelf.now) (option_map (λ name. name.now) c.args.resume)) c.args.request.now c.begun.result c.asked_as.result
     is c.asked_as.ensures c.requires.property c.begun.ensures.fault
 
 pub returns-in-Ok-clause-refused : goal.returns-in-Ok-clause-refused

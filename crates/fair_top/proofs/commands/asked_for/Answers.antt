@@ -2,7 +2,7 @@ use Rattle.std.proofs.Common.{◌≡◌, ◌⊎◌, List, ℕ, refl, inl, inr}
 use Rattle.command_lines.specs.Words.{bytes_of}
 use Rattle.command_lines.specs.Asking.{IsUsage}
 use Rattle.command_lines.specs.declared.commands.WordsEnd.TheVariants as ends
-use Rattle.fair_top.specs.declared.status.Status.TheVariants as statuses
+use Rattle.plain_commands.specs.declared.status.Status.TheVariants as statuses
 use Rattle.fair_top.proofs.commands.asked_for.Goals as goal
 
 -- the status for words that are no command

@@ -3,17 +3,34 @@ use Rattle.std.specs.Prelude.{IfOk}
 use Rattle.command_lines.specs.declared.commands.Asked.{Asked as AskedInCode}
 use Rattle.command_lines.specs.Commands.{meant, names_in}
 use Rattle.fair_top.specs.Commands.{CommandGives, Decides, ShownBy}
-use Rattle.fair_top.specs.declared.status.Status.TheVariants as statuses
-use Rattle.fair_top.specs.Headline.{FailedOf, MayHaveFailed, ReadsModelFirst}
+use Rattle.plain_commands.specs.declared.status.Status.TheVariants as statuses
+use Rattle.plain_commands.specs.Answering.{FailedOf, ReadsModelFirst}
+use Rattle.fair_top.specs.Headline.{MayHaveFailed}
 use Rattle.fair_top.specs.Solved.{SolvesAsked}
-use Rattle.fair_top.specs.Statuses.{status_in, is_read_fault}
-use Rattle.fair_top.proofs.Ending.{still_answered}
+use Rattle.plain_commands.specs.Statuses.{status_in, is_read_fault}
+use Rattle.fair_top.proofs.Ending.{still_answered, check_gives, read_of_status}
 use Rattle.fair_top.proofs.commands.outcome_for.Goals as goal
 
 pub returns-in-Check-clause-exactly : goal.returns-in-Check-clause-exactly
 returns-in-Check-clause-exactly g c = λ verdict d.
     still_answered verdict c.check.result (status_in c.with_text.result) c.with_text.ensures.status
     (c.check.ensures.exactly verdict (subst (λ (a : AskedInCode). Decides (g.H.Shelf.held c.args.shelf.now) (meant a) verdict) c.in-Check.is d))
+
+pub returns-in-Check-clause-found : goal.returns-in-Check-clause-found
+returns-in-Check-clause-found g c =
+    let held = g.H.Shelf.held c.args.shelf.now in
+    subst (λ (a : AskedInCode). IfOk c.with_text.result (λ outcome. CommandGives held (meant a) outcome.status outcome.text.items)) (sym c.in-Check.is)
+    (check_gives (held c.in-Check.model.now) (held c.in-Check.answer.now) c.check.result c.with_text.result c.check.ensures.found c.with_text.ensures.text c.with_text.ensures.aloud)
+
+pub returns-in-Check-clause-read : goal.returns-in-Check-clause-read
+returns-in-Check-clause-read g c = λ e.
+    subst (λ (a : AskedInCode). FailedOf (g.H.Shelf.held c.args.shelf.now) (names_in (meant a)) (g.H.Shelf.faults c.args.shelf.now) (g.H.Shelf.faults c.check.new.shelf))
+    (sym c.in-Check.is) (c.check.ensures.read (read_of_status c.check.result (status_in c.with_text.result) c.with_text.ensures.status e))
+
+pub returns-in-Wave-clause-found : goal.returns-in-Wave-clause-found
+returns-in-Wave-clause-found g c =
+    subst (λ (a : AskedInCode). IfOk c.wave.result (λ outcome. CommandGives (g.H.Shelf.held c.args.shelf.now) (meant a) outcome.status outcome.text.items))
+    (sym c.in-Wave.is) c.wave.ensures.found
 
 pub returns-in-Solve-clause-exactly : goal.returns-in-Solve-clause-exactly
 returns-in-Solve-clause-exactly g c = λ verdict d.

@@ -1,7 +1,7 @@
 use Rattle.std.proofs.Common.{◌∙◌}
 use Rattle.command_lines.specs.Words.{bytes_of}
 use Rattle.command_lines.specs.Commands.{meant}
-use Rattle.fair_top.specs.Statuses.{status_in}
+use Rattle.plain_commands.specs.Statuses.{status_in}
 use Rattle.fair_top.proofs.Ending.{refused_ends, exact_for, solves_for, unsolved, nothing_read, not_a_read}
 use Rattle.fair_top.proofs.commands.outcome_of.Goals as goal
 

@@ -1,7 +1,7 @@
 use Rattle.std.proofs.Common.{refl, inl, inr}
 use Rattle.command_lines.specs.Words.{bytes_of}
 use Rattle.command_lines.specs.Commands.Asked.{Solve}
-use Rattle.fair_top.proofs.Ending.{is_printed, demo_sums_up, demo_is_silent, read_before, written, part_written, good_writes}
+use Rattle.fair_top.proofs.Ending.{is_printed, demo_sums_up, demo_is_silent, read_before, written, part_written, good_writes, silent_writes, not_a_write}
 use Rattle.fair_top.proofs.running.run_by.Goals as goal
 
 pub returns-in-Ok-write_all-clause-printed : goal.returns-in-Ok-write_all-clause-printed
@@ -28,6 +28,16 @@ pub returns-in-Ok-write_all-clause-written : goal.returns-in-Ok-write_all-clause
 returns-in-Ok-write_all-clause-written g c =
     good_writes g.O.Sink.writes (g.H.Shelf.held c.args.shelf.now) (bytes_of c.args.words.now) c.in-Ok.field-0.status c.in-Ok.field-0.text.items
     c.args.out.now c.write_all.new.sink c.in-Ok.ensures.found c.in-Ok-write_all.ensures.writes
+
+pub returns-in-Ok-write_all-clause-silent : goal.returns-in-Ok-write_all-clause-silent
+returns-in-Ok-write_all-clause-silent g c = λ silent.
+    silent_writes g.O.Sink.writes c.in-Ok.field-0.status c.args.out.now c.write_all.new.sink
+    (good_writes g.O.Sink.writes (g.H.Shelf.held c.args.shelf.now) (bytes_of c.args.words.now) c.in-Ok.field-0.status c.in-Ok.field-0.text.items
+    c.args.out.now c.write_all.new.sink c.in-Ok.ensures.found c.in-Ok-write_all.ensures.writes) silent
+
+pub returns-in-Ok-write_all-clause-write : goal.returns-in-Ok-write_all-clause-write
+returns-in-Ok-write_all-clause-write g c = λ e.
+    absurd (not_a_write (g.H.Shelf.held c.args.shelf.now) (bytes_of c.args.words.now) c.in-Ok.field-0.status c.in-Ok.field-0.text.items c.in-Ok.ensures.found e)
 
 pub returns-in-Ok-write_all-clause-solved : goal.returns-in-Ok-write_all-clause-solved
 returns-in-Ok-write_all-clause-solved g c = λ model request resume asks. c.in-Ok.ensures.solved (Solve model request resume) asks

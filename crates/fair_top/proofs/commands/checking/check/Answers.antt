@@ -1,10 +1,10 @@
 use Rattle.std.proofs.Common.{◌⊎◌, ◌∷◌, [], subst, sym, ◌∙◌, inl, inr}
-use Rattle.fair_top.specs.declared.status.Status.{Status}
-use Rattle.fair_top.specs.ModelGiven.{OfSomeText}
-use Rattle.fair_top.specs.Check.{JudgesAs}
-use Rattle.fair_top.specs.Statuses.{is_read_fault}
-use Rattle.fair_top.specs.Headline.{IsSilent, IsAnswered, ReadsModelFirst}
-use Rattle.fair_top.proofs.Judging.{told_form, judged, judged_exact, judged_shown, without_model, without_model_exact, read_failed, both_read, rose_since}
+use Rattle.plain_commands.specs.declared.status.Status.{Status}
+use Rattle.plain_commands.specs.ModelGiven.{OfSomeText}
+use Rattle.plain_commands.specs.Check.{JudgesAs}
+use Rattle.plain_commands.specs.Statuses.{is_read_fault}
+use Rattle.plain_commands.specs.Answering.{IsSilent, IsAnswered, ReadsModelFirst}
+use Rattle.plain_commands.proofs.Judging.{told_form, judged, judged_exact, judged_shown, without_model, without_model_exact, read_failed, both_read, rose_since}
 use Rattle.fair_top.proofs.commands.checking.check.Goals as goal
 
 pub returns-in-Ok-clause-found : goal.returns-in-Ok-clause-found

@@ -4,11 +4,12 @@ use Rattle.std.specs.Arc.{arc_value}
 use Rattle.std.proofs.lemmas.Result.{IfOk-weaker}
 use Rattle.aig_semantics.specs.Circuits.{Circuit}
 use Rattle.fair_top.specs.Demo.{SumsUp}
-use Rattle.fair_top.proofs.Decided.{nothing_before, served_one}
+use Rattle.fair_top.proofs.Decided.{nothing_before}
+use Rattle.fair_top.proofs.Begun.{one_serves}
 use Rattle.fair_top.proofs.commands.demonstrating.run_for.Goals as goal
 
 pub run_turns-requires-clause-served : goal.run_turns-requires-clause-served
-run_turns-requires-clause-served c = served_one (arc_value c.args.circuit.now) 0 (omega (arith, c.requires))
+run_turns-requires-clause-served c = one_serves (arc_value c.args.circuit.now) 0 (omega (arith, c.requires))
 
 pub run_turns-requires-clause-given : goal.run_turns-requires-clause-given
 run_turns-requires-clause-given c = λ before after e wrong. absurd (nothing_before before after e wrong)

@@ -4,10 +4,12 @@ use Rattle.std.specs.Prelude.{option_map}
 use Rattle.given_entries.specs.Beginning.{told_of}
 use Rattle.fair_top.specs.Beginnings.{circuit_in, given_in}
 use Rattle.command_lines.specs.Commands.{name_in}
-use Rattle.fair_top.specs.Headline.{FailedFor, ReadsModelFirst}
-use Rattle.fair_top.specs.Statuses.{status_in, is_read_fault}
+use Rattle.fair_top.specs.Headline.{FailedFor}
+use Rattle.plain_commands.specs.Answering.{ReadsModelFirst}
+use Rattle.plain_commands.specs.Statuses.{status_in, is_read_fault}
 use Rattle.fair_top.proofs.Decided.{solved_gives, solved_shown, solved_asked, solved_aloud, solved_read, unsearched_gives, unsearched_shown, unsearched_asked}
-use Rattle.fair_top.proofs.Dumped.{still}
+use Rattle.fair_top.proofs.Begun.{read_of_err}
+use Rattle.plain_commands.proofs.Written.{still}
 use Rattle.fair_top.proofs.commands.solving.solve.Goals as goal
 
 pub returns-in-Ok-clause-found : goal.returns-in-Ok-clause-found
@@ -56,8 +58,19 @@ pub returns-in-Ok-clause-there : goal.returns-in-Ok-clause-there
 returns-in-Ok-clause-there g c = λ e.
     let unread : is_read_fault (status_in c.run_for.result) ≡ false =
     solved_read (circuit_in c.in-Ok.beginning) c.args.request.now (given_in c.in-Ok.beginning) c.run_for.result c.run_for.ensures.found c.run_for.ensures.ended in
-    absurd {A = FailedFor (g.H.Shelf.held c.args.shelf.now) c.args.model.now c.args.request.now.property (g.H.Shelf.faults c.args.shelf.now) (g.H.Shelf.faults c.beginning_of.new.shelf)}
+    absurd {A = FailedFor (g.H.Shelf.held c.args.shelf.now) c.args.model.now c.args.request.now (g.H.Shelf.faults c.args.shelf.now) (g.H.Shelf.faults c.beginning_of.new.shelf)}
     (false≢true (sym unread ∙ ap is_read_fault e))
+
+pub returns-in-Err-clause-there : goal.returns-in-Err-clause-there
+returns-in-Err-clause-there g c = λ e. c.in-Err.ensures.there (read_of_err c.in-Err.status (status_in c.with_text.result) c.with_text.ensures.status e)
+
+pub returns-in-Ok-clause-reads : goal.returns-in-Ok-clause-reads
+returns-in-Ok-clause-reads g c =
+    let unread : is_read_fault (status_in c.run_for.result) ≡ false =
+    solved_read (circuit_in c.in-Ok.beginning) c.args.request.now (given_in c.in-Ok.beginning) c.run_for.result c.run_for.ensures.found c.run_for.ensures.ended in
+    subst (λ (failed : Bool).
+    ReadsModelFirst g.H.Shelf.reads (g.H.Shelf.held c.args.shelf.now) (c.args.model.now ∷ name_in (option_map (λ name. name.now) c.args.resume)) failed c.args.shelf.now c.beginning_of.new.shelf)
+    (sym unread) c.in-Ok.ensures.reads
 
 pub returns-in-Err-clause-reads : goal.returns-in-Err-clause-reads
 returns-in-Err-clause-reads g c =

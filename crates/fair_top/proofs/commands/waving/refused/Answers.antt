@@ -1,4 +1,4 @@
-use Rattle.fair_top.proofs.Dumped.{refused_written}
+use Rattle.plain_commands.proofs.Written.{refused_written}
 use Rattle.fair_top.proofs.commands.waving.refused.Goals as goal
 
 pub returns : goal.returns

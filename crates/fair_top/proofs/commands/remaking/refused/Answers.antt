@@ -1,5 +1,0 @@
-use Rattle.fair_top.proofs.Dumped.{refused_written}
-use Rattle.fair_top.proofs.commands.remaking.refused.Goals as goal
-
-pub returns : goal.returns
-returns c = refused_written c.with_text.result c.args.fault c.with_text.ensures.status c.with_text.ensures.text c.with_text.ensures.silent

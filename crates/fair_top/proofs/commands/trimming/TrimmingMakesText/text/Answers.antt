@@ -1,8 +1,0 @@
-use Rattle.fair_top.proofs.Trimmed.{trims}
-use Rattle.fair_top.proofs.commands.trimming.TrimmingMakesText.text.Goals as goal
-
-pub returns : goal.returns
-returns c =
-    trims (λ text. text.items) c.args.circuit.now c.args.loaded.now c.in_ok-trimmed.trimmed c.print.result c.printed_answers_hold_the_same.ensures.good
-    c.trimmed_answers_are_good.ensures.one c.trimmed_answers_are_good.ensures.held c.in_ok-trimmed.ensures.trimmed c.in_ok-trimmed.ensures.good c.in_ok-trimmed.ensures.again
-    c.print.ensures.text c.print.ensures.within

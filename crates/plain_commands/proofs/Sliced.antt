@@ -1,0 +1,144 @@
+-- What `slice` gives, from the model and from what it comes to for it.
+use Rattle.std.proofs.Common.{◌≡◌, ◌⊎◌, ◌↔◌, ◌<◌, ◌≤◌, ℕ, Bool, false, List, length, refl, sym, ◌∙◌, ap, subst, inl, inr, arith, Ok, Err}
+use Rattle.std.specs.Prelude.{Option, Result, IfOk, IfErr}
+use Rattle.aig_semantics.specs.Circuits.{Circuit}
+use Rattle.aiger_grammar.specs.Models.{Model}
+use Rattle.circuit.specs.declared.faults.ModelFault.{ModelFault}
+use Rattle.edge.specs.Writes.{Writes}
+use Rattle.certificate.specs.declared.ends.Accepted.TheVariants as accepted
+use Rattle.sheet_answers.specs.declared.ends.Judged.{Judged}
+use Rattle.round_answers.specs.declared.ends.Judged.TheVariants as texts
+use Rattle.sheet_answers.specs.declared.ends.Judged.TheVariants as found_as
+use Rattle.aig_semantics.specs.declared.limits.TheConstants.{MAX_MODEL_BYTES}
+use Rattle.aiger_grammar.specs.Spelling.{ascii_text, HasAsciiForm}
+use Rattle.aiger_grammar.specs.AsciiTexts.{IsAsciiTextOf}
+use Rattle.live_to_safe.specs.BadRuns.{HasFairLasso}
+use Rattle.slice.specs.Slicing.{IsSlice}
+use Rattle.plain_commands.specs.declared.status.Status.{Status}
+use Rattle.plain_commands.specs.declared.status.Status.TheVariants as statuses
+use Rattle.plain_commands.specs.declared.status.Done.TheVariants.{Printed}
+use Rattle.plain_commands.specs.declared.texts.Outcome.{Outcome}
+use Rattle.plain_commands.specs.Check.{done_by}
+use Rattle.plain_commands.specs.Slice.{DecidesSliceOf, EndsSlice, GivesSlice, DecidesSlice}
+use Rattle.plain_commands.specs.Statuses.{is_read_fault, ends_silently, status_in}
+use Rattle.plain_commands.specs.Texts.{text_of}
+use Rattle.plain_commands.specs.Answering.{IsAnswered, HasWritten}
+use Rattle.plain_commands.specs.Judged.{IsModelOf, IsFaultOf, EndsWithoutModel}
+use Rattle.plain_commands.proofs.Judging.{same_bad}
+
+-- What is printed.
+
+pub slice_is_printed : (m : Model) (j : ℕ) (s : Model) (text : List ℕ) → IsSlice m j s → j < length m.circuit.justice → (HasFairLasso s.circuit 0 ↔ HasFairLasso m.circuit j)
+    → text ≡ ascii_text s → HasAsciiForm s text → (length text ≤ MAX_MODEL_BYTES → IsAsciiTextOf s text) → EndsSlice m j (statuses.Done Printed) text
+slice_is_printed m j s text is able exact spelled stands read =
+    inr ((refl, able), record { slice = s; is_slice = is; spelled = spelled; stands = stands; read = read; exact = exact })
+
+-- Where the model was read.
+
+pub sliced_gives : (m : Model) (told : Option (List ℕ)) (j : ℕ) (result : Result Outcome Status) → IsModelOf told m
+    → IfOk result (λ outcome. EndsSlice m j outcome.status outcome.text.items)
+    → IfOk result (λ outcome. GivesSlice told j outcome.status outcome.text.items)
+sliced_gives m told j (Err status) h ends = tt
+sliced_gives m told j (Ok outcome) h ends = inr (h.text.0, h.text.1, (m, h.text.2, ends))
+
+-- of a circuit one status is right
+one_decided : (c : Circuit) (j : ℕ) (a b : Status) → DecidesSliceOf c j a → DecidesSliceOf c j b → a ≡ b
+one_decided c j a b (inl (e, none)) (inl (f, other)) = e ∙ sym f
+one_decided c j a b (inl (e, none)) (inr (f, there)) = absurd (omega (arith, none, there))
+one_decided c j a b (inr (e, there)) (inl (f, none)) = absurd (omega (arith, none, there))
+one_decided c j a b (inr (e, there)) (inr (f, other)) = e ∙ sym f
+
+decided : (m : Model) (j : ℕ) (status : Status) (text : List ℕ) → EndsSlice m j status text → DecidesSliceOf m.circuit j status
+decided m j status text (inl (h, t)) = inl h
+decided m j status text (inr (h, t)) = inr h
+
+pub sliced_exact : (m : Model) (told : Option (List ℕ)) (j : ℕ) (result : Result Outcome Status) → IsModelOf told m
+    → IfOk result (λ outcome. EndsSlice m j outcome.status outcome.text.items) → IfErr result (λ status. status ≡ statuses.Memory)
+    → (verdict : Status) → DecidesSlice told j verdict → IsAnswered verdict (status_in result)
+sliced_exact m told j result h ends ended verdict (inl (fault, e, (text, is, bad))) = absurd (h.faultless text fault is bad)
+sliced_exact m told j (Err status) h ends ended verdict (inr (text, is, (n, form, d))) = inr ended
+sliced_exact m told j (Ok outcome) h ends ended verdict (inr (text, is, (n, form, d))) =
+    let circuits : n.circuit ≡ m.circuit = ap (λ (x : Model). x.circuit) (sym (h.one text n is form)) in
+    inl (inl (inl (one_decided m.circuit j outcome.status verdict (decided m j outcome.status outcome.text.items ends)
+    (subst (λ (k : Circuit). DecidesSliceOf k j verdict) circuits d))))
+
+-- no answer is accepted
+not_accepted : (c : Circuit) (j : ℕ) (status : Status) (a : Judged) → DecidesSliceOf c j status → status ≡ statuses.Done (done_by a) → ⊥
+not_accepted c j status a (inl (e, h)) is = let wrong : statuses.NoProperty j ≡ statuses.Done (done_by a) = sym e ∙ is in cc
+not_accepted c j status (found_as.Text (texts.Answer (accepted.Lasso n positions from))) (inr (e, h)) is = let wrong : statuses.Done Printed ≡ statuses.Done (done_by (found_as.Text (texts.Answer (accepted.Lasso n positions from)))) = sym e ∙ is in cc
+not_accepted c j status (found_as.Text (texts.Answer (accepted.Holds n entries))) (inr (e, h)) is = let wrong : statuses.Done Printed ≡ statuses.Done (done_by (found_as.Text (texts.Answer (accepted.Holds n entries)))) = sym e ∙ is in cc
+not_accepted c j status (found_as.Text (texts.Rounds n k r)) (inr (e, h)) is = let wrong : statuses.Done Printed ≡ statuses.Done (done_by (found_as.Text (texts.Rounds n k r))) = sym e ∙ is in cc
+not_accepted c j status (found_as.Sheet counts entries) (inr (e, h)) is = let wrong : statuses.Done Printed ≡ statuses.Done (done_by (found_as.Sheet counts entries)) = sym e ∙ is in cc
+
+pub sliced_shown : (m : Model) (j : ℕ) (result : Result Outcome Status)
+    → IfOk result (λ outcome. EndsSlice m j outcome.status outcome.text.items) → IfErr result (λ status. status ≡ statuses.Memory)
+    → (a : Judged) → status_in result ≡ statuses.Done (done_by a) → ⊥
+sliced_shown m j (Err status) ends ended a is = let wrong : statuses.Memory ≡ statuses.Done (done_by a) = sym ended ∙ is in cc
+sliced_shown m j (Ok outcome) ends ended a is = not_accepted m.circuit j outcome.status a (decided m j outcome.status outcome.text.items ends) is
+
+unread : (c : Circuit) (j : ℕ) (status : Status) → DecidesSliceOf c j status → is_read_fault status ≡ false
+unread c j status (inl (e, h)) = ap is_read_fault e
+unread c j status (inr (e, h)) = ap is_read_fault e
+
+pub sliced_unread : (m : Model) (j : ℕ) (result : Result Outcome Status)
+    → IfOk result (λ outcome. EndsSlice m j outcome.status outcome.text.items) → IfErr result (λ status. status ≡ statuses.Memory)
+    → is_read_fault (status_in result) ≡ false
+sliced_unread m j (Err status) ends ended = ap is_read_fault ended
+sliced_unread m j (Ok outcome) ends ended = unread m.circuit j outcome.status (decided m j outcome.status outcome.text.items ends)
+
+-- Where there is no model.
+
+pub without_slice : (model : Option (List ℕ)) (j : ℕ) (status : Status) (result : Result Outcome Status) → EndsWithoutModel model status
+    → IfOk result (λ outcome. (outcome.status ≡ status) × (outcome.text.items ≡ text_of status)) → IfOk result (λ outcome. ends_silently status ≡ false)
+    → IfOk result (λ outcome. GivesSlice model j outcome.status outcome.text.items)
+without_slice model j status (Err other) h text aloud = tt
+without_slice model j (statuses.BadModel fault) (Ok outcome) h text aloud = inl ((fault, text.0, h.text), text.1 ∙ sym (ap text_of text.0))
+without_slice model j statuses.ReadFault (Ok outcome) h text aloud = absurd (cc aloud)
+without_slice model j statuses.Memory (Ok outcome) h text aloud = absurd (cc aloud)
+without_slice model j (statuses.Done done) (Ok outcome) h text aloud = absurd h
+without_slice model j (statuses.Refused fault) (Ok outcome) h text aloud = absurd h
+without_slice model j (statuses.RefusedBlock n fault) (Ok outcome) h text aloud = absurd h
+without_slice model j statuses.WriteFault (Ok outcome) h text aloud = absurd h
+without_slice model j statuses.Usage (Ok outcome) h text aloud = absurd h
+without_slice model j (statuses.Unknown report) (Ok outcome) h text aloud = absurd h
+without_slice model j (statuses.NoProperty n) (Ok outcome) h text aloud = absurd h
+without_slice model j (statuses.TooLarge n) (Ok outcome) h text aloud = absurd h
+without_slice model j (statuses.OpenRounds n spent) (Ok outcome) h text aloud = absurd h
+without_slice model j (statuses.OpenDepth n spent) (Ok outcome) h text aloud = absurd h
+without_slice model j (statuses.NoItem entry clause) (Ok outcome) h text aloud = absurd h
+
+bad_exact : (model : Option (List ℕ)) (j : ℕ) (fault : ModelFault) → IsFaultOf model fault
+    → (verdict : Status) → DecidesSlice model j verdict → IsAnswered verdict (statuses.BadModel fault)
+bad_exact model j fault h verdict (inl (other, e, (text, told, bad))) =
+    subst (λ (v : Status). IsAnswered v (statuses.BadModel fault)) (sym e) (same_bad fault other (h.one text other told bad))
+bad_exact model j fault h verdict (inr (text, told, (m, form, d))) = absurd (h.none text m told form)
+
+no_model_exact : (model : Option (List ℕ)) (j : ℕ) (status : Status) → EndsWithoutModel model status
+    → (verdict : Status) → DecidesSlice model j verdict → IsAnswered verdict status
+no_model_exact model j (statuses.BadModel fault) h verdict d = bad_exact model j fault h verdict d
+no_model_exact model j statuses.ReadFault h verdict d = inl (inr (inl refl))
+no_model_exact model j statuses.Memory h verdict d = inr refl
+no_model_exact model j (statuses.Done done) h verdict d = absurd h
+no_model_exact model j (statuses.Refused fault) h verdict d = absurd h
+no_model_exact model j (statuses.RefusedBlock n fault) h verdict d = absurd h
+no_model_exact model j statuses.WriteFault h verdict d = absurd h
+no_model_exact model j statuses.Usage h verdict d = absurd h
+no_model_exact model j (statuses.Unknown report) h verdict d = absurd h
+no_model_exact model j (statuses.NoProperty n) h verdict d = absurd h
+no_model_exact model j (statuses.TooLarge n) h verdict d = absurd h
+no_model_exact model j (statuses.OpenRounds n spent) h verdict d = absurd h
+no_model_exact model j (statuses.OpenDepth n spent) h verdict d = absurd h
+no_model_exact model j (statuses.NoItem entry clause) h verdict d = absurd h
+
+pub without_slice_exact : (model : Option (List ℕ)) (j : ℕ) (status result : Status) → EndsWithoutModel model status → (result ≡ status) ⊎ (result ≡ statuses.Memory)
+    → (verdict : Status) → DecidesSlice model j verdict → IsAnswered verdict result
+without_slice_exact model j status result h (inl same) verdict d = subst (λ (s : Status). IsAnswered verdict s) (sym same) (no_model_exact model j status h verdict d)
+without_slice_exact model j status result h (inr memory) verdict d = inr memory
+
+-- The writes that a sink saw.
+
+pub of_slice : {Sink : Type 0} (Write : Sink → Bool → Sink → Type 0) (model : Option (List ℕ)) (j : ℕ) (status : Status)
+    (text : List ℕ) (old new : Sink) → GivesSlice model j status text → Writes Write false old new → HasWritten Write status old new
+of_slice Write model j status text old new (inl ((fault, e, bad), t)) writes = subst (λ (s : Status). HasWritten Write s old new) (sym e) writes
+of_slice Write model j status text old new (inr (_, _, (m, _, inl ((e, h), t)))) writes = subst (λ (s : Status). HasWritten Write s old new) (sym e) writes
+of_slice Write model j status text old new (inr (_, _, (m, _, inr ((e, h), t)))) writes = subst (λ (s : Status). HasWritten Write s old new) (sym e) writes
