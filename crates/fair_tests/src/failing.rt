@@ -3,6 +3,7 @@
 use crate::certificates::{RISES, WALL};
 use crate::counting::REACHED;
 use crate::runs::{Outcome, USAGE, run_words};
+use crate::sheets::{APART, SHEET, TWO, WITH_ENTRY};
 use crate::tests::{COUNTER, CYCLE, STUCK, TOGGLE, TWO_FROM_0, TWO_POSITIONS};
 use std::alloc::{AllocError, Global};
 use std::sync::Wait;
@@ -20,7 +21,7 @@ type Row = (
     &'static str,
 );
 
-const ROWS: [Row; 27] = [
+const ROWS: [Row; 33] = [
     (&["fairlive", "solve", "m"], TOGGLE, "", 1, 0, TWO_POSITIONS),
     (
         &["fairlive", "solve", "m"],
@@ -222,6 +223,56 @@ const ROWS: [Row; 27] = [
         0,
         "accepted rounds 2 j0 reached\n",
     ),
+    (
+        &["fairlive", "solve", "m", "--all"],
+        TWO,
+        "",
+        1,
+        0,
+        "all 2\nversion 2\nlasso j0\n0\n\n\n.\nholds j1\n",
+    ),
+    (
+        &["fairlive", "solve", "m", "--all", "--steps", "0"],
+        STUCK,
+        "",
+        1,
+        2,
+        "all 1\nversion 2\nopen j0\n",
+    ),
+    (
+        &["fairlive", "solve", "m", "--all", "--resume", "a"],
+        RISES,
+        WALL,
+        2,
+        0,
+        "all 1\nversion 2\nwall 1 0\n",
+    ),
+    (
+        &[
+            "fairlive", "solve", "m", "--all", "--steps", "0", "--resume", "a",
+        ],
+        APART,
+        WITH_ENTRY,
+        2,
+        2,
+        "all 2\nversion 2\nwall 1 0\n",
+    ),
+    (
+        &["fairlive", "check", "m", "a"],
+        TWO,
+        SHEET,
+        2,
+        0,
+        "accepted sheet lassos 1 ",
+    ),
+    (
+        &["fairlive", "wave", "m", "a"],
+        TWO,
+        SHEET,
+        2,
+        0,
+        "$timescale 1ns $end\n",
+    ),
     (&["fairlive"], TOGGLE, TWO_POSITIONS, 0, 64, USAGE),
 ];
 
@@ -339,13 +390,30 @@ fn calls(len: usize, most: u64) -> u64 {
     }
 }
 
-// How many calls read the first line of a text about rounds, of nine bytes: the text is then read again, from its start.
-fn first_calls(answer: &str, most: u64) -> u64 {
+// How many calls read so many bytes, and more behind them.
+fn pieces(len: u64, most: u64) -> u64 {
+    most.saturating_add(len.saturating_sub(1))
+        .checked_div(most)
+        .unwrap_or(0)
+}
+
+// How many calls read the first line of the answer before the text is read again from its start: of a text about rounds, of
+// nine bytes, once; of a sheet, of six bytes, twice by `check`, to which it is the third kind of text, and once by `wave`.
+fn first_calls(row: &Row, most: u64) -> u64 {
+    let (words, _, answer, _, _, _) = row;
     if answer.starts_with("rounds") {
-        most.saturating_add(8).checked_div(most).unwrap_or(0)
-    } else {
-        0
+        return pieces(9, most);
     }
+    if !answer.starts_with("all") {
+        return 0;
+    }
+    if words.contains(&"check") {
+        return pieces(6, most).saturating_mul(2);
+    }
+    if words.contains(&"wave") {
+        return pieces(6, most);
+    }
+    0
 }
 
 // How many calls read the texts that the row says.
@@ -355,7 +423,7 @@ fn calls_of(row: &Row, most: u64) -> u64 {
         0 => 0,
         1 => calls(model.len(), most),
         _ => calls(model.len(), most)
-            .saturating_add(first_calls(answer, most))
+            .saturating_add(first_calls(row, most))
             .saturating_add(calls(answer.len(), most)),
     }
 }

@@ -24,6 +24,8 @@ mod resuming;
 #[cfg(test)]
 mod runs;
 #[cfg(test)]
+mod sheets;
+#[cfg(test)]
 mod slicing;
 #[cfg(test)]
 mod solving;

@@ -11,6 +11,14 @@ use std::thread::Threads;
 
 const WORDS: [&str; 4] = ["fairlive", "wave", "m", "a"];
 
+// Of a stimulus the number of a property plays no part.
+const WITH_NUMBER: [&str; 6] = ["fairlive", "wave", "m", "a", "--property", "9"];
+
+// The lasso of a block of a sheet.
+const BLOCK_1: [&str; 6] = ["fairlive", "wave", "m", "a", "--property", "1"];
+
+const SHEET: &str = "c a sheet\nall 1\nversion 2\nlasso j0\n0\n\n\n.\nend\n";
+
 const TWICE: &str = "1\nj0\n0\n\n\n.\n";
 
 // Two inputs, a latch that is 1 from the second position on, one that changes and begins with either value, and of each
@@ -54,7 +62,7 @@ type Row = (
     &'static [&'static str],
 );
 
-const DUMPS: [Row; 4] = [
+const DUMPS: [Row; 5] = [
     (NAMED, "1\nj0\n01\n00\n10\n00\n.\n", b'0', &NAMES, &VALUES),
     // The stimulus goes on behind its lasso.
     (
@@ -74,6 +82,14 @@ const DUMPS: [Row; 4] = [
     (
         SECOND,
         "1\nj1\n\n0\n.\n",
+        b'1',
+        &["i0", "always", "loop"],
+        &["011", "011"],
+    ),
+    // The block of property 1 of a sheet.
+    (
+        SECOND,
+        "all 2\nversion 2\nlasso j0\n\n1\n.\nlasso j1\n\n0\n.\nend\n",
         b'1',
         &["i0", "always", "loop"],
         &["011", "011"],
@@ -196,7 +212,12 @@ fn is_printed<R: Threads + Wait + Sync>(
     row: &Row,
 ) -> Result<bool, AllocError> {
     let text = dump_of(alloc, row)?;
-    ends_so(rt, alloc, &WORDS, row.0.as_bytes(), row.1, &text, 0)
+    let words: &[&str] = if row.1.starts_with("all") {
+        &BLOCK_1
+    } else {
+        &WORDS
+    };
+    ends_so(rt, alloc, words, row.0.as_bytes(), row.1, &text, 0)
 }
 
 /// The place of the first row that is not printed so, from 0.
@@ -293,8 +314,9 @@ fn many_are_printed<R: Threads + Wait + Sync>(rt: &R, alloc: Global) -> Result<b
     is_many_dump(rt, alloc, &model, &answer)
 }
 
-/// Whether the dumps that are written out whole, and the one of many wires, are printed so.
-fn are_whole<R: Threads + Wait + Sync>(rt: &R, alloc: Global) -> Result<[bool; 3], AllocError> {
+/// Whether the dumps that are written out whole, and the one of many wires, are printed so; and those of a block of a sheet, and
+/// of a stimulus, whatever property is named.
+fn are_whole<R: Threads + Wait + Sync>(rt: &R, alloc: Global) -> Result<[bool; 5], AllocError> {
     Ok([
         ends_so(rt, alloc, &WORDS, TOGGLE, TWICE, TOGGLE_DUMP, 0)?,
         ends_so(
@@ -307,13 +329,15 @@ fn are_whole<R: Threads + Wait + Sync>(rt: &R, alloc: Global) -> Result<[bool; 3
             0,
         )?,
         many_are_printed(rt, alloc)?,
+        ends_so(rt, alloc, &WORDS, TOGGLE, SHEET, TOGGLE_DUMP, 0)?,
+        ends_so(rt, alloc, &WITH_NUMBER, TOGGLE, TWICE, TOGGLE_DUMP, 0)?,
     ])
 }
 
 /// The waves of small models, as they were worked out.
 #[test]
 fn waves_of_small_models(rt: HostRuntime) -> Result<(), Fail> {
-    assert_eq!(rt; are_whole(&rt, rt.alloc())?, [true; 3]);
+    assert_eq!(rt; are_whole(&rt, rt.alloc())?, [true; 5]);
     assert_eq!(rt; wrong_dump(&rt, rt.alloc())?, None);
     Ok(())
 }
