@@ -6,6 +6,7 @@ from one of them in one place: the program must print of each what the judge bes
 import concurrent.futures
 import os
 import random
+import re
 import subprocess
 import sys
 import tempfile
@@ -40,6 +41,9 @@ SIDED = WALL.replace("version 1", "version 2") + "wall 1 1\n" + OUTSIDE
 SHORT = TITLE + "refute 0 1\n\n{}\nend\n"
 MOST = TITLE + "wall 0 0\n\n" * 65536
 ONE = "accepted certificate j0 entries 1"
+# two properties of a latch that goes to 1: that it is 0 again and again, and that it is 1
+TWO = "aag 1 0 1 0 0 0 0 2 0\n2 1\n1\n1\n3\n2\n"
+SHEET = "all 2\nversion 2\n" + WALL[len(TITLE) :] + "holds j0\n" + END[:-4] + "lasso j1\n0\n\n\n\n.\nend\n"
 KNOWN = [
     (STUCK, TITLE + "reach 1 0\n\n3 0\nproof 1\n6 0 4 2 5 0\nrefute 1 1\n0\n7 0 4 5 0\nend\n", ONE),
     (RISING, WALL + END, ONE),
@@ -69,6 +73,17 @@ KNOWN = [
     (RISING, "round 1\n", "refused shape line 1"),
     *[(RISING, "".join((WALL + END).splitlines(True)[:n]), f"refused shape line {n + 1}") for n in range(12)],
     (CHANGING, "1\nj0\nc hello\nx\n\n\n\n.\n", "accepted lasso j0 positions 2 loop 0"),
+    (TWO, SHEET, "accepted sheet lassos 1 holds 1 unknown 0 entries 1"),
+    (TWO, SHEET.replace("lasso j1\n0\n\n\n\n.\n", "open j1\n"), "accepted sheet lassos 0 holds 1 unknown 1 entries 1"),
+    (TWO, SHEET.replace("\n0\n\n\n\n.\n", "\n0\n\n.\n"), "refused block 1 no fair loop"),
+    (TWO, SHEET.replace("lasso j1\n0\n", "lasso j1\n1\n"), "refused block 1 initial latch 0"),
+    (TWO, SHEET.replace("refute 1 1\n0\n", "refute 1 1\n1\n"), "refused block 0 use 1"),
+    (TWO, SHEET.replace("11 0 1 3 4 9 10 5 0", "11 0 1 3 4 9 10 0"), "refused block 0 line 0 no conflict"),
+    (TWO, SHEET.replace("all 2", "all 3"), "refused property 3"),
+    (TWO, SHEET.replace("all 2", "all"), "refused shape line 1"),
+    (TWO, SHEET.replace("lasso j1", "lasso j0"), "refused shape line 12"),
+    (TWO, SHEET.replace("version 2", "version 1"), "refused shape line 2"),
+    ("aag 0 0 0 0 0\n", "all 0\nversion 2\nend\n", "accepted sheet lassos 0 holds 0 unknown 0 entries 0"),
     (FREE, "1\nj0\n1\n\n.\n", "refused constraint position 0"),
 ]
 
@@ -187,7 +202,7 @@ class Comparison:
         for answer in answers:
             write(answer_path, answer)
             wanted = judge.judge(circuit, answer.encode("latin1"))
-            assert wanted[1] or is_true(circuit, wanted[0]), f"the judge accepts {answer!r} on {model!r}"
+            assert wanted[1] or is_true(circuit, wanted[0], answer), f"the judge accepts {answer!r} on {model!r}"
             self.note(model, answer, wanted, printed(model_path, answer_path))
 
     def note(self, model, answer, wanted, said):
@@ -205,10 +220,14 @@ def write(path, text):
         file.write(text.encode("latin1"))
 
 
-def is_true(circuit, text):
-    """Whether an accepted certificate's property has no fair lasso, by all states of the circuit."""
+def is_true(circuit, text, answer):
+    """Whether an accepted certificate's property has no fair lasso, by all states of the circuit; and whether each block of
+    an accepted sheet says what is so."""
     words = text.split(" ")
-    return words[1] != "certificate" or not maker.States(circuit).has_fair_lasso(int(words[2][1:]))
+    if words[1] == "certificate":
+        return not maker.States(circuit).has_fair_lasso(int(words[2][1:]))
+    blocks = re.findall(r"^(holds|lasso) j(\d+)$", answer, re.MULTILINE) if words[1] == "sheet" else []
+    return all(maker.States(circuit).has_fair_lasso(int(j)) == (word == "lasso") for word, j in blocks)
 
 
 def texts_of(seed, circuit, changes):
@@ -219,6 +238,8 @@ def texts_of(seed, circuit, changes):
     yield model, [text, *(changed(chance, text) for _ in range(changes - others))]
     for _ in range(others):
         yield changed_model(chance, model), [text]
+    model, text = maker.draw_sheet(chance)
+    yield model, [text, *(changed(chance, text) for _ in range(changes // 4))]
 
 
 def compare_drawn(comparison, seed, circuit, changes, deadline):

@@ -1,5 +1,5 @@
 #!/usr/bin/env python3
-"""Models, certificates and texts about rounds that are cut off anywhere, and such that would make a careless reader crash,
+"""Models, certificates, texts about rounds and sheets that are cut off anywhere, and such that would make a careless reader crash,
 recurse deeply, wait or take memory: the program must answer each as stated, within 60 seconds and 1 GB of address space; the
 longest texts and the most inputs that there may be, within 4 GB. A short text must be answered within 20 MB, which is less than
 the latches or gates take that its header may announce, and than what a certificate announces; but for inputs, which
@@ -489,6 +489,39 @@ def rounds_cases():
     yield from long_rounds()
 
 
+# ---- sheets
+
+# a latch that goes to 1: that it is 0 again and again, and that it is 1
+BOTH = "aag 1 0 1 0 0 0 0 2 0\n2 1\n1\n1\n3\n2\n"
+SHEET_HEAD = "all 2\nversion 2\n"
+HELD = SHEET_HEAD + WALL + "holds j0\n" + END[:-4]
+SHEET = HELD + "lasso j1\n0\n\n\n\n.\nend\n"
+# the greatest numbers, and those that are too great
+SHEETS = [
+    "all 9223372036854775807\n",
+    "all 9223372036854775808\n",
+    "all 18446744073709551618\n",
+    SHEET_HEAD + "open j4294967296\n",
+    SHEET_HEAD + "lasso j18446744073709551616\n",
+    SHEET_HEAD + "holds j0\nrefute 9223372036854775807 0\n\n",
+    SHEET_HEAD + "holds j0\nrefute 0 9223372036854775807\n\n",
+    SHEET_HEAD + "holds j0\nrefute 0 9223372036854775808\n\n",
+    SHEET_HEAD + "wall 0 1\n9223372036854775807\n",
+    HELD.replace("refute 1 1\n0", "refute 1 1\n9223372036854775807"),
+    HELD.replace("11 0 1 3 4 9 10 5 0", "9223372036854775807 0 9223372036854775807 0"),
+    SHEET + "\nx\n",
+]
+
+
+def sheets_cases():
+    """The sheet cut off behind each byte, and the numbers, judged beside the program; and a first line of 100 MB."""
+    circuit = judge.read_circuit(BOTH.encode())
+    cut_sheets = [(f"the first {length} bytes of a sheet", SHEET[:length]) for length in range(len(SHEET) + 1)]
+    for name, text in cut_sheets + [("the greatest numbers in a sheet", text) for text in SHEETS]:
+        yield name, LITTLE, text, judge.judge(circuit, text.encode())[0]
+    yield "a first line of a sheet of 100 MB", MEMORY, "all " + "1" * LENGTHY, "refused shape line 1\n"
+
+
 def junk(byte):
     """A text with this byte where the word behind the property stands: a line that begins with c or u is skipped."""
     text = ABOUT.encode() + bytes([byte]) * 9 + b"\nversion 2\n"
@@ -619,6 +652,24 @@ def check_rounds(folder):
     return good, count + 2
 
 
+def check_sheets(folder):
+    """Whether each sheet is answered as it must be, and how many they are."""
+    model, answer = os.path.join(folder, "both"), os.path.join(folder, "sheet")
+    write(model, BOTH)
+    good, count = True, 0
+    for name, memory, text, wanted in sheets_cases():
+        write(answer, text)
+        good = check(name, model, answer, memory, wanted, int(wanted.startswith("refused"))) and good
+        count += 1
+    pipe = endless(folder, "a pipe with a sheet", SHEET, "c\n")
+    good = check("a pipe with a sheet", model, pipe, LITTLE, "", 4) and good
+    write(answer, SHEET)
+    for words in OTHERS:
+        # (the first block has no stimulus for `wave` to show)
+        good = check("a sheet", model, answer, LITTLE, READ, 1, words) and good
+    return good, count + 2
+
+
 def main():
     # a first run without limits, which builds the program where it is not built
     subprocess.run([os.path.join(TOP, "fairlive")], stdout=subprocess.DEVNULL)
@@ -626,10 +677,12 @@ def main():
         models, models_count = check_models(folder)
         certificates, certificates_count = check_certificates(folder)
         rounds, rounds_count = check_rounds(folder)
-    if models and certificates and rounds:
-        counts = f"{models_count} models, {certificates_count} certificates and {rounds_count} texts about rounds"
-        print(f"hostile texts: {counts} answered as they must be")
-    return 0 if models and certificates and rounds else 1
+        sheets, sheets_count = check_sheets(folder)
+    good = models and certificates and rounds and sheets
+    if good:
+        answers = f"{certificates_count} certificates, {rounds_count} texts about rounds and {sheets_count} sheets"
+        print(f"hostile texts: {models_count} models, {answers} answered as they must be")
+    return 0 if good else 1
 
 
 if __name__ == "__main__":

@@ -194,6 +194,8 @@ def judge_answer(circuit, lines):
     status = lines.need()
     if status == b"2":
         raise Refused("unknown status")
+    if status[:3] == b"all":
+        return judge_sheet(circuit, status, lines)
     if status not in (b"0", b"1"):
         lines.shape()
     line = lines.need()
@@ -206,11 +208,17 @@ def judge_answer(circuit, lines):
 
 
 def judge_stimulus(circuit, j, lines):
+    rows = rows_of(lines)
+    lines.end()
+    return replay(circuit, j, rows)
+
+
+def rows_of(lines):
+    """The latch line and the position lines of a stimulus, up to its dot."""
     rows = [values_of(lines, lines.need())]
     while (line := lines.need()) != b".":
         rows.append(values_of(lines, line))
-    lines.end()
-    return replay(circuit, j, rows)
+    return rows
 
 
 def values_of(lines, line):
@@ -258,6 +266,16 @@ def judge_certificate(circuit, j, lines):
     version = {b"version 1": 1, b"version 2": 2}.get(lines.need())
     if version is None:
         lines.shape()
+    entries, line = judge_entries(circuit, lines, version)
+    judge_refutation(circuit, j, lines, version, entries, line, "refutation ")
+    if lines.need() != b"end":
+        lines.shape()
+    lines.end()
+    return f"certificate j{j} entries {len(entries)}"
+
+
+def judge_entries(circuit, lines, version):
+    """The entries, and the line behind them."""
     entries = []
     while (line := lines.need()).split(b" ")[0] in (b"reach", b"wall"):
         word = line.split(b" ")[0]
@@ -265,17 +283,53 @@ def judge_certificate(circuit, j, lines):
         if len(entries) == MOST_ENTRIES:
             raise Refused("too long")
         judge_entry(circuit, lines, version, entries, word == b"wall", clauses, uses)
+    return entries, line
+
+
+def judge_refutation(circuit, j, lines, version, entries, line, name):
+    """Judges the refutation of property j that begins with this line."""
     uses, count = lines.fields(line, b"refute", 2)
     uses = read_uses(lines, version, uses)
     for place, (number, side) in enumerate(uses):
         if side != ANY or is_bad_use(entries, uses[:place], number):
-            raise Refused(f"refutation use {number}")
+            raise Refused(f"{name}use {number}")
     given = skeleton_clauses(circuit, j, [(n, entries[n]) for n, _ in uses])
-    judge_proof(lines, count, given, [], "refutation ")
-    if lines.need() != b"end":
+    judge_proof(lines, count, given, [], name)
+
+
+def judge_sheet(circuit, first, lines):
+    """A sheet: entries, and for each property its lasso, its refutation or nothing."""
+    (count,) = lines.fields(first, b"all", 1)
+    if count != len(circuit.justice):
+        raise Refused(f"property {count}")
+    if lines.need() != b"version 2":
+        lines.shape()
+    entries, line = judge_entries(circuit, lines, 2)
+    blocks = []
+    for j in range(count):
+        blocks.append(judge_block(circuit, j, lines, entries, line))
+        line = lines.need()
+    if line != b"end":
         lines.shape()
     lines.end()
-    return f"certificate j{j} entries {len(entries)}"
+    counts = [blocks.count(word) for word in (b"lasso", b"holds", b"open")]
+    return "sheet lassos {} holds {} unknown {} entries {}".format(*counts, len(entries))
+
+
+def judge_block(circuit, j, lines, entries, line):
+    """The word of the block of property j, which begins with this line."""
+    word, *rest = line.split(b" ")
+    if word not in (b"lasso", b"holds", b"open") or rest != [b"j%d" % j]:
+        lines.shape()
+    if word == b"holds":
+        judge_refutation(circuit, j, lines, 2, entries, lines.need(), f"block {j} ")
+    if word == b"lasso":
+        rows = rows_of(lines)
+        try:
+            replay(circuit, j, rows)
+        except Refused as refused:
+            raise Refused(f"block {j} {refused}") from None
+    return word
 
 
 def judge_entry(circuit, lines, version, entries, is_wall, count, uses):

@@ -98,6 +98,30 @@ class States:
                 return True
         return False
 
+    def fair_lasso(self, j):
+        """The steps of a fair lasso of a property that has one: to a state of a loop, and round it."""
+        for state in self.closure(self.initial, any_step):
+            loop = {s for s in self.closure([state], any_step) if state in self.closure([s], any_step)}
+            steps = [step for step in self.steps if step[0] in loop and step[1] in loop]
+            wanted = self.circuit.literals(j) or [1]
+            fitting = [[step for step in steps if judge.is_true(step[2], x)] for x in wanted]
+            if all(fitting):
+                walk, last = [], state
+                for first, second, value in [fits[0] for fits in fitting]:
+                    walk += [*self.way([last], first), (first, second, value)]
+                    last = second
+                return self.way(self.initial, state) + walk + self.way([last], state)
+        raise AssertionError("no fair lasso")
+
+    def way(self, starts, target):
+        """Steps from one of the states to the target."""
+        ways = {start: [] for start in starts}
+        while target not in ways:
+            for step in self.steps:
+                if step[0] in ways and step[1] not in ways:
+                    ways[step[1]] = [*ways[step[0]], step]
+        return ways[target]
+
 
 def any_step(first, second):
     return True
@@ -413,19 +437,28 @@ def entry_lines(chance, circuit, entries, entry):
     return lines
 
 
-def certificate(chance, maker):
-    """The text of the maker's certificate."""
-    circuit, j = maker.circuit, maker.j
-    lines = ["0", f"j{j}", f"version {maker.version}"]
-    for entry in maker.entries:
-        lines += entry_lines(chance, circuit, maker.entries, entry)
+def refutation_lines(chance, maker, j):
+    """The lines of a refutation of a property of which the maker's entries leave no skeleton."""
+    circuit, maker.j = maker.circuit, j
     uses = maker.refutation_uses()
     clauses = judge.skeleton_clauses(circuit, j, [(n, maker.entries[n]) for n in uses])
     proof = prove(chance, circuit, max(1, len(circuit.literals(j))), clauses)
-    lines += [f"refute {len(uses)} {len(proof)}", " ".join(map(str, uses)), *proof, "end"]
+    return [f"refute {len(uses)} {len(proof)}", " ".join(map(str, uses)), *proof]
+
+
+def text_of(chance, lines):
+    """The text of the lines, now and then with lines between them that are skipped."""
     if chance.random() < 0.1:
         lines = [line for pair in zip(lines, ["c skipped", "u"] * len(lines)) for line in pair]
     return "\n".join(lines) + "\n"
+
+
+def certificate(chance, maker):
+    """The text of the maker's certificate."""
+    lines = ["0", f"j{maker.j}", f"version {maker.version}"]
+    for entry in maker.entries:
+        lines += entry_lines(chance, maker.circuit, maker.entries, entry)
+    return text_of(chance, [*lines, *refutation_lines(chance, maker, maker.j), "end"])
 
 
 def draw(chance):
@@ -441,3 +474,42 @@ def draw(chance):
             maker.make(below(chance, 3))
             if len(maker.entries) >= fewest:
                 return model, certificate(chance, maker)
+
+
+# ---- sheets
+
+
+def row(bits):
+    return "".join("01"[bit] for bit in bits)
+
+
+def lasso_lines(states, j):
+    """The lines of a stimulus of a property that has a fair lasso, the dot among them."""
+    steps, circuit = states.fair_lasso(j), states.circuit
+    inputs = [row(value[variable] for variable in circuit.inputs) for _, _, value in steps]
+    return [row(states.bits(steps[0][0])), *inputs, "."]
+
+
+def block_lines(chance, maker, j):
+    if chance.random() < 0.1:
+        return [f"open j{j}"]
+    if maker.states.has_fair_lasso(j):
+        return [f"lasso j{j}", *lasso_lines(maker.states, j)]
+    return [f"holds j{j}", *refutation_lines(chance, maker, j)]
+
+
+def draw_sheet(chance):
+    """A model's text, and a sheet of all its properties, of which a few are left open."""
+    model = draw_model(chance)
+    circuit = judge.read_circuit(model.encode())
+    maker = Maker(chance, circuit, 0, 2)
+    for j in range(len(circuit.justice)):
+        if not maker.states.has_fair_lasso(j):
+            maker.j = j
+            maker.make(below(chance, 2))
+    lines = [f"all {len(circuit.justice)}", "version 2"]
+    for entry in maker.entries:
+        lines += entry_lines(chance, circuit, maker.entries, entry)
+    for j in range(len(circuit.justice)):
+        lines += block_lines(chance, maker, j)
+    return model, text_of(chance, [*lines, "end"])

@@ -1,7 +1,7 @@
 #!/usr/bin/env python3
 """What `solve` prints: of models worked out by hand, and of small drawn circuits beside a search of all their states. Each
 verdict must be the right one, and an answer that the judge beside this file and `check` accept; each report must show what
-was spent.
+was spent. Of all properties the sheet must be one that both accept, and each block right.
 
     solved.py [SEED [CIRCUITS]]     as many as 240 seconds allow, and 60 at least"""
 import concurrent.futures
@@ -59,6 +59,9 @@ KNOWN = [
     (COUNTER, "--workers 65", 64, USAGE),
     (COUNTER, "--skeletons 65537", 64, USAGE),
     (COUNTER, "--steps 1 --steps 2", 64, USAGE),
+    ("aag 1 0 1 0 0 0 0 2 0\n2 3\n1\n1\n2\n0\n", "--all --workers 2", 0, "all 2\nversion 2\nlasso j0\n0\n\n\n.\nholds j1"),
+    ("aag 1 0 1 0 0\n2 3\n", "--all", 0, "all 0\nversion 2\nend\n"),
+    (STUCK, "--all --skeletons 0", 2, "all 1\nversion 2\nopen j0\nend\n"),
     ("aag 4 0 4 0 0 0 0 1\n2 8 1\n4 2\n6 4\n8 6\n4\n2\n4\n6\n8\n", "", 0, "1\nj0\n1000\n\n\n\n\n.\n"),
 ]
 # the search spends its budgets on questions that serve
@@ -74,7 +77,7 @@ class Cases:
     """Models in a folder, and what was wrong."""
 
     def __init__(self, folder):
-        self.folder, self.wrong, self.answers, self.reports = folder, [], 0, 0
+        self.folder, self.wrong, self.answers, self.reports, self.sheets = folder, [], 0, 0, 0
         # reports with two workers whose counts differ, and those of a full list in which steps were taken
         self.unlike, self.full = 0, 0
 
@@ -159,6 +162,33 @@ def is_spent(cases, name, model, workers, limits, is_broken):
     return False
 
 
+def is_right_sheet(cases, name, model, options, broken):
+    """Whether the sheet of all properties is right, and its status; `broken` tells which have a fair lasso."""
+    said, code = cases.solve(name, model, options)
+    blocks = [(word, int(j)) for word, j in re.findall(r"^(open|holds|lasso) j(\d+)$", said, re.M)]
+    opened = any(word == "open" for word, _ in blocks)
+    right = all(word == "open" or (word == "lasso") == broken[j] for word, j in blocks) and len(blocks) == len(broken)
+    if not right or code != (2 if opened else 0) or cases.verdict(name, model, said) is None:
+        cases.complain(f"status {code}, printed {said[:300]!r}, and fair lassos are there: {broken}", model, options)
+        return False
+    cases.sheets += 1
+    return True
+
+
+def compare_all(cases, name, model, workers):
+    """The sheets of all properties under a few limits, and one that goes on from the last, without limits."""
+    circuit = judge.read_circuit(model.encode("latin1"))
+    states = maker.States(circuit)
+    broken = [states.has_fair_lasso(j) for j in range(len(circuit.justice))]
+    for budget in (0, 1, 4, 16):
+        limits = " ".join(f"--{kind} {budget}" for kind in KINDS)
+        if not is_right_sheet(cases, name, model, f"--all --workers {workers} {limits}", broken):
+            return
+    options = f"--all --workers {workers} --resume {os.path.join(cases.folder, name + '.answer')}"
+    if is_right_sheet(cases, name, model, options, broken) and cases.solve(name, model, options)[1] != 0:
+        cases.complain("a block is open without limits", model, options)
+
+
 def compare_drawn(cases, seed, number, deadline):
     """Each answer and report of a drawn circuit, with each kind of budget, and with all of them, from none up until none
     is spent."""
@@ -175,6 +205,7 @@ def compare_drawn(cases, seed, number, deadline):
                 break
         else:
             cases.complain(f"a report with {MOST} of each", model, f"--workers {workers}")
+    compare_all(cases, f"all{number}", model, workers)
     return 1
 
 
@@ -197,7 +228,8 @@ def main(words):
     if cases.wrong or done < min(circuits, FEWEST):
         print(f"solved: {len(cases.wrong)} wrong, {done} of {circuits} drawn circuits in {SECONDS} seconds")
         return 1
-    print(f"solved: {len(KNOWN)} models by hand, {done} drawn circuits: {cases.answers} answers, {cases.reports} reports")
+    found = f"{cases.answers} answers, {cases.reports} reports, {cases.sheets} sheets"
+    print(f"solved: {len(KNOWN)} models by hand, {done} drawn circuits: {found}")
     return 0
 
 
