@@ -1,4 +1,5 @@
-"""The tables of models that are decided: those of bench/models and bench/big, beside ABC, and by several workers."""
+"""The tables of models that are decided: those of bench/models and bench/big, beside ABC, by several workers, and all properties of
+a model over one list."""
 import os
 import shutil
 import statistics
@@ -127,6 +128,102 @@ def workers_row(folder, seconds, known, walls):
         row[f"{crew}: entries"] = entries
         row[f"{crew}: MB"] = f"{usage.ru_maxrss * 1024 / 1e6:.0f}"
     return row
+
+
+# ---- all properties over one list
+
+# How many conflicts and steps a worker may count for one property alone; for all P of a model it may count P times as many.
+SINGLE = 2_000
+# The arbiters of bench/arbiter.py: which one, and of how many requesters.
+ARBITERS = (("fixed", 200), ("robin", 32))
+
+
+def measure_all(folder, crew):
+    """All properties of the models of bench/models that have two or more, by `solve --all` and each by itself; and of two
+    arbiters by `solve --all` alone."""
+    known = {}
+    for row in known_of("models"):
+        known.setdefault(row["name"], []).append(row)
+    rows = [all_row(folder, crew, name, lines) for name, lines in known.items() if len(lines) > 1]
+    alone, together = (sum(float(row[name]) for row in rows) for name in ("each, s", "all, s"))
+    lost = sum(int(row["lost"]) for row in rows)
+    print(f"workers {crew}: all {together:.2f} s, each {alone:.2f} s, {together / alone:.2f} of it; {lost} properties lost\n")
+    return rows + [arbiter_row(folder, crew, kind, count) for kind, count in ARBITERS]
+
+
+def all_words(model, crew, count):
+    budget = str(count * SINGLE)
+    return [program("fair_main"), "solve", model, "--all", "--workers", str(crew), "--conflicts", budget, "--steps", budget]
+
+
+def sheet_of(folder, crew, model, count):
+    """What `solve --all` prints of a model, wall and processor seconds, memory in MB, and what check says of it."""
+    begun = time.monotonic()
+    out, _, usage = run_once(all_words(model, crew, count))
+    wall = time.monotonic() - begun
+    sheet = os.path.join(folder, "sheet")
+    with open(sheet, "w") as file:
+        file.write(out)
+    judged, _, _ = run_once([program("fair_main"), "check", model, sheet])
+    if not judged.startswith("accepted sheet"):
+        sys.exit(f"{model}: check printed {judged}")
+    return out, wall, usage.ru_utime, usage.ru_maxrss * 1024 / 1e6, judged.split()
+
+
+def blocks_in(sheet):
+    """What the sheet says of each property: fails, holds, or nothing."""
+    words = {"lasso": "fails", "holds": "holds", "open": ""}
+    return [words[line.split()[0]] for line in sheet.splitlines() if line.split()[:1] and line.split()[0] in words]
+
+
+def all_row(folder, crew, name, lines):
+    model = os.path.join(BENCH, "models", name + ".aag")
+    spent, wall, entries, found = 0.0, 0.0, 0, []
+    for known in lines:
+        budget = ["--conflicts", str(SINGLE), "--steps", str(SINGLE)]
+        words = [program("fair_main"), "solve", model, "--property", known["property"], "--workers", str(crew), *budget]
+        begun = time.monotonic()
+        out, _, usage = run_once(words)
+        spent, wall = spent + usage.ru_utime, wall + time.monotonic() - begun
+        found.append(verdict_of(out, model, known))
+        if found[-1] == "holds":
+            entries += int(check_answer(folder, model, known, out)[0].split()[-1])
+    sheet, together, user, peak, judged = sheet_of(folder, crew, model, len(lines))
+    said = blocks_in(sheet)
+    for known, one in zip(lines, said):
+        verdict_of({"fails": "1", "holds": "0"}.get(one, ""), model, known)
+    return {
+        "model": name,
+        "properties": str(len(lines)),
+        "each: decided": str(sum(map(bool, found))),
+        "each, s": f"{wall:.3f}",
+        "each: entries": str(entries),
+        "all: decided": str(sum(map(bool, said))),
+        "lost": str(sum(bool(one) and not other for one, other in zip(found, said))),
+        "all, s": f"{together:.3f}",
+        "all: processor s": f"{user:.3f}",
+        "all: entries": judged[-1],
+        "memory, MB": f"{peak:.0f}",
+    }
+
+
+def arbiter_row(folder, crew, kind, count):
+    model = os.path.join(folder, f"{kind}_{count}.aag")
+    make("arbiter.py", kind, count, model)
+    sheet, together, user, peak, judged = sheet_of(folder, crew, model, count)
+    return {
+        "model": f"{kind} arbiter",
+        "properties": str(count),
+        "each: decided": "",
+        "each, s": "",
+        "each: entries": "",
+        "all: decided": str(sum(map(bool, blocks_in(sheet)))),
+        "lost": "",
+        "all, s": f"{together:.3f}",
+        "all: processor s": f"{user:.3f}",
+        "all: entries": judged[-1],
+        "memory, MB": f"{peak:.0f}",
+    }
 
 
 # What ABC is asked of a safety model, by the method of the index; of the others by what is known of the property.
