@@ -1,5 +1,5 @@
 -- What the solver's answers say of lassos.
-use Rattle.std.proofs.Common.{◌≡◌, ℕ, suc, ◌+◌, ◌<◌, ◌≤◌, Bool, true, false, not, ◌&&◌, ◌||◌, nat_eq, List, [], ◌∷◌, ◌++◌, length, take, refl, sym, ap, ◌∙◌, subst, inl, inr, Result, Err, IsOk, arith, add-one}
+use Rattle.std.proofs.Common.{◌≡◌, ℕ, suc, ◌+◌, ◌<◌, ◌≤◌, Bool, true, false, not, ◌&&◌, ◌||◌, nat_eq, List, [], ◌∷◌, ◌++◌, length, take, refl, sym, ap, ◌∙◌, subst, inl, inr, Option, Some, None, IfSome, Result, Err, IsOk, arith, add-one}
 use Rattle.std.proofs.lemmas.Bool.{cases_lt, false≢true}
 use Rattle.aig_semantics.specs.declared.traces.Position.{Position}
 use Rattle.aig_semantics.specs.declared.traces.Stimulus.{Stimulus}
@@ -11,13 +11,15 @@ use Rattle.proof_semantics.specs.declared.literals.Lit.{Lit}
 use Rattle.proof_semantics.specs.Clauses.{bool_eq, literal_value, clauses_value, has_opposites}
 use Rattle.cdcl.specs.Solving.{IsModel, HasNoModel}
 use Rattle.cnf_unroll.proofs.Truth.{both, together}
-use Rattle.lasso_clauses.specs.Clauses.{position_clauses, positions_clauses, closing_literal, lasso_clauses}
+use Rattle.lasso_clauses.specs.Clauses.{positions_clauses, closing_literal, lasso_clauses}
 use Rattle.lasso_clauses.specs.Laws.{LassoClausesTell, ModelsAreLassos, stimulus_in}
 use Rattle.stimulus.specs.declared.ends.ReplayEnd.{ReplayEnd}
 use Rattle.stimulus.specs.declared.ends.ReplayEnd.TheVariants.{Fault, Memory}
 use Rattle.stimulus.specs.declared.ends.ReplayFault.{ReplayFault}
 use Rattle.unless_memory.specs.Answers.{GivesSome}
-use Rattle.lasso_bmc.specs.Searching.{HasNoneWithin, IsShortest}
+use Rattle.lasso_bmc.specs.declared.ends.Searched.{Searched}
+use Rattle.lasso_bmc.specs.declared.ends.Searched.TheVariants.{Found}
+use Rattle.lasso_bmc.specs.Searching.{HasNoneWithin, IsShortest, IsSearched}
 
 -- ---- one literal is apart
 
@@ -82,13 +84,6 @@ none_of_core c j last law inside none fewer = λ run from lasso within.
       | inr past ↦ fewer run from lasso past
     ]
 
--- ---- the clauses of one position more
-
-pub grown_more : (c : Circuit) (literals : List ℕ) (k : ℕ) (added clauses all : List (List Lit)) → all ≡ added ++ clauses
-    → added ≡ positions_clauses c literals k → clauses ≡ position_clauses c literals k → all ≡ positions_clauses c literals (k + 1)
-grown_more c literals k added clauses all e f g =
-    e ∙ ap (λ xs. xs ++ clauses) f ∙ ap (λ ys. positions_clauses c literals k ++ ys) g ∙ sym (ap (positions_clauses c literals) (add-one k))
-
 -- ---- how many positions are done
 
 pub fewer_too : (c : Circuit) (j n m : ℕ) → HasNoneWithin c j n → m ≤ n → HasNoneWithin c j m
@@ -109,11 +104,10 @@ never_a_fault r end fault is was (inr memory) =
     let apart : Fault fault ≡ Memory = sym was ∙ same in
     cc
 
-pub shortest_of : (c : Circuit) (j last : ℕ) (s : Stimulus) (lasso : Lasso) → HasNoneWithin c j last → (from : ℕ) × HasLasso c j s (last + 1) from
+pub shortest_within : (c : Circuit) (j last : ℕ) (s : Stimulus) (lasso : Lasso) → HasNoneWithin c j last → length lasso.inputs ≤ last + 1
     → StandsFor c j s (length lasso.inputs) lasso.from → lasso.start ≡ s.latches → lasso.inputs ≡ take (length lasso.inputs) s.inputs
     → IsShortest c j lasso
-shortest_of c j last s lasso none (from, has) stands start inputs =
-    let within : length lasso.inputs ≤ last + 1 = stands.shortest (last + 1) from has in
+shortest_within c j last s lasso none within stands start inputs =
     let there : IsFairLasso c j (simulated c lasso.start (take (length lasso.inputs) s.inputs)) lasso.from =
     subst (λ latches. IsFairLasso c j (simulated c latches (take (length lasso.inputs) s.inputs)) lasso.from) (sym start) stands.has.lasso
     in
@@ -125,3 +119,15 @@ shortest_of c j last s lasso none (from, has) stands start inputs =
             | inr past ↦ absurd (none run place other past)
           ];
     }
+
+pub shortest_of : (c : Circuit) (j last : ℕ) (s : Stimulus) (lasso : Lasso) → HasNoneWithin c j last → (from : ℕ) × HasLasso c j s (last + 1) from
+    → StandsFor c j s (length lasso.inputs) lasso.from → lasso.start ≡ s.latches → lasso.inputs ≡ take (length lasso.inputs) s.inputs
+    → IsShortest c j lasso
+shortest_of c j last s lasso none (from, has) stands start inputs =
+    shortest_within c j last s lasso none (stands.shortest (last + 1) from has) stands start inputs
+
+pub told_within : (c : Circuit) (j last : ℕ) (lasso : Lasso) (told : Option Searched) → (length lasso.inputs ≤ last + 1 → IsShortest c j lasso)
+    → IfSome told (λ t. (t ≡ Found lasso) × (length lasso.inputs ≤ last + 1)) → IfSome told (IsSearched c j (last + 1))
+told_within c j last lasso None shortest is = is
+told_within c j last lasso (Some t) shortest (same, within) =
+    subst (λ (x : Searched). IsSearched c j (last + 1) x) (sym same) (shortest within, within)

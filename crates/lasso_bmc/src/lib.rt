@@ -12,6 +12,7 @@
 mod deepening;
 mod ends;
 mod listing;
+mod parting;
 mod reading;
 mod replaying;
 mod searching;
