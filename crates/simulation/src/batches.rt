@@ -13,11 +13,16 @@ use std::alloc::{AllocError, Global};
 /// How often inputs are drawn again for a position where constraints are false.
 const MOST_TRIES: u32 = 20;
 
-/// What inputs are drawn from, and how many more words may be evaluated, about.
+/// How many words of states are kept.
+const MOST_KEPT: usize = 1_000_000;
+
+/// What inputs are drawn from; how many more words may be evaluated, about; and for each position of each batch the word of
+/// the runs whose states are reached there, and the words of the latches.
 #[derive(Drop)]
 pub(crate) struct Supply {
     pub(crate) draws: Draws,
     pub(crate) words_left: u64,
+    pub(crate) states: Vec<u64>,
 }
 
 /// A loop of a run, of its cone alone: the state after `count` positions is that of position `from`, counted from 0, and
@@ -215,6 +220,22 @@ fn look_back(task: &Task<'_>, buffers: &mut Buffers, batch: &mut Batch, count: u
     }
 }
 
+// Keeps the states of the runs that are going, while there is room.
+fn keep_states(batch: &Batch, supply: &mut Supply) -> Result<(), AllocError> {
+    if batch.going != 0
+        && supply
+            .states
+            .len()
+            .saturating_add(batch.state.len())
+            .saturating_add(1)
+            <= MOST_KEPT
+    {
+        supply.states.push(batch.going)?;
+        supply.states.extend_from_slice(&batch.state)?;
+    }
+    Ok(())
+}
+
 // Adds the position that comes after so many. Answers whether a run is still going.
 fn add_position(
     task: &Task<'_>,
@@ -246,6 +267,7 @@ fn add_positions(
         if task.meter.is_called() {
             return Err(AllocError);
         }
+        keep_states(batch, supply)?;
         keys_of(&batch.state, &mut buffers.transposed, &mut buffers.keys);
         look_back(task, buffers, batch, count);
         if batch.found.is_some() || count == positions {

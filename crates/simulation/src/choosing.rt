@@ -2,6 +2,7 @@
 //! is `choose`.
 
 use crate::batches::{Batch, RunLoop, Supply, run_batch};
+use crate::drawn_states::DrawnStates;
 use crate::draws::{Draws, mixed};
 use crate::parts::{Part, part_of};
 use crate::repeating::whole_lasso;
@@ -25,11 +26,12 @@ const MOST_WORDS: u64 = 40_000_000;
 /// How many values of variables are computed where the runs that are chosen are judged, about.
 const MOST_VALUES: u64 = 10_000_000;
 
-/// A lasso, or none, and the stimuli of some runs. Neither is judged.
+/// A lasso, or none, and the stimuli of some runs, with the states of all runs. None of it is judged.
 #[derive(Drop)]
 pub(crate) struct Chosen {
     pub(crate) lasso: Option<Lasso>,
     pub(crate) runs: Vec<Stimulus>,
+    pub(crate) states: DrawnStates,
 }
 
 // How many batches there are, and how many positions a run has: four for each state where there are few latches.
@@ -222,20 +224,35 @@ fn try_batches(
     Ok(())
 }
 
+// The places of the latches of a part.
+fn places_of(alloc: Global, part: &Part) -> Result<Vec<usize>, AllocError> {
+    let mut places = Vec::new(alloc);
+    for placed in part.latches.iter() {
+        places.push(placed.place)?;
+    }
+    Ok(places)
+}
+
 // A lasso, or else runs, of those that `seed` fixes.
 fn choose_for(alloc: Global, task: &Task<'_>, seed: u32) -> Result<Chosen, AllocError> {
     let mut supply = Supply {
         draws: Draws::new(mixed(u64::from(seed))),
         words_left: MOST_WORDS,
+        states: Vec::new(alloc),
     };
     let mut chosen = Chosen {
         lasso: None,
         runs: Vec::new(alloc),
+        states: DrawnStates {
+            latches: places_of(alloc, task.cone)?,
+            words: Vec::new(alloc),
+        },
     };
     try_batches(alloc, task, &mut supply, &mut chosen)?;
     if chosen.lasso.is_some() {
         chosen.runs = Vec::new(alloc);
     }
+    chosen.states.words = supply.states;
     Ok(chosen)
 }
 

@@ -15,6 +15,7 @@
 mod batches;
 mod choosing;
 mod densities;
+mod drawn_states;
 mod draws;
 mod evaluating;
 mod judging;
@@ -25,4 +26,5 @@ mod state_table;
 mod tasks;
 mod words;
 
+pub use drawn_states::DrawnStates;
 pub use simulating::{Simulated, simulate};

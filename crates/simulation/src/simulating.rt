@@ -4,18 +4,21 @@ ghost use Rattle.aig_semantics.specs.Stimuli.{IsFairLassoOf, StandsFor};
 ghost use Rattle.lasso_join.specs.Fitting.{IsStemTo};
 ghost use Rattle.lasso_join.specs.Prefixes.{stimulus_of};
 
-use crate::choosing::choose;
+use crate::choosing::{Chosen, choose};
+use crate::drawn_states::DrawnStates;
 use crate::judging::{judged_lasso, judged_runs};
 use circuit::{Circuit, Lasso, Position};
 use edge::Meter;
 use items::Items;
 use std::alloc::{AllocError, Global};
 
-/// What simulation found: a fair lasso; or none, and initial runs.
+/// What simulation found: a fair lasso; or none, and initial runs. Beside it the states of all runs, of which nothing is
+/// promised.
 #[derive(Drop)]
 pub struct Simulated {
     pub lasso: Option<Lasso>,
     pub runs: Vec<Items<Position>>,
+    pub states: DrawnStates,
 }
 
 /// Runs the circuit on drawn inputs, and looks for a fair lasso of property `j`, counted from 0; of a number without a
@@ -41,9 +44,14 @@ pub fn simulate(
         (λ lasso. StandsFor c.now j (stimulus_of lasso) (length lasso.inputs) lasso.from)) }
     ensures runs { IfOk result (λ found. All (λ run. (t : List Bool) × IsStemTo c.now t run) found.runs.items) }
 {
-    let chosen = choose(alloc, c, j, seed, meter)?;
+    let Chosen {
+        lasso,
+        runs,
+        states,
+    } = choose(alloc, c, j, seed, meter)?;
     Ok(Simulated {
-        lasso: judged_lasso(alloc, c, j, chosen.lasso)?,
-        runs: judged_runs(alloc, c, &chosen.runs)?,
+        lasso: judged_lasso(alloc, c, j, lasso)?,
+        runs: judged_runs(alloc, c, &runs)?,
+        states,
     })
 }
