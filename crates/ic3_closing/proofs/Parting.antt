@@ -53,12 +53,12 @@ wider view clauses uses cm um sm s h =
     (clauses_true (clause_value (values_of s)) cm 0 clauses parts.0) (uses_lie (set_at view) s um sm 0 uses parts.1)
 
 -- a set within clauses that miss the goal misses it
-misses_within : (q : Question) (goal : Goal) (f g : List Bool → Bool) → ((s : List Bool) → f s ≡ false → g s ≡ false)
+pub misses_within : (q : Question) (goal : Goal) (f g : List Bool → Bool) → ((s : List Bool) → f s ≡ false → g s ≡ false)
     → Misses q goal f → Misses q goal g
 misses_within q (goals.State to) f g within h = within to.now h
 misses_within q (goals.Literal literal avoid) f g within h = λ p meets. within p.latches (h p meets)
 
-first_false : (a b : Bool) → a ≡ false → (a && b) ≡ false
+pub first_false : (a b : Bool) → a ≡ false → (a && b) ≡ false
 first_false true b e = absurd (false≢true (sym e))
 first_false false b e = refl
 

@@ -13,11 +13,13 @@
 mod asking;
 mod goals;
 mod guarded;
+mod judging;
 mod keeping;
 mod needing;
 mod sets;
 mod shrinking;
 mod standing;
 
+pub use judging::separates;
 pub use sets::ClosedSet;
 pub use shrinking::shrink;
