@@ -8,9 +8,10 @@ ghost use Rattle.entry.specs.CheckedEntries.{viewed, GoesOnFrom};
 ghost use Rattle.entry.specs.Laws.{IsGoodList};
 ghost use Rattle.fair_round.specs.Spending.{IsStop, Asks};
 ghost use Rattle.fair_round.specs.Scopes.{IsScope, IsAllowedIn, asking_of_scope, entries_of};
-ghost use Rattle.fair_round.specs.Walks.{Excludes, entry_of_bar};
+ghost use Rattle.fair_round.specs.Walks.{Excludes, IsSought, entry_of_bar};
 ghost use Rattle.fair_round.specs.Deeds.{IsDeed, IsPosting};
 
+use crate::invariants::by_invariants;
 use crate::rounds::Rounds;
 use crate::scope::Scope;
 use crate::seeking::{Sought, seek};
@@ -143,6 +144,29 @@ fn decided(
     }
 }
 
+// An entry of invariants, where there is one now; else what the search for a lasso through the skeleton comes to.
+fn sought_for(
+    alloc: Global,
+    scope: &Scope<'_>,
+    rounds: &mut Rounds,
+    skeleton: Skeleton,
+    meter: &mut Meter,
+) -> Result<Sought, Stop>
+    requires scope { IsScope scope.now }
+    requires seen { rounds.old ≡ asking_of_scope scope.now }
+    requires allowed { IsAllowedIn scope.now skeleton }
+    ensures sought { IfOk result (IsSought scope.now.circuit.now (entries_of scope.now) scope.now.property) }
+    ensures stop { IfErr result (IsStop meter.new) }
+    ensures counted { Asks (length scope.now.circuit.now.latches)
+        (max 1 (length (fair_literals scope.now.circuit.now scope.now.property)) + 1) meter.old meter.new }
+    ensures same { rounds.new ≡ rounds.old }
+{
+    match by_invariants(alloc, scope, rounds, meter)? {
+        Some(sought) => Ok(sought),
+        None => seek(alloc, scope, rounds, skeleton, meter),
+    }
+}
+
 // What a skeleton comes to.
 fn deed_for(
     alloc: Global,
@@ -164,7 +188,7 @@ fn deed_for(
         (max 1 (length (fair_literals scope.now.circuit.now scope.now.property)) + 1) meter.old meter.new }
     ensures same { rounds.new ≡ rounds.old }
 {
-    match seek(alloc, scope, rounds, skeleton, meter)? {
+    match sought_for(alloc, scope, rounds, skeleton, meter)? {
         Sought::Lasso(lasso) => Ok(Deed::Finish(Outcome::Lasso(lasso))),
         Sought::Barred(bar, skeleton) => {
             let entry = certified(alloc, c, scope, bar, skeleton, author, meter)?;

@@ -13,6 +13,7 @@
 #![tactic(auto)]
 
 mod deciding;
+mod invariants;
 mod pool;
 mod rounds;
 mod scope;

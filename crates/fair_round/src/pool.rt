@@ -129,8 +129,8 @@ fn add_cube(_scope: &Scope<'_>, avoid: &mut Items<Cube>, cube: Cube) -> Result<(
     Ok(())
 }
 
-// A skeleton that begins in the state. Where there is none, the state is avoided from now on.
-fn tried(
+/// A skeleton that begins in the state. Where there is none, the state is avoided from now on.
+pub(crate) fn tried(
     alloc: Global,
     scope: &Scope<'_>,
     query: &mut Query,

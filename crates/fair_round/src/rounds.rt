@@ -10,19 +10,21 @@ ghost use Rattle.fair_semantics.specs.Entries.{Entry};
 ghost use Rattle.skeleton.specs.Finding.{IsFound, BeginsNone};
 ghost use Rattle.fair_round.specs.Spending.{IsStop};
 ghost use Rattle.fair_round.specs.Scopes.{IsScope, asking_of_scope, entries_of};
-ghost use Rattle.fair_round.specs.Pools.{IsBegun, IsReachedRun, IsRun};
+ghost use Rattle.fair_round.specs.Pools.{IsBegun, IsBegunIn, IsReachedRun, IsRun};
 ghost use Rattle.fair_round.specs.Stems.{IsFit};
 
-use crate::pool::{Begun, Run, keep, keep_all, pooled};
+use crate::invariants::suggested;
+use crate::pool::{Begun, Run, keep, keep_all, pooled, tried};
 use crate::scope::Scope;
 use crate::stopping::{Stop, solver_stop};
 use circuit::{Circuit, Lasso, Position};
-use cnf::Cube;
+use cnf::{Clause, Cube};
 use edge::Meter;
 use entry::{Checked, catch_up};
+use fair_semantics::Skeleton;
 use ic3::{Search, Start};
 use items::Items;
-use simulation::simulate;
+use simulation::{DrawnStates, simulate};
 use skeleton::{Found, Query, never_stays};
 use std::alloc::{AllocError, Global};
 use std::marker::Model;
@@ -42,6 +44,7 @@ pub struct Rounds {
     costs: Costs,
     worker: u32,
     has_simulated: bool,
+    states: Option<DrawnStates>,
 }
 
 // What rounds have cost in which the first literal was asked for, and those in which a state was. The cheaper comes next.
@@ -113,8 +116,8 @@ fn new_search(alloc: Global, c: &Arc<Circuit>) -> Result<Search, AllocError>
     Search::new(alloc, c, Start::Initial)
 }
 
-// Whether the count of conflicts, or that of steps, equals its limit.
-fn is_at_limit(meter: &Meter) -> bool {
+/// Whether the count of conflicts, or that of steps, equals its limit.
+pub(crate) fn is_at_limit(meter: &Meter) -> bool {
     let spent = meter.spending();
     spent.conflict_limit() == Some(spent.conflicts()) || spent.step_limit() == Some(spent.steps())
 }
@@ -127,6 +130,7 @@ fn simulated(
     worker: u32,
     meter: &Meter,
     runs: &mut Vec<Run>,
+    states: &mut Option<DrawnStates>,
 ) -> Result<Option<Lasso>, Stop>
     requires { All (IsRun c.now) runs.old.items }
     ensures lasso { IfOk result (λ found. IfSome found (IsFairLassoOf c.now j)) }
@@ -135,6 +139,7 @@ fn simulated(
 {
     let found = simulate(alloc, c, j, worker, meter)?;
     keep_all(c, runs, found.runs)?;
+    *states = Some(found.states);
     Ok(found.lasso)
 }
 
@@ -156,6 +161,7 @@ impl Rounds {
             costs: first_costs(worker),
             worker,
             has_simulated: false,
+            states: None,
         })
     }
 
@@ -275,7 +281,52 @@ impl Rounds {
             return Ok(None);
         }
         self.has_simulated = true;
-        simulated(alloc, c, j, self.worker, meter, &mut self.runs)
+        simulated(
+            alloc,
+            c,
+            j,
+            self.worker,
+            meter,
+            &mut self.runs,
+            &mut self.states,
+        )
+    }
+
+    /// Once behind simulation: clauses that the states of its runs suggest as invariants, if any.
+    pub(crate) fn take_invariants(
+        &mut self,
+        alloc: Global,
+        c: &Circuit,
+        meter: &mut Meter,
+    ) -> Result<Items<Clause>, Stop>
+        ensures stop { IfErr result (IsStop meter.new) }
+        ensures counted { CountsConflicts meter.old meter.new }
+        ensures same { self.new ≡ self.old }
+    {
+        match self.states.take() {
+            Some(states) => suggested(alloc, c, self.worker, &states, meter),
+            None => Ok(Items::new(alloc)),
+        }
+    }
+
+    /// A skeleton that the entries allow and that begins in the state, if there is one.
+    pub(crate) fn begun_in(
+        &mut self,
+        alloc: Global,
+        scope: &Scope<'_>,
+        state: &[bool],
+        meter: &mut Meter,
+    ) -> Result<Option<Skeleton>, Stop>
+        requires scope { IsScope scope.now }
+        requires seen { self.old ≡ asking_of_scope scope.now }
+        requires state { length state.now ≡ length scope.now.circuit.now.latches }
+        ensures begun { IfOk result (λ found. IfSome found
+            (IsBegunIn scope.now.circuit.now scope.now.property (entries_of scope.now) state.now)) }
+        ensures stop { IfErr result (IsStop meter.new) }
+        ensures counted { CountsConflicts meter.old meter.new }
+        ensures same { self.new ≡ self.old }
+    {
+        tried(alloc, scope, &mut self.query, state, &mut self.avoid, meter)
     }
 
     /// Keeps a run whose states were reached. The error is want of memory.

@@ -1,0 +1,252 @@
+//! Invariants of one latch and of two, as an entry. The main call is `by_invariants`.
+
+ghost use Rattle.std.specs.Prelude.{◌≡◌, ◌<◌, true, length, IfOk, IfErr, IfSome};
+ghost use Rattle.edge.specs.Ends.{CountsConflicts, IsEnd};
+ghost use Rattle.ic3_semantics.specs.declared.questions.Start.TheVariants.{Initial};
+ghost use Rattle.ic3_semantics.specs.Searching.{IsGoal, Separates, closed_entry};
+ghost use Rattle.fair_round.specs.Spending.{IsStop};
+ghost use Rattle.fair_round.specs.Scopes.{IsScope, asking_of_scope, entries_of};
+ghost use Rattle.fair_round.specs.Pools.{IsBegunIn};
+ghost use Rattle.fair_round.specs.Stems.{question_of};
+ghost use Rattle.fair_round.specs.Walks.{IsSought};
+
+use crate::rounds::{Rounds, is_at_limit};
+use crate::scope::Scope;
+use crate::seeking::Sought;
+use crate::stopping::{Stop, solver_stop};
+use crate::ways::Bar;
+use cdcl::{Asked, Solver, are_sized, has_opposites};
+use circuit::Circuit;
+use cnf::{Clause, Lit};
+use cnf_unroll::unrolled_skeleton;
+use edge::{Meter, SolveEnd};
+use entry::lend_view;
+use fair_semantics::{Kind, Skeleton};
+use ic3::Goal;
+use ic3_closing::{ClosedSet, separates};
+use invariant_clauses::inductive_clauses;
+use items::Items;
+use simulation::DrawnStates;
+use std::alloc::{AllocError, Global};
+
+/// For how many clauses a skeleton is asked for that begins in a state which breaks them.
+const MOST_ASKED: usize = 100;
+
+/// Clauses that the states of runs suggest as invariants. A worker in three has none, nor one whose count is at its limit.
+pub(crate) fn suggested(
+    alloc: Global,
+    c: &Circuit,
+    worker: u32,
+    states: &DrawnStates,
+    meter: &mut Meter,
+) -> Result<Items<Clause>, Stop>
+    ensures stop { IfErr result (IsStop meter.new) }
+    ensures counted { CountsConflicts meter.old meter.new }
+{
+    if worker % 3 == 1 || is_at_limit(meter) {
+        return Ok(Items::new(alloc));
+    }
+    match inductive_clauses(alloc, c, &states.latches, &states.words, meter) {
+        Ok(clauses) => Ok(clauses),
+        Err(end) => Err(solver_stop(end, meter)),
+    }
+}
+
+// A solver of the skeletons that the entries allow.
+fn solver_of(alloc: Global, scope: &Scope<'_>) -> Result<Solver, AllocError>
+    requires scope { IsScope scope.now }
+    requires property { scope.now.property < length scope.now.circuit.now.justice }
+{
+    let uses = lend_view(alloc, scope.view)?;
+    let unrolled = unrolled_skeleton(alloc, scope.circuit, scope.property, uses.as_slice())?;
+    Solver::with_clauses(alloc, unrolled.clauses.into_vec())
+}
+
+// The literals by which the first state of a skeleton breaks a clause.
+fn broken_first(alloc: Global, c: &Circuit, clause: &Clause) -> Result<Items<Lit>, AllocError> {
+    let mut literals = Items::new(alloc);
+    for literal in clause.as_slice() {
+        if let Some(latch) = c.latches().get(literal.var as usize) {
+            literals.push(Lit {
+                var: latch.var.saturating_add(1),
+                positive: !literal.positive,
+            })?;
+        }
+    }
+    Ok(literals)
+}
+
+// The first state of the skeleton that the solver has found.
+fn first_state(alloc: Global, c: &Circuit, solver: &Solver) -> Result<Items<bool>, AllocError> {
+    let mut state = Items::new(alloc);
+    for latch in c.latches() {
+        state.push(solver.value(latch.var.saturating_add(1)))?;
+    }
+    Ok(state)
+}
+
+// Whether there is a skeleton whose first state makes the literals true.
+fn is_found(
+    alloc: Global,
+    solver: &mut Solver,
+    literals: &[Lit],
+    meter: &mut Meter,
+) -> Result<bool, SolveEnd>
+    ensures end { IfErr result (IsEnd meter.new) }
+    ensures counted { CountsConflicts meter.old meter.new }
+{
+    if has_opposites(literals) || !are_sized(literals) {
+        return Ok(false);
+    }
+    match solver.ask(alloc, literals, meter)? {
+        Asked::Sat => Ok(true),
+        Asked::Unsat(_) => Ok(false),
+    }
+}
+
+// The first state of a skeleton that breaks a clause, if one is found.
+fn breaking_state(
+    alloc: Global,
+    c: &Circuit,
+    solver: &mut Solver,
+    clauses: &[Clause],
+    meter: &mut Meter,
+) -> Result<Option<Items<bool>>, SolveEnd>
+    ensures end { IfErr result (IsEnd meter.new) }
+    ensures counted { CountsConflicts meter.old meter.new }
+{
+    for clause in clauses.iter().take(MOST_ASKED) {
+        let literals = broken_first(alloc, c, clause)?;
+        if is_found(alloc, solver, literals.as_slice(), meter)? {
+            return Ok(Some(first_state(alloc, c, solver)?));
+        }
+    }
+    Ok(None)
+}
+
+// The same with a solver for it.
+fn state_asked(
+    alloc: Global,
+    scope: &Scope<'_>,
+    clauses: &[Clause],
+    meter: &mut Meter,
+) -> Result<Option<Items<bool>>, Stop>
+    requires scope { IsScope scope.now }
+    requires property { scope.now.property < length scope.now.circuit.now.justice }
+    ensures stop { IfErr result (IsStop meter.new) }
+    ensures counted { CountsConflicts meter.old meter.new }
+{
+    let mut solver = solver_of(alloc, scope)?;
+    let found = breaking_state(alloc, scope.circuit, &mut solver, clauses, meter);
+    drop(solver);
+    match found {
+        Ok(state) => Ok(state),
+        Err(end) => Err(solver_stop(end, meter)),
+    }
+}
+
+// Whether the set is seen to be an entry that separates the initial states from the goal.
+fn separated(
+    alloc: Global,
+    scope: &Scope<'_>,
+    goal: &Goal<'_>,
+    set: &ClosedSet,
+    meter: &mut Meter,
+) -> Result<bool, Stop>
+    requires scope { IsScope scope.now }
+    requires goal { IsGoal scope.now.circuit.now goal.now }
+    ensures separates { IfOk result (λ b. b ≡ true
+        → Separates (question_of scope.now Initial) goal.now (closed_entry Initial set.now.clauses set.now.uses)) }
+    ensures stop { IfErr result (IsStop meter.new) }
+    ensures counted { CountsConflicts meter.old meter.new }
+{
+    match separates(alloc, scope.circuit, scope.view, goal, set, meter) {
+        Ok(is_separate) => Ok(is_separate),
+        Err(end) => Err(solver_stop(end, meter)),
+    }
+}
+
+// The entry of the clauses, where it excludes a skeleton whose first state is this one.
+fn judged(
+    alloc: Global,
+    scope: &Scope<'_>,
+    skeleton: Skeleton,
+    state: &[bool],
+    clauses: Items<Clause>,
+    meter: &mut Meter,
+) -> Result<Option<Sought>, Stop>
+    requires scope { IsScope scope.now }
+    requires state { length state.now ≡ length scope.now.circuit.now.latches }
+    requires begun { IsBegunIn scope.now.circuit.now scope.now.property (entries_of scope.now) state.now skeleton }
+    ensures sought { IfOk result (λ found. IfSome found
+        (IsSought scope.now.circuit.now (entries_of scope.now) scope.now.property)) }
+    ensures stop { IfErr result (IsStop meter.new) }
+    ensures counted { CountsConflicts meter.old meter.new }
+{
+    let uses = Items::new(alloc);
+    let set = ClosedSet { clauses, uses };
+    let goal = Goal::State(state);
+    if !separated(alloc, scope, &goal, &set, meter)? {
+        return Ok(None);
+    }
+    let ClosedSet { clauses, uses } = set;
+    let bar = Bar {
+        kind: Kind::Reach,
+        clauses,
+        uses,
+    };
+    Ok(Some(Sought::Barred(bar, skeleton)))
+}
+
+// The entry of the clauses, where it excludes a skeleton that begins in this state.
+fn excluding(
+    alloc: Global,
+    scope: &Scope<'_>,
+    rounds: &mut Rounds,
+    state: &[bool],
+    clauses: Items<Clause>,
+    meter: &mut Meter,
+) -> Result<Option<Sought>, Stop>
+    requires scope { IsScope scope.now }
+    requires seen { rounds.old ≡ asking_of_scope scope.now }
+    ensures sought { IfOk result (λ found. IfSome found
+        (IsSought scope.now.circuit.now (entries_of scope.now) scope.now.property)) }
+    ensures stop { IfErr result (IsStop meter.new) }
+    ensures counted { CountsConflicts meter.old meter.new }
+    ensures same { rounds.new ≡ rounds.old }
+{
+    if state.len() != scope.circuit.latches().len() {
+        return Ok(None);
+    }
+    match rounds.begun_in(alloc, scope, state, meter)? {
+        Some(skeleton) => judged(alloc, scope, skeleton, state, clauses, meter),
+        None => Ok(None),
+    }
+}
+
+/// In the round behind simulation: an entry of invariants that the states of its runs suggest, and a skeleton that it
+/// excludes. None where there are none, or where no skeleton is found that they exclude.
+pub(crate) fn by_invariants(
+    alloc: Global,
+    scope: &Scope<'_>,
+    rounds: &mut Rounds,
+    meter: &mut Meter,
+) -> Result<Option<Sought>, Stop>
+    requires scope { IsScope scope.now }
+    requires property { scope.now.property < length scope.now.circuit.now.justice }
+    requires seen { rounds.old ≡ asking_of_scope scope.now }
+    ensures sought { IfOk result (λ found. IfSome found
+        (IsSought scope.now.circuit.now (entries_of scope.now) scope.now.property)) }
+    ensures stop { IfErr result (IsStop meter.new) }
+    ensures counted { CountsConflicts meter.old meter.new }
+    ensures same { rounds.new ≡ rounds.old }
+{
+    let clauses = rounds.take_invariants(alloc, scope.circuit, meter)?;
+    if clauses.is_empty() {
+        return Ok(None);
+    }
+    match state_asked(alloc, scope, clauses.as_slice(), meter)? {
+        Some(state) => excluding(alloc, scope, rounds, state.as_slice(), clauses, meter),
+        None => Ok(None),
+    }
+}
