@@ -1,11 +1,11 @@
 -- How the loading of the entries of an answer ends.
-use Rattle.std.proofs.Common.{◌≡◌, inl, inr, ℕ, ◌<◌, ◌≤◌, Bool, true, false, List, [], length, take, refl, sym, ap, ◌∙◌, subst, arith, codes, Some, Ok, Err}
+use Rattle.std.proofs.Common.{◌≡◌, inl, inr, ℕ, ◌<◌, ◌≤◌, Bool, true, false, List, [], length, refl, sym, ap, ◌∙◌, subst, arith, codes, Some, Ok, Err}
 use Rattle.std.specs.Prelude.{Option, Result, IfOk}
 use Rattle.std.proofs.lemmas.Bool.{false≢true}
 use Rattle.aig_semantics.specs.Circuits.{Circuit}
 use Rattle.edge.specs.InMemory.{ShelfInMemory, text_of}
 use Rattle.edge.specs.Reads.{Reads}
-use Rattle.edge.specs.Told.{IfTold, MayBe}
+use Rattle.edge.specs.Told.{MayBe}
 use Rattle.edge.proofs.Steady.{ReadsInMemory, no_read_fails}
 use Rattle.unless_memory.specs.Answers.{GivesSome}
 use Rattle.answer_lines.specs.Left.{most_bytes}
@@ -27,7 +27,7 @@ use Rattle.cert_tools.specs.Laws.{OneHeld}
 use Rattle.text_grammar.specs.Lines.{lines_of}
 use Rattle.given_entries.specs.Given.{claims_lasso, AreEntriesOf, HasEntries, IsRefusedFor, HasNoEntries, DecidesEntries, AreProvedInTurn}
 use Rattle.given_entries.specs.Taking.{IsNoLasso, IsTaken}
-use Rattle.given_entries.proofs.Texts.{claims_first, claims_readable, whole}
+use Rattle.given_entries.proofs.Texts.{claims_first, claims_readable}
 use Rattle.given_entries.proofs.Entries.{one_list, as_many, proved_in_turn}
 
 abbrev Loading : Type 0
@@ -134,7 +134,3 @@ pub few : (c : Circuit) (text : List ℕ) (result : Given) → GivesSome (Err en
 few c text (Ok entries) (inl (n, certificate, (there, short, has, good), are)) = (let count = as_many c certificate.entries entries are in omega (arith, count, good.few))
 few c text (Ok entries) (inr wrong) = absurd (cc wrong)
 few c text (Err end) h = tt
-
--- what was read below the limit is the text
-pub may_be : (told : Option (List ℕ)) (bytes : List ℕ) (n : ℕ) → length bytes < n → IfTold told (λ text. bytes ≡ take n text) → MayBe told bytes
-may_be told bytes n short is = λ text e. whole bytes text n short (is text e)

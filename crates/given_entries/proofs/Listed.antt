@@ -1,16 +1,11 @@
 -- How the loading of the entries of a text ends: of an answer, and of a sheet that was judged.
 use Rattle.std.proofs.Common.{◌≡◌, inl, inr, ℕ, ◌+◌, ◌-◌, ◌≤◌, Bool, true, false, List, [], ◌++◌, length, take, drop, flat_map, refl, sym, ap, ◌∙◌, subst, arith, Some, None, Ok, Err}
 use Rattle.std.specs.Prelude.{Option, Result, IfOk, IfErr}
-use Rattle.std.proofs.lemmas.Bool.{false≢true}
 use Rattle.std.proofs.lemmas.List.{length-drop, take_all}
 use Rattle.aig_semantics.specs.Circuits.{Circuit}
 use Rattle.fair_semantics.specs.Entries.{Entry}
 use Rattle.answer_lines.specs.Left.{most_bytes}
 use Rattle.text_grammar.specs.Lines.{lines_of}
-use Rattle.edge.specs.InMemory.{ShelfInMemory, text_of}
-use Rattle.edge.specs.Reads.{Reads}
-use Rattle.edge.specs.Told.{MayBe}
-use Rattle.edge.proofs.Steady.{ReadsInMemory, no_read_fails}
 use Rattle.unless_memory.specs.Answers.{GivesSome}
 use Rattle.stimulus.specs.Texts.{kept_lines}
 use Rattle.entry.specs.declared.entries.Entry.{Entry as WithProofs}
@@ -19,28 +14,22 @@ use Rattle.certificate.specs.declared.limits.TheConstants.{MAX_ENTRIES}
 use Rattle.certificate.specs.declared.ends.AnswerEnd.{AnswerEnd}
 use Rattle.certificate.specs.declared.ends.AnswerEnd.TheVariants as answer_ends
 use Rattle.certificate.specs.declared.loaded.Written.{Written}
-use Rattle.certificate.specs.Lines.{kept_in, kept_readable, bare}
+use Rattle.certificate.specs.Lines.{kept_in, bare}
 use Rattle.certificate.specs.Certificates.{entry_lines, AreProvedBehind}
 use Rattle.certificate.specs.Ends.{has_unread as answer_unread}
 use Rattle.certificate.specs.Laws.{GoodHasNoFault, OneFault}
 use Rattle.certificate.specs.Taking.{many, entry_at}
-use Rattle.certificate.proofs.GoodRead.{all_readable}
-use Rattle.certificate.proofs.WrittenGood.{kept-bare}
 use Rattle.certificate.proofs.TakenBack.{many_back, entry_back, entries_fit, Fits}
 use Rattle.cert_tools.specs.Laws.{OneHeld}
-use Rattle.sheet_answers.specs.declared.ends.Judged.{Judged}
-use Rattle.sheet_answers.specs.declared.ends.Judged.TheVariants.{Text, Sheet as SheetFound}
-use Rattle.round_answers.specs.declared.ends.Judged.{Judged as TextJudged}
-use Rattle.sheet_answers.specs.declared.counts.Counts.{Counts}
 use Rattle.sheet_answers.specs.declared.ends.JudgeEnd.{JudgeEnd}
-use Rattle.sheet_answers.specs.declared.ends.JudgeEnd.TheVariants as judge_ends
-use Rattle.round_answers.specs.declared.ends.JudgeEnd.TheVariants as text_ends
-use Rattle.sheet_answers.specs.Sheets.{Sheet, IsTextOf, none, and_all}
+use Rattle.sheet_answers.specs.declared.texts.GoodSheet.{GoodSheet}
+use Rattle.sheet_answers.specs.Sheets.{Sheet, IsTextOf}
 use Rattle.sheet_answers.specs.Reading.{is_sheet}
-use Rattle.sheet_answers.specs.Ends.{Decides, JudgeSays, EndsWith, has_unread, refused_memory, read_fault as unjudged, no_memory as no_judgement}
-use Rattle.sheet_answers.proofs.Others.{no_other}
+use Rattle.sheet_answers.specs.Ends.{answer_end, refused_memory, has_unread}
+use Rattle.sheet_answers.specs.Texts.{DecidesLines}
+use Rattle.sheet_answers.proofs.HeldTexts.{opens}
 use Rattle.given_entries.specs.Given.{AreEntriesOf, DecidesEntries, AreProvedInTurn}
-use Rattle.given_entries.specs.Listing.{HasSheetEntries, ended, ListsAs, RefusesAs, DecidesList, ListingSays, ListingEnds, no_list, unread_list}
+use Rattle.given_entries.specs.Listing.{HasSheetEntries, ListsAs, ListsNoneAs, DecidesList, no_list}
 use Rattle.given_entries.specs.Taking.{as_listed, IsListedIn}
 use Rattle.given_entries.proofs.Entries.{one_list, as_many, proved_in_turn}
 use Rattle.given_entries.proofs.Ends.{decides_two, each_proved, few, was_read}
@@ -48,61 +37,74 @@ use Rattle.given_entries.proofs.Ends.{decides_two, each_proved, few, was_read}
 abbrev pub Listing : Type 0
 Listing = Result (List WithProofs) JudgeEnd
 
+abbrev Lined : Type 0
+Lined = Result GoodSheet JudgeEnd
+
 abbrev errs : JudgeEnd → Listing
 errs e = Err e
 
-abbrev as_listing : Result Judged JudgeEnd → Listing
-as_listing (Ok judged) = no_list
+abbrev as_listing : Lined → Listing
+as_listing (Ok found) = no_list
 as_listing (Err e) = Err e
 
 abbrev Given : Type 0
 Given = Result (List WithProofs) AnswerEnd
 
-abbrev Judging : Type 0
-Judging = Result Judged JudgeEnd
+abbrev DecidesListAs : Bool → Circuit → List ℕ → Listing → Type 0
+DecidesListAs test c text (Ok entries) = ListsAs test c text entries
+DecidesListAs test c text (Err end) = ListsNoneAs test c text end
 
-abbrev DecidesAs : Bool → Circuit → List ℕ → Listing → Type 0
-DecidesAs test c text (Ok entries) = ListsAs test c text entries
-DecidesAs test c text (Err end) = RefusesAs test c text end
+-- ---- the entries in the lines of a sheet
 
--- ---- of the lines of a text
+-- the lines of a good sheet, as they are read
+abbrev lines_read : List ℕ → Sheet → GoodSheet
+lines_read text sheet = record { lines = bare (kept_in text); entries = length sheet.entries }
 
-module _ (c : Circuit) (text : List ℕ) (lines : List (List ℕ)) (short : length text ≤ most_bytes) (are : lines ≡ kept_lines (lines_of text)) where
-  pub whole : bare (kept_in text) ≡ lines
-  whole = kept-bare 1 (lines_of text) ∙ sym are
+-- the entries, so many, stand in the lines
+in_lines : (c : Circuit) (text : List ℕ) (found : GoodSheet) (count : ℕ) (lines : List (List ℕ)) → count ≡ found.entries → lines ≡ found.lines
+    → (sheet : Sheet) → IsTextOf c sheet text → found.lines ≡ bare (kept_in text) → found.entries ≡ length sheet.entries → IsListedIn c sheet count lines
+in_lines c text found count lines counted same sheet (bound, has, good) read entries = record {
+  others = has.others;
+  spelled = same ∙ read ∙ has.lines;
+  form = good.form;
+  many = counted ∙ entries;
+  few = (let within = good.few in omega (arith, within, counted, entries));
+  entries = good.entries;
+  proved = good.proved;
+}
 
-  pub opens : (test : Bool) → is_sheet lines ≡ test → is_sheet (bare (kept_readable text)) ≡ test
-  opens test is = ap is_sheet (ap bare (all_readable text short) ∙ whole) ∙ is
+-- ---- of a text by its first line
 
-  as_list : (test : Bool) (v : Listing) → is_sheet lines ≡ test → DecidesAs test c text v → DecidesList c text v
-  as_list test (Ok entries) is h = subst (λ (b : Bool). ListsAs b c text entries) (sym (opens test is)) h
-  as_list test (Err end) is h = subst (λ (b : Bool). RefusesAs b c text end) (sym (opens test is)) h
+module _ (c : Circuit) (text : List ℕ) (short : length text ≤ most_bytes) where
+  as_list : (test : Bool) (v : Listing) → is_sheet (kept_lines (lines_of text)) ≡ test → DecidesListAs test c text v → DecidesList c text v
+  as_list test (Ok entries) is h = subst (λ (b : Bool). ListsAs b c text entries) (sym (opens text short test is)) h
+  as_list test (Err end) is h = subst (λ (b : Bool). ListsNoneAs b c text end) (sym (opens text short test is)) h
 
-  of_list : (test : Bool) (v : Listing) → is_sheet lines ≡ test → DecidesList c text v → DecidesAs test c text v
-  of_list test (Ok entries) is h = subst (λ (b : Bool). ListsAs b c text entries) (opens test is) h
-  of_list test (Err end) is h = subst (λ (b : Bool). RefusesAs b c text end) (opens test is) h
+  of_list : (test : Bool) (v : Listing) → is_sheet (kept_lines (lines_of text)) ≡ test → DecidesList c text v → DecidesListAs test c text v
+  of_list test (Ok entries) is h = subst (λ (b : Bool). ListsAs b c text entries) (opens text short test is) h
+  of_list test (Err end) is h = subst (λ (b : Bool). ListsNoneAs b c text end) (opens text short test is) h
 
   -- ---- of an answer
 
-  pub other_found : is_sheet lines ≡ false → (r : Given) (result : Listing) → result ≡ as_listed r → GivesSome (Err answer_ends.Memory) (DecidesEntries c text) r
+  pub other_found : is_sheet (kept_lines (lines_of text)) ≡ false → (r : Given) (result : Listing) → result ≡ as_listed r → GivesSome (Err answer_ends.Memory) (DecidesEntries c text) r
       → GivesSome no_list (DecidesList c text) result
   other_found is r result same h = subst (λ (x : Listing). GivesSome no_list (DecidesList c text) x) (sym same) (by r h)
     where
       by : (g : Given) → GivesSome (Err answer_ends.Memory) (DecidesEntries c text) g → GivesSome no_list (DecidesList c text) (as_listed g)
       by (Ok entries) (inl has) = inl (as_list false (Ok entries) is has)
       by (Ok entries) (inr wrong) = absurd (cc wrong)
-      by (Err (answer_ends.Refused fault)) (inl bad) = inl (as_list false (Err (ended (answer_ends.Refused fault))) is (fault, bad, refl))
+      by (Err (answer_ends.Refused fault)) (inl bad) = inl (as_list false (Err (answer_end (answer_ends.Refused fault))) is (fault, bad, refl))
       by (Err (answer_ends.Refused fault)) (inr wrong) = absurd (cc wrong)
       by (Err answer_ends.ReadFault) (inl wrong) = absurd wrong
       by (Err answer_ends.ReadFault) (inr wrong) = absurd (cc wrong)
       by (Err answer_ends.Memory) h = inr refl
 
   -- what it decides as a text it decides as an answer
-  as_answer : (v : Listing) → DecidesAs false c text v → (g : Given) × DecidesEntries c text g × (v ≡ as_listed g)
+  as_answer : (v : Listing) → DecidesListAs false c text v → (g : Given) × DecidesEntries c text g × (v ≡ as_listed g)
   as_answer (Ok entries) has = (Ok entries, has, refl)
   as_answer (Err end) (fault, bad, same) = (Err (answer_ends.Refused fault), bad, ap (λ (e : JudgeEnd). errs e) same)
 
-  pub other_exactly : is_sheet lines ≡ false → (r : Given) (result : Listing) → result ≡ as_listed r → OneHeld c → GoodHasNoFault c → OneFault c
+  pub other_exactly : is_sheet (kept_lines (lines_of text)) ≡ false → (r : Given) (result : Listing) → result ≡ as_listed r → OneHeld c → GoodHasNoFault c → OneFault c
       → GivesSome (Err answer_ends.Memory) (DecidesEntries c text) r → (v : Listing) → DecidesList c text v → GivesSome no_list (λ given. given ≡ v) result
   other_exactly is r result same one apart fault h v d = by h (as_answer v (of_list false v is d))
     where
@@ -113,90 +115,73 @@ module _ (c : Circuit) (text : List ℕ) (lines : List (List ℕ)) (short : leng
 
   -- ---- of a sheet, that was judged
 
-  -- the entries, so many, stand in the lines
-  pub in_lines : (sheet : Sheet) (count : ℕ) → IsTextOf c sheet text → count ≡ length sheet.entries → IsListedIn c sheet count lines
-  in_lines sheet count (bound, has, good) many = record {
-    others = has.others;
-    spelled = sym whole ∙ has.lines;
-    form = good.form;
-    many = many;
-    few = (let within = good.few in omega (arith, within, many));
-    entries = good.entries;
-    proved = good.proved;
-  }
-
-  pub sheet_there : (counts : Counts) (count : ℕ) → GivesSome no_judgement (Decides c text) (Ok (SheetFound counts count))
-      → (sheet : Sheet) × IsListedIn c sheet count lines
-  sheet_there counts count (inl (sheet, of, counted, many)) = (sheet, in_lines sheet count of many)
-  sheet_there counts count (inr wrong) = absurd (cc wrong)
-
-  -- no other text was accepted
-  pub no_text : is_sheet lines ≡ true → (other : TextJudged) → GivesSome no_judgement (Decides c text) (Ok (Text other)) → ⊥
-  no_text is other (inl good) = no_other c text other (opens true is) good
-  no_text is other (inr wrong) = cc wrong
-
-  pub listed_found : is_sheet lines ≡ true → (counts : Counts) (count : ℕ) (result : Listing) → GivesSome no_judgement (Decides c text) (Ok (SheetFound counts count))
+  pub listed_found : is_sheet (kept_lines (lines_of text)) ≡ true → (found : GoodSheet) (count : ℕ) (lines : List (List ℕ)) → count ≡ found.entries → lines ≡ found.lines
+      → GivesSome (Err refused_memory) (DecidesLines c text) (Ok found) → (result : Listing)
       → ((sheet : Sheet) → IsListedIn c sheet count lines → IfOk result (AreEntriesOf c sheet.entries)) → IfErr result (λ end. end ≡ refused_memory)
       → GivesSome no_list (DecidesList c text) result
-  listed_found is counts count (Ok entries) (inl (sheet, of, counted, many)) lists ended_so =
-      inl (as_list true (Ok entries) is (sheet, of, lists sheet (in_lines sheet count of many)))
-  listed_found is counts count (Ok entries) (inr wrong) lists ended_so = absurd (cc wrong)
-  listed_found is counts count (Err end) h lists ended_so = inr (ap errs ended_so)
+  listed_found is found count lines counted same (inl has) (Ok entries) lists ended_so =
+      inl (as_list true (Ok entries) is (has.0, has.1, lists has.0 (in_lines c text found count lines counted same has.0 has.1 has.2 has.3)))
+  listed_found is found count lines counted same (inr wrong) (Ok entries) lists ended_so = absurd (cc wrong)
+  listed_found is found count lines counted same h (Err end) lists ended_so = inr (ap errs ended_so)
 
-  pub listed_exactly : is_sheet lines ≡ true → (counts : Counts) (count : ℕ) (result : Listing)
-      → ((verdict : Judging) → Decides c text verdict → GivesSome no_judgement (λ r. r ≡ verdict) (Ok (SheetFound counts count)))
+  pub listed_exactly : is_sheet (kept_lines (lines_of text)) ≡ true → (found : GoodSheet) (count : ℕ) (lines : List (List ℕ)) → count ≡ found.entries → lines ≡ found.lines
+      → ((verdict : Lined) → DecidesLines c text verdict → GivesSome (Err refused_memory) (λ r. r ≡ verdict) (Ok found)) → (result : Listing)
       → ((sheet : Sheet) → IsListedIn c sheet count lines → IfOk result (AreEntriesOf c sheet.entries)) → IfErr result (λ end. end ≡ refused_memory)
       → (v : Listing) → DecidesList c text v → GivesSome no_list (λ given. given ≡ v) result
-  listed_exactly is counts count (Err end) exactly lists ended_so v d = inr (ap errs ended_so)
-  listed_exactly is counts count (Ok entries) exactly lists ended_so (Err refusal) d = elim (exactly (Err refusal) (of_list true (Err refusal) is d)) [
+  listed_exactly is found count lines counted same exactly (Err end) lists ended_so v d = inr (ap errs ended_so)
+  listed_exactly is found count lines counted same exactly (Ok entries) lists ended_so (Err refusal) d = elim (exactly (Err refusal) (of_list true (Err refusal) is d)) [
     | inl wrong ↦ absurd (cc wrong)
     | inr wrong ↦ absurd (cc wrong)
   ]
-  listed_exactly is counts count (Ok entries) exactly lists ended_so (Ok others) d = by (of_list true (Ok others) is d)
+  listed_exactly is found count lines counted same exactly (Ok entries) lists ended_so (Ok others) d = by (of_list true (Ok others) is d)
     where
       by : HasSheetEntries c text others → GivesSome no_list (λ given. given ≡ Ok others) (Ok entries)
-      by (sheet, of, also) = elim (exactly (Ok (SheetFound (and_all none sheet.blocks) (length sheet.entries))) (sheet, of, refl, refl)) [
-        | inl same ↦ (
-            let many : count ≡ length sheet.entries = cc same in
-            inl (ap (λ (l : List WithProofs). Ok l) (one_list c sheet.entries entries others (lists sheet (in_lines sheet count of many)) also)))
+      by (sheet, of, also) = elim (exactly (Ok (lines_read text sheet)) (sheet, of, refl, refl)) [
+        | inl one ↦ (
+            let read : found ≡ lines_read text sheet = cc one in
+            let there = in_lines c text found count lines counted same sheet of (ap (λ (l : GoodSheet). l.lines) read) (ap (λ (l : GoodSheet). l.entries) read) in
+            inl (ap (λ (l : List WithProofs). Ok l) (one_list c sheet.entries entries others (lists sheet there) also)))
         | inr wrong ↦ absurd (cc wrong)
       ]
 
-  pub listed_proved : (counts : Counts) (count : ℕ) (result : Listing) → GivesSome no_judgement (Decides c text) (Ok (SheetFound counts count))
-      → ((sheet : Sheet) → IsListedIn c sheet count lines → IfOk result (AreEntriesOf c sheet.entries)) → IfOk result (AreProvedInTurn c [])
-  listed_proved counts count (Ok entries) (inl (sheet, of, counted, many)) lists =
-      let in_them = in_lines sheet count of many in
-      proved_in_turn c [] in_them.entries sheet.entries entries in_them.proved (lists sheet in_them)
-  listed_proved counts count (Ok entries) (inr wrong) lists = absurd (cc wrong)
-  listed_proved counts count (Err end) h lists = tt
-
-  pub listed_few : (counts : Counts) (count : ℕ) (result : Listing) → GivesSome no_judgement (Decides c text) (Ok (SheetFound counts count))
-      → ((sheet : Sheet) → IsListedIn c sheet count lines → IfOk result (AreEntriesOf c sheet.entries)) → IfOk result (λ entries. length entries ≤ MAX_ENTRIES)
-  listed_few counts count (Ok entries) (inl (sheet, of, counted, many)) lists =
-      let in_them = in_lines sheet count of many in
-      let counted_as = as_many c sheet.entries entries (lists sheet in_them) in
-      let within = in_them.few in omega (arith, counted_as, within, many)
-  listed_few counts count (Ok entries) (inr wrong) lists = absurd (cc wrong)
-  listed_few counts count (Err end) h lists = tt
-
   -- a sheet that is refused
-  pub refused_found : is_sheet lines ≡ true → (end : JudgeEnd) → GivesSome no_judgement (Decides c text) (Err end) → GivesSome no_list (DecidesList c text) (Err end)
+  pub refused_found : is_sheet (kept_lines (lines_of text)) ≡ true → (end : JudgeEnd) → GivesSome (Err refused_memory) (DecidesLines c text) (Err end) → GivesSome no_list (DecidesList c text) (Err end)
   refused_found is end (inl decides) = inl (as_list true (Err end) is decides)
   refused_found is end (inr memory) = inr (ap as_listing memory)
 
-  pub refused_exactly : is_sheet lines ≡ true → (end : JudgeEnd) → ((verdict : Judging) → Decides c text verdict → GivesSome no_judgement (λ r. r ≡ verdict) (Err end))
+  pub refused_exactly : is_sheet (kept_lines (lines_of text)) ≡ true → (end : JudgeEnd)
+      → ((verdict : Lined) → DecidesLines c text verdict → GivesSome (Err refused_memory) (λ r. r ≡ verdict) (Err end))
       → (v : Listing) → DecidesList c text v → GivesSome no_list (λ given. given ≡ v) (Err end)
   refused_exactly is end exactly (Ok others) d = by (of_list true (Ok others) is d)
     where
       by : HasSheetEntries c text others → GivesSome no_list (λ given. given ≡ Ok others) (Err end)
-      by (sheet, of, also) = elim (exactly (Ok (SheetFound (and_all none sheet.blocks) (length sheet.entries))) (sheet, of, refl, refl)) [
+      by (sheet, of, also) = elim (exactly (Ok (lines_read text sheet)) (sheet, of, refl, refl)) [
         | inl wrong ↦ absurd (cc wrong)
         | inr memory ↦ inr (ap as_listing memory)
       ]
   refused_exactly is end exactly (Err refusal) d = elim (exactly (Err refusal) (of_list true (Err refusal) is d)) [
-    | inl same ↦ inl (ap as_listing same)
+    | inl one ↦ inl (ap as_listing one)
     | inr memory ↦ inr (ap as_listing memory)
   ]
+
+-- ---- of a sheet: what is so of its entries
+
+pub sheet_there : (c : Circuit) (text : List ℕ) (found : GoodSheet) (count : ℕ) (lines : List (List ℕ)) → count ≡ found.entries → lines ≡ found.lines
+    → GivesSome (Err refused_memory) (DecidesLines c text) (Ok found) → (sheet : Sheet) × IsListedIn c sheet count lines
+sheet_there c text found count lines counted same (inl has) = (has.0, in_lines c text found count lines counted same has.0 has.1 has.2 has.3)
+sheet_there c text found count lines counted same (inr wrong) = absurd (cc wrong)
+
+pub listed_proved : (c : Circuit) (count : ℕ) (lines : List (List ℕ)) (result : Listing) → (sheet : Sheet) × IsListedIn c sheet count lines
+    → ((sheet : Sheet) → IsListedIn c sheet count lines → IfOk result (AreEntriesOf c sheet.entries)) → IfOk result (AreProvedInTurn c [])
+listed_proved c count lines (Ok entries) (sheet, there) lists = proved_in_turn c [] there.entries sheet.entries entries there.proved (lists sheet there)
+listed_proved c count lines (Err end) there lists = tt
+
+pub listed_few : (c : Circuit) (count : ℕ) (lines : List (List ℕ)) (result : Listing) → (sheet : Sheet) × IsListedIn c sheet count lines
+    → ((sheet : Sheet) → IsListedIn c sheet count lines → IfOk result (AreEntriesOf c sheet.entries)) → IfOk result (λ entries. length entries ≤ MAX_ENTRIES)
+listed_few c count lines (Ok entries) (sheet, there) lists =
+    let counted_as = as_many c sheet.entries entries (lists sheet there) in
+    let within = there.few in let many = there.many in omega (arith, counted_as, within, many)
+listed_few c count lines (Err end) there lists = tt
 
 -- ---- of an answer: what is so of its entries, and that it was read
 
@@ -220,41 +205,7 @@ pub other_unread : (c : Circuit) (text : List ℕ) (r : Given) (result : Listing
     → has_unread {T = List WithProofs} result ≡ false
 other_unread c text r result same h = ap (λ (x : Listing). has_unread {T = List WithProofs} x) same ∙ listed_unread r ∙ was_read c text r h
 
--- ---- texts in memory, of which no read fails
-
-pub never_unjudged : (end : Judging) (name text : List ℕ) (old new : ShelfInMemory) → old.failing ≡ [] → text_of old.texts name ≡ Some text
-    → Reads ReadsInMemory name (has_unread end) old new → end ≡ unjudged → ⊥
-never_unjudged end name text old new steady told reads is =
-    no_read_fails name text old new steady told (subst (λ (e : Judging). Reads ReadsInMemory name (has_unread e) old new) is reads)
-
-pub judged_says : (c : Circuit) (text : List ℕ) (end : Judging) → (end ≡ unjudged → ⊥) → JudgeSays c (Some text) end → GivesSome no_judgement (Decides c text) end
-judged_says c text end read (inl (inl unread)) = absurd (read unread)
-judged_says c text end read (inl (inr (other, may, decides))) = inl (subst (λ (t : List ℕ). Decides c t end) (sym (may text refl)) decides)
-judged_says c text end read (inr memory) = inr memory
-
-pub judged_exactly : (end verdict : Judging) → (end ≡ unjudged → ⊥) → EndsWith end verdict → GivesSome no_judgement (λ r. r ≡ verdict) end
-judged_exactly end verdict read (inl (inl same)) = inl same
-judged_exactly end verdict read (inl (inr unread)) = absurd (read unread)
-judged_exactly end verdict read (inr memory) = inr memory
-
-pub was_judged : (end : Judging) → (end ≡ unjudged → ⊥) → has_unread {T = Judged} end ≡ false
-was_judged (Ok judged) read = refl
-was_judged (Err (judge_ends.Text (text_ends.Answer (answer_ends.Refused fault)))) read = refl
-was_judged (Err (judge_ends.Text (text_ends.Answer answer_ends.ReadFault))) read = absurd (read refl)
-was_judged (Err (judge_ends.Text (text_ends.Answer answer_ends.Memory))) read = refl
-was_judged (Err (judge_ends.Text (text_ends.TooLarge variable))) read = refl
-was_judged (Err (judge_ends.Block n fault)) read = refl
-
--- want of memory says nothing of it
-pub only_room : (end : JudgeEnd) → end ≡ refused_memory → (P : Listing → Type 0) → GivesSome no_list P (Err end)
-only_room end is P = inr (ap errs is)
-
--- so many, as another number is
-pub lists_as : (c : Circuit) (lines : List (List ℕ)) (count other : ℕ) (result : Listing) → other ≡ count
-    → ((sheet : Sheet) → IsListedIn c sheet other lines → IfOk result (AreEntriesOf c sheet.entries))
-    → (sheet : Sheet) → IsListedIn c sheet count lines → IfOk result (AreEntriesOf c sheet.entries)
-lists_as c lines count other result same lists =
-    subst (λ (k : ℕ). (sheet : Sheet) → IsListedIn c sheet k lines → IfOk result (AreEntriesOf c sheet.entries)) same lists
+-- ---- want of memory
 
 -- of an end of want of memory no read failed
 pub memory_unread : (result : Listing) → IfErr result (λ end. end ≡ refused_memory) → has_unread {T = List WithProofs} result ≡ false
@@ -295,28 +246,3 @@ module _ (c : Circuit) (sheet : Sheet) (count : ℕ) (lines tail : Lines) (behin
   pub all_proved : (written : List Written) (rest : Lines) → ◌≡◌ {A = Taken} (many (entry_at Two) count tail) (Some (written, rest))
       → (all : List Entry) × AreProvedBehind c [] written all
   all_proved written rest found = (is.entries, subst (λ ws. AreProvedBehind c [] ws is.entries) (same written rest found) is.proved)
-
--- ---- the text that was read
-
-pub says : (c : Circuit) (told : Option (List ℕ)) (text : List ℕ) (result : Listing) → MayBe told text → GivesSome no_list (DecidesList c text) result → ListingSays c told result
-says c told text result may (inl decides) = inl (inr (text, may, decides))
-says c told text result may (inr memory) = inr memory
-
-pub exactly : (c : Circuit) (told : Option (List ℕ)) (bytes : List ℕ) (result : Listing) → MayBe told bytes
-    → ((verdict : Listing) → DecidesList c bytes verdict → GivesSome no_list (λ given. given ≡ verdict) result)
-    → (text : List ℕ) (verdict : Listing) → told ≡ Some text → DecidesList c text verdict → ListingEnds result verdict
-exactly c told bytes result may exact text verdict e d = by (exact verdict (subst (λ (t : List ℕ). DecidesList c t verdict) (may text e) d))
-  where
-    by : GivesSome no_list (λ given. given ≡ verdict) result → ListingEnds result verdict
-    by (inl same) = inl (inl same)
-    by (inr memory) = inr memory
-
-pub not_unread : (result : Listing) → has_unread {T = List WithProofs} result ≡ false → result ≡ unread_list → ⊥
-not_unread result none is = false≢true (sym none ∙ ap (λ (r : Listing). has_unread {T = List WithProofs} r) is)
-
--- a failed read, and want of memory, say nothing of it
-pub failed_ends : (end : JudgeEnd) → end ≡ ended answer_ends.ReadFault → (verdict : Listing) → ListingEnds (Err end) verdict
-failed_ends end is verdict = inl (inr (ap errs is))
-
-pub memory_ends : (end : JudgeEnd) → end ≡ refused_memory → (verdict : Listing) → ListingEnds (Err end) verdict
-memory_ends end is verdict = inr (ap errs is)

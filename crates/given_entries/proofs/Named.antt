@@ -8,11 +8,11 @@ use Rattle.entry.specs.declared.entries.Entry.{Entry as WithProofs}
 use Rattle.entry.specs.CheckedEntries.{CheckedEntry}
 use Rattle.certificate.specs.declared.limits.TheConstants.{MAX_ENTRIES}
 use Rattle.sheet_answers.specs.declared.ends.JudgeEnd.{JudgeEnd}
-use Rattle.sheet_answers.specs.Ends.{has_unread, refused_memory}
+use Rattle.sheet_answers.specs.Ends.{has_unread, read_failed, refused_memory, IsUnended}
 use Rattle.wall_store.specs.Boards.{most_entries}
 use Rattle.given_entries.specs.Given.{list_of}
 use Rattle.given_entries.specs.Listing.{Lists, DecidesList, ListingSays, ListingEnds}
-use Rattle.given_entries.specs.Beginning.{IsClaimed, BeginsWith, HasNoList, read_failed, IsUnended, IsRefusedWith, GivesList, shared_list}
+use Rattle.given_entries.specs.Beginning.{IsClaimed, BeginsWith, HasNoList, IsRefusedWith, GivesList, shared_list}
 
 pub refused_named : {T : Type 0} (told : Option (List ℕ)) (c : Circuit) (result : Result T JudgeEnd)
     → ((text : List ℕ) (end : JudgeEnd) → told ≡ Some text → DecidesList c text (Err end) → IsRefusedWith end result)

@@ -1,8 +1,6 @@
--- The status of a text, and the text that was read whole.
-use Rattle.std.proofs.Common.{◌≡◌, ℕ, zero, suc, ◌+◌, ◌<◌, ◌≤◌, min, Bool, true, false, if◌then◌else◌, List, [], ◌∷◌, length, take, refl, sym, ap, ◌∙◌, arith, codes}
-use Rattle.std.proofs.lemmas.List.{length-take, take_all}
+-- The status of a text: its first line that is not skipped.
+use Rattle.std.proofs.Common.{◌≡◌, ℕ, ◌+◌, ◌≤◌, Bool, true, false, if◌then◌else◌, List, [], ◌∷◌, length, refl, sym, ap, ◌∙◌, codes}
 use Rattle.std.specs.Str.{bytes_eq}
-use Rattle.edge.specs.Reads.{ReadsOf, Within, GoodReads, Reads}
 use Rattle.text_grammar.specs.Lines.{lines_of}
 use Rattle.stimulus.specs.Texts.{is_skipped}
 use Rattle.answer_lines.specs.Left.{most_bytes}
@@ -40,23 +38,3 @@ claims_first number (line ∷ lines) first others kept =
 -- of a text within the limit all lines are read
 pub claims_readable : (text : List ℕ) → length text ≤ most_bytes → claims_lasso (readable text) ≡ claims_lasso (lines_of text)
 claims_readable text short = ap claims_lasso (all_readable most_bytes text short)
-
--- ---- the text
-
--- a front that is shorter than its limit is the whole
-pub whole : (bytes text : List ℕ) (n : ℕ) → length bytes < n → bytes ≡ take n text → text ≡ bytes
-whole bytes text n short is =
-    let size : length bytes ≡ min n (length text) = ap length is ∙ length-take n text in
-    sym (is ∙ take_all n text (omega (arith, size, short)))
-
--- ---- reads within a limit are reads
-
-good_within : {Shelf : Type 0} (Read : ReadsOf Shelf) (name : List ℕ) (most n : ℕ) (old new : Shelf) → GoodReads (Within most Read) name n old new → GoodReads Read name n old new
-good_within Read name most zero old new h = h
-good_within Read name most (suc n) old new (mid, before, (from, room, (within, step))) =
-    (mid, good_within Read name most n old mid before, (from, room, step))
-
-pub reads_within : {Shelf : Type 0} (Read : ReadsOf Shelf) (name : List ℕ) (most : ℕ) (failed : Bool) (old new : Shelf) → Reads (Within most Read) name failed old new
-    → Reads Read name failed old new
-reads_within Read name most false old new (n, good) = (n, good_within Read name most n old new good)
-reads_within Read name most true old new (n, last, good, (from, room, (within, step))) = (n, last, good_within Read name most n old last good, (from, room, step))

@@ -7,11 +7,10 @@ use Rattle.edge.specs.Told.{MayBe}
 use Rattle.edge.specs.Reads.{ReadsOf, Reads}
 use Rattle.entry.specs.declared.entries.Entry.{Entry as WithProofs}
 use Rattle.entry.specs.CheckedEntries.{CheckedEntry}
-use Rattle.certificate.specs.declared.ends.AnswerEnd.TheVariants as answer_ends
 use Rattle.sheet_answers.specs.declared.ends.JudgeEnd.{JudgeEnd}
-use Rattle.sheet_answers.specs.Ends.{refused_memory}
+use Rattle.sheet_answers.specs.Ends.{IsUnended}
 use Rattle.given_entries.specs.Given.{list_of}
-use Rattle.given_entries.specs.Listing.{ended, Lists, ListsNone}
+use Rattle.given_entries.specs.Listing.{Lists, ListsNone}
 
 -- what a shelf tells of the answer, where one is named
 abbrev pub told_of : (List ℕ → Option (List ℕ)) → Option (List ℕ) → Option (Option (List ℕ))
@@ -37,13 +36,6 @@ BeginsWith c (Some text) list = (entries : List WithProofs) × Lists c text entr
 abbrev pub HasNoList : Circuit → Option (List ℕ) → JudgeEnd → Type 0
 HasNoList c None end = ⊥
 HasNoList c (Some text) end = ListsNone c text end
-
-abbrev pub read_failed : JudgeEnd
-read_failed = ended answer_ends.ReadFault
-
--- a read failed, or memory was refused
-abbrev pub IsUnended : JudgeEnd → Type 0
-IsUnended end = (end ≡ read_failed) ⊎ (end ≡ refused_memory)
 
 -- the call ended so, or unended
 abbrev pub IsRefusedWith : {T : Type 0} → JudgeEnd → Result T JudgeEnd → Type 0

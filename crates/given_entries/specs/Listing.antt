@@ -5,41 +5,33 @@ use Rattle.edge.specs.Told.{MayBe}
 use Rattle.unless_memory.specs.Answers.{GivesSome}
 use Rattle.entry.specs.declared.entries.Entry.{Entry as WithProofs}
 use Rattle.certificate.specs.declared.ends.AnswerFault.{AnswerFault}
-use Rattle.certificate.specs.declared.ends.AnswerEnd.{AnswerEnd}
 use Rattle.certificate.specs.declared.ends.AnswerEnd.TheVariants as answer_ends
-use Rattle.certificate.specs.Lines.{kept_readable, bare}
-use Rattle.round_answers.specs.declared.ends.JudgeEnd.TheVariants as text_ends
 use Rattle.sheet_answers.specs.declared.ends.JudgeEnd.{JudgeEnd}
-use Rattle.sheet_answers.specs.declared.ends.JudgeEnd.TheVariants as ends
 use Rattle.sheet_answers.specs.Sheets.{Sheet, IsTextOf}
-use Rattle.sheet_answers.specs.Reading.{is_sheet}
-use Rattle.sheet_answers.specs.Ends.{Decides}
+use Rattle.sheet_answers.specs.Reading.{opens_as_sheet}
+use Rattle.sheet_answers.specs.Ends.{answer_end, read_failed, refused_memory, Decides, SaysOf, EndsWith}
 use Rattle.given_entries.specs.Given.{AreEntriesOf, HasEntries, HasNoEntries}
 
 -- The text is a good sheet, and these are its entries.
 abbrev pub HasSheetEntries : Circuit → List ℕ → List WithProofs → Type 0
 HasSheetEntries c text entries = (sheet : Sheet) × IsTextOf c sheet text × AreEntriesOf c sheet.entries entries
 
--- as the check of an answer ends
-abbrev pub ended : AnswerEnd → JudgeEnd
-ended end = ends.Text (text_ends.Answer end)
-
 -- where the first line opens a sheet the text is a sheet, or is refused as its check refuses it; else it is an answer
 abbrev pub ListsAs : Bool → Circuit → List ℕ → List WithProofs → Type 0
 ListsAs true c text entries = HasSheetEntries c text entries
 ListsAs false c text entries = HasEntries c text entries
 
-abbrev pub RefusesAs : Bool → Circuit → List ℕ → JudgeEnd → Type 0
-RefusesAs true c text end = Decides c text (Err end)
-RefusesAs false c text end = (fault : AnswerFault) × HasNoEntries c text fault × (end ≡ ended (answer_ends.Refused fault))
+abbrev pub ListsNoneAs : Bool → Circuit → List ℕ → JudgeEnd → Type 0
+ListsNoneAs true c text end = Decides c text (Err end)
+ListsNoneAs false c text end = (fault : AnswerFault) × HasNoEntries c text fault × (end ≡ answer_end (answer_ends.Refused fault))
 
 -- The text is good, and these are its entries.
 abbrev pub Lists : Circuit → List ℕ → List WithProofs → Type 0
-Lists c text entries = ListsAs (is_sheet (bare (kept_readable text))) c text entries
+Lists c text entries = ListsAs (opens_as_sheet text) c text entries
 
 -- The text gives no entries, and this is why.
 abbrev pub ListsNone : Circuit → List ℕ → JudgeEnd → Type 0
-ListsNone c text end = RefusesAs (is_sheet (bare (kept_readable text))) c text end
+ListsNone c text end = ListsNoneAs (opens_as_sheet text) c text end
 
 -- the text decides this end
 abbrev pub DecidesList : Circuit → List ℕ → Result (List WithProofs) JudgeEnd → Type 0
@@ -48,16 +40,15 @@ DecidesList c text (Err end) = ListsNone c text end
 
 -- the ends that say nothing of the text
 abbrev pub unread_list : Result (List WithProofs) JudgeEnd
-unread_list = Err (ended answer_ends.ReadFault)
+unread_list = Err read_failed
 
 abbrev pub no_list : Result (List WithProofs) JudgeEnd
-no_list = Err (ended answer_ends.Memory)
+no_list = Err refused_memory
 
--- what the end says of the text that the shelf may hold, unless memory is refused; a failed read says nothing of it
+-- what the end says of the text that the shelf may hold
 abbrev pub ListingSays : Circuit → Option (List ℕ) → Result (List WithProofs) JudgeEnd → Type 0
-ListingSays c told result =
-    GivesSome no_list (λ end. (end ≡ unread_list) ⊎ ((text : List ℕ) × MayBe told text × DecidesList c text end)) result
+ListingSays c told result = SaysOf (DecidesList c) told result
 
 -- this end comes, unless memory is refused or a read fails
 abbrev pub ListingEnds : Result (List WithProofs) JudgeEnd → Result (List WithProofs) JudgeEnd → Type 0
-ListingEnds result verdict = GivesSome no_list (λ end. (end ≡ verdict) ⊎ (end ≡ unread_list)) result
+ListingEnds result verdict = EndsWith result verdict

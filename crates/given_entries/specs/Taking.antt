@@ -12,8 +12,8 @@ use Rattle.certificate.specs.declared.limits.TheConstants.{MAX_ENTRIES}
 use Rattle.certificate.specs.Certificates.{entry_lines, CanBeWritten, AreProvedBehind}
 use Rattle.sheet_answers.specs.declared.ends.JudgeEnd.{JudgeEnd}
 use Rattle.sheet_answers.specs.Sheets.{Sheet, all_line, version_line}
+use Rattle.sheet_answers.specs.Ends.{answer_end}
 use Rattle.given_entries.specs.Given.{AreEntriesOf}
-use Rattle.given_entries.specs.Listing.{ended}
 
 -- a certificate is held
 abbrev pub IsNoLasso : Loaded → Type 0
@@ -30,7 +30,7 @@ IsTaken c (Err end) result = result ≡ Err end
 -- the end of the loading of an answer, as that of a text
 abbrev pub as_listed : Result (List WithProofs) AnswerEnd → Result (List WithProofs) JudgeEnd
 as_listed (Ok entries) = Ok entries
-as_listed (Err end) = Err (ended end)
+as_listed (Err end) = Err (answer_end end)
 
 -- the lines are those of a text that has the sheet, of which the entries, so many, within the limit, are good
 pub record IsListedIn (c : Circuit) (sheet : Sheet) (count : ℕ) (lines : List (List ℕ)) : Type 0 where

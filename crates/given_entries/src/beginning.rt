@@ -7,15 +7,14 @@ ghost use Rattle.edge.specs.Reads.{KeepsTexts, Reads};
 ghost use Rattle.edge.specs.Told.{MayBe};
 ghost use Rattle.entry.specs.declared.origins.Origin.TheVariants.{Given};
 ghost use Rattle.entry.specs.CheckedEntries.{CheckedEntry};
-ghost use Rattle.sheet_answers.specs.Ends.{has_unread, refused_memory};
+ghost use Rattle.sheet_answers.specs.Ends.{has_unread, read_failed, refused_memory, IsUnended};
 ghost use Rattle.wall_store.specs.Boards.{IsSoundList, most_entries};
 ghost use Rattle.given_entries.specs.Given.{AreProvedInTurn, list_of};
 ghost use Rattle.given_entries.specs.Listing.{DecidesList};
-ghost use Rattle.given_entries.specs.Beginning.{told_of, OfClaimed, IsClaimed, BeginsWith, HasNoList, read_failed, IsUnended, IsRefusedWith, GivesList, ReadsIfNamed};
+ghost use Rattle.given_entries.specs.Beginning.{told_of, OfClaimed, IsClaimed, BeginsWith, HasNoList, IsRefusedWith, GivesList, ReadsIfNamed};
 
 use crate::listing::given_list;
-use crate::loading::{ended, load_entries};
-use certificate::AnswerEnd;
+use crate::loading::load_entries;
 use circuit::Circuit;
 use edge::Shelf;
 use entry::{Checked, Entry};
@@ -104,6 +103,6 @@ fn list_from(
 {
     match given_list(alloc, circuit, entries) {
         Ok(list) => Ok(list),
-        Err(_) => Err(ended(AnswerEnd::Memory)),
+        Err(refused) => Err(JudgeEnd::from(refused)),
     }
 }

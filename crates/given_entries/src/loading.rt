@@ -1,6 +1,6 @@
 //! The entries of an answer or a sheet, read and judged. The main call is `load_entries`.
 
-ghost use Rattle.std.specs.Prelude.{◌≡◌, ◌≤◌, ℕ, List, [], Some, Result, Err, codes, false, length, IfOk};
+ghost use Rattle.std.specs.Prelude.{◌≡◌, ◌≤◌, ℕ, List, [], Some, Result, Err, false, length, IfOk};
 ghost use Rattle.std.specs.Str.{bytes_eq};
 ghost use Rattle.edge.specs.Faults.{Rose, NoneFell};
 ghost use Rattle.edge.specs.Reads.{KeepsTexts, Reads};
@@ -12,24 +12,21 @@ ghost use Rattle.unless_memory.specs.Answers.{GivesSome};
 ghost use Rattle.sheet_answers.specs.Reading.{is_sheet};
 ghost use Rattle.sheet_answers.specs.Ends.{has_unread};
 ghost use Rattle.given_entries.specs.Given.{claims_lasso, DecidesEntries, AreProvedInTurn};
-ghost use Rattle.given_entries.specs.Listing.{ended, DecidesList, ListingSays, ListingEnds, no_list, unread_list};
+ghost use Rattle.given_entries.specs.Listing.{DecidesList, ListingSays, ListingEnds, no_list, unread_list};
 ghost use Rattle.given_entries.specs.Taking.{as_listed};
 
 use crate::sheets::sheet_entries;
 use crate::taking::entries_in;
 use cert_tools::trimmed_answers_are_good;
-use certificate::{AnswerEnd, AnswerFault, answers_have_one_end, load, opens_sheet};
+use certificate::{AnswerEnd, AnswerFault, answers_have_one_end, load};
 use circuit::Circuit;
-use edge::{MemShelf, ReadEnd, Shelf, read_text};
+use edge::Shelf;
 use entry::Entry;
 use items::Items;
-use sheet_answers::JudgeEnd;
-use std::alloc::{AllocError, Global};
+use sheet_answers::{JudgeEnd, is_sheet, read_whole, shelf_with};
+use std::alloc::Global;
 use stimulus::is_skipped;
 use text_grammar::next_line;
-
-/// The greatest number of bytes of an answer.
-const MOST_BYTES: u64 = 9_223_372_036_854_775_807;
 
 /// Reads the text that the shelf holds under the name, judges it as `sheet_answers::check_answer` does, and answers the entries
 /// of its certificate, of whatever property it is, or of its sheet. A stimulus has none, be it a good one or not: it is refused
@@ -54,18 +51,10 @@ pub fn load_entries<H: Shelf>(
     ensures counts { NoneFell (H.faults shelf.old) (H.faults shelf.new) }
     ensures kept { KeepsTexts (H.held shelf.old) (H.held shelf.new) }
 {
-    match read_text(alloc, shelf, name, MOST_BYTES) {
+    match read_whole(alloc, shelf, name) {
         Ok(text) => entries_of(alloc, circuit, text),
-        Err(ReadEnd::Failed) => Err(ended(AnswerEnd::ReadFault)),
-        Err(ReadEnd::Memory) => Err(ended(AnswerEnd::Memory)),
+        Err(end) => Err(end),
     }
-}
-
-// As the check of an answer ends.
-pub(crate) fn ended(end: AnswerEnd) -> JudgeEnd
-    ensures { result ≡ ended end }
-{
-    JudgeEnd::Text(round_answers::JudgeEnd::Answer(end))
 }
 
 // The entries of a text.
@@ -81,20 +70,6 @@ fn entries_of(alloc: Global, circuit: &Circuit, text: Vec<u8>) -> Result<Items<E
         return sheet_entries(alloc, circuit, text);
     }
     other_entries(alloc, circuit, text)
-}
-
-// Whether the first line that is not skipped opens a sheet.
-fn is_sheet(text: &[u8]) -> bool
-    ensures { result ≡ is_sheet (kept_lines (lines_of text.now)) }
-{
-    let mut rest = text;
-    while let Some((line, more)) = next_line(rest) {
-        if !is_skipped(line) {
-            return opens_sheet(line);
-        }
-        rest = more;
-    }
-    false
 }
 
 // The entries of a text that is no sheet.
@@ -119,7 +94,7 @@ fn as_listed(end: Result<Items<Entry>, AnswerEnd>) -> Result<Items<Entry>, Judge
 {
     match end {
         Ok(entries) => Ok(entries),
-        Err(end) => Err(ended(end)),
+        Err(end) => Err(JudgeEnd::from(end)),
     }
 }
 
@@ -163,16 +138,6 @@ fn judged(alloc: Global, circuit: &Circuit, text: Vec<u8>) -> Result<Items<Entry
     ensures { GivesSome (Err AnswerEnd.Memory) (DecidesEntries circuit.now text.items) result }
 {
     let mut shelf = shelf_with(alloc, text)?;
-    let loaded = load(alloc, circuit, &mut shelf, "answer");
+    let loaded = load(alloc, circuit, &mut shelf, "text");
     entries_in(alloc, circuit, loaded)
-}
-
-// A shelf that holds the text as `answer`, and of which no call fails.
-pub(crate) fn shelf_with(alloc: Global, text: Vec<u8>) -> Result<MemShelf, AllocError>
-    ensures held { IfOk result (λ shelf. ⟦<MemShelf as Shelf>⟧.held shelf (codes "answer") ≡ Some text.items) }
-    ensures steady { IfOk result (λ shelf. shelf.failing ≡ []) }
-{
-    let mut texts = Vec::new(alloc);
-    texts.push((String::from_str(alloc, "answer")?, text))?;
-    Ok(MemShelf::new(texts, u64::MAX, Vec::new(alloc)))
 }

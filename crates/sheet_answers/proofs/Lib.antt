@@ -17,3 +17,4 @@ mod WrittenSheets
 mod AddedBlocks
 mod BlockWords
 mod LineSteps
+pub mod HeldTexts

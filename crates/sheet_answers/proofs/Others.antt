@@ -19,9 +19,9 @@ use Rattle.sheet_answers.specs.declared.ends.Judged.TheVariants.{Text, Sheet}
 use Rattle.sheet_answers.specs.declared.ends.JudgeEnd.{JudgeEnd}
 use Rattle.sheet_answers.specs.declared.ends.JudgeEnd.TheVariants as ends
 use Rattle.sheet_answers.specs.Sheets.{Counts, IsSheetWith}
-use Rattle.sheet_answers.specs.Reading.{is_sheet}
+use Rattle.sheet_answers.specs.Reading.{is_sheet, opens_as_sheet}
 use Rattle.sheet_answers.specs.Ends.{RefusesAs, Decides, EndsWith}
-use Rattle.sheet_answers.specs.First.{as_text, unknown, opens_as_sheet}
+use Rattle.sheet_answers.specs.First.{as_text, unknown}
 
 -- ---- good texts that are no sheets
 

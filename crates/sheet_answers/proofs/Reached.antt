@@ -28,10 +28,10 @@ use Rattle.certificate.proofs.Reached.{Spells, Passed, pass, kept_more, said, to
 use Rattle.sheet_answers.specs.declared.ends.JudgeEnd.{JudgeEnd}
 use Rattle.sheet_answers.specs.declared.found.Accepted.{Accepted}
 use Rattle.sheet_answers.specs.Sheets.{Counts, none, total, lasso_line, holds_line, open_line}
-use Rattle.sheet_answers.specs.Reading.{State, First, Versioned, Listing, Between, Refuting, Proving, Showing, Done, Fault, Plain, Replays, Stepped, misplaced, behind, is_sheet, count_in, first_step, version_step, end_step, block_step, between_step, entry_step, listing_step, refute_step, proved, refuting_fault, replayed, shown, step, and_then, read_lines}
+use Rattle.sheet_answers.specs.Reading.{State, First, Versioned, Listing, Between, Refuting, Proving, Showing, Done, Fault, Plain, Replays, Stepped, misplaced, after_answer, is_sheet, count_in, first_step, version_step, end_step, block_step, between_step, entry_step, listing_step, refute_step, proved, refuting_fault, replayed, shown, step, and_then, read_lines, opens_as_sheet}
 use Rattle.sheet_answers.specs.Ends.{AreReplays}
 use Rattle.sheet_answers.specs.Seen.{TellsEnd}
-use Rattle.sheet_answers.specs.First.{opens_as_sheet, IsOther, IsLater, IsAnyway, IsEnd, Says, Decided}
+use Rattle.sheet_answers.specs.First.{IsOther, IsLater, IsAnyway, IsEnd, Says, Decided}
 use Rattle.sheet_answers.proofs.Ended.{refused, fault_decides, length_decides, end_decides}
 use Rattle.sheet_answers.proofs.Replaying.{replays_of, are_replays}
 
@@ -157,7 +157,7 @@ between_later c t entries number line =
     by_test (total t == length c.justice) (end_step t entries number (word_line_of line)) (block_step t entries (total t) number line)
     (end_later t entries number (word_line_of line)) (block_later t entries (total t) number line)
 
-behind_later : (next : answers.State → Stepped) (fault : AnswerFault → Fault) → ((s : answers.State) → LaterOk (next s)) → (r : answers.Stepped) → LaterOk (behind next fault r)
+behind_later : (next : answers.State → Stepped) (fault : AnswerFault → Fault) → ((s : answers.State) → LaterOk (next s)) → (r : answers.Stepped) → LaterOk (after_answer next fault r)
 behind_later next fault h (Ok s) = h s
 behind_later next fault h (Err first) = tt
 
@@ -169,7 +169,7 @@ entry_later c b number line (Some (lines.Refutation r)) = between_later c none b
 entry_later c b number line (Some lines.End) = between_later c none b.entries number line
 entry_later c b number line None = between_later c none b.entries number line
 
-further_later : (c : Circuit) (s : answers.State) (number : ℕ) (line : List ℕ) → LaterOk (behind (λ t. Ok (Listing t)) Plain (answers.step c s number line))
+further_later : (c : Circuit) (s : answers.State) (number : ℕ) (line : List ℕ) → LaterOk (after_answer (λ t. Ok (Listing t)) Plain (answers.step c s number line))
 further_later c s number line = behind_later (λ t. Ok (Listing t)) Plain (λ t. tt) (answers.step c s number line)
 
 listing_later : (c : Circuit) (s : answers.State) (number : ℕ) (line : List ℕ) → LaterOk (listing_step c s number line)

@@ -26,7 +26,7 @@ use Rattle.certificate.proofs.CompletingProofs.{heads}
 use Rattle.sheet_answers.specs.declared.blocks.Block.TheVariants.{Lasso, Holds, Open}
 use Rattle.sheet_answers.specs.declared.found.Accepted.{Accepted}
 use Rattle.sheet_answers.specs.Sheets.{Block, Counts, all_line, lasso_line, holds_line, open_line, version_line, end_line, refuting, AreBlocks, IsGoodBlock, AreGood, none, and_one, and_all, total}
-use Rattle.sheet_answers.specs.Reading.{State, First, Versioned, Listing, Between, Refuting, Proving, Showing, Done, Stepped, misplaced, behind, no_entries, end_step, between_step, over, refute_step, proved, refuting_fault, shown, step}
+use Rattle.sheet_answers.specs.Reading.{State, First, Versioned, Listing, Between, Refuting, Proving, Showing, Done, Stepped, misplaced, after_answer, no_entries, end_step, between_step, over, refute_step, proved, refuting_fault, shown, step}
 use Rattle.sheet_answers.specs.Seen.{IsGoodAtEnd}
 use Rattle.sheet_answers.proofs.Entering.{FromRefuting, Continues, After}
 use Rattle.sheet_answers.proofs.EnteringProofs.{refuting_line_on, refuting_line_back}
@@ -346,7 +346,7 @@ module _ (c : Circuit) (a : Accepted) where
   refute_back t entries number line left h = refute_from t entries number line left (word_line_of line) refl h
 
   abbrev proof_step_of : Counts → answers.Stepped → Stepped
-  proof_step_of t r = behind (proved t) (refuting_fault (total t)) r
+  proof_step_of t r = after_answer (proved t) (refuting_fault (total t)) r
 
   proved_on : (t : Counts) (r : answers.Stepped) (left : List (List ℕ)) → Within IsProved r → After c r left (BehindProof c a t) → Behind c a (proof_step_of t r) left
   proved_on t (Ok (Certified b Last)) left well h = h

@@ -40,7 +40,7 @@ use Rattle.certificate.proofs.CompletingEntries.{clauses_over, as_many, passes_e
 use Rattle.sheet_answers.specs.declared.blocks.Block.TheVariants.{Lasso, Holds, Open}
 use Rattle.sheet_answers.specs.declared.found.Accepted.{Accepted}
 use Rattle.sheet_answers.specs.Sheets.{Block, Counts, all_line, lasso_line, holds_line, open_line, version_line, end_line, refuting, AreBlocks, none, total}
-use Rattle.sheet_answers.specs.Reading.{State, First, Versioned, Listing, Between, Refuting, Proving, Showing, Done, Plain, Replays, Stepped, behind, count_in, first_step, no_entries, version_step, entry_step, listing_step, replayed, shown, step, and_then, read_lines}
+use Rattle.sheet_answers.specs.Reading.{State, First, Versioned, Listing, Between, Refuting, Proving, Showing, Done, Plain, Replays, Stepped, after_answer, count_in, first_step, no_entries, version_step, entry_step, listing_step, replayed, shown, step, and_then, read_lines}
 use Rattle.sheet_answers.specs.Ends.{IsReplayed, AreReplays}
 use Rattle.sheet_answers.specs.Seen.{IsGoodAtEnd}
 use Rattle.sheet_answers.proofs.Entering.{ProofsTail, ClausesTail, FromUses, After}
@@ -54,7 +54,7 @@ use Rattle.sheet_answers.proofs.SheetLines.{FromBlocks, FromListing, BehindDot, 
 
 module _ (c : Circuit) (a : Accepted) (replays : Replays) (are : AreReplays c replays) where
   abbrev shown_step : Counts → List Entry → answers.Stepped → Stepped
-  shown_step t entries r = behind (shown replays t entries) Plain r
+  shown_step t entries r = after_answer (shown replays t entries) Plain r
 
   dot_by : (t : Counts) (entries : List Entry) (m : ℕ) (s : Stimulus) (left : List (List ℕ)) (o : Option ReplayFault) → IsReplayed c m s o → m ≡ total t → BehindDot c a t entries s left
       → Behind c a (replayed t entries m o) left
@@ -257,7 +257,7 @@ module _ (c : Circuit) (a : Accepted) where
       }
       in
       subst (λ r. Behind c a (entry_step c b number line r) left) (sym read)
-      (subst (λ t. Behind c a (behind (λ s. Ok (Listing s)) Plain (if t then Ok (Certified b (EntryUses o)) else Err faults.TooLong)) left) (sym room) from)
+      (subst (λ t. Behind c a (after_answer (λ s. Ok (Listing s)) Plain (if t then Ok (Certified b (EntryUses o)) else Err faults.TooLong)) left) (sym room) from)
 
   start_by : (b : Body) (number : ℕ) (line : List ℕ) (left : List (List ℕ)) (more : List Written) (rest : List (List ℕ)) (all : List Entry)
       → line ∷ left ≡ flat_map entry_lines more ++ rest → All (CanBeWritten b.version) more → (0 < length more → length b.entries + length more ≤ MAX_ENTRIES)
@@ -312,7 +312,7 @@ module _ (c : Circuit) (a : Accepted) where
       }
 
   start_opened : (b : Body) (line : List ℕ) (left : List (List ℕ)) (o : Opening) → IsWordLine line (lines.Opening o) → (t : Bool) → nat_lt (length b.entries) MAX_ENTRIES ≡ t
-      → Behind c a (behind (λ s. Ok (Listing s)) Plain (if t then Ok (Certified b (EntryUses o)) else Err faults.TooLong)) left → FromListing c a b (line ∷ left)
+      → Behind c a (after_answer (λ s. Ok (Listing s)) Plain (if t then Ok (Certified b (EntryUses o)) else Err faults.TooLong)) left → FromListing c a b (line ∷ left)
   start_opened b line left o is true test h = entry_begun b line left o is (ltb-true (length b.entries) MAX_ENTRIES test) h
   start_opened b line left o is false test h = absurd h
 
@@ -339,7 +339,7 @@ module _ (c : Circuit) (a : Accepted) where
   start_from b number line left None is h = no_more_entries b line left (between_back c a none b.entries number line left h)
 
   abbrev further_of : answers.Stepped → Stepped
-  further_of r = behind (λ s. Ok (Listing s)) Plain r
+  further_of r = after_answer (λ s. Ok (Listing s)) Plain r
 
   further_on : (r : answers.Stepped) (left : List (List ℕ)) → Within IsEntry r → After c r left (FromListing c a) → Behind c a (further_of r) left
   further_on (Ok (Certified b Start)) left well h = h

@@ -22,9 +22,9 @@ use Rattle.sheet_answers.specs.declared.ends.Judged.{Judged}
 use Rattle.sheet_answers.specs.declared.ends.Judged.TheVariants.{Text}
 use Rattle.sheet_answers.specs.declared.ends.JudgeEnd.{JudgeEnd}
 use Rattle.sheet_answers.specs.declared.ends.JudgeEnd.TheVariants as ends
-use Rattle.sheet_answers.specs.Reading.{is_sheet}
+use Rattle.sheet_answers.specs.Reading.{is_sheet, opens_as_sheet}
 use Rattle.sheet_answers.specs.Ends.{ShowsText, Decides, JudgeSays, EndsWith, has_unread, read_fault}
-use Rattle.sheet_answers.specs.First.{as_text, unknown, IsUnknown, opens_as_sheet}
+use Rattle.sheet_answers.specs.First.{as_text, unknown, IsUnknown}
 use Rattle.sheet_answers.proofs.Others.{no_other, as_decided, other_decides, same_end}
 
 -- ---- a sheet, read as an answer

@@ -20,11 +20,11 @@ use Rattle.sheet_answers.specs.declared.ends.JudgeEnd.TheVariants as ends
 use Rattle.sheet_answers.specs.declared.found.Accepted.{Accepted}
 use Rattle.sheet_answers.specs.declared.found.Found.{Found}
 use Rattle.sheet_answers.specs.declared.found.Found.TheVariants as finds
-use Rattle.sheet_answers.specs.Reading.{State, First, Fault, Plain, InBlock, Replays, read_lines}
+use Rattle.sheet_answers.specs.Reading.{State, First, Fault, Plain, InBlock, Replays, read_lines, opens_as_sheet}
 use Rattle.certificate.specs.Reading.{opens_sheet}
 use Rattle.sheet_answers.specs.Ends.{ShowsText, AreReplays, IsFirstFault, IsRefused, TellsFault, RefusesAs, Decides, JudgeSays, EndsWith, refused_memory, read_fault, has_unread, end_unread}
 use Rattle.sheet_answers.specs.Seen.{OfEnd, TellsEnd}
-use Rattle.sheet_answers.specs.First.{as_text, as_told, unknown, IsUnknown, opens_as_sheet, IsOther, judged, IsLater, IsAnyway, IsEnd, OfLines, ReadsAs, Says, TellsText}
+use Rattle.sheet_answers.specs.First.{as_text, as_told, unknown, IsUnknown, IsOther, judged, IsLater, IsAnyway, IsEnd, OfLines, ReadsAs, Says, TellsText}
 use Rattle.sheet_answers.proofs.Replaying.{replays_of, are_replays}
 use Rattle.sheet_answers.proofs.Ended.{as_end, refused, tells_fault, told_fault, of_cases}
 use Rattle.sheet_answers.proofs.Reached.{Reached, fault_said, long_said, end_said}

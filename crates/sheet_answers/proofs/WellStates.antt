@@ -33,7 +33,7 @@ use Rattle.certificate.specs.Refuted.{refuted_clauses}
 use Rattle.certificate.specs.Reading.{Body, Begun, Proving as ProvingOf, Start, EntryUses, EntryClause, EntryProof, EntryLine, RefutationUses, RefutationLine, Last, Latches, Rows, Dotted, Certified, with_entry, entry_fault, next_proof, next_clause, next_line, next_refuting_line, begin_proof, with_line, open_step, as_use, unless_bad, uses_step, begin_entry, with_clause, has_base, base_step, clause_step, proof_step, line_step, refuting_step, entry_uses_step, values_in, latches_step, row_step}
 use Rattle.certificate.specs.Reading as answers
 use Rattle.sheet_answers.specs.Sheets.{Counts, none, total, lasso_line, holds_line, open_line}
-use Rattle.sheet_answers.specs.Reading.{State, First, Versioned, Listing, Between, Refuting, Proving, Showing, Done, Fault, Plain, Replays, Stepped, misplaced, behind, count_in, first_step, version_step, end_step, block_step, between_step, entry_step, listing_step, refute_step, proved, refuting_fault, replayed, shown, step}
+use Rattle.sheet_answers.specs.Reading.{State, First, Versioned, Listing, Between, Refuting, Proving, Showing, Done, Fault, Plain, Replays, Stepped, misplaced, after_answer, count_in, first_step, version_step, end_step, block_step, between_step, entry_step, listing_step, refute_step, proved, refuting_fault, replayed, shown, step}
 
 -- a line of an entry, or the first behind some
 abbrev pub IsEntry : answers.State → Type 0
@@ -237,7 +237,7 @@ shown_well replays t entries (answers.Ended b) h = absurd h
 -- ---- a line
 
 behind_well : (P : answers.State → Type 0) (next : answers.State → Stepped) (fault : AnswerFault → Fault) (r : answers.Stepped) → ((s : answers.State) → P s → WellOk (next s)) → Within P r
-    → WellOk (behind next fault r)
+    → WellOk (after_answer next fault r)
 behind_well P next fault (Ok s) h inside = h s inside
 behind_well P next fault (Err first) h inside = tt
 
@@ -284,7 +284,7 @@ entry_well c b number line (Some lines.End) = between_well c none b.entries numb
 entry_well c b number line None = between_well c none b.entries number line
 
 further_well : (c : Circuit) (s : answers.State) (number : ℕ) (line : List ℕ) → Within IsEntry (answers.step c s number line)
-    → WellOk (behind (λ t. Ok (Listing t)) Plain (answers.step c s number line))
+    → WellOk (after_answer (λ t. Ok (Listing t)) Plain (answers.step c s number line))
 further_well c s number line h = behind_well IsEntry (λ t. Ok (Listing t)) Plain (answers.step c s number line) (λ t k. k) h
 
 listing_well : (c : Circuit) (s : answers.State) (number : ℕ) (line : List ℕ) → IsEntry s → WellOk (listing_step c s number line)

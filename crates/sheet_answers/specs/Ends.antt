@@ -9,8 +9,9 @@ use Rattle.answer_lines.specs.Left.{most_bytes}
 use Rattle.edge.specs.Told.{MayBe}
 use Rattle.unless_memory.specs.Answers.{GivesSome}
 use Rattle.certificate.specs.declared.ends.AnswerFault.TheVariants.{Shape, TooLong}
+use Rattle.certificate.specs.declared.ends.AnswerEnd.{AnswerEnd}
 use Rattle.certificate.specs.declared.ends.AnswerEnd.TheVariants as answer_ends
-use Rattle.certificate.specs.Lines.{end_of, kept_readable, bare}
+use Rattle.certificate.specs.Lines.{end_of, kept_readable}
 use Rattle.round_answers.specs.declared.ends.Judged.{Judged as TextJudged}
 use Rattle.round_answers.specs.declared.ends.JudgeEnd.{JudgeEnd as TextEnd}
 use Rattle.round_answers.specs.declared.ends.JudgeEnd.TheVariants as text_ends
@@ -22,7 +23,7 @@ use Rattle.sheet_answers.specs.declared.ends.Judged.TheVariants.{Text, Sheet as 
 use Rattle.sheet_answers.specs.declared.ends.JudgeEnd.{JudgeEnd}
 use Rattle.sheet_answers.specs.declared.ends.JudgeEnd.TheVariants as ends
 use Rattle.sheet_answers.specs.Sheets.{IsSheetWith, ShowsSheet}
-use Rattle.sheet_answers.specs.Reading.{Fault, Plain, InBlock, State, First, Done, Replays, Stepped, is_sheet, read_lines}
+use Rattle.sheet_answers.specs.Reading.{Fault, Plain, InBlock, State, First, Done, Replays, Stepped, opens_as_sheet, read_lines}
 
 -- The text is good for this: as a sheet of so many blocks of each kind and entries, or as another text.
 abbrev pub IsGoodText : Circuit → List ℕ → Judged → Type 0
@@ -81,26 +82,42 @@ RefusesAs false c text end = TextDecides c text end
 -- the text decides this end of its check
 abbrev pub Decides : Circuit → List ℕ → Result Judged JudgeEnd → Type 0
 Decides c text (Ok judged) = IsGoodText c text judged
-Decides c text (Err end) = RefusesAs (is_sheet (bare (kept_readable text))) c text end
+Decides c text (Err end) = RefusesAs (opens_as_sheet text) c text end
+
+-- as the check of an answer ends
+abbrev pub answer_end : AnswerEnd → JudgeEnd
+answer_end end = ends.Text (text_ends.Answer end)
 
 -- the ends that say nothing of the text
-abbrev pub read_fault : Result Judged JudgeEnd
-read_fault = Err (ends.Text (text_ends.Answer answer_ends.ReadFault))
+abbrev pub read_failed : JudgeEnd
+read_failed = answer_end answer_ends.ReadFault
 
 abbrev pub refused_memory : JudgeEnd
-refused_memory = ends.Text (text_ends.Answer answer_ends.Memory)
+refused_memory = answer_end answer_ends.Memory
+
+-- a read failed, or memory was refused
+abbrev pub IsUnended : JudgeEnd → Type 0
+IsUnended end = (end ≡ read_failed) ⊎ (end ≡ refused_memory)
+
+abbrev pub read_fault : Result Judged JudgeEnd
+read_fault = Err read_failed
 
 abbrev pub no_memory : Result Judged JudgeEnd
 no_memory = Err refused_memory
 
--- what the end of a check says of the text that the shelf may hold, unless memory is refused; a failed read says nothing of it
+-- what an end says of the text that the shelf may hold, and that decides it, unless memory is refused; a failed read says
+-- nothing of it
+abbrev pub SaysOf : {T : Type 0} → (List ℕ → Result T JudgeEnd → Type 0) → Option (List ℕ) → Result T JudgeEnd → Type 0
+SaysOf DecidesIt told result =
+    GivesSome (Err refused_memory) (λ end. (end ≡ Err read_failed) ⊎ ((text : List ℕ) × MayBe told text × DecidesIt text end)) result
+
+-- what the end of a check says of it
 abbrev pub JudgeSays : Circuit → Option (List ℕ) → Result Judged JudgeEnd → Type 0
-JudgeSays c told result =
-    GivesSome no_memory (λ end. (end ≡ read_fault) ⊎ ((text : List ℕ) × MayBe told text × Decides c text end)) result
+JudgeSays c told result = SaysOf (Decides c) told result
 
 -- this end comes, unless memory is refused or a read fails
-abbrev pub EndsWith : Result Judged JudgeEnd → Result Judged JudgeEnd → Type 0
-EndsWith result verdict = GivesSome no_memory (λ end. (end ≡ verdict) ⊎ (end ≡ read_fault)) result
+abbrev pub EndsWith : {T : Type 0} → Result T JudgeEnd → Result T JudgeEnd → Type 0
+EndsWith result verdict = GivesSome (Err refused_memory) (λ end. (end ≡ verdict) ⊎ (end ≡ Err read_failed)) result
 
 -- the call ended with a failed read
 abbrev pub end_unread : JudgeEnd → Bool

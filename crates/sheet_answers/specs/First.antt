@@ -7,7 +7,7 @@ use Rattle.answer_lines.specs.Left.{Reading, left_of, most_bytes, IsTooLong}
 use Rattle.unless_memory.specs.Answers.{Gives, GivesSome}
 use Rattle.certificate.specs.declared.ends.AnswerFault.TheVariants.{TooLong, UnknownStatus}
 use Rattle.certificate.specs.declared.ends.AnswerEnd.TheVariants as answer_ends
-use Rattle.certificate.specs.Lines.{kept_in, kept_readable, bare}
+use Rattle.certificate.specs.Lines.{kept_readable}
 use Rattle.round_answers.specs.declared.ends.Judged.{Judged as TextJudged}
 use Rattle.round_answers.specs.declared.ends.JudgeEnd.{JudgeEnd as TextEnd}
 use Rattle.round_answers.specs.declared.ends.JudgeEnd.TheVariants as text_ends
@@ -19,7 +19,7 @@ use Rattle.sheet_answers.specs.declared.found.Found.{Found}
 use Rattle.sheet_answers.specs.declared.found.Found.TheVariants as finds
 use Rattle.sheet_answers.specs.declared.ends.JudgeEnd.{JudgeEnd}
 use Rattle.sheet_answers.specs.declared.ends.JudgeEnd.TheVariants as ends
-use Rattle.sheet_answers.specs.Reading.{State, First, Versioned, Listing, Between, Refuting, Proving, Showing, Done, Fault, Replays, is_sheet, read_lines}
+use Rattle.sheet_answers.specs.Reading.{State, First, Versioned, Listing, Between, Refuting, Proving, Showing, Done, Fault, Replays, opens_as_sheet, read_lines}
 use Rattle.sheet_answers.specs.Ends.{AreReplays, IsFirstFault, TellsFault, refused_memory}
 use Rattle.sheet_answers.specs.Seen.{IsGoodAtEnd, OfEnd}
 
@@ -36,10 +36,6 @@ unknown = Err (text_ends.Answer (answer_ends.Refused UnknownStatus))
 pub record IsUnknown (c : Circuit) (told : Option (List ℕ)) : Type 0 where
   pub says : OtherSays c told unknown
   pub exactly : (text : List ℕ) (verdict : Result TextJudged TextEnd) → told ≡ Some text → OtherDecides c text verdict → OtherEndsWith unknown verdict
-
--- a text is a sheet, by its first line
-abbrev pub opens_as_sheet : List ℕ → Bool
-opens_as_sheet text = is_sheet (bare (kept_readable text))
 
 -- the text that the shelf tells is no sheet
 abbrev pub IsOther : Option (List ℕ) → Type 0

@@ -7,3 +7,4 @@ pub mod Laws
 pub mod Examples
 pub mod Seen
 pub mod First
+pub mod Texts

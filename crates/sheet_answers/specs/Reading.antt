@@ -15,7 +15,7 @@ use Rattle.certificate_lines.specs.Fields.{number_in}
 use Rattle.certificate.specs.declared.ends.AnswerFault.{AnswerFault}
 use Rattle.certificate.specs.declared.ends.AnswerFault.TheVariants as faults
 use Rattle.certificate.specs.declared.state.Refuted.TheVariants.{Skeletons, States}
-use Rattle.certificate.specs.Lines.{Numbered}
+use Rattle.certificate.specs.Lines.{Numbered, kept_readable, bare}
 use Rattle.certificate.specs.Reading.{Body, Start, RefutationUses, Last, Latches, Dotted, Certified, open_step, opens_sheet}
 use Rattle.certificate.specs.Reading as answers
 use Rattle.sheet_answers.specs.declared.blocks.Block.TheVariants.{Lasso, Holds, Open}
@@ -58,9 +58,9 @@ abbrev pub misplaced : ℕ → Stepped
 misplaced number = Err (Plain (faults.Shape number))
 
 -- the next state behind that of an answer's lines, or their fault
-abbrev pub behind : (answers.State → Stepped) → (AnswerFault → Fault) → answers.Stepped → Stepped
-behind next fault (Ok s) = next s
-behind next fault (Err first) = Err (fault first)
+abbrev pub after_answer : (answers.State → Stepped) → (AnswerFault → Fault) → answers.Stepped → Stepped
+after_answer next fault (Ok s) = next s
+after_answer next fault (Err first) = Err (fault first)
 
 -- The head.
 
@@ -68,6 +68,10 @@ behind next fault (Err first) = Err (fault first)
 abbrev pub is_sheet : List (List ℕ) → Bool
 is_sheet [] = false
 is_sheet (line ∷ lines) = opens_sheet line
+
+-- a text is judged as a sheet, by its first line that is not skipped
+abbrev pub opens_as_sheet : List ℕ → Bool
+opens_as_sheet text = is_sheet (bare (kept_readable text))
 
 -- the number of properties that the first line names
 abbrev pub count_in : List ℕ → Option ℕ
@@ -107,12 +111,12 @@ between_step c t entries number line =
 
 -- behind the entries so far: an entry's first line, or the first line of what follows them all
 abbrev pub entry_step : Circuit → Body → ℕ → List ℕ → Option WordLine → Stepped
-entry_step c b number line (Some (lines.Opening o)) = behind (λ s. Ok (Listing s)) Plain (open_step b o)
+entry_step c b number line (Some (lines.Opening o)) = after_answer (λ s. Ok (Listing s)) Plain (open_step b o)
 entry_step c b number line _ = between_step c none b.entries number line
 
 abbrev pub listing_step : Circuit → answers.State → ℕ → List ℕ → Stepped
 listing_step c (Certified b Start) number line = entry_step c b number line (word_line_of line)
-listing_step c s number line = behind (λ t. Ok (Listing t)) Plain (answers.step c s number line)
+listing_step c s number line = after_answer (λ t. Ok (Listing t)) Plain (answers.step c s number line)
 
 -- a certificate of property n over the entries, before its refutation
 abbrev pub over : ℕ → List Entry → Body
@@ -150,8 +154,8 @@ step c replays Versioned number line = version_step number (word_line_of line)
 step c replays (Listing s) number line = listing_step c s number line
 step c replays (Between t entries) number line = between_step c t entries number line
 step c replays (Refuting t entries) number line = refute_step t entries number (word_line_of line)
-step c replays (Proving t s) number line = behind (proved t) (refuting_fault (total t)) (answers.step c s number line)
-step c replays (Showing t entries s) number line = behind (shown replays t entries) Plain (answers.step c s number line)
+step c replays (Proving t s) number line = after_answer (proved t) (refuting_fault (total t)) (answers.step c s number line)
+step c replays (Showing t entries s) number line = after_answer (shown replays t entries) Plain (answers.step c s number line)
 step c replays (Done t entries) number line = Err (Plain (faults.Trailing number))
 
 abbrev pub and_then : Stepped → (State → Stepped) → Stepped

@@ -6,7 +6,7 @@ ghost use Rattle.certificate_lines.specs.Words.{word_line_of};
 ghost use Rattle.certificate.specs.Reading.{State as AnswerState, Stepped as AnswerStepped, step as step_of_answer};
 ghost use Rattle.certificate.specs.Seen.{seen as seen_within, seen_body, IsKept as IsKeptWithin};
 ghost use Rattle.sheet_answers.specs.Sheets.{total};
-ghost use Rattle.sheet_answers.specs.Reading.{Replays, Stepped, Plain, behind, over, refute_step, proved, refuting_fault, replayed, shown};
+ghost use Rattle.sheet_answers.specs.Reading.{Replays, Stepped, Plain, after_answer, over, refute_step, proved, refuting_fault, replayed, shown};
 ghost use Rattle.sheet_answers.specs.Ends.{AreReplays};
 ghost use Rattle.sheet_answers.specs.Seen.{AreFew, TellsStep, OfEnd};
 ghost use Rattle.certificate.specs.Steps.{OfEnd as OfAnswerEnd};
@@ -64,7 +64,7 @@ pub(crate) fn refute_step(
 // The end of the reading of a refutation of property n.
 fn refuting_end(n: u32, end: AnswerEnd) -> JudgeEnd
     ensures { (next : AnswerState → Stepped) (r : AnswerStepped) → OfAnswerEnd (λ fault. r ≡ Err fault) end
-        → OfEnd (λ fault. behind next (refuting_fault n) r ≡ Err fault) result }
+        → OfEnd (λ fault. after_answer next (refuting_fault n) r ≡ Err fault) result }
 {
     match end {
         AnswerEnd::Refused(AnswerFault::RefuteUse(used)) => {
@@ -108,7 +108,7 @@ pub(crate) fn prove_step(
 ) -> Result<State, JudgeEnd>
     requires owed { total t < length circuit.now.justice }
     requires kept { IsKeptWithin circuit.now refuted }
-    ensures { TellsStep circuit.now (behind (proved t) (refuting_fault (total t)) (step_of_answer circuit.now (seen_within refuted) number line.now)) result }
+    ensures { TellsStep circuit.now (after_answer (proved t) (refuting_fault (total t)) (step_of_answer circuit.now (seen_within refuted) number line.now)) result }
 {
     match step_within(alloc, circuit, refuted, number, line) {
         Ok(next) => Ok(proved(circuit, t, next)),
@@ -188,7 +188,7 @@ pub(crate) fn show_step(
     requires few { AreFew body }
     requires kept { IsKeptWithin circuit.now within }
     ensures { (replays : Replays) → AreReplays circuit.now replays
-        → TellsStep circuit.now (behind (shown replays t (entries_of body.list)) Plain (step_of_answer circuit.now (seen_within within) number line.now)) result }
+        → TellsStep circuit.now (after_answer (shown replays t (entries_of body.list)) Plain (step_of_answer circuit.now (seen_within within) number line.now)) result }
 {
     match step_within(alloc, circuit, within, number, line) {
         Ok(next) => shown(alloc, circuit, t, body, next),

@@ -8,7 +8,7 @@ ghost use Rattle.certificate.specs.declared.state.Wanted.TheVariants.{Start};
 ghost use Rattle.certificate.specs.Reading.{open_step, step as step_of_answer};
 ghost use Rattle.certificate.specs.Seen.{seen as seen_within, seen_body, IsKept as IsKeptWithin};
 ghost use Rattle.sheet_answers.specs.Sheets.{total};
-ghost use Rattle.sheet_answers.specs.Reading.{Replays, Plain, Listing as ListingOf, behind, entry_step, listing_step, between_step, block_step, step};
+ghost use Rattle.sheet_answers.specs.Reading.{Replays, Plain, Listing as ListingOf, after_answer, entry_step, listing_step, between_step, block_step, step};
 ghost use Rattle.sheet_answers.specs.Ends.{AreReplays};
 ghost use Rattle.sheet_answers.specs.Seen.{seen, AreFew, IsKept, TellsStep, TellsEnd};
 
@@ -75,7 +75,7 @@ fn between_step(
 // Behind an entry's first line, where there is room for one more.
 fn open_entry(_circuit: &Circuit, body: Body, opening: Opening) -> Result<State, JudgeEnd>
     requires { IsKeptWithin _circuit.now (Certified body Start) }
-    ensures { TellsStep _circuit.now (behind (λ s. Ok (ListingOf s)) Plain (open_step (seen_body body) opening)) result }
+    ensures { TellsStep _circuit.now (after_answer (λ s. Ok (ListingOf s)) Plain (open_step (seen_body body) opening)) result }
 {
     if (body.list.len() as u64) < MAX_ENTRIES {
         return Ok(State::Listing(Within::Certified(body, Wanted::EntryUses(opening))));
@@ -111,7 +111,7 @@ fn further_step(
     line: &[u8],
 ) -> Result<State, JudgeEnd>
     requires { IsKeptWithin circuit.now listed }
-    ensures { TellsStep circuit.now (behind (λ s. Ok (ListingOf s)) Plain (step_of_answer circuit.now (seen_within listed) number line.now)) result }
+    ensures { TellsStep circuit.now (after_answer (λ s. Ok (ListingOf s)) Plain (step_of_answer circuit.now (seen_within listed) number line.now)) result }
 {
     match step_within(alloc, circuit, listed, number, line) {
         Ok(next) => Ok(State::Listing(next)),

@@ -10,7 +10,7 @@ use Rattle.sheet_answers.specs.Sheets.{ShowsBlock, ShowBlocks}
 use Rattle.sheet_answers.specs.declared.blocks.Block.{Block}
 use Rattle.sheet_answers.specs.declared.blocks.Block.TheVariants.{Lasso, Holds}
 use Rattle.sheet_answers.specs.Laws.{GoodSheetsAreTrue}
-use Rattle.sheet_commands.specs.Verdicts.{SaysLasso, SaysHolds, VerdictsAgree}
+use Rattle.sheet_commands.specs.Verdicts.{SaysLasso, SaysHolds, TextsAgree}
 
 -- a block of those that show what they say
 shows_at : (c : Circuit) (n : ℕ) (blocks : List Block) (k : ℕ) (block : Block) → ShowBlocks c n blocks → slice_get blocks k ≡ Some block → ShowsBlock c (n + k) block
@@ -40,7 +40,7 @@ there_is_none : (c : Circuit) (text : List ℕ) (n : ℕ) → GoodIsTrue c → G
 there_is_none c text n answers sheets (inl (entries, good)) = (answers text (accepted.Holds n entries) good).0
 there_is_none c text n answers sheets (inr (sheet, (short, has, good), r, is)) = (block_shows c n sheet.blocks (Holds r) (sheets sheet good) is).0
 
-pub agree : (c : Circuit) → GoodIsTrue c → GoodSheetsAreTrue c → VerdictsAgree c
+pub agree : (c : Circuit) → GoodIsTrue c → GoodSheetsAreTrue c → TextsAgree c
 agree c answers sheets text other n lasso holds =
     let found = there_is c text n answers sheets lasso in
     there_is_none c other n answers sheets holds found.0 found.1 found.2

@@ -1,14 +1,12 @@
 -- How the reading of a block's lasso ends, from the lines of the text and its judgement.
 use Rattle.std.proofs.Common.{◌≡◌, ◌⊎◌, inl, inr, ℕ, ◌≤◌, ◌<◌, ◌^◌, Bool, true, false, List, [], length, refl, sym, ap, ◌∙◌, subst, Some, None, Ok, Err}
 use Rattle.std.specs.Prelude.{Option, Result, IfOk}
-use Rattle.std.proofs.lemmas.Bool.{false≢true}
 use Rattle.aig_semantics.specs.Circuits.{Circuit}
 use Rattle.aig_semantics.specs.declared.traces.Lasso.{Lasso as LassoOf}
 use Rattle.answer_lines.specs.Left.{most_bytes}
 use Rattle.text_grammar.specs.Lines.{lines_of}
 use Rattle.edge.specs.InMemory.{ShelfInMemory, text_of}
 use Rattle.edge.specs.Reads.{Reads}
-use Rattle.edge.specs.Told.{MayBe}
 use Rattle.edge.proofs.Steady.{ReadsInMemory, no_read_fails}
 use Rattle.unless_memory.specs.Answers.{GivesSome}
 use Rattle.stimulus.specs.Texts.{kept_lines}
@@ -17,30 +15,25 @@ use Rattle.certificate.specs.declared.ends.Accepted.TheVariants.{Lasso, Holds}
 use Rattle.certificate.specs.declared.ends.AnswerEnd.{AnswerEnd}
 use Rattle.certificate.specs.declared.ends.AnswerEnd.TheVariants as answer_ends
 use Rattle.certificate.specs.declared.ends.AnswerFault.TheVariants.{UnknownStatus}
-use Rattle.certificate.specs.Lines.{kept_in, kept_readable, bare}
+use Rattle.certificate.specs.Lines.{kept_in, bare}
 use Rattle.certificate.specs.Ends.{DecidesEnd, CheckSays, EndsWith as AnswerEndsWith, has_unread as answer_unread}
 use Rattle.certificate.specs.Lassos.{HasGoodLasso, KeepsLasso}
-use Rattle.certificate.proofs.GoodRead.{all_readable}
-use Rattle.certificate.proofs.WrittenGood.{kept-bare}
-use Rattle.sheet_answers.specs.declared.ends.Judged.{Judged}
-use Rattle.sheet_answers.specs.declared.ends.Judged.TheVariants.{Text, Sheet}
 use Rattle.sheet_answers.specs.declared.ends.JudgeEnd.{JudgeEnd}
-use Rattle.sheet_answers.specs.declared.ends.JudgeEnd.TheVariants as judge_ends
-use Rattle.round_answers.specs.declared.ends.JudgeEnd.TheVariants as text_ends
-use Rattle.sheet_answers.specs.Sheets.{none as no_counts, and_all}
+use Rattle.sheet_answers.specs.declared.texts.GoodSheet.{GoodSheet}
 use Rattle.sheet_answers.specs.Reading.{is_sheet}
-use Rattle.sheet_answers.specs.Ends.{Decides, JudgeSays, EndsWith, has_unread, read_fault as unjudged, no_memory as no_judgement}
-use Rattle.sheet_answers.proofs.Others.{no_other}
+use Rattle.sheet_answers.specs.Ends.{refused_memory, has_unread}
+use Rattle.sheet_answers.specs.Texts.{DecidesLines}
+use Rattle.sheet_answers.proofs.HeldTexts.{opens}
 use Rattle.certificate.specs.declared.loaded.Loaded.TheVariants as loaded
 use Rattle.certificate.specs.Laws.{GoodHasNoFault, OneFault}
 use Rattle.cert_tools.specs.Laws.{OneHeld}
 use Rattle.sheet_commands.specs.declared.blocks.BlockLasso.{BlockLasso}
-use Rattle.sheet_commands.specs.Blocks.{refused, no_room, no_memory, read_fault, DecidesSheet, DecidesAs, DecidesBlock, BlockSays, EndsBlock}
-use Rattle.sheet_commands.specs.Cutting.{answer_in, no_lasso, DecidesLasso, DecidesAnswer, CarriesLasso, lasso_by}
+use Rattle.sheet_commands.specs.Blocks.{refused, no_memory, DecidesSheet, DecidesBlockAs, DecidesBlock}
+use Rattle.sheet_commands.specs.Cutting.{answer_in, no_lasso, DecidesLasso, DecidesCut, HasItsLasso, lasso_by}
 use Rattle.sheet_commands.proofs.SheetBlocks.{block_decides, answer_decides}
 
-abbrev pub Judging : Type 0
-Judging = Result Judged JudgeEnd
+abbrev Lined : Type 0
+Lined = Result GoodSheet JudgeEnd
 
 abbrev pub Cut : Type 0
 Cut = Result BlockLasso JudgeEnd
@@ -48,43 +41,39 @@ Cut = Result BlockLasso JudgeEnd
 abbrev errs : JudgeEnd → Cut
 errs e = Err e
 
-abbrev as_cut : Judging → Cut
-as_cut (Ok judged) = no_memory
+abbrev as_cut : Lined → Cut
+as_cut (Ok found) = no_memory
 as_cut (Err e) = Err e
 
--- ---- of the lines of a text
+-- ---- of a text by its first line
 
-module _ (c : Circuit) (text : List ℕ) (n : ℕ) (lines : List (List ℕ)) (short : length text ≤ most_bytes) (are : lines ≡ kept_lines (lines_of text)) where
-  whole : bare (kept_in text) ≡ lines
-  whole = kept-bare 1 (lines_of text) ∙ sym are
+module _ (c : Circuit) (text : List ℕ) (n : ℕ) (short : length text ≤ most_bytes) where
+  as_block : (test : Bool) (v : Cut) → is_sheet (kept_lines (lines_of text)) ≡ test → DecidesBlockAs test c text n v → DecidesBlock c text n v
+  as_block test v is h = subst (λ (b : Bool). DecidesBlockAs b c text n v) (sym (opens text short test is)) h
 
-  readable : bare (kept_readable text) ≡ lines
-  readable = ap bare (all_readable text short) ∙ whole
-
-  as_block : (test : Bool) (v : Cut) → is_sheet lines ≡ test → DecidesAs test c text n v → DecidesBlock c text n v
-  as_block test v is h = subst (λ (b : Bool). DecidesAs b c text n v) (sym (ap is_sheet readable ∙ is)) h
-
-  of_block : (test : Bool) (v : Cut) → is_sheet lines ≡ test → DecidesBlock c text n v → DecidesAs test c text n v
-  of_block test v is h = subst (λ (b : Bool). DecidesAs b c text n v) (ap is_sheet readable ∙ is) h
+  of_block : (test : Bool) (v : Cut) → is_sheet (kept_lines (lines_of text)) ≡ test → DecidesBlock c text n v → DecidesBlockAs test c text n v
+  of_block test v is h = subst (λ (b : Bool). DecidesBlockAs b c text n v) (opens text short test is) h
 
   -- a text that is no sheet
-  pub other_decides : is_sheet lines ≡ false → (end : JudgeEnd) → end ≡ refused UnknownStatus → DecidesBlock c text n (Err end)
+  pub other_decides : is_sheet (kept_lines (lines_of text)) ≡ false → (end : JudgeEnd) → end ≡ refused UnknownStatus → DecidesBlock c text n (Err end)
   other_decides is end same = as_block false (Err end) is (ap errs same)
 
-  pub other_exactly : is_sheet lines ≡ false → (end : JudgeEnd) → end ≡ refused UnknownStatus → (v : Cut) → DecidesBlock c text n v → ◌≡◌ {A = Cut} (Err end) v
+  pub other_exactly : is_sheet (kept_lines (lines_of text)) ≡ false → (end : JudgeEnd) → end ≡ refused UnknownStatus → (v : Cut) → DecidesBlock c text n v → ◌≡◌ {A = Cut} (Err end) v
   other_exactly is end same v h = ap errs same ∙ sym (of_block false v is h)
 
   -- a sheet that is refused
-  pub refused_decides : is_sheet lines ≡ true → (end : JudgeEnd) → GivesSome no_judgement (Decides c text) (Err end) → GivesSome no_memory (DecidesBlock c text n) (Err end)
+  pub refused_decides : is_sheet (kept_lines (lines_of text)) ≡ true → (end : JudgeEnd) → GivesSome (Err refused_memory) (DecidesLines c text) (Err end)
+      → GivesSome no_memory (DecidesBlock c text n) (Err end)
   refused_decides is end (inl decides) = inl (as_block true (Err end) is (inr (end, decides, refl)))
-  refused_decides is end (inr memory) = inr (ap (λ (r : Judging). as_cut r) memory)
+  refused_decides is end (inr memory) = inr (ap as_cut memory)
 
-  pub refused_exactly : is_sheet lines ≡ true → (end : JudgeEnd) → ((verdict : Judging) → Decides c text verdict → GivesSome no_judgement (λ r. r ≡ verdict) (Err end))
+  pub refused_exactly : is_sheet (kept_lines (lines_of text)) ≡ true → (end : JudgeEnd)
+      → ((verdict : Lined) → DecidesLines c text verdict → GivesSome (Err refused_memory) (λ r. r ≡ verdict) (Err end))
       → (v : Cut) → DecidesBlock c text n v → GivesSome no_memory (λ r. r ≡ v) (Err end)
   refused_exactly is end exactly v h = by (of_block true v is h)
     where
       by : DecidesSheet c text n v → GivesSome no_memory (λ r. r ≡ v) (Err end)
-      by (inl (sheet, of, answer)) = elim (exactly (Ok (Sheet (and_all no_counts sheet.blocks) (length sheet.entries))) (sheet, of, refl, refl)) [
+      by (inl (sheet, of, answer)) = elim (exactly (Ok (record { lines = bare (kept_in text); entries = length sheet.entries })) (sheet, of, refl, refl)) [
         | inl same ↦ absurd (cc same)
         | inr memory ↦ inr (ap as_cut memory)
       ]
@@ -93,70 +82,45 @@ module _ (c : Circuit) (text : List ℕ) (n : ℕ) (lines : List (List ℕ)) (sh
         | inr memory ↦ inr (ap as_cut memory)
       ]
 
-  -- a good sheet
+  -- a good sheet: the lasso is that of its block
 
-  pub good_sheet : n < 2 ^ 63 → is_sheet lines ≡ true → (judged : Judged) → Decides c text (Ok judged) → (v : Cut) → DecidesAnswer c n (answer_in n lines) v → DecidesBlock c text n v
-  good_sheet small is (Text other) good v h = absurd (no_other c text other (ap is_sheet readable ∙ is) good)
-  good_sheet small is (Sheet counts entries) (sheet, of, counted, many) v h =
-      let answer = subst (λ (ls : List (List ℕ)). DecidesAnswer c n (answer_in n ls) v) (sym whole) h in
-      as_block true v is (inl (sheet, of, block_decides c text n small sheet of v answer))
+  pub then_decides : n < 2 ^ 63 → is_sheet (kept_lines (lines_of text)) ≡ true → (found : GoodSheet) (lines : List (List ℕ)) → lines ≡ found.lines
+      → GivesSome (Err refused_memory) (DecidesLines c text) (Ok found) → (result : Cut)
+      → GivesSome no_memory (DecidesCut c n (answer_in n lines)) result → GivesSome no_memory (DecidesBlock c text n) result
+  then_decides small is found lines same (inl (sheet, of, read, many)) result (inl h) =
+      let answer = subst (λ (ls : List (List ℕ)). DecidesCut c n (answer_in n ls) result) (same ∙ read) h in
+      inl (as_block true result is (inl (sheet, of, block_decides c text n small sheet of result answer)))
+  then_decides small is found lines same (inl has) result (inr memory) = inr memory
+  then_decides small is found lines same (inr wrong) result h = absurd (cc wrong)
 
-  pub good_exactly : n < 2 ^ 63 → is_sheet lines ≡ true → (judged : Judged) → ((verdict : Judging) → Decides c text verdict → GivesSome no_judgement (λ r. r ≡ verdict) (Ok judged))
-      → (v : Cut) → DecidesBlock c text n v → DecidesAnswer c n (answer_in n lines) v
-  good_exactly small is judged exactly v h = by (of_block true v is h)
+  good_exactly : n < 2 ^ 63 → is_sheet (kept_lines (lines_of text)) ≡ true → (found : GoodSheet) → GivesSome (Err refused_memory) (DecidesLines c text) (Ok found)
+      → ((verdict : Lined) → DecidesLines c text verdict → GivesSome (Err refused_memory) (λ r. r ≡ verdict) (Ok found))
+      → (v : Cut) → DecidesBlock c text n v → DecidesCut c n (answer_in n found.lines) v
+  good_exactly small is found (inr wrong) exactly v h = absurd (cc wrong)
+  good_exactly small is found (inl (good, fits, read, many)) exactly v h = by (of_block true v is h)
     where
-      by : DecidesSheet c text n v → DecidesAnswer c n (answer_in n lines) v
-      by (inl (sheet, of, answer)) = subst (λ (ls : List (List ℕ)). DecidesAnswer c n (answer_in n ls) v) whole (answer_decides c text n small sheet of v answer)
+      by : DecidesSheet c text n v → DecidesCut c n (answer_in n found.lines) v
+      by (inl (sheet, of, answer)) = subst (λ (ls : List (List ℕ)). DecidesCut c n (answer_in n ls) v) (sym read) (answer_decides c text n small sheet of v answer)
       by (inr (other, decides, same)) = elim (exactly (Err other) decides) [
         | inl one ↦ absurd (cc one)
         | inr memory ↦ absurd (cc memory)
       ]
 
-  -- the lasso is that of its block
-  pub then_decides : n < 2 ^ 63 → is_sheet lines ≡ true → (judged : Judged) → GivesSome no_judgement (Decides c text) (Ok judged) → (result : Cut)
-      → GivesSome no_memory (DecidesAnswer c n (answer_in n lines)) result → GivesSome no_memory (DecidesBlock c text n) result
-  then_decides small is judged (inl decides) result (inl h) = inl (good_sheet small is judged decides result h)
-  then_decides small is judged (inl decides) result (inr memory) = inr memory
-  then_decides small is judged (inr wrong) result h = absurd (cc wrong)
-
-  pub then_exactly : n < 2 ^ 63 → is_sheet lines ≡ true → (judged : Judged) → ((verdict : Judging) → Decides c text verdict → GivesSome no_judgement (λ r. r ≡ verdict) (Ok judged))
-      → (result : Cut) → ((v : Cut) → DecidesAnswer c n (answer_in n lines) v → GivesSome no_memory (λ r. r ≡ v) result)
+  pub then_exactly : n < 2 ^ 63 → is_sheet (kept_lines (lines_of text)) ≡ true → (found : GoodSheet) (lines : List (List ℕ)) → lines ≡ found.lines
+      → GivesSome (Err refused_memory) (DecidesLines c text) (Ok found) → ((verdict : Lined) → DecidesLines c text verdict → GivesSome (Err refused_memory) (λ r. r ≡ verdict) (Ok found))
+      → (result : Cut) → ((v : Cut) → DecidesCut c n (answer_in n lines) v → GivesSome no_memory (λ r. r ≡ v) result)
       → (v : Cut) → DecidesBlock c text n v → GivesSome no_memory (λ r. r ≡ v) result
-  then_exactly small is judged exactly result cut v h = cut v (good_exactly small is judged exactly v h)
-
--- ---- texts in memory, of which no read fails
-
-pub never_unjudged : (end : Judging) (name text : List ℕ) (old new : ShelfInMemory) → old.failing ≡ [] → text_of old.texts name ≡ Some text
-    → Reads ReadsInMemory name (has_unread end) old new → end ≡ unjudged → ⊥
-never_unjudged end name text old new steady told reads is =
-    no_read_fails name text old new steady told (subst (λ (e : Judging). Reads ReadsInMemory name (has_unread e) old new) is reads)
-
-pub judged_says : (c : Circuit) (text : List ℕ) (end : Judging) → (end ≡ unjudged → ⊥) → JudgeSays c (Some text) end → GivesSome no_judgement (Decides c text) end
-judged_says c text end read (inl (inl unread)) = absurd (read unread)
-judged_says c text end read (inl (inr (other, may, decides))) = inl (subst (λ (t : List ℕ). Decides c t end) (sym (may text refl)) decides)
-judged_says c text end read (inr memory) = inr memory
-
-pub judged_exactly : (end verdict : Judging) → (end ≡ unjudged → ⊥) → EndsWith end verdict → GivesSome no_judgement (λ r. r ≡ verdict) end
-judged_exactly end verdict read (inl (inl same)) = inl same
-judged_exactly end verdict read (inl (inr unread)) = absurd (read unread)
-judged_exactly end verdict read (inr memory) = inr memory
-
-pub was_judged : (end : Judging) → (end ≡ unjudged → ⊥) → has_unread {T = Judged} end ≡ false
-was_judged (Ok judged) read = refl
-was_judged (Err (judge_ends.Text (text_ends.Answer (answer_ends.Refused fault)))) read = refl
-was_judged (Err (judge_ends.Text (text_ends.Answer answer_ends.ReadFault))) read = absurd (read refl)
-was_judged (Err (judge_ends.Text (text_ends.Answer answer_ends.Memory))) read = refl
-was_judged (Err (judge_ends.Text (text_ends.TooLarge variable))) read = refl
-was_judged (Err (judge_ends.Block n fault)) read = refl
+  then_exactly small is found lines same has exactly result cut v h =
+      cut v (subst (λ (ls : List (List ℕ)). DecidesCut c n (answer_in n ls) v) (sym same) (good_exactly small is found has exactly v h))
 
 -- ---- the lasso of an answer
 
-pub carried : (c : Circuit) (told : Option (List ℕ)) (end : Result Accepted AnswerEnd) (kept : Option LassoOf) → IfOk end (λ accepted. KeepsLasso c told accepted kept) → CarriesLasso end kept
+pub carried : (c : Circuit) (told : Option (List ℕ)) (end : Result Accepted AnswerEnd) (kept : Option LassoOf) → IfOk end (λ accepted. KeepsLasso c told accepted kept) → HasItsLasso end kept
 carried c told (Ok (Lasso n positions from)) kept (text, may, lasso, is, good, many, place) = (lasso, is)
 carried c told (Ok (Holds n entries)) kept h = tt
 carried c told (Err end) kept h = tt
 
-pub lasso_kept : (end : Result Accepted AnswerEnd) (kept : Option LassoOf) (found : Accepted) (n positions from : ℕ) → CarriesLasso end kept
+pub lasso_kept : (end : Result Accepted AnswerEnd) (kept : Option LassoOf) (found : Accepted) (n positions from : ℕ) → HasItsLasso end kept
     → end ≡ Ok found → found ≡ Lasso n positions from → kept ≡ None → ⊥
 lasso_kept (Ok (Lasso m k f)) kept found n positions from (lasso, is) e same none = absurd (cc)
 lasso_kept (Ok (Holds m k)) kept found n positions from h e same none = absurd (cc)
@@ -200,30 +164,7 @@ pub never_unread : (end : Result Accepted AnswerEnd) (name text : List ℕ) (old
 never_unread end name text old new steady told reads is =
     no_read_fails name text old new steady told (subst (λ (e : Result Accepted AnswerEnd). Reads ReadsInMemory name (answer_unread e) old new) is reads)
 
--- ---- what the text decides
-
-pub says : (c : Circuit) (told : Option (List ℕ)) (text : List ℕ) (n : ℕ) (result : Cut) → MayBe told text → GivesSome no_memory (DecidesBlock c text n) result
-    → BlockSays c told n result
-says c told text n result may (inl decides) = inl (inr (text, may, decides))
-says c told text n result may (inr memory) = inr memory
-
-pub says_exactly : (c : Circuit) (told : Option (List ℕ)) (bytes : List ℕ) (n : ℕ) (result : Cut) → MayBe told bytes
-    → ((v : Cut) → DecidesBlock c bytes n v → GivesSome no_memory (λ r. r ≡ v) result)
-    → (text : List ℕ) (verdict : Cut) → told ≡ Some text → DecidesBlock c text n verdict → EndsBlock result verdict
-says_exactly c told bytes n result may exactly text verdict e d = by (exactly verdict (subst (λ (t : List ℕ). DecidesBlock c t n verdict) (may text e) d))
-  where
-    by : GivesSome no_memory (λ r. r ≡ verdict) result → EndsBlock result verdict
-    by (inl same) = inl (inl same)
-    by (inr memory) = inr memory
-
-pub not_unread : (result : Cut) → has_unread {T = BlockLasso} result ≡ false → result ≡ read_fault → ⊥
-not_unread result none is = false≢true (sym none ∙ ap (λ (r : Cut). has_unread {T = BlockLasso} r) is)
-
--- want of memory says nothing of it
-pub only_room : (end : JudgeEnd) → end ≡ no_room → (P : Cut → Type 0) → GivesSome no_memory P (Err end)
-only_room end is P = inr (ap errs is)
-
--- an answer decides one end
+-- ---- an answer decides one end
 
 abbrev pub LassosAreOne : Circuit → Type 0
 LassosAreOne c = (answer : List ℕ) (a b : Cut) → DecidesLasso c answer a → DecidesLasso c answer b → a ≡ b
@@ -266,23 +207,23 @@ lasso_exactly c answer end kept result is one read says keeps exactly v d = by (
 
 -- the block, cut or not
 pub cut_decides : (c : Circuit) (n : ℕ) (lines : List (List ℕ)) (answer : List ℕ) (result : Cut) → answer_in n lines ≡ Some answer
-    → GivesSome no_memory (DecidesLasso c answer) result → GivesSome no_memory (DecidesAnswer c n (answer_in n lines)) result
-cut_decides c n lines answer result is (inl h) = inl (subst (λ (o : Option (List ℕ)). DecidesAnswer c n o result) (sym is) h)
+    → GivesSome no_memory (DecidesLasso c answer) result → GivesSome no_memory (DecidesCut c n (answer_in n lines)) result
+cut_decides c n lines answer result is (inl h) = inl (subst (λ (o : Option (List ℕ)). DecidesCut c n o result) (sym is) h)
 cut_decides c n lines answer result is (inr memory) = inr memory
 
 pub cut_exactly : (c : Circuit) (n : ℕ) (lines : List (List ℕ)) (answer : List ℕ) (result : Cut) → answer_in n lines ≡ Some answer
     → ((v : Cut) → DecidesLasso c answer v → GivesSome no_memory (λ r. r ≡ v) result)
-    → (v : Cut) → DecidesAnswer c n (answer_in n lines) v → GivesSome no_memory (λ r. r ≡ v) result
-cut_exactly c n lines answer result is exactly v h = exactly v (subst (λ (o : Option (List ℕ)). DecidesAnswer c n o v) is h)
+    → (v : Cut) → DecidesCut c n (answer_in n lines) v → GivesSome no_memory (λ r. r ≡ v) result
+cut_exactly c n lines answer result is exactly v h = exactly v (subst (λ (o : Option (List ℕ)). DecidesCut c n o v) is h)
 
-pub none_decides : (c : Circuit) (n : ℕ) (lines : List (List ℕ)) (end : JudgeEnd) → ((end ≡ no_lasso c n) × (answer_in n lines ≡ None)) ⊎ (end ≡ no_room)
-    → GivesSome no_memory (DecidesAnswer c n (answer_in n lines)) (Err end)
+pub none_decides : (c : Circuit) (n : ℕ) (lines : List (List ℕ)) (end : JudgeEnd) → ((end ≡ no_lasso c n) × (answer_in n lines ≡ None)) ⊎ (end ≡ refused_memory)
+    → GivesSome no_memory (DecidesCut c n (answer_in n lines)) (Err end)
 none_decides c n lines end (inl (same, none)) =
-    inl (subst (λ (o : Option (List ℕ)). DecidesAnswer c n o (Err end)) (sym none) (ap errs same))
+    inl (subst (λ (o : Option (List ℕ)). DecidesCut c n o (Err end)) (sym none) (ap errs same))
 none_decides c n lines end (inr memory) = inr (ap errs memory)
 
-pub none_exactly : (c : Circuit) (n : ℕ) (lines : List (List ℕ)) (end : JudgeEnd) → ((end ≡ no_lasso c n) × (answer_in n lines ≡ None)) ⊎ (end ≡ no_room)
-    → (v : Cut) → DecidesAnswer c n (answer_in n lines) v → GivesSome no_memory (λ r. r ≡ v) (Err end)
+pub none_exactly : (c : Circuit) (n : ℕ) (lines : List (List ℕ)) (end : JudgeEnd) → ((end ≡ no_lasso c n) × (answer_in n lines ≡ None)) ⊎ (end ≡ refused_memory)
+    → (v : Cut) → DecidesCut c n (answer_in n lines) v → GivesSome no_memory (λ r. r ≡ v) (Err end)
 none_exactly c n lines end (inl (same, none)) v h =
-    inl (ap errs same ∙ sym (subst (λ (o : Option (List ℕ)). DecidesAnswer c n o v) none h))
+    inl (ap errs same ∙ sym (subst (λ (o : Option (List ℕ)). DecidesCut c n o v) none h))
 none_exactly c n lines end (inr memory) v h = inr (ap errs memory)

@@ -1,6 +1,5 @@
 pub mod Numbers
 pub mod BoardBlocks
-mod WholeTexts
 mod OtherLines
 mod SheetBlocks
 mod CutBlocks

@@ -38,7 +38,7 @@ use Rattle.sheet_answers.specs.declared.ends.JudgeEnd.{JudgeEnd}
 use Rattle.sheet_answers.specs.Sheets.{Sheet, all_line, version_line, lasso_line, holds_line, open_line, end_line, refuting, AreBlocks, IsGoodBlock, AreGood, IsTextOf}
 use Rattle.sheet_commands.specs.declared.blocks.BlockLasso.{BlockLasso}
 use Rattle.sheet_commands.specs.Blocks.{refused, DecidesIn}
-use Rattle.sheet_commands.specs.Cutting.{behind, to_dot, answer_of, answer_behind, answer_in, no_lasso, DecidesLasso, DecidesAnswer}
+use Rattle.sheet_commands.specs.Cutting.{lines_after, to_dot, answer_of, answer_behind, answer_in, no_lasso, DecidesLasso, DecidesCut}
 use Rattle.sheet_commands.proofs.OtherLines.{begins, IsOther, other_word, other_word_line, other_entries, other_refutation, other_rows, plain_rows}
 
 abbrev Lines : Type 0
@@ -62,13 +62,13 @@ other_lasso m n below small apart = by (bytes_eq (lasso_line m) (lasso_line n)) 
         absurd (apart (decimal_injective m n (omega (arith, below)) (omega (arith, small)) same))
     by false is = is
 
-passes_line : (line first : List ℕ) (rest : Lines) → bytes_eq first line ≡ false → behind line (first ∷ rest) ≡ behind line rest
-passes_line line first rest h = ap (λ (b : Bool). if b then Some rest else behind line rest) h
+passes_line : (line first : List ℕ) (rest : Lines) → bytes_eq first line ≡ false → lines_after line (first ∷ rest) ≡ lines_after line rest
+passes_line line first rest h = ap (λ (b : Bool). if b then Some rest else lines_after line rest) h
 
-finds_line : (line first : List ℕ) (rest : Lines) → bytes_eq first line ≡ true → behind line (first ∷ rest) ≡ Some rest
-finds_line line first rest h = ap (λ (b : Bool). if b then Some rest else behind line rest) h
+finds_line : (line first : List ℕ) (rest : Lines) → bytes_eq first line ≡ true → lines_after line (first ∷ rest) ≡ Some rest
+finds_line line first rest h = ap (λ (b : Bool). if b then Some rest else lines_after line rest) h
 
-passes_all : (n : ℕ) (front rest : Lines) → All IsOther front → behind (lasso_line n) (front ++ rest) ≡ behind (lasso_line n) rest
+passes_all : (n : ℕ) (front rest : Lines) → All IsOther front → lines_after (lasso_line n) (front ++ rest) ≡ lines_after (lasso_line n) rest
 passes_all n [] rest all = refl
 passes_all n (line ∷ front) rest all =
     passes_line (lasso_line n) line (front ++ rest) (other_line n line (All-head IsOther line front all))
@@ -91,21 +91,21 @@ IsCutAs None o = o ≡ None
 
 module _ (c : Circuit) (entries : List Entry) (n : ℕ) (small : n < 2 ^ 63) where
   abbrev Passes : ℕ → List Block → Lines → Type 0
-  Passes m blocks left = (others : Lines) × (behind (lasso_line n) left ≡ behind (lasso_line n) others) × AreBlocks (m + 1) blocks others
+  Passes m blocks left = (others : Lines) × (lines_after (lasso_line n) left ≡ lines_after (lasso_line n) others) × AreBlocks (m + 1) blocks others
 
   -- a block of another property, or one without a stimulus
   passes : (m : ℕ) (block : Block) (blocks : List Block) (left : Lines) → m < 2 ^ 63 → (HasRows block → m ≡ n → ⊥) → IsGoodBlock c entries m block
       → AreBlocks m (block ∷ blocks) left → Passes m blocks left
   passes m (Lasso s) blocks left below apart good (rows, others, is, spells, more) = (
     others,
-    ap (behind (lasso_line n)) is
+    ap (lines_after (lasso_line n)) is
         ∙ passes_line (lasso_line n) (lasso_line m) (rows ++ others) (other_lasso m n below small (apart tt))
         ∙ passes_all n rows others (other_rows s rows spells),
     more,
   )
   passes m (Holds r) blocks left below apart (sizes, stand, refuted) (others, is, more) = (
     others,
-    ap (behind (lasso_line n)) is
+    ap (lines_after (lasso_line n)) is
         ∙ passes_line (lasso_line n) (holds_line m) (refutation_lines (refuting r) ++ others) (other_line n (holds_line m) (other_word (holds_line m) refl))
         ∙ passes_all n (refutation_lines (refuting r)) others
         (other_refutation r (skeleton_clauses c m (used_entries entries r.uses)) stand refuted.refutes),
@@ -113,29 +113,29 @@ module _ (c : Circuit) (entries : List Entry) (n : ℕ) (small : n < 2 ^ 63) whe
   )
   passes m Open blocks left below apart good (others, is, more) = (
     others,
-    ap (behind (lasso_line n)) is ∙ passes_line (lasso_line n) (open_line m) others (other_line n (open_line m) (other_word (open_line m) refl)),
+    ap (lines_after (lasso_line n)) is ∙ passes_line (lasso_line n) (open_line m) others (other_line n (open_line m) (other_word (open_line m) refl)),
     more,
   )
 
-  last_line : behind (lasso_line n) (end_line ∷ []) ≡ None
+  last_line : lines_after (lasso_line n) (end_line ∷ []) ≡ None
   last_line = passes_line (lasso_line n) end_line [] (other_line n end_line (other_word_line lines.End))
 
   -- the blocks of later properties
   absent : (m : ℕ) (blocks : List Block) (left : Lines) → n < m → m + length blocks < 2 ^ 63 → AreGood c entries m blocks → AreBlocks m blocks left
-      → behind (lasso_line n) left ≡ None
-  absent m [] left past room good is = ap (behind (lasso_line n)) is ∙ last_line
+      → lines_after (lasso_line n) left ≡ None
+  absent m [] left past room good is = ap (lines_after (lasso_line n)) is ∙ last_line
   absent m (block ∷ blocks) left past room (here, good) is =
       let differ : m ≡ n → ⊥ = λ e. absurd (omega (arith, past, e)) in
       let step = passes m block blocks left (omega (arith, room)) (λ has. differ) here is in
       step.1 ∙ absent (m + 1) blocks step.0 (omega (arith, past)) (omega (arith, room)) good step.2
 
   found : (m k : ℕ) (blocks : List Block) (left : Lines) → n ≡ m + k → m + length blocks < 2 ^ 63 → AreGood c entries m blocks → AreBlocks m blocks left
-      → IsCutAs (slice_get blocks k) (behind (lasso_line n) left)
-  found m k [] left at room good is = ap (behind (lasso_line n)) is ∙ last_line
+      → IsCutAs (slice_get blocks k) (lines_after (lasso_line n) left)
+  found m k [] left at room good is = ap (lines_after (lasso_line n)) is ∙ last_line
   found m zero (Lasso s ∷ blocks) left at room good (rows, others, is, spells, more) =
       let here : m ≡ n = omega (arith, at) in
-      let cut : behind (lasso_line n) left ≡ Some (rows ++ others) =
-      ap (behind (lasso_line n)) is
+      let cut : lines_after (lasso_line n) left ≡ Some (rows ++ others) =
+      ap (lines_after (lasso_line n)) is
       ∙ finds_line (lasso_line n) (lasso_line m) (rows ++ others) ((bytes_eq-Decides (lasso_line m) (lasso_line n)).1 (ap lasso_line here)) in
       subst (λ (o : Option Lines). IsCutAs (Some (Lasso s)) o) (sym cut) (rows, others, refl, spells)
   found m zero (Holds r ∷ blocks) left at room (here, good) is =
@@ -178,8 +178,8 @@ up_to_dot s rows others (inner, dotted, values) =
     ap (λ (ls : Lines). to_dot (ls ++ others)) dotted ∙ rows_to_dot inner others (s.latches ∷ s.inputs) values ∙ sym dotted
 
 -- what is behind a line is shorter by it
-behind_by : (line first : List ℕ) (left rest : Lines) (t : Bool) → bytes_eq first line ≡ t → (behind line left ≡ Some rest → length line + 1 + size rest ≤ size left)
-    → behind line (first ∷ left) ≡ Some rest → length line + 1 + size rest ≤ size (first ∷ left)
+behind_by : (line first : List ℕ) (left rest : Lines) (t : Bool) → bytes_eq first line ≡ t → (lines_after line left ≡ Some rest → length line + 1 + size rest ≤ size left)
+    → lines_after line (first ∷ left) ≡ Some rest → length line + 1 + size rest ≤ size (first ∷ left)
 behind_by line first left rest true is later e =
     let here : ◌≡◌ {A = Option Lines} (Some left) (Some rest) = sym (finds_line line first left is) ∙ e in
     let same : left ≡ rest = cc here in
@@ -192,7 +192,7 @@ behind_by line first left rest false is later e =
     let sum = size_first first left in
     omega (arith, more, sum)
 
-behind_size : (line : List ℕ) (left rest : Lines) → behind line left ≡ Some rest → length line + 1 + size rest ≤ size left
+behind_size : (line : List ℕ) (left rest : Lines) → lines_after line left ≡ Some rest → length line + 1 + size rest ≤ size left
 behind_size line [] rest e = absurd (none-some rest e)
 behind_size line (first ∷ left) rest e = behind_by line first left rest (bytes_eq first line) refl (behind_size line left rest) e
 
@@ -233,7 +233,7 @@ record HasAnswer (n : ℕ) (s : Stimulus) (answer : List ℕ) : Type 0 where
 
 -- the answer of a block of a text that is within the limit
 module _ (text : List ℕ) (n : ℕ) (small : n < 2 ^ 63) (within : length text ≤ most_bytes) where
-  has_answer : (s : Stimulus) (rest : Lines) → behind (lasso_line n) (bare (kept_in text)) ≡ Some rest → IsCutAs (Some (Lasso s)) (Some rest) → HasAnswer n s (answer_of n rest)
+  has_answer : (s : Stimulus) (rest : Lines) → lines_after (lasso_line n) (bare (kept_in text)) ≡ Some rest → IsCutAs (Some (Lasso s)) (Some rest) → HasAnswer n s (answer_of n rest)
   has_answer s rest is (rows, others, split, spells) =
       let cut : to_dot rest ≡ rows = ap to_dot split ∙ up_to_dot s rows others spells in
       let same : answer_of n rest ≡ ended_lines (stimulus_of n rows) = ap (λ (ls : Lines). ended_lines (stimulus_of n ls)) cut in
@@ -300,7 +300,7 @@ module _ (c : Circuit) (answer : List ℕ) (n : ℕ) (s : Stimulus) (there : n <
 -- ---- the sheet
 
 module _ (c : Circuit) (text : List ℕ) (n : ℕ) (small : n < 2 ^ 63) (sheet : Sheet) (of : IsTextOf c sheet text) where
-  cut_as : IsCutAs (slice_get sheet.blocks n) (behind (lasso_line n) (bare (kept_in text)))
+  cut_as : IsCutAs (slice_get sheet.blocks n) (lines_after (lasso_line n) (bare (kept_in text)))
   cut_as =
       let has = of.1 in
       let good = of.2 in
@@ -309,7 +309,7 @@ module _ (c : Circuit) (text : List ℕ) (n : ℕ) (small : n < 2 ^ 63) (sheet :
       All-cons IsOther (all_line (length sheet.blocks)) (version_line ∷ flat_map entry_lines sheet.entries) (other_word (all_line (length sheet.blocks)) refl)
       (All-cons IsOther version_line (flat_map entry_lines sheet.entries) (other_word_line (lines.Version Two))
       (other_entries c [] sheet.entries good.entries good.form good.proved)) in
-      let same : behind (lasso_line n) (bare (kept_in text)) ≡ behind (lasso_line n) has.others = ap (behind (lasso_line n)) has.lines ∙ passes_all n front has.others all in
+      let same : lines_after (lasso_line n) (bare (kept_in text)) ≡ lines_after (lasso_line n) has.others = ap (lines_after (lasso_line n)) has.lines ∙ passes_all n front has.others all in
       let few = has.small in
       subst (λ (o : Option Lines). IsCutAs (slice_get sheet.blocks n) o) (sym same)
       (found c good.entries n small 0 n sheet.blocks has.others (omega arith) (omega (arith, few)) good.blocks has.blocks)
@@ -328,8 +328,8 @@ module _ (c : Circuit) (text : List ℕ) (n : ℕ) (small : n < 2 ^ 63) (sheet :
       let place : 0 + n ≡ n = omega arith in
       subst (λ (m : ℕ). IsGoodBlock c of.2.entries m (Lasso s)) place (good_at c of.2.entries n small 0 n sheet.blocks (Lasso s) of.2.blocks at)
 
-  into : (b : Option Block) (o : Option Lines) → slice_get sheet.blocks n ≡ b → behind (lasso_line n) (bare (kept_in text)) ≡ o → IsCutAs b o
-      → (v : Result BlockLasso JudgeEnd) → DecidesAnswer c n (answer_behind n o) v → DecidesIn c n b v
+  into : (b : Option Block) (o : Option Lines) → slice_get sheet.blocks n ≡ b → lines_after (lasso_line n) (bare (kept_in text)) ≡ o → IsCutAs b o
+      → (v : Result BlockLasso JudgeEnd) → DecidesCut c n (answer_behind n o) v → DecidesIn c n b v
   into (Some (Lasso s)) (Some rest) at is cut (Ok lasso) d =
       of_answer c (answer_of n rest) n s (there_is (Lasso s) at) (has_answer text n small of.0 s rest is cut) lasso d
   into (Some (Lasso s)) (Some rest) at is cut (Err end) d =
@@ -337,35 +337,35 @@ module _ (c : Circuit) (text : List ℕ) (n : ℕ) (small : n < 2 ^ 63) (sheet :
       not_refused c (answer_of n rest) n s (there_is (Lasso s) at) (has_answer text n small of.0 s rest is cut) good.0 good.1 good.2 end d
   into (Some (Lasso s)) None at is cut v d = absurd cut
   into (Some (Holds r)) o at is cut v d =
-      let none : v ≡ Err (no_lasso c n) = subst (λ (x : Option Lines). DecidesAnswer c n (answer_behind n x) v) cut d in
+      let none : v ≡ Err (no_lasso c n) = subst (λ (x : Option Lines). DecidesCut c n (answer_behind n x) v) cut d in
       none ∙ ap errs (no_lasso_in c n (there_is (Holds r) at))
   into (Some Open) o at is cut v d =
-      let none : v ≡ Err (no_lasso c n) = subst (λ (x : Option Lines). DecidesAnswer c n (answer_behind n x) v) cut d in
+      let none : v ≡ Err (no_lasso c n) = subst (λ (x : Option Lines). DecidesCut c n (answer_behind n x) v) cut d in
       none ∙ ap errs (no_lasso_in c n (there_is Open at))
   into None o at is cut v d =
-      let none : v ≡ Err (no_lasso c n) = subst (λ (x : Option Lines). DecidesAnswer c n (answer_behind n x) v) cut d in
+      let none : v ≡ Err (no_lasso c n) = subst (λ (x : Option Lines). DecidesCut c n (answer_behind n x) v) cut d in
       none ∙ ap errs (no_lasso_past c n (is_past at))
 
-  out_of : (b : Option Block) (o : Option Lines) → slice_get sheet.blocks n ≡ b → behind (lasso_line n) (bare (kept_in text)) ≡ o → IsCutAs b o
-      → (v : Result BlockLasso JudgeEnd) → DecidesIn c n b v → DecidesAnswer c n (answer_behind n o) v
+  out_of : (b : Option Block) (o : Option Lines) → slice_get sheet.blocks n ≡ b → lines_after (lasso_line n) (bare (kept_in text)) ≡ o → IsCutAs b o
+      → (v : Result BlockLasso JudgeEnd) → DecidesIn c n b v → DecidesCut c n (answer_behind n o) v
   out_of (Some (Lasso s)) (Some rest) at is cut (Ok lasso) d =
       to_answer c (answer_of n rest) n s (there_is (Lasso s) at) (has_answer text n small of.0 s rest is cut) lasso d
   out_of (Some (Lasso s)) (Some rest) at is cut (Err end) d = absurd d
   out_of (Some (Lasso s)) None at is cut v d = absurd cut
   out_of (Some (Holds r)) o at is cut v d =
       let none : v ≡ Err (no_lasso c n) = d ∙ ap errs (sym (no_lasso_in c n (there_is (Holds r) at))) in
-      subst (λ (x : Option Lines). DecidesAnswer c n (answer_behind n x) v) (sym cut) none
+      subst (λ (x : Option Lines). DecidesCut c n (answer_behind n x) v) (sym cut) none
   out_of (Some Open) o at is cut v d =
       let none : v ≡ Err (no_lasso c n) = d ∙ ap errs (sym (no_lasso_in c n (there_is Open at))) in
-      subst (λ (x : Option Lines). DecidesAnswer c n (answer_behind n x) v) (sym cut) none
+      subst (λ (x : Option Lines). DecidesCut c n (answer_behind n x) v) (sym cut) none
   out_of None o at is cut v d =
       let none : v ≡ Err (no_lasso c n) = d ∙ ap errs (sym (no_lasso_past c n (is_past at))) in
-      subst (λ (x : Option Lines). DecidesAnswer c n (answer_behind n x) v) (sym cut) none
+      subst (λ (x : Option Lines). DecidesCut c n (answer_behind n x) v) (sym cut) none
 
   -- what the answer decides the block decides
-  pub block_decides : (v : Result BlockLasso JudgeEnd) → DecidesAnswer c n (answer_in n (bare (kept_in text))) v → DecidesIn c n (slice_get sheet.blocks n) v
-  block_decides v d = into (slice_get sheet.blocks n) (behind (lasso_line n) (bare (kept_in text))) refl refl cut_as v d
+  pub block_decides : (v : Result BlockLasso JudgeEnd) → DecidesCut c n (answer_in n (bare (kept_in text))) v → DecidesIn c n (slice_get sheet.blocks n) v
+  block_decides v d = into (slice_get sheet.blocks n) (lines_after (lasso_line n) (bare (kept_in text))) refl refl cut_as v d
 
   -- and nothing else
-  pub answer_decides : (v : Result BlockLasso JudgeEnd) → DecidesIn c n (slice_get sheet.blocks n) v → DecidesAnswer c n (answer_in n (bare (kept_in text))) v
-  answer_decides v d = out_of (slice_get sheet.blocks n) (behind (lasso_line n) (bare (kept_in text))) refl refl cut_as v d
+  pub answer_decides : (v : Result BlockLasso JudgeEnd) → DecidesIn c n (slice_get sheet.blocks n) v → DecidesCut c n (answer_in n (bare (kept_in text))) v
+  answer_decides v d = out_of (slice_get sheet.blocks n) (lines_after (lasso_line n) (bare (kept_in text))) refl refl cut_as v d

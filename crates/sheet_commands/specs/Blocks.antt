@@ -5,28 +5,21 @@ use Rattle.aig_semantics.specs.Circuits.{Circuit}
 use Rattle.aig_semantics.specs.Stimuli.{StandsFor}
 use Rattle.edge.specs.Told.{MayBe}
 use Rattle.unless_memory.specs.Answers.{GivesSome}
-use Rattle.certificate.specs.declared.ends.AnswerEnd.{AnswerEnd}
 use Rattle.certificate.specs.declared.ends.AnswerEnd.TheVariants as answer_ends
 use Rattle.certificate.specs.declared.ends.AnswerFault.{AnswerFault}
 use Rattle.certificate.specs.declared.ends.AnswerFault.TheVariants.{NoProperty, UnknownStatus}
-use Rattle.certificate.specs.Lines.{kept_readable, bare}
 use Rattle.certificate.specs.Lassos.{lasso_of}
-use Rattle.round_answers.specs.declared.ends.JudgeEnd.TheVariants as text_ends
 use Rattle.sheet_answers.specs.declared.blocks.Block.{Block}
 use Rattle.sheet_answers.specs.declared.blocks.Block.TheVariants.{Lasso, Holds, Open}
 use Rattle.sheet_answers.specs.declared.ends.JudgeEnd.{JudgeEnd}
-use Rattle.sheet_answers.specs.declared.ends.JudgeEnd.TheVariants as ends
 use Rattle.sheet_answers.specs.Sheets.{Sheet, IsTextOf}
-use Rattle.sheet_answers.specs.Reading.{is_sheet}
-use Rattle.sheet_answers.specs.Ends.{Decides}
+use Rattle.sheet_answers.specs.Reading.{opens_as_sheet}
+use Rattle.sheet_answers.specs.Ends.{answer_end, read_failed, refused_memory, Decides, SaysOf, EndsWith}
 use Rattle.sheet_commands.specs.declared.blocks.BlockLasso.{BlockLasso}
 
--- as the check of an answer ends
-abbrev pub ended : AnswerEnd → JudgeEnd
-ended end = ends.Text (text_ends.Answer end)
-
+-- the text has this fault
 abbrev pub refused : AnswerFault → JudgeEnd
-refused fault = ended (answer_ends.Refused fault)
+refused fault = answer_end (answer_ends.Refused fault)
 
 -- what is found is the lasso of property n that the stimulus stands for
 abbrev pub IsLassoOf : Circuit → ℕ → Stimulus → BlockLasso → Type 0
@@ -51,29 +44,25 @@ DecidesSheet c text n result =
     ⊎ ((end : JudgeEnd) × Decides c text (Err end) × (result ≡ Err end))
 
 -- where the first line opens no sheet the status is unknown
-abbrev pub DecidesAs : Bool → Circuit → List ℕ → ℕ → Result BlockLasso JudgeEnd → Type 0
-DecidesAs true c text n result = DecidesSheet c text n result
-DecidesAs false c text n result = result ≡ Err (refused UnknownStatus)
+abbrev pub DecidesBlockAs : Bool → Circuit → List ℕ → ℕ → Result BlockLasso JudgeEnd → Type 0
+DecidesBlockAs true c text n result = DecidesSheet c text n result
+DecidesBlockAs false c text n result = result ≡ Err (refused UnknownStatus)
 
 -- The text decides this end of the reading of the lasso of its block of property n.
 abbrev pub DecidesBlock : Circuit → List ℕ → ℕ → Result BlockLasso JudgeEnd → Type 0
-DecidesBlock c text n result = DecidesAs (is_sheet (bare (kept_readable text))) c text n result
+DecidesBlock c text n result = DecidesBlockAs (opens_as_sheet text) c text n result
 
 -- the ends that say nothing of the text
 abbrev pub read_fault : Result BlockLasso JudgeEnd
-read_fault = Err (ended answer_ends.ReadFault)
-
-abbrev pub no_room : JudgeEnd
-no_room = ended answer_ends.Memory
+read_fault = Err read_failed
 
 abbrev pub no_memory : Result BlockLasso JudgeEnd
-no_memory = Err no_room
+no_memory = Err refused_memory
 
--- what is answered is so, of the text that the shelf may hold, unless memory is refused; a failed read says nothing of it
+-- what is answered is so, of the text that the shelf may hold
 abbrev pub BlockSays : Circuit → Option (List ℕ) → ℕ → Result BlockLasso JudgeEnd → Type 0
-BlockSays c told n result =
-    GivesSome no_memory (λ end. (end ≡ read_fault) ⊎ ((text : List ℕ) × MayBe told text × DecidesBlock c text n end)) result
+BlockSays c told n result = SaysOf (λ text end. DecidesBlock c text n end) told result
 
 -- this end comes, unless memory is refused or a read fails
 abbrev pub EndsBlock : Result BlockLasso JudgeEnd → Result BlockLasso JudgeEnd → Type 0
-EndsBlock result verdict = GivesSome no_memory (λ end. (end ≡ verdict) ⊎ (end ≡ read_fault)) result
+EndsBlock result verdict = EndsWith result verdict

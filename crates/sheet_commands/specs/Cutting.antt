@@ -14,13 +14,14 @@ use Rattle.certificate.specs.Ends.{IsRefused}
 use Rattle.certificate.specs.Lassos.{HasGoodLasso}
 use Rattle.sheet_answers.specs.declared.ends.JudgeEnd.{JudgeEnd}
 use Rattle.sheet_answers.specs.Sheets.{lasso_line}
+use Rattle.sheet_answers.specs.Ends.{answer_end}
 use Rattle.sheet_commands.specs.declared.blocks.BlockLasso.{BlockLasso}
-use Rattle.sheet_commands.specs.Blocks.{ended, refused}
+use Rattle.sheet_commands.specs.Blocks.{refused}
 
 -- the lines behind the first that is this one
-abbrev pub behind : List ℕ → List (List ℕ) → Option (List (List ℕ))
-behind line [] = None
-behind line (first ∷ lines) = if bytes_eq first line then Some lines else behind line lines
+abbrev pub lines_after : List ℕ → List (List ℕ) → Option (List (List ℕ))
+lines_after line [] = None
+lines_after line (first ∷ lines) = if bytes_eq first line then Some lines else lines_after line lines
 
 -- the lines up to the first that is a dot, and that
 abbrev pub to_dot : List (List ℕ) → List (List ℕ)
@@ -38,7 +39,7 @@ answer_behind n (Some rows) = Some (answer_of n rows)
 -- The answer that the block of property n stands for, of a sheet with these lines: the lines behind the one that opens a block
 -- with a stimulus of it. There is none where its block has a refutation, or nothing.
 abbrev pub answer_in : ℕ → List (List ℕ) → Option (List ℕ)
-answer_in n lines = answer_behind n (behind (lasso_line n) lines)
+answer_in n lines = answer_behind n (lines_after (lasso_line n) lines)
 
 -- why there is no lasso of a property: it is not there, or its block has none
 abbrev pub no_lasso : Circuit → ℕ → JudgeEnd
@@ -52,15 +53,15 @@ DecidesLasso c answer (Err end) =
     ⊎ ((n : ℕ) × (entries : ℕ) × IsGood c answer (Holds n entries) × (end ≡ refused UnknownStatus))
 
 -- the block of property n stands for this answer, which decides, or for none
-abbrev pub DecidesAnswer : Circuit → ℕ → Option (List ℕ) → Result BlockLasso JudgeEnd → Type 0
-DecidesAnswer c n None result = result ≡ Err (no_lasso c n)
-DecidesAnswer c n (Some answer) result = DecidesLasso c answer result
+abbrev pub DecidesCut : Circuit → ℕ → Option (List ℕ) → Result BlockLasso JudgeEnd → Type 0
+DecidesCut c n None result = result ≡ Err (no_lasso c n)
+DecidesCut c n (Some answer) result = DecidesLasso c answer result
 
 -- where a stimulus is accepted its lasso was kept
-abbrev pub CarriesLasso : Result Accepted AnswerEnd → Option LassoOf → Type 0
-CarriesLasso (Ok (Lasso n positions from)) kept = (lasso : LassoOf) × (kept ≡ Some lasso)
-CarriesLasso (Ok (Holds n entries)) kept = Unit {0}
-CarriesLasso (Err end) kept = Unit {0}
+abbrev pub HasItsLasso : Result Accepted AnswerEnd → Option LassoOf → Type 0
+HasItsLasso (Ok (Lasso n positions from)) kept = (lasso : LassoOf) × (kept ≡ Some lasso)
+HasItsLasso (Ok (Holds n entries)) kept = Unit {0}
+HasItsLasso (Err end) kept = Unit {0}
 
 abbrev pub lasso_in : ℕ → Option LassoOf → Result BlockLasso JudgeEnd
 lasso_in n None = Err (refused UnknownStatus)
@@ -69,4 +70,4 @@ lasso_in n (Some lasso) = Ok (record { property = n; lasso = lasso })
 abbrev pub lasso_by : Result Accepted AnswerEnd → Option LassoOf → Result BlockLasso JudgeEnd
 lasso_by (Ok (Lasso n positions from)) kept = lasso_in n kept
 lasso_by (Ok (Holds n entries)) kept = Err (refused UnknownStatus)
-lasso_by (Err end) kept = Err (ended end)
+lasso_by (Err end) kept = Err (answer_end end)

@@ -4,8 +4,8 @@ use Rattle.std.specs.List.{range_with_len}
 use Rattle.aig_semantics.specs.Circuits.{Circuit}
 
 -- the numbers of the properties, from 0 on
-abbrev pub each_of : Circuit → List ℕ
-each_of c = range_with_len 0 (length c.justice)
+abbrev pub property_numbers : Circuit → List ℕ
+property_numbers c = range_with_len 0 (length c.justice)
 
 -- the text of no model has more properties: each has a line of two bytes or more
 abbrev pub most_properties : ℕ

@@ -21,5 +21,5 @@ SaysHolds c text n =
     ⊎ ((sheet : Sheet) × IsTextOf c sheet text × (r : Refutation) × (slice_get sheet.blocks n ≡ Some (Holds r)))
 
 -- No property has a lasso by one text and holds by another.
-abbrev pub VerdictsAgree : Circuit → Type 0
-VerdictsAgree c = (text other : List ℕ) (n : ℕ) → SaysLasso c text n → SaysHolds c other n → ⊥
+abbrev pub TextsAgree : Circuit → Type 0
+TextsAgree c = (text other : List ℕ) (n : ℕ) → SaysLasso c text n → SaysHolds c other n → ⊥

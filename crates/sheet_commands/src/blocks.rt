@@ -1,34 +1,22 @@
 //! The lasso of a block of a sheet. The main call is `block_lasso`.
 
-ghost use Rattle.std.specs.Prelude.{◌≡◌, ℕ, false, List, [], ◌∷◌, ◌++◌, Some, Result, codes, IfOk, OnOk};
+ghost use Rattle.std.specs.Prelude.{◌≡◌, ℕ, false, List, [], Some, Result, codes};
 ghost use Rattle.edge.specs.Faults.{Rose, NoneFell};
 ghost use Rattle.edge.specs.Reads.{KeepsTexts, Reads};
 ghost use Rattle.unless_memory.specs.Answers.{GivesSome};
-ghost use Rattle.text_grammar.specs.Lines.{lines_of};
-ghost use Rattle.stimulus.specs.Texts.{kept_lines};
-ghost use Rattle.sheet_answers.specs.declared.ends.Judged.{Judged as JudgedOf};
-ghost use Rattle.sheet_answers.specs.Reading.{is_sheet};
-ghost use Rattle.sheet_answers.specs.Ends.{Decides, has_unread, no_memory as no_judgement};
-ghost use Rattle.sheet_commands.specs.Blocks.{ended, refused, read_fault, no_memory, DecidesBlock, BlockSays, EndsBlock};
-ghost use Rattle.sheet_commands.specs.Cutting.{DecidesAnswer, answer_in, DecidesLasso, CarriesLasso, lasso_by};
+ghost use Rattle.sheet_answers.specs.Ends.{has_unread};
+ghost use Rattle.sheet_commands.specs.Blocks.{refused, read_fault, no_memory, DecidesBlock, BlockSays, EndsBlock};
+ghost use Rattle.sheet_commands.specs.Cutting.{DecidesCut, answer_in, DecidesLasso, HasItsLasso, lasso_by};
 
 use crate::cutting::block_answer;
 use aig_semantics::Lasso;
 use cert_tools::trimmed_answers_are_good;
-use certificate::{
-    Accepted, AnswerEnd, AnswerFault, answers_have_one_end, check_with_lasso, opens_sheet,
-};
+use certificate::{Accepted, AnswerEnd, AnswerFault, answers_have_one_end, check_with_lasso};
 use circuit::Circuit;
 use cnf::ProofLine;
-use edge::{MemShelf, ReadEnd, Shelf, read_text};
-use items::Items;
-use sheet_answers::{JudgeEnd, Judged, check_answer};
-use std::alloc::{AllocError, Global};
-use stimulus::is_skipped;
-use text_grammar::next_line;
-
-/// The greatest number of bytes of a text.
-const MOST_BYTES: u64 = 9_223_372_036_854_775_807;
+use edge::{MemShelf, Shelf};
+use sheet_answers::{JudgeEnd, check_sheet, is_sheet, read_whole, shelf_with};
+use std::alloc::Global;
 
 /// The lasso that a block's stimulus stands for, and its property.
 #[derive(Drop)]
@@ -58,25 +46,17 @@ pub fn block_lasso<H: Shelf>(
     ensures counts { NoneFell (H.faults shelf.old) (H.faults shelf.new) }
     ensures kept { KeepsTexts (H.held shelf.old) (H.held shelf.new) }
 {
-    match read_text(alloc, shelf, name, MOST_BYTES) {
+    match read_whole(alloc, shelf, name) {
         Ok(text) => lasso_in(alloc, circuit, text, property),
-        Err(ReadEnd::Failed) => Err(ended(AnswerEnd::ReadFault)),
-        Err(ReadEnd::Memory) => Err(ended(AnswerEnd::Memory)),
+        Err(end) => Err(end),
     }
-}
-
-// As the check of an answer ends.
-fn ended(end: AnswerEnd) -> JudgeEnd
-    ensures { result ≡ ended end }
-{
-    JudgeEnd::Text(round_answers::JudgeEnd::Answer(end))
 }
 
 // The text has this fault.
 pub(crate) fn refused(fault: AnswerFault) -> JudgeEnd
     ensures { result ≡ refused fault }
 {
-    ended(AnswerEnd::Refused(fault))
+    JudgeEnd::from(AnswerEnd::Refused(fault))
 }
 
 // The lasso of the block in a text.
@@ -91,31 +71,11 @@ fn lasso_in(
         → GivesSome no_memory (λ end. end ≡ verdict) result }
     ensures unread { has_unread result ≡ false }
 {
-    match kept_lines(alloc, text.as_slice()) {
-        Ok(lines) => lasso_behind(alloc, circuit, text, property, lines.as_slice()),
-        Err(_) => Err(ended(AnswerEnd::Memory)),
-    }
-}
-
-// The same of a text with these lines.
-fn lasso_behind(
-    alloc: Global,
-    circuit: &Circuit,
-    text: Vec<u8>,
-    property: u32,
-    lines: &[ProofLine],
-) -> Result<BlockLasso, JudgeEnd>
-    requires { lines.now ≡ kept_lines (lines_of text.items) }
-    ensures found { GivesSome no_memory (DecidesBlock circuit.now text.items property) result }
-    ensures exactly { (verdict : Result BlockLasso JudgeEnd) → DecidesBlock circuit.now text.items property verdict
-        → GivesSome no_memory (λ end. end ≡ verdict) result }
-    ensures unread { has_unread result ≡ false }
-{
-    if !is_sheet(lines) {
+    if !is_sheet(text.as_slice()) {
         return Err(refused(AnswerFault::UnknownStatus));
     }
-    match judged(alloc, circuit, text) {
-        Ok(_) => cut_lasso(alloc, circuit, property, lines),
+    match check_sheet(alloc, circuit, text) {
+        Ok(sheet) => cut_lasso(alloc, circuit, property, sheet.lines.as_slice()),
         Err(end) => Err(end),
     }
 }
@@ -127,60 +87,14 @@ fn cut_lasso(
     property: u32,
     lines: &[ProofLine],
 ) -> Result<BlockLasso, JudgeEnd>
-    ensures found { GivesSome no_memory (DecidesAnswer circuit.now property (answer_in property lines.now)) result }
-    ensures exactly { (verdict : Result BlockLasso JudgeEnd) → DecidesAnswer circuit.now property (answer_in property lines.now) verdict
+    ensures found { GivesSome no_memory (DecidesCut circuit.now property (answer_in property lines.now)) result }
+    ensures exactly { (verdict : Result BlockLasso JudgeEnd) → DecidesCut circuit.now property (answer_in property lines.now) verdict
         → GivesSome no_memory (λ end. end ≡ verdict) result }
     ensures unread { has_unread result ≡ false }
 {
     match block_answer(alloc, circuit, property, lines) {
         Ok(answer) => answer_lasso(alloc, circuit, answer),
         Err(end) => Err(end),
-    }
-}
-
-// The lines that are not skipped.
-fn kept_lines(alloc: Global, text: &[u8]) -> Result<Items<ProofLine>, AllocError>
-    ensures { IfOk result (λ lines. lines ≡ kept_lines (lines_of text.now)) }
-{
-    let mut lines = Items::new(alloc);
-    let mut rest = text;
-    while let Some((line, more)) = next_line(rest) {
-        keep_line(alloc, &mut lines, line)?;
-        rest = more;
-    }
-    Ok(lines)
-}
-
-fn keep_line(alloc: Global, lines: &mut Items<ProofLine>, line: &[u8]) -> Result<(), AllocError>
-    ensures { OnOk result (lines.new ≡ lines.old ++ kept_lines (line.now ∷ [])) }
-{
-    if is_skipped(line) {
-        return Ok(());
-    }
-    lines.push(Items::from_slice(alloc, line)?)?;
-    Ok(())
-}
-
-// Whether the first line opens a sheet.
-fn is_sheet(lines: &[ProofLine]) -> bool
-    ensures { result ≡ is_sheet lines.now }
-{
-    match lines.first() {
-        Some(line) => opens_sheet(line.as_slice()),
-        None => false,
-    }
-}
-
-// Judges the text.
-fn judged(alloc: Global, circuit: &Circuit, text: Vec<u8>) -> Result<Judged, JudgeEnd>
-    ensures found { GivesSome no_judgement (Decides circuit.now text.items) result }
-    ensures exactly { (verdict : Result JudgedOf JudgeEnd) → Decides circuit.now text.items verdict
-        → GivesSome no_judgement (λ end. end ≡ verdict) result }
-    ensures unread { has_unread result ≡ false }
-{
-    match shelf_with(alloc, text) {
-        Ok(mut shelf) => check_answer(alloc, circuit, &mut shelf, "text"),
-        Err(_) => Err(ended(AnswerEnd::Memory)),
     }
 }
 
@@ -193,7 +107,7 @@ fn answer_lasso(alloc: Global, circuit: &Circuit, answer: Vec<u8>) -> Result<Blo
 {
     match shelf_with(alloc, answer) {
         Ok(shelf) => held_lasso(alloc, circuit, shelf),
-        Err(_) => Err(ended(AnswerEnd::Memory)),
+        Err(_) => Err(JudgeEnd::from(AnswerEnd::Memory)),
     }
 }
 
@@ -217,7 +131,7 @@ fn held_lasso(alloc: Global, circuit: &Circuit, shelf: MemShelf) -> Result<Block
 
 // What the check of an answer leaves, of which the lasso was kept.
 fn lasso_by(end: Result<Accepted, AnswerEnd>, kept: Option<Lasso>) -> Result<BlockLasso, JudgeEnd>
-    requires { CarriesLasso end kept }
+    requires { HasItsLasso end kept }
     ensures { result ≡ lasso_by end kept }
 {
     match end {
@@ -226,16 +140,6 @@ fn lasso_by(end: Result<Accepted, AnswerEnd>, kept: Option<Lasso>) -> Result<Blo
             None => unreachable!(),
         },
         Ok(Accepted::Holds { .. }) => Err(refused(AnswerFault::UnknownStatus)),
-        Err(end) => Err(ended(end)),
+        Err(end) => Err(JudgeEnd::from(end)),
     }
-}
-
-// A shelf that holds the text as `text`, and of which no call fails.
-fn shelf_with(alloc: Global, text: Vec<u8>) -> Result<MemShelf, AllocError>
-    ensures held { IfOk result (λ shelf. ⟦<MemShelf as Shelf>⟧.held shelf (codes "text") ≡ Some text.items) }
-    ensures steady { IfOk result (λ shelf. shelf.failing ≡ []) }
-{
-    let mut texts = Vec::new(alloc);
-    texts.push((String::from_str(alloc, "text")?, text))?;
-    Ok(MemShelf::new(texts, u64::MAX, Vec::new(alloc)))
 }

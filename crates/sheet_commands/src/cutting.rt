@@ -4,8 +4,8 @@ ghost use Rattle.std.specs.Prelude.{◌≡◌, ◌⊎◌, ◌++◌, [], ◌∷�
 ghost use Rattle.std.specs.Str.{bytes_eq};
 ghost use Rattle.text_grammar.specs.Lines.{ended_lines};
 ghost use Rattle.sheet_answers.specs.Sheets.{lasso_line};
-ghost use Rattle.sheet_commands.specs.Blocks.{no_room};
-ghost use Rattle.sheet_commands.specs.Cutting.{behind, to_dot, answer_of, answer_in, no_lasso};
+ghost use Rattle.sheet_answers.specs.Ends.{refused_memory};
+ghost use Rattle.sheet_commands.specs.Cutting.{lines_after, to_dot, answer_of, answer_in, no_lasso};
 
 use crate::blocks::refused;
 use certificate::AnswerFault;
@@ -23,10 +23,10 @@ pub(crate) fn block_answer(
     lines: &[ProofLine],
 ) -> Result<Vec<u8>, JudgeEnd>
     ensures found { IfOk result (λ text. answer_in property lines.now ≡ Some text.items) }
-    ensures none { IfErr result (λ end. ((end ≡ no_lasso circuit.now property) × (answer_in property lines.now ≡ None)) ⊎ (end ≡ no_room)) }
+    ensures none { IfErr result (λ end. ((end ≡ no_lasso circuit.now property) × (answer_in property lines.now ≡ None)) ⊎ (end ≡ refused_memory)) }
 {
     let first = first_line(alloc, property)?;
-    match behind(first.as_slice(), lines) {
+    match lines_after(first.as_slice(), lines) {
         Some(rows) => Ok(answer_of(alloc, property, rows)?),
         None => Err(no_lasso(circuit, property)),
     }
@@ -42,8 +42,8 @@ fn first_line(alloc: Global, n: u32) -> Result<Vec<u8>, AllocError>
 }
 
 // The lines behind the first that is this one.
-fn behind<'a>(line: &[u8], lines: &'a [ProofLine]) -> Option<&'a [ProofLine]>
-    ensures { option_map (λ rows. rows.now) result ≡ behind line.now lines.now }
+fn lines_after<'a>(line: &[u8], lines: &'a [ProofLine]) -> Option<&'a [ProofLine]>
+    ensures { option_map (λ rows. rows.now) result ≡ lines_after line.now lines.now }
 {
     let mut rest = lines;
     while let Some((first, more)) = rest.split_first() {

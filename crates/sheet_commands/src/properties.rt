@@ -2,7 +2,7 @@
 
 ghost use Rattle.std.specs.Prelude.{◌≡◌, ◌≤◌, length, IfOk};
 ghost use Rattle.std.specs.List.{range_with_len};
-ghost use Rattle.sheet_commands.specs.Each.{each_of, most_properties};
+ghost use Rattle.sheet_commands.specs.Each.{property_numbers, most_properties};
 
 use circuit::Circuit;
 use std::alloc::{AllocError, Global};
@@ -13,7 +13,7 @@ const MOST_PROPERTIES: usize = 536_870_912;
 /// The numbers of the circuit's properties, from 0 on. The error is want of memory, which is answered too where there are more
 /// than a text of a model can have.
 pub fn each_property(alloc: Global, circuit: &Circuit) -> Result<Vec<u32>, AllocError>
-    ensures each { IfOk result (λ numbers. numbers.items ≡ each_of circuit.now) }
+    ensures each { IfOk result (λ numbers. numbers.items ≡ property_numbers circuit.now) }
     ensures few { IfOk result (λ numbers. length numbers.items ≤ most_properties) }
 {
     let count = circuit.property_count();

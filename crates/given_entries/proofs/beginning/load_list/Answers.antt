@@ -1,8 +1,8 @@
 use Rattle.std.proofs.Common.{false, map, sym, refl, subst}
 use Rattle.std.specs.Prelude.{◌⊎◌, IfOk, IfErr, option_map}
 use Rattle.std.specs.Arc.{arc_value}
-use Rattle.sheet_answers.specs.Ends.{has_unread}
-use Rattle.given_entries.specs.Beginning.{told_of, OfClaimed, IsClaimed, BeginsWith, HasNoList, IsUnended, ReadsIfNamed}
+use Rattle.sheet_answers.specs.Ends.{has_unread, IsUnended}
+use Rattle.given_entries.specs.Beginning.{told_of, OfClaimed, IsClaimed, BeginsWith, HasNoList, ReadsIfNamed}
 use Rattle.given_entries.proofs.Named.{refused_named, accepted_named}
 use Rattle.given_entries.proofs.beginning.load_list.Goals as goal
 

@@ -18,5 +18,5 @@ returns c =
     taken_decides c.args.circuit.now c.args.text.items c.load-loaded.result c.entries_in.result (omega (arith, c.args.text.ok, c.args.text.small)) c.requires
     (subst (λ (told : Option (List ℕ)). CheckSays c.args.circuit.now told (accepted_in c.load-loaded.result)) c.in_ok-shelf.ensures.held c.load-loaded.ensures.found)
     (subst (λ (told : Option (List ℕ)). IfOk c.load-loaded.result (IsHeldOf c.args.circuit.now told)) c.in_ok-shelf.ensures.held c.load-loaded.ensures.held)
-    (never_unread c.load-loaded.result (codes "answer") c.args.text.items c.in_ok-shelf.shelf c.load-loaded.new.shelf c.in_ok-shelf.ensures.steady c.in_ok-shelf.ensures.held
+    (never_unread c.load-loaded.result (codes "text") c.args.text.items c.in_ok-shelf.shelf c.load-loaded.new.shelf c.in_ok-shelf.ensures.steady c.in_ok-shelf.ensures.held
     c.load-loaded.ensures.reads) c.entries_in.ensures

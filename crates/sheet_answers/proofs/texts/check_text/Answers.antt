@@ -1,8 +1,8 @@
 use Rattle.std.proofs.Common.{codes, ℕ, List, subst}
 use Rattle.std.specs.Prelude.{Option}
 use Rattle.sheet_answers.specs.Ends.{JudgeSays}
-use Rattle.sheet_commands.proofs.CutBlocks.{judged_says, judged_exactly, never_unjudged, was_judged}
-use Rattle.sheet_commands.proofs.blocks.judged.Goals as goal
+use Rattle.sheet_answers.proofs.HeldTexts.{judged_says, judged_exactly, never_unjudged, was_judged}
+use Rattle.sheet_answers.proofs.texts.check_text.Goals as goal
 
 pub returns-in-Ok-clause-found : goal.returns-in-Ok-clause-found
 returns-in-Ok-clause-found c =

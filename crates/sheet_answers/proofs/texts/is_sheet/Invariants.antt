@@ -2,7 +2,7 @@ use Rattle.std.proofs.Common.{◌≡◌, length}
 use Rattle.text_grammar.specs.Lines.{lines_of}
 use Rattle.stimulus.specs.Texts.{kept_lines}
 use Rattle.sheet_answers.specs.Reading.{is_sheet}
-use Rattle.given_entries.proofs.loading.is_sheet.Given as goal
+use Rattle.sheet_answers.proofs.texts.is_sheet.Given as goal
 
 abbrev pub invariant-loop-line : goal.invariant-loop-line
 invariant-loop-line l = is_sheet (kept_lines (lines_of l.rest)) ≡ is_sheet (kept_lines (lines_of l.fn.text))
