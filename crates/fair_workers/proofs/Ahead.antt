@@ -168,9 +168,12 @@ ahead-on s t j phases.LooksLast stay i h =
     or-on (i == j) (nat_lt j i && not (t i)) (nat_lt j i && not (s i)) (and-on (nat_lt j i) (not (t i)) (not (s i)) (still-open s t i stay)) h
 ahead-on s t j phases.SearchesLast stay i h =
     or-on (i == j) (nat_lt j i && not (t i)) (nat_lt j i && not (s i)) (and-on (nat_lt j i) (not (t i)) (not (s i)) (still-open s t i stay)) h
+ahead-on s t j (phases.AsksDeeper after) stay i h = h
+ahead-on s t j (phases.Deepens after) stay i h = h
 ahead-on s t j phases.Closed stay i h = h
 ahead-on s t j phases.Full stay i h = h
 ahead-on s t j phases.Spent stay i h = h
+ahead-on s t j phases.Deep stay i h = h
 ahead-on s t j phases.Refused stay i h = h
 
 open-here : (s t : ℕ → Bool) (i j : ℕ) → Stay s t → t j ≡ false → (i == j) ≡ true → not (s i) ≡ true
@@ -296,9 +299,12 @@ running-left k j meter (phases.AsksLast from) running h = above-one (ahead_of k 
 running-left k j meter phases.LooksLast running h = above-last (ahead_of k j phases.LooksLast) (last_turns k.properties) 1 (looks-some k j h.served) (omega arith)
 running-left k j meter phases.SearchesLast running h =
     above-last (ahead_of k j phases.SearchesLast) (last_turns k.properties) 2 (last-some k j h.served) (omega arith)
+running-left k j meter (phases.AsksDeeper after) running h = above-three (after * 2)
+running-left k j meter (phases.Deepens after) running h = above-two (after * 2)
 running-left k j meter phases.Closed running h = absurd (false≢true running)
 running-left k j meter phases.Full running h = absurd (false≢true running)
 running-left k j meter phases.Spent running h = absurd (false≢true running)
+running-left k j meter phases.Deep running h = absurd (false≢true running)
 running-left k j meter phases.Refused running h = absurd (false≢true running)
 
 pub ended-left : (k : Known) (j : ℕ) (p : Phase) → is_running p ≡ false → left_in k j p ≡ 0
@@ -308,9 +314,12 @@ ended-left k j phases.Searches ended = absurd (false≢true (sym ended))
 ended-left k j (phases.AsksLast from) ended = absurd (false≢true (sym ended))
 ended-left k j phases.LooksLast ended = absurd (false≢true (sym ended))
 ended-left k j phases.SearchesLast ended = absurd (false≢true (sym ended))
+ended-left k j (phases.AsksDeeper after) ended = absurd (false≢true (sym ended))
+ended-left k j (phases.Deepens after) ended = absurd (false≢true (sym ended))
 ended-left k j phases.Closed ended = refl
 ended-left k j phases.Full ended = refl
 ended-left k j phases.Spent ended = refl
+ended-left k j phases.Deep ended = refl
 ended-left k j phases.Refused ended = refl
 
 pub ended-searches : (k : Known) (j : ℕ) (p : Phase) → is_running p ≡ false → searches_left_in k j p ≡ 0
@@ -320,9 +329,12 @@ ended-searches k j phases.Searches ended = absurd (false≢true (sym ended))
 ended-searches k j (phases.AsksLast from) ended = absurd (false≢true (sym ended))
 ended-searches k j phases.LooksLast ended = absurd (false≢true (sym ended))
 ended-searches k j phases.SearchesLast ended = absurd (false≢true (sym ended))
+ended-searches k j (phases.AsksDeeper after) ended = absurd (false≢true (sym ended))
+ended-searches k j (phases.Deepens after) ended = absurd (false≢true (sym ended))
 ended-searches k j phases.Closed ended = refl
 ended-searches k j phases.Full ended = refl
 ended-searches k j phases.Spent ended = refl
+ended-searches k j phases.Deep ended = refl
 ended-searches k j phases.Refused ended = refl
 
 some-more : (r a : ℕ) → 1 ≤ a → 1 ≤ r + a
@@ -339,9 +351,12 @@ turn-searches k j meter phases.Searches h = some-more (room_of k) (ahead_of k j 
 turn-searches k j meter (phases.AsksLast from) h = none-least 0
 turn-searches k j meter phases.LooksLast h = none-least 0
 turn-searches k j meter phases.SearchesLast h = none-least 0
+turn-searches k j meter (phases.AsksDeeper after) h = none-least 0
+turn-searches k j meter (phases.Deepens after) h = none-least 0
 turn-searches k j meter phases.Closed h = none-least 0
 turn-searches k j meter phases.Full h = none-least 0
 turn-searches k j meter phases.Spent h = none-least 0
+turn-searches k j meter phases.Deep h = none-least 0
 turn-searches k j meter phases.Refused h = none-least 0
 
 -- no more is left where no more may come, and no more is ahead
@@ -352,9 +367,12 @@ left-on r q a b m n phases.Searches room ahead last = omega (arith, room, ahead,
 left-on r q a b m n (phases.AsksLast from) room ahead last = omega (arith, ahead, last)
 left-on r q a b m n phases.LooksLast room ahead last = omega (arith, ahead, last)
 left-on r q a b m n phases.SearchesLast room ahead last = omega (arith, ahead, last)
+left-on r q a b m n (phases.AsksDeeper after) room ahead last = omega arith
+left-on r q a b m n (phases.Deepens after) room ahead last = omega arith
 left-on r q a b m n phases.Closed room ahead last = omega arith
 left-on r q a b m n phases.Full room ahead last = omega arith
 left-on r q a b m n phases.Spent room ahead last = omega arith
+left-on r q a b m n phases.Deep room ahead last = omega arith
 left-on r q a b m n phases.Refused room ahead last = omega arith
 
 pub searches-on : (r q a b : ℕ) (p : Phase) → q ≤ r → b ≤ a → searches_left q b p ≤ searches_left r a p
@@ -364,9 +382,12 @@ searches-on r q a b phases.Searches room ahead = omega (arith, room, ahead)
 searches-on r q a b (phases.AsksLast from) room ahead = omega arith
 searches-on r q a b phases.LooksLast room ahead = omega arith
 searches-on r q a b phases.SearchesLast room ahead = omega arith
+searches-on r q a b (phases.AsksDeeper after) room ahead = omega arith
+searches-on r q a b (phases.Deepens after) room ahead = omega arith
 searches-on r q a b phases.Closed room ahead = omega arith
 searches-on r q a b phases.Full room ahead = omega arith
 searches-on r q a b phases.Spent room ahead = omega arith
+searches-on r q a b phases.Deep room ahead = omega arith
 searches-on r q a b phases.Refused room ahead = omega arith
 
 -- ---- steps of a search

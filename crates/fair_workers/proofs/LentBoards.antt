@@ -47,12 +47,16 @@ same-board n turn b = record {
   entries = ([], sym (append-nil b.entries), All-nil (IsOfTurn n turn));
   outcomes = λ j h. h;
   others = λ m other. refl;
+  quiet = λ h. omega arith;
 }
 
+pub shown-seen : (n : ℕ) (b : BoardState) → n < length b.seen → seen_by (shown_to b n) n ≡ length b.entries
+shown-seen n b inside = get_or-set_same b.seen n (length b.entries) 0 inside
+
 -- a board with more entries, all of which worker n has seen
-pub shown-on : (n turn : ℕ) (b : BoardState) (entries more : List CheckedEntry) → entries ≡ b.entries ++ more → All (IsOfTurn n turn) more
-    → GoesOnBy n turn b (shown_to (record b { entries = entries }) n)
-shown-on n turn b entries more e found = record {
+pub shown-on : (n turn : ℕ) (b : BoardState) (entries more : List CheckedEntry) → n < length b.seen → seen_by b n ≤ length b.entries
+    → entries ≡ b.entries ++ more → All (IsOfTurn n turn) more → GoesOnBy n turn b (shown_to (record b { entries = entries }) n)
+shown-on n turn b entries more inside within e found = record {
   circuit = refl;
   properties = refl;
   workers = refl;
@@ -61,10 +65,8 @@ shown-on n turn b entries more e found = record {
   entries = (more, e, found);
   outcomes = λ j h. h;
   others = λ m other. get_or-set_other b.seen n m (length entries) 0 other;
+  quiet = λ h. (let same = shown-seen n (record b { entries = entries }) inside in omega (arith, h, same, within));
 }
-
-pub shown-seen : (n : ℕ) (b : BoardState) → n < length b.seen → seen_by (shown_to b n) n ≡ length b.entries
-shown-seen n b inside = get_or-set_same b.seen n (length b.entries) 0 inside
 
 -- ---- outcomes
 
@@ -128,6 +130,7 @@ finished-on n turn b j o = record {
   entries = ([], sym (append-nil b.entries), All-nil (IsOfTurn n turn));
   outcomes = λ i h. outcomes-kept b.served j i o h;
   others = λ m other. refl;
+  quiet = λ h. omega arith;
 }
 
 pub some-is : {X : Type 0} (o : Option X) → o ≢ None → is_some o ≡ true
@@ -358,6 +361,10 @@ shown-lent b n entries more s is board number e found few after =
     subst (λ (m : ℕ). m < length b.seen) number
     (subst (λ (d : BoardState). s.number < length d.seen) board (omega (arith, is.number, is.board.each_seen)))
     in
+    let within : seen_by b n ≤ length b.entries =
+    subst (λ (m : ℕ). seen_by b m ≤ length b.entries) number
+    (subst (λ (d : BoardState). seen_by d s.number ≤ length d.entries) board (seen-within s.board s.number is.board is.number))
+    in
     record {
       lent = record {
         board = after;
@@ -367,7 +374,7 @@ shown-lent b n entries more s is board number e found few after =
       number = sym number;
       board = subst (λ (m : ℕ). GoesOnBy m s.turns s.board (shown_to (record b { entries = entries }) n)) (sym number)
           (subst (λ (d : BoardState). GoesOnBy n s.turns d (shown_to (record b { entries = entries }) n)) (sym board)
-          (shown-on n s.turns b entries more e found));
+          (shown-on n s.turns b entries more inside within e found));
       one = omega arith;
       paid = paid-by (length entries) (length s.board.entries) (length b.entries) (length more) s.turns (ap length e ∙ length-append b.entries more)
           (ap (λ (d : BoardState). length d.entries) board) few;

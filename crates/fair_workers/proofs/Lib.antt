@@ -1,5 +1,7 @@
 pub mod Ahead
+pub mod WorkerKinds
 pub mod Turned
+pub mod LassoTurns
 pub mod LentBoards
 pub mod Causes
 pub mod Together

@@ -14,7 +14,9 @@ passes_send : IsSend (Option.the_row Pass.the_row)
 passes_send = search (pass_send, rules, sendable, crosses) depth 20
 
 end_send : IsSend WorkerEnd.the_row
-end_send = declared_send WorkerEnd.the_type (spending.the_send, (search (rules, sendable, crosses) depth 20, tt))
+end_send =
+    declared_send WorkerEnd.the_type
+    (spending.the_send, (search (rules, sendable, crosses) depth 20, (search (rules, sendable, crosses) depth 20, tt)))
 
 ends_send : IsSend (Option.the_row WorkerEnd.the_row)
 ends_send = search (end_send, rules, sendable, crosses) depth 20

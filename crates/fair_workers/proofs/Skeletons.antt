@@ -1,5 +1,5 @@
 -- How many entries a list can have that each exclude a skeleton which those before them allow.
-use Rattle.std.proofs.Common.{◌≡◌, ℕ, zero, suc, ◌+◌, ◌*◌, ◌^◌, ◌<◌, ◌≤◌, max, min, Bool, true, false, cond, List, [], ◌∷◌, ◌++◌, inl, inr, Some, None, length, get_or, take, drop, refl, sym, ap, ap₂, ◌∙◌, subst, arith}
+use Rattle.std.proofs.Common.{◌≡◌, ℕ, zero, suc, ◌+◌, ◌-◌, ◌*◌, ◌^◌, ◌<◌, ◌≤◌, max, min, Bool, true, false, cond, List, [], ◌∷◌, ◌++◌, inl, inr, Some, None, length, get_or, take, drop, refl, sym, ap, ap₂, ◌∙◌, subst, arith}
 use Rattle.std.specs.Prelude.{Contains}
 use Rattle.std.specs.List.{All, Any}
 use Rattle.std.proofs.Math.Nat.{pow-suc}
@@ -23,7 +23,7 @@ use Rattle.entry.specs.declared.origins.Origin.TheVariants.{Given, Worker as Fou
 use Rattle.wall_store.specs.Boards.{BoardState, plain, Allow, FromWorker, IsFind, properties_of, most_entries}
 use Rattle.fair_round.specs.Spending.{IsSpent}
 use Rattle.search_reports.specs.declared.limits.Report.{Report}
-use Rattle.fair_workers.specs.Runs.{Task, AreLimits, IsFull, IsReport}
+use Rattle.fair_workers.specs.Runs.{Task, AreLimits, IsFull, IsReport, round_workers}
 use Rattle.fair_workers.specs.Laws.{skeleton_lists, NoReportWithoutLimits}
 use Rattle.fair_workers.proofs.Ahead.{member}
 use Rattle.fair_workers.proofs.LentBoards.{not-excluded}
@@ -359,6 +359,15 @@ full-not task report room is full =
     (left-after c js j b.workers first b.entries task.given found left.0 inside split finds (least-self first) skeleton left.1.allowed)
     (all-most c task.given js) room
 
+-- there is a worker with rounds, the first
+some-rounds : (workers lassos : ℕ) → 1 ≤ workers → 0 < workers - min lassos (workers - 1)
+some-rounds workers lassos some = grind (arith)
+
+first-spent : (workers : List Spendings) (n : ℕ) (d : Spendings) → 0 < n → 0 < length workers → All IsSpent (take n workers) → IsSpent (get_or workers 0 d)
+first-spent [] n d some inside all = absurd (omega (arith, inside))
+first-spent (w ∷ workers) zero d some inside all = absurd (omega (arith, some))
+first-spent (w ∷ workers) (suc n) d some inside all = all 0 d (omega arith)
+
 pub no-report : NoReportWithoutLimits
 no-report task report limits conflicts steps room is =
     elim is.cause [
@@ -367,5 +376,6 @@ no-report task report limits conflicts steps room is =
           let d : Spendings = record { conflicts = 0; conflict_limit = None; steps = 0; step_limit = None } in
           let inside : 0 < length report.workers = omega (arith, is.spent.count, limits.some) in
           let with_limits = (is.spent.each 0 d inside).limits in
-          not-spent (get_or report.workers 0 d) (with_limits.conflicts ∙ conflicts) (with_limits.steps ∙ steps) (spent 0 d inside)
+          not-spent (get_or report.workers 0 d) (with_limits.conflicts ∙ conflicts) (with_limits.steps ∙ steps)
+          (first-spent report.workers (round_workers task.limits) d (some-rounds task.limits.workers task.limits.lassos limits.some) inside spent.rounds)
     ]

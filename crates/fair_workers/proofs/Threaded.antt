@@ -1,9 +1,9 @@
 -- Workers on threads: what each of them begins with and comes to, and what the board of their ledger is then.
-use Rattle.std.proofs.Common.{◌≡◌, ℕ, zero, suc, ◌+◌, ◌-◌, ◌*◌, ◌<◌, ◌≤◌, min, Bool, true, false, cond, List, [], ◌∷◌, ◌++◌, map, Some, None, inl, inr, length, get_or, drop, refl, sym, ap, ◌∙◌, subst, arith}
-use Rattle.std.specs.Prelude.{Contains, ◌==◌}
+use Rattle.std.proofs.Common.{◌≡◌, ℕ, zero, suc, ◌+◌, ◌-◌, ◌*◌, ◌<◌, ◌≤◌, min, Bool, true, false, cond, List, [], ◌∷◌, ◌++◌, map, Some, None, ◌⊎◌, inl, inr, length, get_or, take, drop, refl, sym, ap, ◌∙◌, subst, arith}
+use Rattle.std.specs.Prelude.{Contains, Option, ◌==◌}
 use Rattle.std.specs.List.{All, Any, AllPairs, remove}
 use Rattle.std.proofs.lemmas.Bool.{false≢true, false_from_ne_true, cases_lt, eq-eqb, ne_eqb}
-use Rattle.std.proofs.lemmas.List.{get_or-map, get_or_default, length-map, length-append, append-nil, append_assoc, map-append, drop-append-le, drop_all}
+use Rattle.std.proofs.lemmas.List.{get_or-map, get_or_default, length-map, length-append, append-nil, append_assoc, map-append, drop-append-le, drop_all, take_all, take-append-le}
 use Rattle.std.proofs.lemmas.List.Elements.{All-nil, All-cons, filter-append}
 use Rattle.wall_ledger.proofs.Events.{some_same}
 use Rattle.aig_semantics.specs.Circuits.{Circuit}
@@ -23,13 +23,15 @@ use Rattle.fair_workers.specs.declared.runners.Runner.{Runner}
 use Rattle.fair_workers.specs.declared.working.Phase.{Phase}
 use Rattle.fair_workers.specs.declared.working.Phase.TheVariants as phases
 use Rattle.fair_workers.specs.declared.working.Worker.{Worker}
-use Rattle.fair_workers.specs.Runs.{Task, AreServed, IsFoundWithin, IsBoardOf, IsFull, IsInBudget, IsWithLimits, last_turns, most_turns}
+use Rattle.fair_workers.specs.Runs.{Task, AreLimits, AreServed, ServesOne, IsByRoundWorker, IsFoundWithin, IsBoardOf, IsFull, IsInBudget, IsWithLimits, last_turns, most_turns, round_workers}
 use Rattle.fair_workers.specs.Knowing.{Known, AreSettled}
-use Rattle.fair_workers.specs.Working.{left_to, left_at_first, searches_left_to, search_steps, steps_through, is_running, IsIn, IsStuck, IsWorker, Turns}
-use Rattle.fair_workers.specs.Ends.{Tells, IsDone, AreDone}
-use Rattle.fair_workers.specs.Holding.{is_shown, known_by, fresh_meter, steps_within, Goes, StaysHeld, IsPassOf, IsReady, IsThrough, MayRun, HasRun, HaveRun, HasEnded, IsBegunFor}
+use Rattle.fair_workers.specs.Working.{left_to, left_at_first, searches_left_to, search_steps, steps_through, is_running, first_left, Begins, IsIn, IsNumbered, IsOfKind, IsStuck, IsWorker, Turns}
+use Rattle.fair_workers.specs.Ends.{Tells, IsDone, AreDone, IsEndNumbered, done_in, end_as}
+use Rattle.fair_workers.specs.Holding.{is_shown, known_by, fresh_meter, steps_within, Goes, HasTurned, StaysHeld, IsPassOf, IsReady, IsThrough, MayRun, HasRun, HaveRun, HasEnded, IsBegunFor}
 use Rattle.fair_workers.proofs.Causes.{steps-least}
-use Rattle.fair_workers.proofs.Together.{within-on, first-worker, first-within, most-least}
+use Rattle.fair_workers.specs.declared.lasso_search.LassoSearch.{LassoSearch}
+use Rattle.fair_workers.proofs.WorkerKinds.{numbered-on, ends-kind, ends-numbered}
+use Rattle.fair_workers.proofs.Together.{within-on, first-worker, first-within, most-least, kind-told}
 use Rattle.fair_workers.proofs.HeldPasses.{marks-tell}
 use Rattle.fair_round.proofs.Counting.{steps-kept, steps-over, steps-last}
 
@@ -37,26 +39,29 @@ use Rattle.fair_round.proofs.Counting.{steps-kept, steps-over, steps-last}
 
 -- with a pass that is ready a worker begins
 ready-worker : (limits : Limits) (properties : List ℕ) (l : LedgerState) (p : PassState) (w : Worker) → IsReady limits properties l p
-    → w.rounds ≡ None → w.phase ≡ phases.Asks → IsWorker (known_by l p) w
-ready-worker limits properties l p w is none phase =
-    first-worker (known_by l p) w is.served none phase is.pass.limit is.turns (let same = ap length is.list in omega (arith, same))
+    → Begins limits l.properties p.number w → IsWorker (known_by l p) w
+ready-worker limits properties l p w is begins =
+    first-worker limits p.number (known_by l p) w is.within.depth is.served begins is.pass.limit is.turns (ap length is.list)
 
 -- the steps that its searches may take
-ready-steps : (limits : Limits) (properties : List ℕ) (l : LedgerState) (p : PassState) (w : Worker) → IsReady limits properties l p → w.phase ≡ phases.Asks
-    → w.meter ≡ fresh_meter limits
+ready-steps : (limits : Limits) (properties : List ℕ) (l : LedgerState) (p : PassState) (w : Worker) → IsReady limits properties l p
+    → Begins limits l.properties p.number w → w.meter ≡ fresh_meter limits
     → steps_through w (searches_left_to (known_by l p) w) (search_steps l.circuit l.properties) ≤ steps_within limits l
-ready-steps limits properties l p w is phase meter =
-    first-within (known_by l p) w limits.skeletons (let same = ap length is.list in let grows = is.grows in omega (arith, same, grows)) phase
+ready-steps limits properties l p w is begins meter =
+    first-within (known_by l p) w limits.skeletons (let same = ap length is.list in let grows = is.grows in omega (arith, same, grows)) begins.begins
     (ap (λ (s : Spendings). s.steps) meter)
 
 pub goes-first : (limits : Limits) (properties : List ℕ) (l : LedgerState) (p : PassState) (w : Worker) → IsReady limits properties l p
-    → w.rounds ≡ None → w.meter ≡ fresh_meter limits → w.phase ≡ phases.Asks → Goes limits l p w
-goes-first limits properties l p w is none meter phase = record {
-  pass = is.pass;
-  worker = ready-worker limits properties l p w is none phase;
-  counted = record { conflicts = ap (λ (s : Spendings). s.conflict_limit) meter; steps = ap (λ (s : Spendings). s.step_limit) meter };
-  steps = ready-steps limits properties l p w is phase meter;
-}
+    → w.meter ≡ fresh_meter limits → Begins limits properties p.number w → Goes limits l p w
+goes-first limits properties l p w is meter begun =
+    let begins : Begins limits l.properties p.number w = subst (λ (js : List ℕ). Begins limits js p.number w) (sym is.same) begun in
+    record {
+      pass = is.pass;
+      worker = ready-worker limits properties l p w is begins;
+      kind = begins.kind;
+      counted = record { conflicts = ap (λ (s : Spendings). s.conflict_limit) meter; steps = ap (λ (s : Spendings). s.step_limit) meter };
+      steps = ready-steps limits properties l p w is begins meter;
+    }
 
 -- a turn keeps the bound on steps
 turn-steps : (k l : Known) (w v : Worker) (most : ℕ) → Turns 0 k w l v → steps_through w (searches_left_to k w) (search_steps k.circuit k.properties) ≤ most
@@ -72,6 +77,7 @@ pub goes-on : (limits : Limits) (l m : LedgerState) (p q : PassState) (w v : Wor
 goes-on limits l m p q w v g stays turn = record {
   pass = stays.pass;
   worker = turn.worker;
+  kind = subst (λ (n : ℕ). IsNumbered limits n v.lasso_search) (sym stays.number) (numbered-on limits p.number w.lasso_search v.lasso_search turn.kind g.kind);
   counted = within-on limits w.meter v.meter turn.limits g.counted;
   steps =
       subst (λ (n : LedgerState). steps_through v (searches_left_to (known_by m q) v) (search_steps n.circuit n.properties) ≤ steps_within limits n)
@@ -90,23 +96,47 @@ tells-any i j k meter phases.Searches ended h = absurd (false≢true (sym ended)
 tells-any i j k meter (phases.AsksLast from) ended h = absurd (false≢true (sym ended))
 tells-any i j k meter phases.LooksLast ended h = absurd (false≢true (sym ended))
 tells-any i j k meter phases.SearchesLast ended h = absurd (false≢true (sym ended))
+tells-any i j k meter (phases.AsksDeeper after) ended h = absurd (false≢true (sym ended))
+tells-any i j k meter (phases.Deepens after) ended h = absurd (false≢true (sym ended))
 tells-any i j k meter phases.Closed ended h = h
 tells-any i j k meter phases.Full ended h = h
 tells-any i j k meter phases.Spent ended h = h
+tells-any i j k meter phases.Deep ended h = h
 tells-any i j k meter phases.Refused ended h = h
 
+-- how many turns a worker has taken that found entries; a lasso worker found none
+turns-by-kind : (k : Known) (w : Worker) (o : Option LassoSearch) → k.turns + left_to k w ≤ first_left k o → IsOfKind w.property k w.meter w.phase o
+    → HasTurned k (done_in o)
+turns-by-kind k w None within kind = few-turns k.turns (left_to k w) (left_at_first k) within
+turns-by-kind k w (Some s) within kind = kind.0.list
+
+turned-few : (k : Known) (done : Option ℕ) (most : ℕ) → left_at_first k ≤ most → HasTurned k done → (k.turns ≤ most) ⊎ (length k.list ≡ k.given)
+turned-few k None most least turned = inl (both k.turns (left_at_first k) most turned least)
+  where
+    both : (t m n : ℕ) → t ≤ m → m ≤ n → t ≤ n
+    both t m n a b = omega (arith, a, b)
+turned-few k (Some done) most least turned = inr turned
+
+-- a worker that is no lasso worker by its number, or has seen the given entries alone
+turned-kind : (limits : Limits) (n : ℕ) (k : Known) (done : Option ℕ) → HasTurned k done → IsEndNumbered limits n done
+    → (n < round_workers limits) ⊎ (length k.list ≡ k.given)
+turned-kind limits n k None turned number = inl number
+turned-kind limits n k (Some done) turned number = inr turned
+
 -- a worker that has taken its turns
-pub goes-through : (limits : Limits) (l m : LedgerState) (q : PassState) (v : Worker) (spent : Spendings) → m ≡ l → Goes limits m q v
-    → is_running v.phase ≡ false → spent ≡ v.meter → IsInBudget spent → IsThrough limits l q (record { spent = spent; phase = v.phase })
-goes-through limits l m q v spent ledger g over same within =
-    subst (λ (n : LedgerState). IsThrough limits n q (record { spent = spent; phase = v.phase })) ledger
-    (subst (λ (s : Spendings). IsThrough limits m q (record { spent = s; phase = v.phase })) (sym same) (record {
+pub goes-through : (limits : Limits) (l m : LedgerState) (q : PassState) (v : Worker) (e : WorkerEnd) → m ≡ l → Goes limits m q v
+    → is_running v.phase ≡ false → e ≡ end_as v → IsInBudget e.spent → IsThrough limits l q e
+goes-through limits l m q v e ledger g over same within =
+    subst (λ (n : LedgerState). IsThrough limits n q e) ledger
+    (subst (IsThrough limits m q) (sym same) (record {
       pass = g.pass;
-      turns = few-turns q.turns (left_to (known_by m q) v) (left_at_first (known_by m q)) g.worker.turns;
+      turns = turns-by-kind (known_by m q) v v.lasso_search g.worker.turns g.worker.kind;
+      kind = ends-kind limits q.number v.property (known_by m q) v.meter v.phase v.lasso_search over g.kind g.worker.kind;
+      numbered = ends-numbered limits q.number v.lasso_search g.kind;
       over = over;
       tells = tells-any v.property 0 (known_by m q) v.meter v.phase over g.worker.phase;
       counted = g.counted;
-      within = subst IsInBudget same within;
+      within = subst (λ (f : WorkerEnd). IsInBudget f.spent) same within;
       steps = steps-last v.meter.steps (searches_left_to (known_by m q) v) (search_steps m.circuit m.properties) (steps_within limits m) g.steps;
     }))
 
@@ -129,10 +159,11 @@ marked-new : (js : List ℕ) → map (λ (m : Marked). m.property) (map (λ (j :
 marked-new [] = refl
 marked-new (j ∷ js) = ap (λ (is : List ℕ). j ∷ is) (marked-new js)
 
-ready-new : (task : Task) (l : LedgerState) (ps : List PassState) (n : ℕ) → AreServed task.circuit task.properties
+ready-new : (task : Task) (l : LedgerState) (ps : List PassState) (n : ℕ) → AreServed task.circuit task.properties → AreLimits task.limits
+    → ServesOne task.limits task.properties → n < task.limits.workers
     → IsBegun task.circuit task.properties task.limits.workers task.limits.skeletons task.given l ps
     → IsReady task.limits task.properties l (new_pass l n)
-ready-new task l ps n served is = record {
+ready-new task l ps n served limits one below is = record {
   pass = record {
     home = refl;
     circuit = ap (λ (b : BoardState). b.circuit) is.first ∙ sym is.circuit;
@@ -140,6 +171,9 @@ ready-new task l ps n served is = record {
     limit = short l.limit (length task.given + task.limits.skeletons) is.limit;
   };
   same = is.properties;
+  within = limits;
+  one = one;
+  number = below;
   served = subst (λ (c : Circuit). AreServed c l.properties) (sym is.circuit)
       (subst (λ (js : List ℕ). AreServed task.circuit js) (sym is.properties) served);
   list = refl;
@@ -183,18 +217,25 @@ new-held task l runners k d is below =
     ∙ ap (new_pass l) (let z : 0 + k ≡ k = omega arith in z))
 
 pub may-run-all : (task : Task) (l : LedgerState) (runners : List Runner) → IsBegunFor task l runners → All (MayRun task.limits task.properties l) runners
-may-run-all task l runners is = λ k d below.
-    (new_pass l k, new-held task l runners k d is below, ready-new task l (new_passes l 0 task.limits.workers) k is.served is.ledger)
+may-run-all task l runners is = λ k d below. (
+  new_pass l k,
+  new-held task l runners k d is below,
+  ready-new task l (new_passes l 0 task.limits.workers) k is.served is.limits is.one (let size = runners-size task l runners is in omega (arith, below, size))
+      is.ledger,
+)
 
 pub have-ended : (limits : Limits) (l : LedgerState) (before after : List Runner) → HaveRun limits l before after → All HasEnded after
 have-ended limits l before after h = λ k d below.
     let run : HasRun limits l (get_or before k d) (get_or after k d) = h.1 k d (omega (arith, below, h.0)) in
     ((run.pass, run.held), (run.end, run.kept))
 
-pub begun-for : (task : Task) (l : LedgerState) (ps : List PassState) (runners : List Runner) → AreServed task.circuit task.properties
+pub begun-for : (task : Task) (l : LedgerState) (ps : List PassState) (runners : List Runner) → AreLimits task.limits
+    → ServesOne task.limits task.properties → AreServed task.circuit task.properties
     → IsBegun task.circuit task.properties task.limits.workers task.limits.skeletons task.given l ps → map (λ r. r.pass) runners ≡ map Some ps
     → IsBegunFor task l runners
-begun-for task l ps runners served is same = record {
+begun-for task l ps runners limits one served is same = record {
+  limits = limits;
+  one = one;
   served = served;
   ledger = subst (λ (qs : List PassState). IsBegun task.circuit task.properties task.limits.workers task.limits.skeletons task.given l qs) is.passes is;
   passes = same ∙ ap (λ (qs : List PassState). map Some qs) is.passes;
@@ -234,7 +275,7 @@ abbrev blank-runner : Runner
 blank-runner = record { pass = None; end = None }
 
 abbrev no-end : Limits → WorkerEnd
-no-end limits = record { spent = fresh_meter limits; phase = phases.Refused }
+no-end limits = record { spent = fresh_meter limits; phase = phases.Refused; done = None }
 
 pub back-of : (task : Task) (l : LedgerState) (before after : List Runner) (ps : List PassState) (es : List WorkerEnd) → IsBegunFor task l before
     → HaveRun task.limits l before after → map Some ps ≡ map (λ r. r.pass) after → map Some es ≡ map (λ r. r.end) after → AreBack task l ps es
@@ -335,11 +376,21 @@ module _ (task : Task) (l : LedgerState) (qs ps : List PassState) (es : List Wor
       subst (λ (js : List ℕ). most-here ≤ 3 * (task.limits.skeletons + 1 + length js) + last_turns js) is.properties
       (most-least l.limit (length l.given) (length task.given) task.limits.skeletons (length l.properties) (last_turns l.properties) is.limit (ap length is.given))
 
-  few : (n : ℕ) → n < task.limits.workers → (pass-of n).turns ≤ most_turns task
-  few n below = within-both (pass-of n).turns most-here (most_turns task) (back.through n (new_pass l n) (no-end task.limits) below).turns least-here
-    where
-      within-both : (t m n : ℕ) → t ≤ m → m ≤ n → t ≤ n
-      within-both t m n a b = omega (arith, a, b)
+  few : (n : ℕ) → n < task.limits.workers → ((pass-of n).turns ≤ most_turns task) ⊎ (length (pass-of n).list ≡ length l.given)
+  few n below =
+      turned-few (known_by l (pass-of n)) (get_or es n (no-end task.limits)).done (most_turns task) least-here
+      (back.through n (new_pass l n) (no-end task.limits) below).turns
+
+  -- a pass that has the given entries alone found none
+  none-own : (n : ℕ) → n < task.limits.workers → length (pass-of n).list ≡ length l.given → found_by n b.entries ≡ []
+  none-own n below same =
+      let on : GoesOn (pass-of n) b = goes n below in
+      let front : (pass-of n).list ≡ l.given =
+      sym (take_all (length (pass-of n).list) (pass-of n).list (omega arith))
+      ∙ sym (take-append-le (length (pass-of n).list) (pass-of n).list on.list.0 (omega arith)) ∙ ap (take (length (pass-of n).list)) (sym on.list.1 ∙ entries-are)
+      ∙ ap (λ (m : ℕ). take m (l.given ++ rest)) same ∙ take-append-le (length l.given) l.given rest (omega arith) ∙ take_all (length l.given) l.given (omega arith)
+      in
+      own-found n below ∙ ap (found_by n) front ∙ none_found n l.given (subst (All (λ (e : CheckedEntry). e.origin ≡ Given)) (sym is.given) origins)
 
   -- where an entry stands that was found
   found-at : (mid after : List CheckedEntry) (e : CheckedEntry) → rest ≡ mid ++ e ∷ after
@@ -348,6 +399,14 @@ module _ (task : Task) (l : LedgerState) (qs ps : List PassState) (es : List Wor
       closed.board.board.found (l.given ++ mid) after e
       (entries-are ∙ ap (λ xs. l.given ++ xs) split ∙ sym (append_assoc l.given mid (e ∷ after)))
       (let given = closed.board.given in omega (arith, given, length-append l.given mid))
+
+  -- which is by no worker that has seen the given entries alone
+  not-found : (n : ℕ) (mid after : List CheckedEntry) (e : CheckedEntry) → n < task.limits.workers → length (pass-of n).list ≡ length l.given
+      → is_by n e.origin ≡ true → b.entries ≡ (l.given ++ mid) ++ e ∷ after → ⊥
+  not-found n mid after e below given mine whole =
+      in-found (λ z. ⊥) n (l.given ++ mid) after e mine
+      (subst (λ (xs : List CheckedEntry). All (λ z. ⊥) (found_by n xs)) whole
+      (subst (λ (xs : List CheckedEntry). All (λ z. ⊥) xs) (sym (none-own n below given)) (All-nil (λ z. ⊥))))
 
   within-by : (mid after : List CheckedEntry) (e : CheckedEntry) (origin : Origin) → rest ≡ mid ++ e ∷ after → e.origin ≡ origin
       → FromWorker origin (IsFind b.circuit (properties_of b.served) b.workers (l.given ++ mid) e)
@@ -366,10 +425,34 @@ module _ (task : Task) (l : LedgerState) (qs ps : List PassState) (es : List Wor
       (subst (λ (xs : List CheckedEntry). All (λ z. turn_of z.origin < (pass-of n).turns) (found_by n xs)) whole all)
       in
       let same : turn_of e.origin ≡ work.turn = ap turn_of from in
-      (let most = few n below in omega (arith, turn, same, most))
+      elim (few n below) [
+        | inl most ↦ omega (arith, turn, same, most)
+        | inr given ↦ absurd (not-found n mid after e below given mine whole)
+      ]
 
   found-within : All (IsFoundWithin (most_turns task)) rest
   found-within = all-splits (IsFoundWithin (most_turns task)) rest (λ mid after e split. within-by mid after e e.origin split refl (found-at mid after e split))
+
+  author-by : (mid after : List CheckedEntry) (e : CheckedEntry) (origin : Origin) → rest ≡ mid ++ e ∷ after → e.origin ≡ origin
+      → FromWorker origin (IsFind b.circuit (properties_of b.served) b.workers (l.given ++ mid) e)
+      → FromWorker origin (λ work. work.author < round_workers task.limits)
+  author-by mid after e Given split from find = absurd find
+  author-by mid after e (FoundBy work) split from find =
+      let n : ℕ = work.author in
+      let below : n < task.limits.workers = (let author = find.author in omega (arith, author, workers-are)) in
+      let mine : is_by n e.origin ≡ true = ap (is_by n) from ∙ eq-eqb n n refl in
+      let whole : b.entries ≡ (l.given ++ mid) ++ e ∷ after = entries-are ∙ ap (λ xs. l.given ++ xs) split ∙ sym (append_assoc l.given mid (e ∷ after)) in
+      let h : IsThrough task.limits l (pass-of n) (get_or es n (no-end task.limits)) = back.through n (new_pass l n) (no-end task.limits) below in
+      let number : IsEndNumbered task.limits n (get_or es n (no-end task.limits)).done =
+      subst (λ (m : ℕ). IsEndNumbered task.limits m (get_or es n (no-end task.limits)).done) (back.number n (new_pass l n) below) h.numbered
+      in
+      elim (turned-kind task.limits n (known_by l (pass-of n)) (get_or es n (no-end task.limits)).done h.turns number) [
+        | inl round ↦ round
+        | inr given ↦ absurd (not-found n mid after e below given mine whole)
+      ]
+
+  authors-rest : All (IsByRoundWorker task.limits) rest
+  authors-rest = all-splits (IsByRoundWorker task.limits) rest (λ mid after e split. author-by mid after e e.origin split refl (found-at mid after e split))
 
   found-rest : (w : ℕ) → found_by w b.entries ≡ found_by w rest
   found-rest w =
@@ -407,6 +490,7 @@ module _ (task : Task) (l : LedgerState) (qs ps : List PassState) (es : List Wor
     given = closed.board.given ∙ ap length is.given;
     entries = (rest, entries-are ∙ ap (λ xs. xs ++ rest) is.given, found-within);
     own = λ w. subst (AscendBy w) (sym rest-is) (own-rest w);
+    authors = subst (All (IsByRoundWorker task.limits)) (sym rest-is) authors-rest;
   }
 
   -- a pass whose list is as long as it may become has the board's
@@ -444,9 +528,12 @@ module _ (task : Task) (l : LedgerState) (qs ps : List PassState) (es : List Wor
   tells-by p spent (phases.AsksLast from) on over h = absurd (false≢true (sym over))
   tells-by p spent phases.LooksLast on over h = absurd (false≢true (sym over))
   tells-by p spent phases.SearchesLast on over h = absurd (false≢true (sym over))
+  tells-by p spent (phases.AsksDeeper after) on over h = absurd (false≢true (sym over))
+  tells-by p spent (phases.Deepens after) on over h = absurd (false≢true (sym over))
   tells-by p spent phases.Closed on over h = settled-by p on h
   tells-by p spent phases.Full on over h = full-by p on h
   tells-by p spent phases.Spent on over h = h
+  tells-by p spent phases.Deep on over h = tt
   tells-by p spent phases.Refused on over h = tt
 
   done-back : (e : WorkerEnd) (k : ℕ) → k < task.limits.workers → IsThrough task.limits l (pass-of k) e → IsDone task b e
@@ -457,6 +544,7 @@ module _ (task : Task) (l : LedgerState) (qs ps : List PassState) (es : List Wor
       most = steps-least task l.circuit l.properties e.spent.steps is.circuit is.properties h.steps;
     };
     tells = tells-by (pass-of k) e.spent e.phase (goes k below) h.over h.tells;
+    kind = kind-told task l.circuit l.properties e.spent e.phase e.done is.circuit is.properties h.kind;
   }
 
   pub all-done : AreDone task b es
@@ -466,4 +554,8 @@ module _ (task : Task) (l : LedgerState) (qs ps : List PassState) (es : List Wor
     each = λ k d below.
         let inside : k < task.limits.workers = omega (arith, below, back.ends) in
         done-back (get_or es k d) k inside (back.through k (new_pass l k) d inside);
+    numbered = λ k d below.
+        let inside : k < task.limits.workers = omega (arith, below, back.ends) in
+        subst (λ (n : ℕ). IsEndNumbered task.limits n (get_or es k d).done) (back.number k (new_pass l k) inside)
+        (back.through k (new_pass l k) d inside).numbered;
   }

@@ -1,5 +1,5 @@
 -- Workers that take turns over one board.
-use Rattle.std.proofs.Common.{◌≡◌, ◌≢◌, ℕ, zero, suc, ◌+◌, ◌-◌, ◌*◌, ◌<◌, ◌≤◌, min, true, false, List, [], ◌∷◌, ◌++◌, ◌⊎◌, inl, inr, None, map, length, get_or, set, take, drop, refl, sym, ap, ◌∙◌, subst, arith}
+use Rattle.std.proofs.Common.{◌≡◌, ◌≢◌, ℕ, zero, suc, ◌+◌, ◌-◌, ◌*◌, ◌<◌, ◌≤◌, min, true, false, List, [], ◌∷◌, ◌++◌, ◌⊎◌, inl, inr, None, Some, map, length, get_or, set, take, drop, refl, sym, ap, ◌∙◌, subst, arith}
 use Rattle.std.specs.Prelude.{Option, Contains, ◌==◌, is_some, IfSome}
 use Rattle.std.specs.List.{All, sum_by}
 use Rattle.std.proofs.Math.Seq.{map-set_same}
@@ -17,22 +17,26 @@ use Rattle.skeleton.specs.Finding.{Asking, IsAllowed}
 use Rattle.wall_store.specs.Boards.{BoardState, IsBoard, FromWorker, is_by, found_by, turn_of, AscendBy, Ascend, plain, properties_of, outcome_of, most_entries, first_board}
 use Rattle.wall_store.specs.Events.{seen_by, list_of, IsSettled}
 use Rattle.wall_store.proofs.Ascending.{ascend_empty, ascend_later, ascend_push, found_own, found_others}
+use Rattle.lasso_bmc.specs.declared.deepening.Deepening.{Deepening}
+use Rattle.lasso_bmc.specs.Searching.{HasNoneWithin}
+use Rattle.fair_workers.specs.declared.lasso_search.LassoSearch.{LassoSearch}
 use Rattle.search_reports.specs.declared.limits.Limits.{Limits}
 use Rattle.fair_workers.specs.declared.working.Phase.{Phase}
 use Rattle.fair_workers.specs.declared.working.Phase.TheVariants as phases
 use Rattle.fair_workers.specs.declared.working.Worker.{Worker}
 use Rattle.fair_workers.specs.declared.board_workers.BoardWorker.{BoardWorker}
 use Rattle.fair_workers.specs.declared.lending.LentBoard.{LentBoard}
-use Rattle.fair_workers.specs.Runs.{Task, AreServed, IsFoundWithin, IsBoardOf, IsWithLimits, IsInBudget, IsFull, last_turns, most_steps, most_turns}
+use Rattle.fair_workers.specs.Runs.{Task, AreLimits, AreServed, ServesOne, IsByRoundWorker, IsFoundWithin, IsBoardOf, IsWithLimits, IsInBudget, IsFull, last_turns, most_depth, most_steps, most_turns, round_workers}
 use Rattle.fair_workers.specs.Knowing.{Known, AreSettled}
-use Rattle.fair_workers.specs.Working.{is_ahead, is_running, left, left_in, left_to, left_at_first, searches_left, searches_left_in, searches_left_to, search_steps, steps_through, room_of, ahead_of, AreRoundsOf, IsStuck, IsIn, IsWorker, Turns, KeepsLimits}
+use Rattle.fair_workers.specs.Working.{is_ahead, is_running, left, left_in, left_to, left_at_first, searches_left, searches_left_in, searches_left_to, search_steps, steps_through, room_of, ahead_of, AreRoundsOf, IsStuck, IsIn, IsWorker, Turns, KeepsLimits, first_left, is_deep, Begins, BeginsAs, HasSolver, IsDeepIn, IsNumbered, IsOfKind, StaysOfKind}
 use Rattle.fair_workers.specs.BoardWorkers.{known_at, known_of, left_by, left_of, searches_left_by, turns_on, steps_on, KeepsWithin, runs_at, turns_at, IsOfTurn, GoesOnBy, StaysLent, IsFresh, IsBoardWorker, TakesTurn, Follows, AreWorkers, ServeTask, HaveEnded}
-use Rattle.fair_workers.specs.Ends.{Tells, IsDone, AreDone}
+use Rattle.fair_workers.specs.Ends.{Tells, IsDone, AreDone, IsEndNumbered, IsEndOfKind, done_in, end_as}
 use Rattle.fair_workers.specs.declared.ending.WorkerEnd.{WorkerEnd}
 use Rattle.fair_workers.proofs.Causes.{steps-least}
 use Rattle.fair_workers.proofs.Ahead.{Stay, ahead-on, ahead-within, count-most, left-on, searches-on}
-use Rattle.fair_workers.proofs.Turned.{turn-within, rounds-same, served-on, past-on, stuck-on, first-on}
-use Rattle.fair_workers.proofs.LentBoards.{is-not-none, some-is, seen-size, seen-within}
+use Rattle.fair_workers.proofs.WorkerKinds.{same-kind, kind-stays, numbered-on, ends-kind, ends-numbered}
+use Rattle.fair_workers.proofs.Turned.{turn-of-kind, rounds-same, served-on, past-on, stuck-on, first-kind-on}
+use Rattle.fair_workers.proofs.LentBoards.{is-not-none, some-is, some-not-none, seen-size, seen-within}
 use Rattle.fair_round.proofs.Counting.{steps-kept, steps-over, steps-last}
 use Rattle.std.proofs.Math.Nat.{mul-le-mul_right}
 
@@ -43,19 +47,25 @@ own-fresh : (b : BoardState) (w turns : ℕ) → length b.entries ≡ b.given �
 own-fresh b w turns fresh =
     ascend_empty w (drop b.given b.entries) turns (ap (found_by w) (drop_all b.given b.entries (omega (arith, fresh))))
 
+authors-fresh : (limits : Limits) (b : BoardState) → length b.entries ≡ b.given → All (IsByRoundWorker limits) (drop b.given b.entries)
+authors-fresh limits b fresh =
+    subst (All (IsByRoundWorker limits)) (sym (drop_all b.given b.entries (omega (arith, fresh)))) (All-nil (IsByRoundWorker limits))
+
 pub workers-none : (limits : Limits) (b : BoardState) → length b.entries ≡ b.given → AreWorkers limits b []
 workers-none limits b fresh = record {
   numbers = λ k below. absurd (omega arith);
   each = All-nil (IsBoardWorker b);
+  kinds = All-nil (λ w. IsNumbered limits w.number w.worker.lasso_search);
   within = All-nil (λ w. IsWithLimits limits w.worker.meter);
   steps = All-nil (KeepsWithin limits b);
   own = λ w. own-fresh b w (turns_at [] w) fresh;
+  authors = authors-fresh limits b fresh;
 }
 
 pub workers-push : (limits : Limits) (b : BoardState) (workers : List BoardWorker) (w : BoardWorker) → AreWorkers limits b workers
-    → w.number ≡ length workers → IsBoardWorker b w → IsWithLimits limits w.worker.meter → KeepsWithin limits b w
+    → w.number ≡ length workers → IsBoardWorker b w → IsNumbered limits w.number w.worker.lasso_search → IsWithLimits limits w.worker.meter → KeepsWithin limits b w
     → length b.entries ≡ b.given → AreWorkers limits b (workers ++ w ∷ [])
-workers-push limits b workers w are number is within sparing fresh =
+workers-push limits b workers w are number is kind within sparing fresh =
     let numbers : List ℕ = map (λ (v : BoardWorker). v.number) workers in
     let size : length numbers ≡ length workers = length-map workers (λ (v : BoardWorker). v.number) in
     let split : map (λ (v : BoardWorker). v.number) (workers ++ w ∷ []) ≡ numbers ++ w.number ∷ [] = map-append (λ (v : BoardWorker). v.number) workers (w ∷ []) in
@@ -69,9 +79,11 @@ workers-push limits b workers w are number is within sparing fresh =
                 ap (λ m. get_or (numbers ++ w.number ∷ []) m 0) at ∙ get_or-append_seam numbers w.number [] 0 ∙ number ∙ sym size ∙ sym at
           ];
       each = All-push (IsBoardWorker b) workers w are.each is;
+      kinds = All-push (λ v. IsNumbered limits v.number v.worker.lasso_search) workers w are.kinds kind;
       within = All-push (λ v. IsWithLimits limits v.worker.meter) workers w are.within within;
       steps = All-push (KeepsWithin limits b) workers w are.steps sparing;
       own = λ v. own-fresh b v (turns_at (workers ++ w ∷ []) v) fresh;
+      authors = authors-fresh limits b fresh;
     }
 
 -- at first a worker has begun nothing
@@ -81,53 +93,99 @@ first-steps s n k r none few = omega (arith, none, few)
 first-searches : (limit seen more ahead properties : ℕ) → limit ≤ seen + more → ahead ≤ properties → (limit - seen) + ahead ≤ more + properties
 first-searches limit seen more ahead properties grows few = omega (arith, grows, few)
 
-pub few-searches : (k : Known) (w : Worker) (more : ℕ) → k.limit ≤ length k.list + more → w.phase ≡ phases.Asks
+-- a lasso worker has no search of rounds
+few-searches : (k : Known) (w : Worker) (more : ℕ) (o : Option LassoSearch) → k.limit ≤ length k.list + more → BeginsAs k.properties w.property w.phase o
     → searches_left_to k w ≤ more + length k.properties
-few-searches k w more grows phase =
+few-searches k w more None grows phase =
     subst (λ p. searches_left_in k w.property p ≤ more + length k.properties) (sym phase)
     (first-searches k.limit (length k.list) more (ahead_of k w.property phases.Asks) (length k.properties) grows
     (count-most (is_ahead k.settled w.property phases.Asks) k.properties))
+few-searches k w more (Some s) grows begins =
+    subst (λ p. searches_left_in k w.property p ≤ more + length k.properties) (sym begins.0) (omega arith)
 
-pub first-within : (k : Known) (w : Worker) (more : ℕ) → k.limit ≤ length k.list + more → w.phase ≡ phases.Asks → w.meter.steps ≡ 0
+pub first-within : (k : Known) (w : Worker) (more : ℕ) → k.limit ≤ length k.list + more → BeginsAs k.properties w.property w.phase w.lasso_search → w.meter.steps ≡ 0
     → steps_through w (searches_left_to k w) (search_steps k.circuit k.properties) ≤ (more + length k.properties) * search_steps k.circuit k.properties
-first-within k w more grows phase none =
+first-within k w more grows begins none =
     first-steps w.meter.steps (searches_left_to k w) (more + length k.properties) (search_steps k.circuit k.properties) none
-    (mul-le-mul_right (search_steps k.circuit k.properties) (few-searches k w more grows phase))
+    (mul-le-mul_right (search_steps k.circuit k.properties) (few-searches k w more w.lasso_search grows begins))
 
 first-turns : (turns limit seen given ahead properties last : ℕ) → turns ≡ 0 → given ≤ seen → ahead ≤ properties
     → turns + (((limit - seen) + ahead) * 3 + last + 3) ≤ ((limit - given) + properties) * 3 + last + 3
 first-turns turns limit seen given ahead properties last none whole few = omega (arith, none, whole, few)
 
-pub first-worker : (k : Known) (w : Worker) → AreServed k.circuit k.properties → w.rounds ≡ None → w.phase ≡ phases.Asks → k.limit ≤ most_entries
-    → k.turns ≡ 0 → k.given ≤ length k.list → IsWorker k w
-first-worker k w served none phase short turns whole = record {
+first-deep : (turns depth : ℕ) → turns ≡ 0 → turns + (depth * 2 + 3) ≤ depth * 2 + 3
+first-deep turns depth none = omega (arith, none)
+
+-- in the phase in which a worker of its kind begins
+first-in-phase : (j : ℕ) (k : Known) (m : Spendings) (p : Phase) (o : Option LassoSearch) → BeginsAs k.properties j p o → IsIn j k m p
+first-in-phase j k m p None phase = subst (λ q. IsIn j k m q) (sym phase) tt
+first-in-phase j k m p (Some s) begins = subst (λ q. IsIn j k m q) (sym begins.0) tt
+
+-- no lasso is without positions
+none-at-first : (c : Circuit) (j : ℕ) → HasNoneWithin c j 0
+none-at-first c j run from is few = absurd (let inside = is.inside in omega (arith, inside, few))
+
+first-of-kind : (limits : Limits) (n j : ℕ) (k : Known) (m : Spendings) (p : Phase) (o : Option LassoSearch) → limits.depth ≤ most_depth → IsNumbered limits n o
+    → length k.list ≡ k.given → BeginsAs k.properties j p o → IsOfKind j k m p o
+first-of-kind limits n j k m p None short number list phase = ap is_deep phase
+first-of-kind limits n j k m p (Some s) short number list begins = (
+  record {
+    only = begins.3;
+    list = list;
+    search = record {
+      short = (let same = number.1 in omega (arith, same, short));
+      within = (let none = begins.1 in omega (arith, none));
+      none = subst (λ (done : ℕ). HasNoneWithin k.circuit j done) (sym begins.1) (none-at-first k.circuit j);
+    };
+  },
+  subst (λ q. IsDeepIn k.circuit j m s q) (sym begins.0) (record {
+    solver = subst (λ (d : Option Deepening). HasSolver k.circuit j s.done d) (sym begins.2) begins.1;
+    most = (let none = begins.1 in omega (arith, none));
+    least = omega arith;
+  }),
+)
+
+first-turns-of : (k : Known) (w : Worker) (o : Option LassoSearch) → BeginsAs k.properties w.property w.phase o → k.turns ≡ 0 → k.given ≤ length k.list
+    → k.turns + left_to k w ≤ first_left k o
+first-turns-of k w None phase turns whole =
+    subst (λ p. k.turns + left_in k w.property p ≤ left_at_first k) (sym phase)
+    (first-turns k.turns k.limit (length k.list) k.given (ahead_of k w.property phases.Asks) (length k.properties) (last_turns k.properties) turns whole
+    (count-most (is_ahead k.settled w.property phases.Asks) k.properties))
+first-turns-of k w (Some s) begins turns whole =
+    subst (λ p. k.turns + left_in k w.property p ≤ s.depth * 2 + 3) (sym begins.0) (first-deep k.turns s.depth turns)
+
+whole-list : (m n : ℕ) → m ≡ n → n ≤ m
+whole-list m n same = omega (arith, same)
+
+pub first-worker : (limits : Limits) (n : ℕ) (k : Known) (w : Worker) → limits.depth ≤ most_depth → AreServed k.circuit k.properties → Begins limits k.properties n w
+    → k.limit ≤ most_entries → k.turns ≡ 0 → length k.list ≡ k.given → IsWorker k w
+first-worker limits n k w deep served begins short turns whole = record {
   served = served;
-  rounds = subst (λ (r : Option Asking). IfSome r (AreRoundsOf k.circuit w.property (plain k.list))) (sym none) tt;
-  phase = subst (λ p. IsIn w.property k w.meter p) (sym phase) tt;
+  rounds = subst (λ (r : Option Asking). IfSome r (AreRoundsOf k.circuit w.property (plain k.list))) (sym begins.rounds) tt;
+  phase = first-in-phase w.property k w.meter w.phase w.lasso_search begins.begins;
   short = short;
-  turns = subst (λ p. k.turns + left_in k w.property p ≤ left_at_first k) (sym phase)
-      (first-turns k.turns k.limit (length k.list) k.given (ahead_of k w.property phases.Asks) (length k.properties) (last_turns k.properties) turns whole
-      (count-most (is_ahead k.settled w.property phases.Asks) k.properties));
+  kind = first-of-kind limits n w.property k w.meter w.phase w.lasso_search deep begins.kind whole begins.begins;
+  turns = first-turns-of k w w.lasso_search begins.begins turns (whole-list (length k.list) k.given whole);
 }
 
 seen-all : (b : BoardState) (n : ℕ) → IsBoard b → n < b.workers → seen_by b n ≡ length b.entries → length (list_of b n) ≡ length b.entries
 seen-all b n is below whole = seen-size b n is below ∙ whole
 
-pub worker-first : (b : BoardState) (m : BoardWorker) → IsBoard b → m.number < b.workers → AreServed b.circuit (properties_of b.served)
-    → m.worker.rounds ≡ None → m.worker.phase ≡ phases.Asks → m.turns ≡ 0 → m.seen ≡ seen_by b m.number → seen_by b m.number ≡ length b.entries
-    → IsBoardWorker b m
-worker-first b m is below served none phase turns seen whole = record {
+pub worker-first : (limits : Limits) (b : BoardState) (m : BoardWorker) → IsBoard b → m.number < b.workers → limits.depth ≤ most_depth
+    → AreServed b.circuit (properties_of b.served) → Begins limits (properties_of b.served) m.number m.worker → m.turns ≡ 0
+    → m.seen ≡ seen_by b m.number → seen_by b m.number ≡ length b.entries → length b.entries ≡ b.given → IsBoardWorker b m
+worker-first limits b m is below deep served begins turns seen whole fresh = record {
   number = below;
   seen = seen;
-  worker = first-worker (known_at b m.number m.turns) m.worker served none phase is.limit turns
-      (let given = is.given in omega (arith, given, seen-all b m.number is below whole));
+  worker = first-worker limits m.number (known_at b m.number m.turns) m.worker deep served begins is.limit turns
+      (seen-all b m.number is below whole ∙ fresh);
 }
 
 -- at the beginning the whole list has been seen, and the list may grow by so many entries
 pub sparing-first : (limits : Limits) (b : BoardState) (m : BoardWorker) → IsBoard b → m.number < b.workers → b.limit ≤ length b.entries + limits.skeletons
-    → seen_by b m.number ≡ length b.entries → m.worker.phase ≡ phases.Asks → m.worker.meter.steps ≡ 0 → KeepsWithin limits b m
-sparing-first limits b m is below grows whole phase none =
-    first-within (known_at b m.number m.turns) m.worker limits.skeletons (omega (arith, grows, seen-all b m.number is below whole)) phase none
+    → seen_by b m.number ≡ length b.entries → Begins limits (properties_of b.served) m.number m.worker → m.worker.meter.steps ≡ 0 → KeepsWithin limits b m
+sparing-first limits b m is below grows whole begins none =
+    first-within (known_at b m.number m.turns) m.worker limits.skeletons (omega (arith, grows, seen-all b m.number is below whole)) begins.begins none
 
 -- ---- whose turn it is
 
@@ -175,9 +233,12 @@ phase-stays j k l meter phases.SearchesLast circuit properties limit list stay h
   served = subst (λ (js : List ℕ). Contains js j) (sym properties) h.served;
   past = past-on j k l circuit properties limit list stay h.past;
 }
+phase-stays j k l meter (phases.AsksDeeper after) circuit properties limit list stay h = tt
+phase-stays j k l meter (phases.Deepens after) circuit properties limit list stay h = tt
 phase-stays j k l meter phases.Closed circuit properties limit list stay h = λ i inside. stay i (h i (subst (λ (js : List ℕ). Contains js i) properties inside))
 phase-stays j k l meter phases.Full circuit properties limit list stay h = stuck-on k l circuit properties limit list stay h
 phase-stays j k l meter phases.Spent circuit properties limit list stay h = h
+phase-stays j k l meter phases.Deep circuit properties limit list stay h = tt
 phase-stays j k l meter phases.Refused circuit properties limit list stay h = tt
 
 room-same : (k l : Known) → l.limit ≡ k.limit → l.list ≡ k.list → room_of l ≤ room_of k
@@ -206,8 +267,10 @@ worker-stays k l w circuit properties turns given limit list stay is = record {
   rounds = rounds-same w.rounds w.property k l circuit list is.rounds;
   phase = phase-stays w.property k l w.meter w.phase circuit properties limit list stay is.phase;
   short = subst (λ (n : ℕ). n ≤ most_entries) (sym limit) is.short;
-  turns = turns-stay k.turns l.turns (left_to k w) (left_to l w) (left_at_first k) (left_at_first l) turns (left-stays k l w properties limit list stay) is.turns
-      (first-on k l limit given properties);
+  kind = kind-stays w.property k l w.meter w.phase w.lasso_search circuit properties given list is.kind;
+  turns = turns-stay k.turns l.turns (left_to k w) (left_to l w) (first_left k w.lasso_search) (first_left l w.lasso_search) turns
+      (left-stays k l w properties limit list stay) is.turns
+      (first-kind-on k l w.lasso_search w.lasso_search limit given properties (same-kind w.lasso_search));
 }
 
 settled-stay : (b c : BoardState) (n turn : ℕ) → GoesOnBy n turn b c → Stay (λ j. is_some (outcome_of b.served j)) (λ j. is_some (outcome_of c.served j))
@@ -344,6 +407,60 @@ each-other P limits b workers k w v are below mine here others = λ i d inside.
           (others i d there (λ e. other (sym (number-at limits b workers i d are there) ∙ e ∙ mine)))
     ]
 
+-- a lasso worker has seen the given entries alone
+seen-by-kind : (j : ℕ) (k : Known) (m : Spendings) (p : Phase) (o : Option LassoSearch) (s : LassoSearch) → o ≡ Some s → IsOfKind j k m p o → length k.list ≡ k.given
+seen-by-kind j k m p None s same is = absurd (some-not-none s (sym same))
+seen-by-kind j k m p (Some t) s same is = is.0.list
+
+has-by-kind : (o q : Option LassoSearch) (s : LassoSearch) → o ≡ Some s → StaysOfKind o q → (t : LassoSearch) × (q ≡ Some t)
+has-by-kind None q s same stays = absurd (some-not-none s (sym same))
+has-by-kind (Some t) None s same stays = absurd stays
+has-by-kind (Some t) (Some u) s same stays = (u, refl)
+
+no-more : (xs : List CheckedEntry) (m n : ℕ) → m ≡ n + length xs → m ≤ n → xs ≡ []
+no-more [] m n grown few = refl
+no-more (x ∷ xs) m n grown few = absurd (omega (arith, grown, few))
+
+-- what a lasso worker leaves of the list
+quiet-turn : (b c : BoardState) (m n : BoardWorker) (s : LassoSearch) → IsBoard b → IsBoard c → IsBoardWorker b m → (turn : TakesTurn b m c n)
+    → m.worker.lasso_search ≡ Some s → turn.board.entries.0 ≡ []
+quiet-turn b c m n s before after is turn has =
+    let on : GoesOnBy m.number m.turns b c = turn.board in
+    let later = has-by-kind m.worker.lasso_search n.worker.lasso_search s has turn.kind in
+    let was : length (list_of b m.number) ≡ b.given =
+    seen-by-kind m.worker.property (known_at b m.number m.turns) m.worker.meter m.worker.phase m.worker.lasso_search s has is.worker.kind
+    in
+    let now : length (list_of c n.number) ≡ c.given =
+    seen-by-kind n.worker.property (known_at c n.number n.turns) n.worker.meter n.worker.phase n.worker.lasso_search later.0 later.1 turn.worker.worker.kind
+    in
+    let seen : seen_by c m.number ≤ seen_by b m.number =
+    subst (λ (i : ℕ). seen_by c i ≤ seen_by b m.number) turn.number
+    (omega (arith, was, now, on.given, seen-size b m.number before is.number, seen-size c n.number after turn.worker.number))
+    in
+    no-more on.entries.0 (length c.entries) (length b.entries) (ap length on.entries.1 ∙ length-append b.entries on.entries.0) (on.quiet seen)
+
+-- who found what a turn adds
+turn-authors : (limits : Limits) (b c : BoardState) (w v : BoardWorker) (o : Option LassoSearch) → w.worker.lasso_search ≡ o → IsBoard b → IsBoard c
+    → IsBoardWorker b w → IsNumbered limits w.number o → (turn : TakesTurn b w c v) → All (IsByRoundWorker limits) turn.board.entries.0
+turn-authors limits b c w v None has before after is number turn =
+    All-weaker (IsOfTurn w.number w.turns) (IsByRoundWorker limits) (λ e found. author-of w.number w.turns (round_workers limits) e.origin number found)
+    turn.board.entries.0 turn.board.entries.2
+  where
+    author-of : (n turn most : ℕ) (origin : Origin) → n < most → FromWorker origin (λ work. (work.author ≡ n) × (work.turn ≡ turn))
+        → FromWorker origin (λ work. work.author < most)
+    author-of n turn most Given below found = found
+    author-of n turn most (FoundBy work) below found = omega (arith, below, found.0)
+turn-authors limits b c w v (Some s) has before after is number turn =
+    subst (All (IsByRoundWorker limits)) (sym (quiet-turn b c w v s before after is turn has)) (All-nil (IsByRoundWorker limits))
+
+authors-turned : (limits : Limits) (b c : BoardState) (w v : BoardWorker) → IsBoard b → IsBoard c → IsBoardWorker b w
+    → IsNumbered limits w.number w.worker.lasso_search → TakesTurn b w c v → All (IsByRoundWorker limits) (drop b.given b.entries)
+    → All (IsByRoundWorker limits) (drop c.given c.entries)
+authors-turned limits b c w v before after is number turn authors =
+    subst (All (IsByRoundWorker limits)) (sym (found-on w.number w.turns b c before.given turn.board))
+    (All-append (IsByRoundWorker limits) (drop b.given b.entries) turn.board.entries.0 authors
+    (turn-authors limits b c w v w.worker.lasso_search refl before after is number turn))
+
 pub workers-turn : (limits : Limits) (b c : BoardState) (workers : List BoardWorker) (k : ℕ) (w v : BoardWorker) → IsBoard b → IsBoard c
     → AreWorkers limits b workers → k < length workers → w ≡ get_or workers k w → TakesTurn b w c v → AreWorkers limits c (set workers k v)
 workers-turn limits b c workers k w v board after are below at turn =
@@ -355,6 +472,10 @@ workers-turn limits b c workers k w v board after are below at turn =
       numbers = λ i inside. ap (λ xs. get_or xs i 0) numbers_same ∙ are.numbers i (omega (arith, inside, length-set workers k v));
       each = each-other (IsBoardWorker c) limits b workers k w v are below mine turn.worker
           (λ i d there other. other-stays w.number w.turns b c (get_or workers i d) board other turn.board (are.each i d there));
+      kinds = All-set (λ u. IsNumbered limits u.number u.worker.lasso_search) workers k v
+          (subst (λ (n : ℕ). IsNumbered limits n v.worker.lasso_search) (sym turn.number)
+          (numbered-on limits w.number w.worker.lasso_search v.worker.lasso_search turn.kind
+          (subst (λ (u : BoardWorker). IsNumbered limits u.number u.worker.lasso_search) (sym at) (are.kinds k w below)))) are.kinds;
       within = All-set (λ u. IsWithLimits limits u.worker.meter) workers k v
           (within-on limits w.worker.meter v.worker.meter turn.limits
           (subst (λ (u : BoardWorker). IsWithLimits limits u.worker.meter) (sym at) (are.within k w below))) are.within;
@@ -368,6 +489,8 @@ workers-turn limits b c workers k w v board after are below at turn =
           each-other (KeepsWithin limits c) limits b workers k w v are below mine here
           (λ i d there other. other-within limits w.number w.turns b c (get_or workers i d) board other turn.board (are.each i d there) (are.steps i d there));
       own = own-turned b c workers k w v board below at mine turn are.own;
+      authors = authors-turned limits b c w v board after (subst (IsBoardWorker b) (sym at) (are.each k w below))
+          (subst (λ (u : BoardWorker). IsNumbered limits u.number u.worker.lasso_search) (sym at) (are.kinds k w below)) turn are.authors;
     }
 
 -- a turn of a worker to which the board is lent
@@ -385,6 +508,7 @@ board-turn b m t v board is stays turn = record {
   number = refl;
   one = stays.one;
   paid = stays.paid;
+  kind = turn.kind;
   limits = turn.limits;
   less = subst (λ (n : ℕ). left_to (known_at t.board n t.turns) v < left_by b m) stays.number turn.less;
   steps = subst (λ (n : ℕ). steps_through v (searches_left_to (known_at t.board n t.turns) v) (steps_on b) ≤ steps_through m.worker (searches_left_by b m) (steps_on b))
@@ -437,12 +561,19 @@ within-more : (most more : ℕ) (origin : Origin) → most ≤ more → FromWork
 within-more most more Given less found = found
 within-more most more (FoundBy work) less found = omega (arith, less, found)
 
-pub follows-turn : (b c : BoardState) (m n : BoardWorker) → IsBoard c → IsBoardWorker b m → is_running m.worker.phase ≡ true → TakesTurn b m c n
+pub follows-turn : (b c : BoardState) (m n : BoardWorker) → IsBoard b → IsBoard c → IsBoardWorker b m → is_running m.worker.phase ≡ true → TakesTurn b m c n
     → Follows b c
-follows-turn b c m n after is running turn =
+follows-turn b c m n before after is running turn =
     let most : ℕ = turns_on b in
-    let below : m.turns < most = turn-within (known_at b m.number m.turns) m.worker is.worker running in
     let on : GoesOnBy m.number m.turns b c = turn.board in
+    let found : All (IsFoundWithin most) on.entries.0 =
+    elim (turn-of-kind (known_at b m.number m.turns) m.worker m.worker.lasso_search refl is.worker running) [
+      | inl below ↦
+          All-weaker (IsOfTurn m.number m.turns) (IsFoundWithin most) (λ e found. within-of m.number m.turns most e.origin below found) on.entries.0 on.entries.2
+      | inr search ↦
+          subst (All (IsFoundWithin most)) (sym (quiet-turn b c m n search.0 before after is turn search.1)) (All-nil (IsFoundWithin most))
+    ]
+    in
     record {
       board = after;
       circuit = on.circuit;
@@ -450,11 +581,7 @@ follows-turn b c m n after is running turn =
       workers = on.workers;
       limit = on.limit;
       given = on.given;
-      entries = (
-        on.entries.0,
-        on.entries.1,
-        All-weaker (IsOfTurn m.number m.turns) (IsFoundWithin most) (λ e found. within-of m.number m.turns most e.origin below found) on.entries.0 on.entries.2,
-      );
+      entries = (on.entries.0, on.entries.1, found);
     }
 
 pub most-least : (limit first given more properties last : ℕ) → limit ≡ min (given + more) most_entries → first ≡ given
@@ -473,8 +600,9 @@ turns-least task b is =
     subst (λ (js : List ℕ). turns_on b ≤ 3 * (task.limits.skeletons + 1 + length js) + last_turns js) is.properties
     (most-least b.limit b.given (length task.given) task.limits.skeletons (length (properties_of b.served)) (last_turns (properties_of b.served)) is.limit is.given)
 
-board-of-on : (task : Task) (b c : BoardState) → IsBoardOf task b → Follows b c → ((w : ℕ) → AscendBy w (drop c.given c.entries)) → IsBoardOf task c
-board-of-on task b c is on own = record {
+board-of-on : (task : Task) (b c : BoardState) → IsBoardOf task b → Follows b c → ((w : ℕ) → AscendBy w (drop c.given c.entries))
+    → All (IsByRoundWorker task.limits) (drop c.given c.entries) → IsBoardOf task c
+board-of-on task b c is on own authors = record {
   board = on.board;
   circuit = on.circuit ∙ is.circuit;
   properties = on.properties ∙ is.properties;
@@ -489,12 +617,13 @@ board-of-on task b c is on own = record {
         (λ e found. within-more (turns_on b) (most_turns task) e.origin (turns-least task b is) found) on.entries.0 on.entries.2),
   );
   own = λ w. subst (λ (n : ℕ). AscendBy w (drop n c.entries)) (on.given ∙ is.given) (own w);
+  authors = subst (λ (n : ℕ). All (IsByRoundWorker task.limits) (drop n c.entries)) (on.given ∙ is.given) authors;
 }
 
 pub workers-on : (task : Task) (b c : BoardState) (workers later : List BoardWorker) → ServeTask task b workers → Follows b c
     → AreWorkers task.limits c later → length later ≡ length workers → ServeTask task c later
 workers-on task b c workers later is on are size = record {
-  board = board-of-on task b c is.board on (λ w. (are.own w).0);
+  board = board-of-on task b c is.board on (λ w. (are.own w).0) are.authors;
   count = size ∙ is.count;
   workers = are;
 }
@@ -528,13 +657,23 @@ told j b n turns meter phases.Searches is below ended h = absurd (false≢true (
 told j b n turns meter (phases.AsksLast from) is below ended h = absurd (false≢true (sym ended))
 told j b n turns meter phases.LooksLast is below ended h = absurd (false≢true (sym ended))
 told j b n turns meter phases.SearchesLast is below ended h = absurd (false≢true (sym ended))
+told j b n turns meter (phases.AsksDeeper after) is below ended h = absurd (false≢true (sym ended))
+told j b n turns meter (phases.Deepens after) is below ended h = absurd (false≢true (sym ended))
 told j b n turns meter phases.Closed is below ended h = settled-on b n turns h
 told j b n turns meter phases.Full is below ended h = full-on b n turns is below h
 told j b n turns meter phases.Spent is below ended h = h
+told j b n turns meter phases.Deep is below ended h = tt
 told j b n turns meter phases.Refused is below ended h = tt
 
 abbrev end_of : BoardWorker → WorkerEnd
-end_of m = record { spent = m.worker.meter; phase = m.worker.phase }
+end_of m = end_as m.worker
+
+-- in the words of the task
+pub kind-told : (task : Task) (c : Circuit) (properties : List ℕ) (spent : Spendings) (p : Phase) (done : Option ℕ) → c ≡ task.circuit → properties ≡ task.properties
+    → IsEndOfKind task.limits c properties spent p done → IsEndOfKind task.limits task.circuit task.properties spent p done
+kind-told task c properties spent p done circuit same is =
+    subst (λ (js : List ℕ). IsEndOfKind task.limits task.circuit js spent p done) same
+    (subst (λ (d : Circuit). IsEndOfKind task.limits d properties spent p done) circuit is)
 
 done-with : (task : Task) (b : BoardState) (workers : List BoardWorker) (k : ℕ) (d : BoardWorker) → ServeTask task b workers
     → HaveEnded workers → k < length workers → IsInBudget (get_or workers k d).worker.meter → IsDone task b (end_of (get_or workers k d))
@@ -551,11 +690,29 @@ done-with task b workers k d is over below within =
       };
       tells = told m.worker.property b m.number m.turns m.worker.meter m.worker.phase is.board.board mine.number (runs-here workers k d below ∙ over k below)
           mine.worker.phase;
+      kind = kind-told task b.circuit (properties_of b.served) m.worker.meter m.worker.phase (done_in m.worker.lasso_search) is.board.circuit is.board.properties
+          (ends-kind task.limits m.number m.worker.property (known_at b m.number m.turns) m.worker.meter m.worker.phase m.worker.lasso_search
+          (runs-here workers k d below ∙ over k below) (is.workers.kinds k d below) mine.worker.kind);
     }
+
+-- the ends of workers are in the order of their numbers
+ends-in-order : (task : Task) (b : BoardState) (workers : List BoardWorker) → AreWorkers task.limits b workers
+    → (k : ℕ) (d : WorkerEnd) → k < length (map end_of workers) → IsEndNumbered task.limits k (get_or (map end_of workers) k d).done
+ends-in-order task b workers are k d below =
+    let inside : k < length workers = omega (arith, below, length-map workers end_of) in
+    let none : BoardWorker = first-one workers k inside in
+    let m : BoardWorker = get_or workers k none in
+    subst (λ (e : WorkerEnd). IsEndNumbered task.limits k e.done) (sym (get_or-map end_of workers k none d inside))
+    (subst (λ (n : ℕ). IsEndNumbered task.limits n (done_in m.worker.lasso_search)) (number-at task.limits b workers k none are inside)
+    (ends-numbered task.limits m.number m.worker.lasso_search (are.kinds k none inside)))
+  where
+    first-one : (workers : List BoardWorker) (k : ℕ) → k < length workers → BoardWorker
+    first-one [] k below = absurd (omega arith)
+    first-one (w ∷ workers) k below = w
 
 -- workers that have all ended are done with their board
 pub done-all : (task : Task) (b : BoardState) (workers : List BoardWorker) (ends : List WorkerEnd) → ServeTask task b workers
-    → HaveEnded workers → ends ≡ map (λ m. record { spent = m.worker.meter; phase = m.worker.phase }) workers → All (λ e. IsInBudget e.spent) ends
+    → HaveEnded workers → ends ≡ map (λ m. end_as m.worker) workers → All (λ e. IsInBudget e.spent) ends
     → AreDone task b ends
 done-all task b workers ends is over same within =
     let all : All (λ (e : WorkerEnd). IsInBudget e.spent) (map end_of workers) = subst (All (λ (e : WorkerEnd). IsInBudget e.spent)) same within in
@@ -567,6 +724,8 @@ done-all task b workers ends is over same within =
       count = ap length same ∙ length-map workers end_of ∙ is.count;
       each = subst (All (IsDone task b)) (sym same)
           (All-map (IsDone task b) end_of workers (λ k d below. done-with task b workers k d is over below (budget k d below)));
+      numbered = subst (λ (es : List WorkerEnd). (k : ℕ) (d : WorkerEnd) → k < length es → IsEndNumbered task.limits k (get_or es k d).done) (sym same)
+          (ends-in-order task b workers is.workers);
     }
 
 -- ---- the first board
@@ -593,6 +752,9 @@ first-of b task e is = record {
   entries = ([], ap (λ (d : BoardState). d.entries) e ∙ sym (append-nil task.given), All-nil (IsFoundWithin (most_turns task)));
   own = λ w. (ascend_empty w (drop (length task.given) b.entries) 0
       (ap (λ (d : BoardState). found_by w (drop (length task.given) d.entries)) e ∙ ap (found_by w) (drop_all (length task.given) task.given (omega arith)))).0;
+  authors = subst (All (IsByRoundWorker task.limits))
+      (sym (ap (λ (d : BoardState). drop (length task.given) d.entries) e ∙ drop_all (length task.given) task.given (omega arith)))
+      (All-nil (IsByRoundWorker task.limits));
 }
 
 pub first-fresh : (b : BoardState) (c : Circuit) (properties : List ℕ) (workers more : ℕ) (given : List CheckedEntry)
@@ -609,8 +771,11 @@ first-grows b c properties workers more given e =
 
 -- over it workers may begin
 pub fresh-of : (b : BoardState) (task : Task) → b ≡ first_board task.circuit task.properties task.limits.workers task.limits.skeletons task.given
-    → AreServed task.circuit task.properties → IsFresh task b
-fresh-of b task e served = record {
+    → AreServed task.circuit task.properties → AreLimits task.limits → ServesOne task.limits task.properties → IsFresh task b
+fresh-of b task e served limits one = record {
+  limits = limits;
+  one = one;
+  properties = ap (λ (d : BoardState). properties_of d.served) e ∙ served-of task.properties;
   served = subst (λ (d : BoardState). AreServed d.circuit (properties_of d.served)) (sym e)
       (subst (λ (js : List ℕ). AreServed task.circuit js) (sym (served-of task.properties)) served);
   workers = sym (ap (λ (d : BoardState). d.workers) e);

@@ -1,5 +1,5 @@
 -- What a worker's calls come to, by what it knows.
-use Rattle.std.proofs.Common.{◌≡◌, ℕ, max, min, ◌+◌, ◌-◌, ◌*◌, ◌^◌, ◌<◌, ◌≤◌, Bool, true, false, cond, inl, inr, List, [], ◌∷◌, ◌++◌, length, get_or, refl, sym, ap, ◌∙◌, subst, arith}
+use Rattle.std.proofs.Common.{◌≡◌, ℕ, max, min, ◌+◌, ◌-◌, ◌*◌, ◌^◌, ◌<◌, ◌≤◌, Bool, true, false, cond, ◌⊎◌, inl, inr, List, [], ◌∷◌, ◌++◌, length, get_or, refl, sym, ap, ◌∙◌, subst, arith}
 use Rattle.std.specs.Prelude.{◌==◌, nat_lt, Option, Some, None, Result, Ok, Err, Contains, IfSome, IfOk}
 use Rattle.std.specs.List.{Any, All, AllPairs}
 use Rattle.std.proofs.lemmas.Bool.{false≢true, both_ways, cases_lt, cases_Bool, eqb-true, eqb-false, ltb-true, ltb-false}
@@ -24,7 +24,9 @@ use Rattle.fair_workers.specs.Knowing.{Known, AreSettled, Keeps, KeepsList, Sees
 use Rattle.fair_workers.specs.declared.working.Phase.{Phase}
 use Rattle.fair_workers.specs.declared.working.Phase.TheVariants as phases
 use Rattle.fair_workers.specs.declared.working.Worker.{Worker}
-use Rattle.fair_workers.specs.Working.{left, left_in, left_to, left_at_first, searches_in, searches_left, searches_left_in, searches_left_to, search_steps, steps_through, room_of, ahead_of, is_running, phase_after, phase_finished, phase_passed, serving, asked, asked_last, AreRoundsOf, IsAtLimit, IsAllowing, IsStuck, IsPast, ServesLast, IsIn, IsWorker, Turns, Thinks}
+use Rattle.fair_workers.specs.Working.{left, left_in, left_to, left_at_first, searches_in, searches_left, searches_left_in, searches_left_to, search_steps, steps_through, room_of, ahead_of, is_running, phase_after, phase_finished, phase_passed, serving, asked, asked_last, AreRoundsOf, IsAtLimit, IsAllowing, IsStuck, IsPast, ServesLast, IsIn, IsOfKind, IsWorker, StaysOfKind, Turns, Thinks, first_left, is_deep, is_round}
+use Rattle.fair_workers.specs.declared.lasso_search.LassoSearch.{LassoSearch}
+use Rattle.fair_workers.proofs.WorkerKinds.{same-kind, round-kind, round-runs, kind-thinks}
 use Rattle.fair_workers.proofs.Ahead.{Stay, was-open, only-in, none-above, are-two, last-of-two, some-in, ahead-on, looks-ahead, asks-ahead, full-ahead, last-looks-ahead, passed-ahead, passed-out, finished-ahead, finished-out, settled-out, serves-searches, serves-last, ahead-within, ahead-less, searches-some, looks-some, last-some, running-left, ended-left, ended-searches, turn-searches, left-on, searches-on, situations-within}
 use Rattle.fair_round.proofs.Counting.{steps-fewer, steps-behind}
 
@@ -94,7 +96,7 @@ full-same k l sees full =
 -- ---- one property
 
 -- an outcome of the only property settles all
-settled-only : (j : ℕ) (k : Known) → length k.properties ≡ 1 → Contains k.properties j → k.settled j ≡ true → AreSettled k
+pub settled-only : (j : ℕ) (k : Known) → length k.properties ≡ 1 → Contains k.properties j → k.settled j ≡ true → AreSettled k
 settled-only j k one inside has i there = subst (λ (m : ℕ). k.settled m ≡ true) (sym (only-in k.properties i j one there inside)) has
 
 -- ---- what a full list allows
@@ -212,30 +214,50 @@ first-on k l limit given properties =
     first-kept k.limit l.limit k.given l.given (length k.properties) (length l.properties) (last_turns k.properties) (last_turns l.properties) limit given
     (ap length properties) (ap last_turns properties)
 
-turns-on : (t u a b m n : ℕ) → u ≤ t + 1 → b < a → t + a ≤ m → m ≤ n → u + b ≤ n
+pub turns-on : (t u a b m n : ℕ) → u ≤ t + 1 → b < a → t + a ≤ m → m ≤ n → u + b ≤ n
 turns-on t u a b m n one less within most = omega (arith, one, less, within, most)
 
-short-on : (m n : ℕ) → n ≡ m → m ≤ most_entries → n ≤ most_entries
+pub short-on : (m n : ℕ) → n ≡ m → m ≤ most_entries → n ≤ most_entries
 short-on m n limit short = omega (arith, limit, short)
 
+-- a worker has as many turns at first as before
+pub first-kind-on : (k l : Known) (o q : Option LassoSearch) → l.limit ≡ k.limit → l.given ≡ k.given → l.properties ≡ k.properties → StaysOfKind o q
+    → first_left k o ≤ first_left l q
+first-kind-on k l None None limit given properties stays = first-on k l limit given properties
+first-kind-on k l None (Some t) limit given properties stays = absurd stays
+first-kind-on k l (Some s) None limit given properties stays = absurd stays
+first-kind-on k l (Some s) (Some t) limit given properties stays = omega (arith, stays)
+
 -- A turn, by what it leaves: the worker v has spent nothing more.
-made-turn : (searches : ℕ) (k l : Known) (w v : Worker) → IsWorker k w → Keeps k l → v.meter ≡ w.meter
-    → IfSome v.rounds (AreRoundsOf l.circuit v.property (plain l.list)) → IsIn v.property l v.meter v.phase → left_to l v < left_to k w
-    → searches_left_to l v + searches ≤ searches_left_to k w → Turns searches k w l v
-made-turn searches k l w v is kept meter rounds here less fewer = record {
+pub made-turn : (searches : ℕ) (k l : Known) (w v : Worker) → IsWorker k w → StaysOfKind w.lasso_search v.lasso_search → IsOfKind v.property l v.meter v.phase v.lasso_search
+    → Keeps k l → v.meter ≡ w.meter → IfSome v.rounds (AreRoundsOf l.circuit v.property (plain l.list)) → IsIn v.property l v.meter v.phase
+    → left_to l v < left_to k w → searches_left_to l v + searches ≤ searches_left_to k w → Turns searches k w l v
+made-turn searches k l w v is stays kind kept meter rounds here less fewer = record {
   worker = record {
     served = served-on k l kept.circuit kept.properties is.served;
     rounds = rounds;
     phase = here;
     short = short-on k.limit l.limit kept.limit is.short;
-    turns = turns-on k.turns l.turns (left_to k w) (left_to l v) (left_at_first k) (left_at_first l) kept.turns less is.turns
-        (first-on k l kept.limit kept.given kept.properties);
+    kind = kind;
+    turns = turns-on k.turns l.turns (left_to k w) (left_to l v) (first_left k w.lasso_search) (first_left l v.lasso_search) kept.turns less is.turns
+        (first-kind-on k l w.lasso_search v.lasso_search kept.limit kept.given kept.properties stays);
   };
+  kind = stays;
   limits = record { conflicts = ap (λ (s : Spendings). s.conflict_limit) meter; steps = ap (λ (s : Spendings). s.step_limit) meter };
   less = less;
   steps = steps-fewer v.meter.steps w.meter.steps (searches_left_to l v) (searches_left_to k w) searches (search_steps k.circuit k.properties)
       (omega (arith, ap (λ (s : Spendings). s.steps) meter)) fewer;
 }
+
+-- the same of a worker that is in a phase of rounds, and stays so or ends
+round-turn : (searches : ℕ) (k l : Known) (w v : Worker) → IsWorker k w → is_round w.phase ≡ true → v.lasso_search ≡ w.lasso_search → is_deep v.phase ≡ false
+    → Keeps k l → v.meter ≡ w.meter → IfSome v.rounds (AreRoundsOf l.circuit v.property (plain l.list)) → IsIn v.property l v.meter v.phase
+    → left_to l v < left_to k w → searches_left_to l v + searches ≤ searches_left_to k w → Turns searches k w l v
+round-turn searches k l w v is round same plain kept meter rounds here less fewer =
+    made-turn searches k l w v is (subst (λ (o : Option LassoSearch). StaysOfKind w.lasso_search o) (sym same) (same-kind w.lasso_search))
+    (subst (λ (o : Option LassoSearch). IsOfKind v.property l v.meter v.phase o) (sym same)
+    (round-kind w.property v.property k l w.meter v.meter w.phase v.phase w.lasso_search is.kind round plain))
+    kept meter rounds here less fewer
 
 none-left : (a b : ℕ) → b ≡ 0 → 0 < a → b < a
 none-left a b none some = omega (arith, none, some)
@@ -244,26 +266,30 @@ none-searched : (a b s : ℕ) → b ≡ 0 → s ≤ a → b + s ≤ a
 none-searched a b s none few = omega (arith, none, few)
 
 ended-turn : (k l : Known) (w : Worker) (p : Phase) → IsWorker k w → Keeps k l → IfSome w.rounds (AreRoundsOf l.circuit w.property (plain l.list))
-    → is_running w.phase ≡ true → is_running p ≡ false → IsIn w.property l w.meter p → Turns (searches_in w.phase) k w l (record w { phase = p })
-ended-turn k l w p is kept rounds running ended here =
-    made-turn (searches_in w.phase) k l w (record w { phase = p }) is kept refl rounds here
-    (none-left (left_to k w) (left_in l w.property p) (ended-left l w.property p ended) (running-left k w.property w.meter w.phase running is.phase))
+    → is_round w.phase ≡ true → is_running p ≡ false → is_deep p ≡ false → IsIn w.property l w.meter p → Turns (searches_in w.phase) k w l (record w { phase = p })
+ended-turn k l w p is kept rounds round ended plain here =
+    round-turn (searches_in w.phase) k l w (record w { phase = p }) is round refl plain kept refl rounds here
+    (none-left (left_to k w) (left_in l w.property p) (ended-left l w.property p ended)
+    (running-left k w.property w.meter w.phase (round-runs w.phase round) is.phase))
     (none-searched (searches_left_to k w) (searches_left_in l w.property p) (searches_in w.phase) (ended-searches l w.property p ended)
     (turn-searches k w.property w.meter w.phase is.phase))
 
 -- a turn in which the worker ends, and the list stays
-pub end-turn : (k l : Known) (w : Worker) (p : Phase) → IsWorker k w → KeepsList k l → is_running w.phase ≡ true → is_running p ≡ false
-    → IsIn w.property l w.meter p → Turns (searches_in w.phase) k w l (record w { phase = p })
-end-turn k l w p is kept running ended here =
-    ended-turn k l w p is kept.keeps (rounds-same w.rounds w.property k l kept.keeps.circuit kept.list is.rounds) running ended here
+pub end-turn : (k l : Known) (w : Worker) (p : Phase) → IsWorker k w → KeepsList k l → is_round w.phase ≡ true → is_running p ≡ false
+    → is_deep p ≡ false → IsIn w.property l w.meter p → Turns (searches_in w.phase) k w l (record w { phase = p })
+end-turn k l w p is kept round ended plain here =
+    ended-turn k l w p is kept.keeps (rounds-same w.rounds w.property k l kept.keeps.circuit kept.list is.rounds) round ended plain here
 
 -- where no call is made
-pub stop-turn : (k : Known) (w : Worker) (p : Phase) → IsWorker k w → is_running w.phase ≡ true → is_running p ≡ false → IsIn w.property k w.meter p
-    → Turns (searches_in w.phase) k w k (record w { phase = p })
-stop-turn k w p is running ended here = end-turn k k w p is (same k) running ended here
+pub stop-turn : (k : Known) (w : Worker) (p : Phase) → IsWorker k w → is_round w.phase ≡ true → is_running p ≡ false → is_deep p ≡ false
+    → IsIn w.property k w.meter p → Turns (searches_in w.phase) k w k (record w { phase = p })
+stop-turn k w p is round ended plain here = end-turn k k w p is (same k) round ended plain here
 
 pub runs-in : (p q : Phase) → p ≡ q → is_running q ≡ true → is_running p ≡ true
 runs-in p q e running = ap is_running e ∙ running
+
+pub round-in : (p q : Phase) → p ≡ q → is_round q ≡ true → is_round p ≡ true
+round-in p q e round = ap is_round e ∙ round
 
 -- what is known in the phase of a worker
 here-in : (k : Known) (w : Worker) (p : Phase) → IsWorker k w → w.phase ≡ p → IsIn w.property k w.meter p
@@ -285,7 +311,7 @@ asked-next k l w j is phase kept next =
     let ahead : ahead_of l j phases.Looks ≤ ahead_of k w.property phases.Asks =
     ahead-within k l w.property j phases.Asks phases.Looks e.properties (looks-ahead k.settled l.settled w.property j e.settled next.unsettled)
     in
-    made-turn 0 k l w v is e refl
+    round-turn 0 k l w v is (round-in w.phase phases.Asks phase refl) refl refl e refl
     (rounds-served w.rounds l.circuit w.property j (plain l.list) (w.property == j) refl
     (rounds-same w.rounds w.property k l e.circuit kept.list is.rounds))
     next.served
@@ -298,7 +324,7 @@ asked-next k l w j is phase kept next =
 pub ask-turn : (k l : Known) (w : Worker) (r : Option ℕ) → IsWorker k w → w.phase ≡ phases.Asks → HasAsked k w.property r l → Turns 0 k w l (asked r w)
 ask-turn k l w None is phase h =
     subst (λ p. Turns (searches_in p) k w l (record w { phase = phases.Closed })) phase
-    (end-turn k l w phases.Closed is h.keeps (runs-in w.phase phases.Asks phase refl) refl h.tells)
+    (end-turn k l w phases.Closed is h.keeps (round-in w.phase phases.Asks phase refl) refl refl h.tells)
 ask-turn k l w (Some j) is phase h = asked-next k l w j is phase h.keeps h.tells
 
 less-asked-last : (a b m n : ℕ) → b ≤ a → n ≡ m → b * 3 + n - 1 < (a * 3 + m - 1) + 1
@@ -314,7 +340,7 @@ asked-last-next k l w from j is phase kept next low =
     ahead-within k l w.property j (phases.AsksLast from) phases.LooksLast e.properties
     (last-looks-ahead k.settled l.settled w.property from j e.settled low next.unsettled)
     in
-    made-turn 0 k l w v is e refl
+    round-turn 0 k l w v is (round-in w.phase (phases.AsksLast from) phase refl) refl refl e refl
     (rounds-served w.rounds l.circuit w.property j (plain l.list) (w.property == j) refl
     (rounds-same w.rounds w.property k l e.circuit kept.list is.rounds))
     (record { served = next.served; past = past-next from j l low next past })
@@ -329,7 +355,7 @@ asked-last-stuck k l w from j is phase kept next below =
     let e = kept.keeps in
     let past : IsPast from l = past-on from k l e.circuit e.properties e.limit kept.list e.settled (here-in k w (phases.AsksLast from) is phase) in
     subst (λ p. Turns (searches_in p) k w l (record w { phase = phases.Full })) phase
-    (end-turn k l w phases.Full is kept (runs-in w.phase (phases.AsksLast from) phase refl) refl (stuck-next from j l below next past))
+    (end-turn k l w phases.Full is kept (round-in w.phase (phases.AsksLast from) phase refl) refl refl (stuck-next from j l below next past))
 
 asked-last-by : (k l : Known) (w : Worker) (from j : ℕ) (b : Bool) → nat_lt j from ≡ b → IsWorker k w → w.phase ≡ phases.AsksLast from → KeepsList k l
     → IsNext l from j → Turns 0 k w l (cond b (record w { phase = phases.Full }) (serving j phases.LooksLast w))
@@ -340,7 +366,7 @@ pub ask-last-turn : (k l : Known) (w : Worker) (from : ℕ) (r : Option ℕ) →
     → Turns 0 k w l (asked_last from r w)
 ask-last-turn k l w from None is phase h =
     subst (λ p. Turns (searches_in p) k w l (record w { phase = phases.Closed })) phase
-    (end-turn k l w phases.Closed is h.keeps (runs-in w.phase (phases.AsksLast from) phase refl) refl h.tells)
+    (end-turn k l w phases.Closed is h.keeps (round-in w.phase (phases.AsksLast from) phase refl) refl refl h.tells)
 ask-last-turn k l w from (Some j) is phase h = asked-last-by k l w from j (nat_lt j from) refl is phase h.keeps h.tells
 
 -- ---- looks
@@ -355,7 +381,7 @@ look-turn k l w is phase sees =
     let ahead : ahead_of l j phases.Searches ≤ ahead_of k j phases.Looks =
     ahead-within k l j j phases.Looks phases.Searches e.properties (ahead-on k.settled l.settled j phases.Looks e.settled)
     in
-    made-turn 0 k l w (record w { phase = phases.Searches }) is e refl (rounds-in w.rounds j k l sees is.rounds)
+    round-turn 0 k l w (record w { phase = phases.Searches }) is (round-in w.phase phases.Looks phase refl) refl refl e refl (rounds-in w.rounds j k l sees is.rounds)
     (inside-on k l j e.properties (here-in k w phases.Looks is phase))
     (subst (λ p. left_in l j phases.Searches < left_in k j p) (sym phase)
     (less-looked (room_of k) (room_of l) (ahead_of k j phases.Looks) (ahead_of l j phases.Searches) (last_turns k.properties) (last_turns l.properties)
@@ -376,7 +402,7 @@ look-last-turn k l w is phase sees =
     let ahead : ahead_of l j phases.SearchesLast ≤ ahead_of k j phases.LooksLast =
     ahead-within k l j j phases.LooksLast phases.SearchesLast e.properties (ahead-on k.settled l.settled j phases.LooksLast e.settled)
     in
-    made-turn 0 k l w (record w { phase = phases.SearchesLast }) is e refl (rounds-in w.rounds j k l sees is.rounds)
+    round-turn 0 k l w (record w { phase = phases.SearchesLast }) is (round-in w.phase phases.LooksLast phase refl) refl refl e refl (rounds-in w.rounds j k l sees is.rounds)
     (record {
       served = inside-on k l j e.properties was.served;
       past = past-on j k l e.circuit e.properties e.limit list e.settled was.past;
@@ -403,7 +429,7 @@ grown-turn k l w is phase sees grown =
     ahead-within k l j j phases.Searches phases.Asks e.properties (asks-ahead k.settled l.settled j j e.settled)
     in
     let room : room_of l + 1 ≤ room_of k = room-grown k l sees grown in
-    made-turn 1 k l w (record w { phase = phases.Asks }) is e refl (rounds-in w.rounds j k l sees is.rounds) tt
+    round-turn 1 k l w (record w { phase = phases.Asks }) is (round-in w.phase phases.Searches phase refl) refl refl e refl (rounds-in w.rounds j k l sees is.rounds) tt
     (subst (λ p. left_in l j phases.Asks < left_in k j p) (sym phase)
     (less-grown (room_of k) (room_of l) (ahead_of k j phases.Searches) (ahead_of l j phases.Asks) (last_turns k.properties) (last_turns l.properties)
     room ahead (last-kept k l e)))
@@ -425,7 +451,7 @@ full-turn k l w is phase sees full =
     let ahead : ahead_of l j (phases.AsksLast 0) ≤ ahead_of k j phases.Searches =
     ahead-within k l j j phases.Searches (phases.AsksLast 0) e.properties (full-ahead k.settled l.settled j j e.settled)
     in
-    made-turn 1 k l w (record w { phase = phases.AsksLast 0 }) is e refl (rounds-in w.rounds j k l sees is.rounds) (past-none l full)
+    round-turn 1 k l w (record w { phase = phases.AsksLast 0 }) is (round-in w.phase phases.Searches phase refl) refl refl e refl (rounds-in w.rounds j k l sees is.rounds) (past-none l full)
     (subst (λ p. left_in l j (phases.AsksLast 0) < left_in k j p) (sym phase)
     (less-full (room_of k) (ahead_of k j phases.Searches) (ahead_of l j (phases.AsksLast 0)) (last_turns k.properties) (last_turns l.properties) some ahead
     (last-kept k l e)))
@@ -439,7 +465,7 @@ post-by k l w (posts.Stale n) is phase h = grown-turn k l w is phase h.sees h.te
 post-by k l w posts.Full is phase h = full-turn k l w is phase h.sees h.tells
 post-by k l w posts.Closed is phase h =
     subst (λ p. Turns (searches_in p) k w l (record w { phase = phases.Closed })) phase
-    (ended-turn k l w phases.Closed is h.sees.keeps (rounds-in w.rounds w.property k l h.sees is.rounds) (runs-in w.phase phases.Searches phase refl) refl h.tells)
+    (ended-turn k l w phases.Closed is h.sees.keeps (rounds-in w.rounds w.property k l h.sees is.rounds) (round-in w.phase phases.Searches phase refl) refl refl h.tells)
 
 pub post-turn : (k l : Known) (w : Worker) (r : Posted) → IsWorker k w → w.phase ≡ phases.Searches → HasPosted k r l
     → Turns (searches_in w.phase) k w l (record w { phase = phase_after r })
@@ -463,24 +489,24 @@ finish-more k l w is phase h =
     (settled-out l.settled j j h.settled) (serves-searches k.settled j)
     in
     let room : room_of l ≤ room_of k = room-kept k l h.keeps in
-    made-turn 1 k l w (record w { phase = phases.Asks }) is e refl (rounds-same w.rounds j k l e.circuit h.keeps.list is.rounds) tt
+    round-turn 1 k l w (record w { phase = phases.Asks }) is (round-in w.phase phases.Searches phase refl) refl refl e refl (rounds-same w.rounds j k l e.circuit h.keeps.list is.rounds) tt
     (subst (λ p. left_in l j phases.Asks < left_in k j p) (sym phase)
     (less-finished (room_of k) (room_of l) (ahead_of k j phases.Searches) (ahead_of l j phases.Asks) (last_turns k.properties) (last_turns l.properties)
     room ahead (last-kept k l e)))
     (subst (λ p. searches_left_in l j phases.Asks + 1 ≤ searches_left_in k j p) (sym phase)
     (finished-searches (room_of k) (room_of l) (ahead_of k j phases.Searches) (ahead_of l j phases.Asks) room ahead))
 
-finish-only : (k l : Known) (w : Worker) → IsWorker k w → is_running w.phase ≡ true → Contains k.properties w.property → length k.properties ≡ 1
+finish-only : (k l : Known) (w : Worker) → IsWorker k w → is_round w.phase ≡ true → Contains k.properties w.property → length k.properties ≡ 1
     → HasFinished w.property k l → Turns (searches_in w.phase) k w l (record w { phase = phases.Closed })
-finish-only k l w is running inside one h =
-    end-turn k l w phases.Closed is h.keeps running refl
+finish-only k l w is round inside one h =
+    end-turn k l w phases.Closed is h.keeps round refl refl
     (settled-only w.property l (ap length h.keeps.keeps.properties ∙ one) (inside-on k l w.property h.keeps.keeps.properties inside) h.settled)
 
 finish-by : (k l : Known) (w : Worker) (b : Bool) → (length k.properties == 1) ≡ b → IsWorker k w → w.phase ≡ phases.Searches → HasFinished w.property k l
     → Turns 1 k w l (record w { phase = cond b phases.Closed phases.Asks })
 finish-by k l w true one is phase h =
     subst (λ p. Turns (searches_in p) k w l (record w { phase = phases.Closed })) phase
-    (finish-only k l w is (runs-in w.phase phases.Searches phase refl) (here-in k w phases.Searches is phase) (eqb-true (length k.properties) 1 one) h)
+    (finish-only k l w is (round-in w.phase phases.Searches phase refl) (here-in k w phases.Searches is phase) (eqb-true (length k.properties) 1 one) h)
 finish-by k l w false more is phase h = finish-more k l w is phase h
 
 pub finish-turn : (k l : Known) (w : Worker) (properties : List ℕ) → properties ≡ k.properties → IsWorker k w → w.phase ≡ phases.Searches
@@ -510,7 +536,7 @@ finish-last-more k l w two is phase h =
     ahead-less k l j j j phases.SearchesLast (phases.AsksLast j) e.properties (finished-ahead k.settled l.settled j j e.settled) was.served
     (finished-out l.settled j j h.settled) (serves-last k.settled j)
     in
-    made-turn 0 k l w (record w { phase = phases.AsksLast j }) is e refl (rounds-same w.rounds j k l e.circuit h.keeps.list is.rounds)
+    round-turn 0 k l w (record w { phase = phases.AsksLast j }) is (round-in w.phase phases.SearchesLast phase refl) refl refl e refl (rounds-same w.rounds j k l e.circuit h.keeps.list is.rounds)
     (past-on j k l e.circuit e.properties e.limit h.keeps.list e.settled was.past)
     (subst (λ p. left_in l j (phases.AsksLast j) < left_in k j p) (sym phase)
     (less-finished-last (ahead_of k j phases.SearchesLast) (ahead_of l j (phases.AsksLast j)) (last_turns k.properties) (last_turns l.properties) ahead
@@ -521,7 +547,7 @@ finish-last-by : (k l : Known) (w : Worker) (b : Bool) → (length k.properties 
     → HasFinished w.property k l → Turns 0 k w l (record w { phase = cond b phases.Closed (phases.AsksLast w.property) })
 finish-last-by k l w true one is phase h =
     subst (λ p. Turns (searches_in p) k w l (record w { phase = phases.Closed })) phase
-    (finish-only k l w is (runs-in w.phase phases.SearchesLast phase refl) (here-in k w phases.SearchesLast is phase).served
+    (finish-only k l w is (round-in w.phase phases.SearchesLast phase refl) (here-in k w phases.SearchesLast is phase).served
     (eqb-true (length k.properties) 1 one) h)
 finish-last-by k l w false more is phase h =
     finish-last-more k l w
@@ -548,7 +574,7 @@ pass-more k w is phase left more =
     ahead-less k k j j j phases.SearchesLast (phases.AsksLast (j + 1)) refl (passed-ahead k.settled j j) was.served (passed-out k.settled j j)
     (serves-last k.settled j)
     in
-    made-turn 0 k k w (record w { phase = phases.AsksLast (j + 1) }) is (keeps-self k) refl is.rounds (past-more j k left was.past)
+    round-turn 0 k k w (record w { phase = phases.AsksLast (j + 1) }) is (round-in w.phase phases.SearchesLast phase refl) refl refl (keeps-self k) refl is.rounds (past-more j k left was.past)
     (subst (λ p. left_in k j (phases.AsksLast (j + 1)) < left_in k j p) (sym phase)
     (less-passed (ahead_of k j phases.SearchesLast) (ahead_of k j (phases.AsksLast (j + 1))) (last_turns k.properties) ahead
     (last-of-two k.properties (are-two k.properties j was.served more))))
@@ -559,7 +585,7 @@ pass-by : (k : Known) (w : Worker) (b : Bool) → nat_lt w.property (get_or k.pr
 pass-by k w true test is phase left = pass-more k w is phase left (ltb-true w.property (get_or k.properties (length k.properties - 1) 0) test)
 pass-by k w false test is phase left =
     subst (λ p. Turns (searches_in p) k w k (record w { phase = phases.Full })) phase
-    (stop-turn k w phases.Full is (runs-in w.phase phases.SearchesLast phase refl) refl
+    (stop-turn k w phases.Full is (round-in w.phase phases.SearchesLast phase refl) refl refl
     (stuck-last w.property k is.served.ascend (ltb-false w.property (get_or k.properties (length k.properties - 1) 0) test) left
     (here-in k w phases.SearchesLast is phase).past))
 
@@ -598,8 +624,15 @@ few-turns : (turns left most : ℕ) → turns + left ≤ most → 0 < left → t
 few-turns turns left most within some = omega (arith, within, some)
 
 -- a turn that is taken is one of those that a worker has
-pub turn-within : (k : Known) (w : Worker) → IsWorker k w → is_running w.phase ≡ true → k.turns < left_at_first k
-turn-within k w is running = few-turns k.turns (left_to k w) (left_at_first k) is.turns (running-left k w.property w.meter w.phase running is.phase)
+turn-within : (k : Known) (w : Worker) → IsWorker k w → is_running w.phase ≡ true → k.turns < first_left k w.lasso_search
+turn-within k w is running = few-turns k.turns (left_to k w) (first_left k w.lasso_search) is.turns (running-left k w.property w.meter w.phase running is.phase)
+
+-- where it is no lasso worker, it is one of those of a worker with rounds
+pub turn-of-kind : (k : Known) (w : Worker) (o : Option LassoSearch) → w.lasso_search ≡ o → IsWorker k w → is_running w.phase ≡ true
+    → (k.turns < left_at_first k) ⊎ ((s : LassoSearch) × (o ≡ Some s))
+turn-of-kind k w None same is running =
+    inl (subst (λ (q : Option LassoSearch). k.turns < first_left k q) same (turn-within k w is running))
+turn-of-kind k w (Some s) same is running = inr (s, refl)
 
 last-few : (n : ℕ) → min 1 (n - 1) ≤ 1
 last-few n = grind (arith)
@@ -608,14 +641,22 @@ first-few : (limit given properties last : ℕ) → limit ≤ 65536 → properti
     → ((limit - given) + properties) * 3 + last + 3 < 4294967296
 first-few limit given properties last short few one = omega (arith, short, few, one)
 
-turn-fits : (t n : ℕ) → t < n → n < 4294967296 → t + 1 < 2 ^ 32
+pub turn-fits : (t n : ℕ) → t < n → n < 4294967296 → t + 1 < 2 ^ 32
 turn-fits t n less few = omega (arith, less, few)
+
+deep-few : (depth : ℕ) → depth ≤ 65536 → depth * 2 + 3 < 4294967296
+deep-few depth short = omega (arith, short)
+
+first-fits : (k : Known) (j : ℕ) (m : Spendings) (p : Phase) (o : Option LassoSearch) → AreServed k.circuit k.properties → k.limit ≤ most_entries
+    → IsOfKind j k m p o → first_left k o < 4294967296
+first-fits k j m p None served short kind = first-few k.limit k.given (length k.properties) (last_turns k.properties) short served.few (last-few (length k.properties))
+first-fits k j m p (Some s) served short kind = deep-few s.depth kind.0.search.short
 
 -- there is a number for it
 pub one-more-turn : (k : Known) (w : Worker) → IsWorker k w → is_running w.phase ≡ true → k.turns + 1 < 2 ^ 32
 one-more-turn k w is running =
-    turn-fits k.turns (left_at_first k) (turn-within k w is running)
-    (first-few k.limit k.given (length k.properties) (last_turns k.properties) is.short is.served.few (last-few (length k.properties)))
+    turn-fits k.turns (first_left k w.lasso_search) (turn-within k w is running)
+    (first-fits k w.property w.meter w.phase w.lasso_search is.served is.short is.kind)
 
 pub one-more-in : (k : Known) (w : Worker) (p : Phase) → IsWorker k w → w.phase ≡ p → is_running p ≡ true → k.turns + 1 < 2 ^ 32
 one-more-in k w p is phase running = one-more-turn k w is (runs-in w.phase p phase running)
@@ -629,9 +670,12 @@ phase-thinks j k a b phases.Searches running h = h
 phase-thinks j k a b (phases.AsksLast from) running h = h
 phase-thinks j k a b phases.LooksLast running h = h
 phase-thinks j k a b phases.SearchesLast running h = h
+phase-thinks j k a b (phases.AsksDeeper after) running h = h
+phase-thinks j k a b (phases.Deepens after) running h = h
 phase-thinks j k a b phases.Closed running h = h
 phase-thinks j k a b phases.Full running h = h
 phase-thinks j k a b phases.Spent running h = absurd (false≢true running)
+phase-thinks j k a b phases.Deep running h = absurd (false≢true running)
 phase-thinks j k a b phases.Refused running h = absurd (false≢true running)
 
 pub thinks_worker : (searches : ℕ) (k : Known) (w v : Worker) → IsWorker k w → Thinks searches k w v → is_running w.phase ≡ true → IsWorker k v
@@ -641,8 +685,13 @@ thinks_worker searches k w v is t running = record {
   phase = subst (λ (m : ℕ). IsIn m k v.meter v.phase) (sym t.property)
       (subst (IsIn w.property k v.meter) (sym t.phase) (phase-thinks w.property k w.meter v.meter w.phase running is.phase));
   short = is.short;
-  turns = subst (λ (m : ℕ). k.turns + left_in k m v.phase ≤ left_at_first k) (sym t.property)
-      (subst (λ p. k.turns + left_in k w.property p ≤ left_at_first k) (sym t.phase) is.turns);
+  kind = subst (λ (m : ℕ). IsOfKind m k v.meter v.phase v.lasso_search) (sym t.property)
+      (subst (λ p. IsOfKind w.property k v.meter p v.lasso_search) (sym t.phase)
+      (subst (λ (o : Option LassoSearch). IsOfKind w.property k v.meter w.phase o) (sym t.lasso_search)
+      (kind-thinks w.property k w.meter v.meter w.phase w.lasso_search running is.kind)));
+  turns = subst (λ (m : ℕ). k.turns + left_in k m v.phase ≤ first_left k v.lasso_search) (sym t.property)
+      (subst (λ p. k.turns + left_in k w.property p ≤ first_left k v.lasso_search) (sym t.phase)
+      (subst (λ (o : Option LassoSearch). k.turns + left_to k w ≤ first_left k o) (sym t.lasso_search) is.turns));
 }
 
 searches-same : (k : Known) (w v : Worker) → v.property ≡ w.property → v.phase ≡ w.phase → searches_left_to k v ≡ searches_left_to k w
@@ -655,6 +704,7 @@ left-same k w v property phase = ap (λ p. left_in k v.property p) phase ∙ ap 
 pub thinks_turn : (searches : ℕ) (k l : Known) (w v u : Worker) → Thinks searches k w v → Turns searches k v l u → Turns 0 k w l u
 thinks_turn searches k l w v u t turn = record {
   worker = turn.worker;
+  kind = subst (λ (o : Option LassoSearch). StaysOfKind o u.lasso_search) t.lasso_search turn.kind;
   limits = record { conflicts = turn.limits.conflicts ∙ t.limits.conflicts; steps = turn.limits.steps ∙ t.limits.steps };
   less = subst (λ (n : ℕ). left_to l u < n) (left-same k w v t.property t.phase) turn.less;
   steps =

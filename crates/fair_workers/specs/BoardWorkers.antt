@@ -10,9 +10,9 @@ use Rattle.fair_workers.specs.declared.lending.LentBoard.{LentBoard}
 use Rattle.fair_workers.specs.declared.board_workers.BoardWorker.{BoardWorker}
 use Rattle.search_reports.specs.declared.limits.Limits.{Limits}
 use Rattle.fair_workers.specs.declared.board_workers.RunTask.{RunTask}
-use Rattle.fair_workers.specs.Runs.{Task, AreServed, IsFoundWithin, IsBoardOf, IsWithLimits}
+use Rattle.fair_workers.specs.Runs.{Task, AreLimits, AreServed, ServesOne, IsByRoundWorker, IsFoundWithin, IsBoardOf, IsWithLimits}
 use Rattle.fair_workers.specs.Knowing.{Known}
-use Rattle.fair_workers.specs.Working.{is_running, left_to, left_at_first, searches_left_to, search_steps, steps_through, IsWorker, KeepsLimits}
+use Rattle.fair_workers.specs.Working.{is_running, left_to, left_at_first, searches_left_to, search_steps, steps_through, IsNumbered, IsWorker, KeepsLimits, StaysOfKind}
 
 -- what worker n of a board knows of it, after so many turns
 abbrev pub known_at : BoardState → ℕ → ℕ → Known
@@ -43,7 +43,7 @@ abbrev pub IsOfTurn : ℕ → ℕ → CheckedEntry → Type 0
 IsOfTurn n turn e = FromWorker e.origin (λ work. (work.author ≡ n) × (work.turn ≡ turn))
 
 -- What the events of worker n in one of its turns leave of a board: entries and outcomes stay, and what the other workers
--- have seen; what is added is of this worker and turn.
+-- have seen; what is added is of this worker and turn, and then it has seen more.
 pub record GoesOnBy (n turn : ℕ) (b c : BoardState) : Type 0 where
   pub circuit : c.circuit ≡ b.circuit
   pub properties : properties_of c.served ≡ properties_of b.served
@@ -53,6 +53,7 @@ pub record GoesOnBy (n turn : ℕ) (b c : BoardState) : Type 0 where
   pub entries : (more : List CheckedEntry) × (c.entries ≡ b.entries ++ more) × All (IsOfTurn n turn) more
   pub outcomes : (j : ℕ) → outcome_of b.served j ≢ None → outcome_of c.served j ≢ None
   pub others : (m : ℕ) → m ≢ n → seen_by c m ≡ seen_by b m
+  pub quiet : seen_by c n ≤ seen_by b n → length c.entries ≤ length b.entries
 
 -- What a call leaves of a lent board: it takes one turn at most, and adds no entry without one.
 pub record StaysLent (s t : LentBoard) : Type 0 where
@@ -92,6 +93,7 @@ pub record TakesTurn (b : BoardState) (m : BoardWorker) (c : BoardState) (n : Bo
   pub number : n.number ≡ m.number
   pub one : n.turns ≤ m.turns + 1
   pub paid : length c.entries + m.turns ≤ length b.entries + n.turns
+  pub kind : StaysOfKind m.worker.lasso_search n.worker.lasso_search
   pub limits : KeepsLimits m.worker.meter n.worker.meter
   pub less : left_by c n < left_by b m
   pub steps :
@@ -118,13 +120,16 @@ KeepsWithin limits b m =
 abbrev pub turns_at : List BoardWorker → ℕ → ℕ
 turns_at workers k = slice_index_or (map (λ m. m.turns) workers) k 0
 
--- The workers over a board, in the order of their numbers; each found its entries in turns that it has taken.
+-- The workers over a board, in the order of their numbers; each found its entries in turns that it has taken, and a lasso
+-- worker found none.
 pub record AreWorkers (limits : Limits) (b : BoardState) (workers : List BoardWorker) : Type 0 where
   pub numbers : (k : ℕ) → k < length workers → slice_index_or (map (λ m. m.number) workers) k 0 ≡ k
   pub each : All (IsBoardWorker b) workers
+  pub kinds : All (λ m. IsNumbered limits m.number m.worker.lasso_search) workers
   pub within : All (λ m. IsWithLimits limits m.worker.meter) workers
   pub steps : All (KeepsWithin limits b) workers
   pub own : (w : ℕ) → Ascend w (drop b.given b.entries) (turns_at workers w)
+  pub authors : All (IsByRoundWorker limits) (drop b.given b.entries)
 
 abbrev pub task_in : RunTask → Task
 task_in t = record {
@@ -136,6 +141,9 @@ task_in t = record {
 
 -- A board over which workers may begin: each of them has seen it whole, and its entries are all given.
 pub record IsFresh (task : Task) (b : BoardState) : Type 0 where
+  pub limits : AreLimits task.limits
+  pub one : ServesOne task.limits task.properties
+  pub properties : properties_of b.served ≡ task.properties
   pub served : AreServed b.circuit (properties_of b.served)
   pub workers : task.limits.workers ≡ b.workers
   pub seen : (n : ℕ) → n < b.workers → seen_by b n ≡ length b.entries

@@ -1,6 +1,6 @@
 -- Scaffolding of inner functions. A ledger as the list that a worker shares by its pass, and what a worker on a thread
 -- comes to.
-use Rattle.std.specs.Prelude.{◌≡◌, ℕ, ◌+◌, ◌*◌, ◌<◌, ◌≤◌, Bool, true, false, List, [], ◌∷◌, map, length, slice_index_or, Some}
+use Rattle.std.specs.Prelude.{◌≡◌, ℕ, ◌+◌, ◌*◌, ◌<◌, ◌≤◌, Bool, true, false, List, [], ◌∷◌, map, length, slice_index_or, Option, None, Some}
 use Rattle.edge.specs.Units.{Spendings, limit_of}
 use Rattle.wall_store.specs.Boards.{most_entries}
 use Rattle.wall_ledger.specs.declared.marks.Shown.{Shown}
@@ -11,9 +11,10 @@ use Rattle.fair_workers.specs.declared.ending.WorkerEnd.{WorkerEnd}
 use Rattle.search_reports.specs.declared.limits.Limits.{Limits}
 use Rattle.fair_workers.specs.declared.runners.Runner.{Runner}
 use Rattle.fair_workers.specs.declared.working.Worker.{Worker}
-use Rattle.fair_workers.specs.Runs.{Task, AreServed, IsInBudget, IsWithLimits}
+use Rattle.fair_workers.specs.Runs.{Task, AreLimits, AreServed, ServesOne, IsInBudget, IsWithLimits}
 use Rattle.fair_workers.specs.Knowing.{Known}
-use Rattle.fair_workers.specs.Working.{is_running, left_at_first, searches_left_to, search_steps, steps_through, IsIn, IsWorker}
+use Rattle.fair_workers.specs.Working.{is_running, left_at_first, searches_left_to, search_steps, steps_through, IsIn, IsNumbered, IsWorker}
+use Rattle.fair_workers.specs.Ends.{IsEndOfKind, IsEndNumbered}
 
 -- an outcome is shown
 abbrev pub is_shown : Shown → Bool
@@ -52,6 +53,9 @@ pub record StaysHeld (l : LedgerState) (p : PassState) (m : LedgerState) (q : Pa
 pub record IsReady (limits : Limits) (properties : List ℕ) (l : LedgerState) (p : PassState) : Type 0 where
   pub pass : IsPassOf l p
   pub same : l.properties ≡ properties
+  pub within : AreLimits limits
+  pub one : ServesOne limits properties
+  pub number : p.number < limits.workers
   pub served : AreServed l.circuit l.properties
   pub list : p.list ≡ l.given
   pub turns : p.turns ≡ 0
@@ -75,14 +79,23 @@ steps_within limits l = (limits.skeletons + length l.properties) * search_steps 
 pub record Goes (limits : Limits) (l : LedgerState) (p : PassState) (w : Worker) : Type 0 where
   pub pass : IsPassOf l p
   pub worker : IsWorker (known_by l p) w
+  pub kind : IsNumbered limits p.number w.lasso_search
   pub counted : IsWithLimits limits w.meter
   pub steps :
       steps_through w (searches_left_to (known_by l p) w) (search_steps l.circuit l.properties) ≤ steps_within limits l
 
+-- A worker that has ended took no more turns than it has at most that finds entries; a lasso worker has seen the given entries
+-- alone.
+abbrev pub HasTurned : Known → Option ℕ → Type 0
+HasTurned k None = k.turns ≤ left_at_first k
+HasTurned k (Some done) = length k.list ≡ k.given
+
 -- How a worker ended, with its pass: what it then knows, and what it spent.
 pub record IsThrough (limits : Limits) (l : LedgerState) (p : PassState) (e : WorkerEnd) : Type 0 where
   pub pass : IsPassOf l p
-  pub turns : p.turns ≤ left_at_first (known_by l p)
+  pub turns : HasTurned (known_by l p) e.done
+  pub kind : IsEndOfKind limits l.circuit l.properties e.spent e.phase e.done
+  pub numbered : IsEndNumbered limits p.number e.done
   pub over : is_running e.phase ≡ false
   pub tells : IsIn 0 (known_by l p) e.spent e.phase
   pub counted : IsWithLimits limits e.spent
@@ -115,6 +128,8 @@ HasEnded r = ((p : PassState) × (r.pass ≡ Some p)) × ((e : WorkerEnd) × (r.
 
 -- A ledger for a task, and a runner with each of its passes.
 pub record IsBegunFor (task : Task) (l : LedgerState) (runners : List Runner) : Type 0 where
+  pub limits : AreLimits task.limits
+  pub one : ServesOne task.limits task.properties
   pub served : AreServed task.circuit task.properties
   pub ledger : IsBegun task.circuit task.properties task.limits.workers task.limits.skeletons task.given l (new_passes l 0 task.limits.workers)
   pub passes : map (λ r. r.pass) runners ≡ map Some (new_passes l 0 task.limits.workers)

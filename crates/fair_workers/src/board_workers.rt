@@ -1,16 +1,18 @@
 //! The workers of a board, and whose turn it is. The main calls are `workers_on` and `turn_of`.
 
-ghost use Rattle.std.specs.Prelude.{◌≡◌, ℕ, ◌<◌, ◌≤◌, [], true, false, None, All, map, length, slice_index, vec_capacity, IfOk, OnOk};
+ghost use Rattle.std.specs.Prelude.{◌≡◌, ℕ, ◌<◌, ◌≤◌, [], true, false, All, map, length, slice_index, vec_capacity, IfOk, OnOk};
 ghost use Rattle.std.specs.Arc.{arc_value};
 ghost use Rattle.edge.specs.Units.{limit_of};
 ghost use Rattle.wall_store.specs.Boards.{properties_of};
-ghost use Rattle.fair_workers.specs.Runs.{IsInBudget};
-ghost use Rattle.fair_workers.specs.Working.{is_running};
+ghost use Rattle.fair_workers.specs.Runs.{AreLimits, IsInBudget, ServesOne};
+ghost use Rattle.fair_workers.specs.Working.{is_running, Begins};
+ghost use Rattle.fair_workers.specs.Ends.{end_as};
 ghost use Rattle.fair_workers.specs.BoardWorkers.{task_in, IsFresh, IsBoardWorker, TakesTurn, Follows, AreWorkers, HaveEnded, runs_at, left_of};
 
 use crate::ending::{WorkerEnd, end_of};
 use crate::lending::LentBoard;
-use crate::working::{Phase, Worker, first_property, take_turn};
+use crate::turning::take_turn;
+use crate::working::{Worker, begin};
 use circuit::Circuit;
 use edge::Meter;
 use entry::Checked;
@@ -40,29 +42,27 @@ pub(crate) struct BoardWorker {
 
 // A worker that has seen so many entries, and has begun and spent nothing. No other meter is made for the work of a run.
 fn new_worker(task: &RunTask<'_>, number: u32, seen: usize) -> BoardWorker
+    requires limits { AreLimits task.now.limits }
+    requires inside { number < task.now.limits.workers }
+    requires one { ServesOne task.now.limits task.now.properties.now }
     ensures number { result.number ≡ number }
     ensures seen { result.seen ≡ seen }
     ensures turns { result.turns ≡ 0 }
-    ensures rounds { result.worker.rounds ≡ None }
     ensures meter { result.worker.meter ≡ record {
       conflicts = 0;
       conflict_limit = limit_of task.now.limits.conflicts;
       steps = 0;
       step_limit = limit_of task.now.limits.steps;
     } }
-    ensures phase { result.worker.phase ≡ Phase.Asks }
+    ensures begins { Begins task.now.limits task.now.properties.now number result.worker }
 {
     let limits = task.limits;
+    let meter = Meter::new(limits.conflicts, limits.steps);
     BoardWorker {
         number,
         seen,
         turns: 0,
-        worker: Worker {
-            property: first_property(task.properties, number, limits.workers),
-            rounds: None,
-            meter: Meter::new(limits.conflicts, limits.steps),
-            phase: Phase::Asks,
-        },
+        worker: begin(task.properties, limits, number, meter),
     }
 }
 
@@ -220,7 +220,7 @@ pub(crate) fn next_running(workers: &[BoardWorker], from: usize) -> usize
 pub(crate) fn ends_of(workers: &[BoardWorker], room: Vec<WorkerEnd>) -> Vec<WorkerEnd>
     requires empty { room.items ≡ [] }
     requires room { length workers.now ≤ vec_capacity room }
-    ensures ends { result.items ≡ map (λ m. record { spent = m.worker.meter; phase = m.worker.phase }) workers.now }
+    ensures ends { result.items ≡ map (λ m. end_as m.worker) workers.now }
     ensures within { All (λ e. IsInBudget e.spent) result.items }
 {
     let mut ends = room;

@@ -4,10 +4,11 @@ ghost use Rattle.std.specs.Prelude.{◌≡◌, ◌≤◌, [], false, Some, map, 
 ghost use Rattle.fair_workers.specs.Working.{is_running};
 ghost use Rattle.fair_workers.specs.Holding.{fresh_meter, Goes, IsReady, IsThrough, MayRun, HasRun, HasEnded};
 
-use crate::ending::{WorkerEnd, spending_of};
+use crate::ending::{WorkerEnd, end_of};
 use crate::held::Held;
 use crate::shared_list::SharedList;
-use crate::working::{Phase, Worker, first_property, take_turn};
+use crate::turning::take_turn;
+use crate::working::{Phase, Worker, begin};
 use edge::{Bell, Gate, Meter, Point};
 use search_reports::Limits;
 use std::alloc::Global;
@@ -67,10 +68,7 @@ fn run_worker<R: Wait, G: Gate>(
 {
     let mut worker = worker;
     take_turns(crew, &mut worker, held);
-    WorkerEnd {
-        spent: spending_of(&worker.meter),
-        phase: worker.phase,
-    }
+    end_of(&worker)
 }
 
 // A meter that has counted nothing, with the bell where a handle of it is not refused. No other meter is made for the work of
@@ -96,12 +94,7 @@ fn begun_worker(
     requires { IsReady limits properties.now _ledger.now pass.now }
     ensures { Goes limits _ledger.now pass.now result }
 {
-    Worker {
-        property: first_property(properties, pass.number(), limits.workers),
-        rounds: None,
-        meter: meter_of(limits, bell),
-        phase: Phase::Asks,
-    }
+    begin(properties, limits, pass.number(), meter_of(limits, bell))
 }
 
 // The work of the worker that has this pass.

@@ -4,13 +4,13 @@ ghost use Rattle.std.specs.Prelude.{◌≡◌, ◌≤◌, [], map, length, vec_c
 ghost use Rattle.std.specs.Arc.{arc_value};
 ghost use Rattle.entry.specs.declared.origins.Origin.TheVariants.{Given};
 ghost use Rattle.wall_store.specs.Boards.{IsSoundList, most_entries};
-ghost use Rattle.fair_workers.specs.Runs.{AreLimits, AreServed, IsAnswer, IsEnded};
+ghost use Rattle.fair_workers.specs.Runs.{AreLimits, AreServed, IsAnswer, IsEnded, ServesOne};
 ghost use Rattle.fair_workers.specs.BoardWorkers.{task_in};
 ghost use Rattle.fair_workers.specs.Ends.{AreDone};
 ghost use Rattle.fair_workers.specs.Holding.{MayRun, HasRun, HaveRun, IsBegunFor};
 
 use crate::board_workers::RunTask;
-use crate::ending::{WorkerEnd, ended};
+use crate::ending::{WorkerEnd, ended, report_room};
 use crate::runners::{Crew, Runner, parted, run_through, runners_of};
 use circuit::Circuit;
 use edge::{Bell, Gate};
@@ -97,6 +97,7 @@ fn run_listed<R: Threads + Wait + Sync, G: Gate>(
 fn begun(alloc: Global, task: &RunTask<'_>) -> Result<(Ledger, Vec<Runner>), AllocError>
     requires served { AreServed (arc_value task.now.circuit.now) task.now.properties.now }
     requires limits { AreLimits task.now.limits }
+    requires one { ServesOne task.now.limits task.now.properties.now }
     requires few_given { length task.now.given.now ≤ most_entries }
     requires given { IsSoundList (arc_value task.now.circuit.now) (map arc_value task.now.given.now) }
     requires origins { All (λ e. e.origin ≡ Given) (map arc_value task.now.given.now) }
@@ -156,6 +157,7 @@ fn room_for(alloc: Global, workers: u32) -> Result<Room, AllocError>
 fn run_task<R: Threads + Wait + Sync, G: Gate>(run: &Run<'_, R, G>) -> Result<Report, Ended>
     requires served { AreServed (arc_value run.now.task.now.circuit.now) run.now.task.now.properties.now }
     requires limits { AreLimits run.now.task.now.limits }
+    requires one { ServesOne run.now.task.now.limits run.now.task.now.properties.now }
     requires few_given { length run.now.task.now.given.now ≤ most_entries }
     requires given { IsSoundList (arc_value run.now.task.now.circuit.now) (map arc_value run.now.task.now.given.now) }
     requires origins { All (λ e. e.origin ≡ Given) (map arc_value run.now.task.now.given.now) }
@@ -163,11 +165,11 @@ fn run_task<R: Threads + Wait + Sync, G: Gate>(run: &Run<'_, R, G>) -> Result<Re
     ensures ended { IfErr result (IsEnded (task_in run.now.task.now)) }
 {
     let workers = run.task.limits.workers;
-    let spent = Vec::with_capacity(run.alloc, workers as usize)?;
+    let report = report_room(run.alloc, workers)?;
     let room = room_for(run.alloc, workers)?;
     let (ledger, runners) = begun(run.alloc, run.task)?;
     let (board, ends) = all_run(run, ledger, runners, room);
-    ended(run.task, board, &ends, spent)
+    ended(run.task, board, &ends, report)
 }
 
 /// What workers leave that search at the same time, each on a thread of its own, over one list for a fair lasso of each of
@@ -177,13 +179,19 @@ fn run_task<R: Threads + Wait + Sync, G: Gate>(run: &Run<'_, R, G>) -> Result<Re
 /// A worker asks for an open property and serves it until that has an outcome; workers begin at places spread over the
 /// properties. On a full list it goes through those that are open once more, and then ends.
 ///
+/// The last workers are lasso workers, as many as the limits say, but never all. A lasso worker simulates first, and then
+/// searches for lassos of one position more at a time. Before each search it asks whether its property is open. It ends where
+/// that has an outcome, which may be its own, where its conflicts are spent, or where its depth is done. It adds nothing to
+/// the list.
+///
 /// Where no thread can be made, workers run one after the other. Each passes the gate at its start, after each of its
 /// rounds, and at its end; there it may be made to wait. May wait. Which worker finds what, and in which order, no clause
 /// says.
 ///
 /// A worker that is refused memory ends, be it at its start, and the others go on. All outcomes come before want of memory,
 /// and that before a report without one of them. `Spent` comes only where a property has no outcome, and either the list is
-/// full and its entries allow a skeleton of each such property, or each worker has spent its conflicts or its steps.
+/// full and its entries allow a skeleton of each such property, or each worker has spent its conflicts or its steps, a lasso
+/// worker its conflicts or its depth.
 /// Whatever their limit is, no worker takes more steps than `most_steps` says; so a limit above that is never spent. In
 /// turns below `most_turns`, in ascending order, it found what it added to the list.
 pub fn run_all<R: Threads + Wait + Sync, G: Gate>(
@@ -197,6 +205,7 @@ pub fn run_all<R: Threads + Wait + Sync, G: Gate>(
 ) -> Result<Report, Ended>
     requires served { AreServed (arc_value c.now) properties.now }
     requires limits { AreLimits limits }
+    requires one { ServesOne limits properties.now }
     requires few_given { length given.now ≤ most_entries }
     requires given { IsSoundList (arc_value c.now) (map arc_value given.now) }
     requires origins { All (λ e. e.origin ≡ Given) (map arc_value given.now) }

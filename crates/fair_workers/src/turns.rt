@@ -3,12 +3,12 @@
 ghost use Rattle.std.specs.Prelude.{◌≡◌, ◌≤◌, [], map, length, vec_capacity, IfOk, IfErr};
 ghost use Rattle.std.specs.Arc.{arc_value};
 ghost use Rattle.wall_store.specs.Boards.{IsSoundList, most_entries};
-ghost use Rattle.fair_workers.specs.Runs.{AreLimits, AreServed, IsAnswer, IsEnded};
+ghost use Rattle.fair_workers.specs.Runs.{AreLimits, AreServed, IsAnswer, IsEnded, ServesOne};
 ghost use Rattle.fair_workers.specs.BoardWorkers.{ServeTask, HaveEnded, task_in};
 ghost use Rattle.fair_workers.specs.Ends.{AreDone};
 
 use crate::board_workers::{BoardWorker, RunTask, due, ends_of, next_running, turn_of, workers_on};
-use crate::ending::{WorkerEnd, ended};
+use crate::ending::{WorkerEnd, ended, report_room};
 use circuit::Circuit;
 use entry::Checked;
 use search_reports::{Ended, Limits, Report};
@@ -80,6 +80,7 @@ fn all_turns(
 fn run_task(alloc: Global, task: &RunTask<'_>, schedule: &[u32]) -> Result<Report, Ended>
     requires served { AreServed (arc_value task.now.circuit.now) task.now.properties.now }
     requires limits { AreLimits task.now.limits }
+    requires one { ServesOne task.now.limits task.now.properties.now }
     requires few_given { length task.now.given.now ≤ most_entries }
     requires given { IsSoundList (arc_value task.now.circuit.now) (map arc_value task.now.given.now) }
     ensures answer { IfOk result (IsAnswer (task_in task.now)) }
@@ -87,7 +88,7 @@ fn run_task(alloc: Global, task: &RunTask<'_>, schedule: &[u32]) -> Result<Repor
 {
     let limits = task.limits;
     let room = Vec::with_capacity(alloc, limits.workers as usize)?;
-    let spent = Vec::with_capacity(alloc, limits.workers as usize)?;
+    let report = report_room(alloc, limits.workers)?;
     let board = Board::new(
         alloc,
         task.circuit,
@@ -99,7 +100,7 @@ fn run_task(alloc: Global, task: &RunTask<'_>, schedule: &[u32]) -> Result<Repor
     board.holds();
     let mut workers = workers_on(alloc, task, &board)?;
     let (board, ends) = all_turns(alloc, task, schedule, &mut workers, board, room);
-    ended(task, board, &ends, spent)
+    ended(task, board, &ends, report)
 }
 
 /// What workers leave that search over one list for a fair lasso of each of these properties, or for a refutation, until
@@ -109,13 +110,20 @@ fn run_task(alloc: Global, task: &RunTask<'_>, schedule: &[u32]) -> Result<Repor
 /// A worker asks for an open property and serves it until that has an outcome; workers begin at places spread over the
 /// properties. On a full list it goes through those that are open once more, and then ends.
 ///
-/// A turn of a worker is its work up to its next event of the board, that event included, or to its end. The schedule
-/// says who takes the first turns; a number of it that is no worker's, or that of a worker that has ended, is skipped.
-/// Then the workers take turns from worker 0 upwards, again and again. No clause says who takes a turn; tests show it.
+/// The last workers are lasso workers, as many as the limits say, but never all. A lasso worker simulates first, and then
+/// searches for lassos of one position more at a time. Before each search it asks whether its property is open. It ends where
+/// that has an outcome, which may be its own, where its conflicts are spent, or where its depth is done. It adds nothing to
+/// the list.
+///
+/// A turn of a worker is its work up to its next event of the board, that event included, or to its end, or, of a lasso
+/// worker, one search that finds nothing. The schedule says who takes the first turns; a number of it that is no worker's,
+/// or that of a worker that has ended, is skipped. Then the workers take turns from worker 0 upwards, again and again. No
+/// clause says who takes a turn; tests show it.
 ///
 /// A worker that is refused memory ends, be it at its start, and the others go on. All outcomes come before want of memory,
 /// and that before a report without one of them. `Spent` comes only where a property has no outcome, and either the list is
-/// full and its entries allow a skeleton of each such property, or each worker has spent its conflicts or its steps.
+/// full and its entries allow a skeleton of each such property, or each worker has spent its conflicts or its steps, a lasso
+/// worker its conflicts or its depth.
 /// Whatever their limit is, no worker takes more steps than `most_steps` says; so a limit above that is never spent. In
 /// turns below `most_turns`, in ascending order, it found what it added to the list.
 pub fn run_turns(
@@ -128,6 +136,7 @@ pub fn run_turns(
 ) -> Result<Report, Ended>
     requires served { AreServed (arc_value c.now) properties.now }
     requires limits { AreLimits limits }
+    requires one { ServesOne limits properties.now }
     requires few_given { length given.now ≤ most_entries }
     requires given { IsSoundList (arc_value c.now) (map arc_value given.now) }
     ensures answer { IfOk result (IsAnswer (record {

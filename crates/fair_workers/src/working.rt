@@ -1,7 +1,6 @@
-//! A worker, and what it does in a turn over any shared list. The main call is `take_turn`: the work up to the next event
-//! of the list, and that event.
+//! A worker, and what it does in its turns over any shared list, but for a lasso worker's. The main type is `Worker`.
 
-ghost use Rattle.std.specs.Prelude.{◌≡◌, ◌+◌, ◌^◌, ◌<◌, max, true, None, length, IfOk, IfErr, IfSome};
+ghost use Rattle.std.specs.Prelude.{◌≡◌, ◌+◌, ◌^◌, ◌<◌, ◌≤◌, max, true, None, length, IfOk, IfErr, IfSome};
 ghost use Rattle.std.specs.Arc.{arc_value};
 ghost use Rattle.aig_semantics.specs.Circuits.{fair_literals};
 ghost use Rattle.edge.specs.Ends.{CountsConflicts};
@@ -11,13 +10,17 @@ ghost use Rattle.skeleton.specs.Finding.{IsFound};
 ghost use Rattle.wall_store.specs.Boards.{plain};
 ghost use Rattle.fair_round.specs.Spending.{Asks, IsSpent, IsStop};
 ghost use Rattle.fair_round.specs.Deeds.{IsDeed, IsPosting, IsTrueBehind};
-ghost use Rattle.fair_workers.specs.Working.{is_running, is_refused, phase_after, phase_finished, phase_passed, serving, asked, asked_last, searches_in, AreRoundsOf, IsAllowing, IsWorker, Turns, Thinks};
+ghost use Rattle.fair_workers.specs.Runs.{round_workers, AreLimits, ServesOne};
+ghost use Rattle.fair_workers.specs.Working.{is_running, is_refused, is_round, phase_after, phase_finished, phase_passed, serving, asked, asked_last, searches_in, AreRoundsOf, Begins, IsAllowing, IsWorker, Turns, Thinks};
 
+use crate::lasso_search::LassoSearch;
+use crate::numbering::is_round_worker;
 use crate::shared_list::SharedList;
 use circuit::Circuit;
 use edge::Meter;
 use entry::Checked;
 use fair_round::{Author, Deed, Rounds, Stop, decide};
+use search_reports::Limits;
 use skeleton::Found;
 use std::alloc::{AllocError, Global};
 use std::sync::Arc;
@@ -38,31 +41,89 @@ pub(crate) enum Phase {
     LooksLast,
     /// It asks whether all skeletons of the property are excluded.
     SearchesLast,
+    /// A lasso worker asks whether its property is open; behind its next search so many are left.
+    AsksDeeper(u32),
+    /// It searches for a lasso, and hands it in; so many searches are left behind this one.
+    Deepens(u32),
     /// It ended, since each property has an outcome.
     Closed,
     /// It ended, since the list is full and leaves a skeleton of each open property.
     Full,
     /// It ended, since its conflicts or its steps are spent.
     Spent,
+    /// A lasso worker ended, since its conflicts are spent or its depth is done.
+    Deep,
     /// It ended, since memory was refused.
     Refused,
 }
 
-/// A worker: the property that it serves, or served last; its rounds for it, which it makes when it first searches; its
-/// meter; and what it does next or how it ended.
+/// A worker: the property that it serves, or served last; its rounds for it, which it makes when it first searches; a lasso
+/// worker's search, which makes no rounds; its meter; and what it does next or how it ended.
 #[derive(Drop)]
 pub(crate) struct Worker {
     pub(crate) property: u32,
     pub(crate) rounds: Option<Rounds>,
+    pub(crate) lasso_search: Option<LassoSearch>,
     pub(crate) meter: Meter,
     pub(crate) phase: Phase,
 }
 
-/// The property from which a worker of this number asks first: they begin at places spread over the list.
-pub(crate) fn first_property(properties: &[u32], number: u32, workers: u32) -> u32 {
+// The property from which a worker of this number asks first: they begin at places spread over the list.
+fn first_property(properties: &[u32], number: u32, workers: u32) -> u32 {
     let ahead = (number as usize).saturating_mul(properties.len());
     let place = ahead.checked_div(workers as usize).unwrap_or(0);
     properties.get(place).copied().unwrap_or(0)
+}
+
+// A worker that has begun nothing, with this meter.
+fn round_worker(properties: &[u32], limits: Limits, number: u32, meter: Meter) -> Worker
+    requires { number < round_workers limits }
+    ensures meter { result.meter ≡ meter }
+    ensures begins { Begins limits properties.now number result }
+{
+    Worker {
+        property: first_property(properties, number, limits.workers),
+        rounds: None,
+        lasso_search: None,
+        meter,
+        phase: Phase::Asks,
+    }
+}
+
+// A lasso worker that has begun nothing, with this meter. Its simulation draws from its number.
+fn lasso_worker(properties: &[u32], limits: Limits, number: u32, meter: Meter) -> Worker
+    requires number { round_workers limits ≤ number }
+    requires one { length properties.now ≡ 1 }
+    ensures meter { result.meter ≡ meter }
+    ensures begins { Begins limits properties.now number result }
+{
+    Worker {
+        property: properties[0],
+        rounds: None,
+        lasso_search: Some(LassoSearch {
+            seed: number,
+            depth: limits.depth,
+            done: 0,
+            solver: None,
+        }),
+        meter,
+        phase: Phase::AsksDeeper(limits.depth),
+    }
+}
+
+/// A worker of this number that has begun nothing, with this meter: one of the last ones is a lasso worker.
+pub(crate) fn begin(properties: &[u32], limits: Limits, number: u32, meter: Meter) -> Worker
+    requires limits { AreLimits limits }
+    requires inside { number < limits.workers }
+    requires one { ServesOne limits properties.now }
+    ensures meter { result.meter ≡ meter }
+    ensures begins { Begins limits properties.now number result }
+{
+    if is_round_worker(limits, number) {
+        round_worker(properties, limits, number, meter)
+    } else {
+        lasso_worker(properties, limits, number, meter)
+    }
 }
 
 // The rounds of a worker, made where it has none yet. They are put back behind the work.
@@ -105,6 +166,7 @@ fn decided(
     ensures rounds { IfSome worker.new.rounds (AreRoundsOf (arc_value c.now) j (viewed view.now)) }
     ensures property { worker.new.property ≡ worker.old.property }
     ensures phase { worker.new.phase ≡ worker.old.phase }
+    ensures lasso_search { worker.new.lasso_search ≡ worker.old.lasso_search }
 {
     let mut rounds = taken(alloc, c, j, author.number, &mut worker.rounds, view)?;
     let deed = decide(alloc, c, j, view, &mut rounds, author, &mut worker.meter);
@@ -154,6 +216,7 @@ fn skeleton_in(
     ensures rounds { IfSome worker.new.rounds (AreRoundsOf (arc_value c.now) j (viewed view.now)) }
     ensures property { worker.new.property ≡ worker.old.property }
     ensures phase { worker.new.phase ≡ worker.old.phase }
+    ensures lasso_search { worker.new.lasso_search ≡ worker.old.lasso_search }
 {
     let mut rounds = taken(alloc, c, j, number, &mut worker.rounds, view)?;
     let found = rounds.next(alloc, view, &mut worker.meter);
@@ -224,8 +287,8 @@ fn go_on_last(worker: &mut Worker, from: u32, told: Option<u32>)
     }
 }
 
-// Asks for an open property, from the one that it served last on.
-fn ask<L: SharedList>(worker: &mut Worker, shared: &mut L)
+/// Asks for an open property, from the one that it served last on.
+pub(crate) fn ask<L: SharedList>(worker: &mut Worker, shared: &mut L)
     requires kept { L.is_kept shared.old }
     requires worker { IsWorker (L.known shared.old) worker.old }
     requires phase { worker.old.phase ≡ Phase.Asks }
@@ -236,8 +299,8 @@ fn ask<L: SharedList>(worker: &mut Worker, shared: &mut L)
     go_on(worker, told);
 }
 
-// Asks for an open property that it did not go through since the list is full.
-fn ask_last<L: SharedList>(worker: &mut Worker, from: u32, shared: &mut L)
+/// Asks for an open property that it did not go through since the list is full.
+pub(crate) fn ask_last<L: SharedList>(worker: &mut Worker, from: u32, shared: &mut L)
     requires kept { L.is_kept shared.old }
     requires worker { IsWorker (L.known shared.old) worker.old }
     requires phase { worker.old.phase ≡ Phase.AsksLast from }
@@ -248,8 +311,8 @@ fn ask_last<L: SharedList>(worker: &mut Worker, from: u32, shared: &mut L)
     go_on_last(worker, from, told);
 }
 
-// Looks, to search then.
-fn look<L: SharedList>(worker: &mut Worker, shared: &mut L)
+/// Looks, to search then.
+pub(crate) fn look<L: SharedList>(worker: &mut Worker, shared: &mut L)
     requires kept { L.is_kept shared.old }
     requires worker { IsWorker (L.known shared.old) worker.old }
     requires phase { worker.old.phase ≡ Phase.Looks }
@@ -262,8 +325,8 @@ fn look<L: SharedList>(worker: &mut Worker, shared: &mut L)
     };
 }
 
-// Looks for the last time, for its property.
-fn look_last<L: SharedList>(worker: &mut Worker, shared: &mut L)
+/// Looks for the last time, for its property.
+pub(crate) fn look_last<L: SharedList>(worker: &mut Worker, shared: &mut L)
     requires kept { L.is_kept shared.old }
     requires worker { IsWorker (L.known shared.old) worker.old }
     requires phase { worker.old.phase ≡ Phase.LooksLast }
@@ -353,7 +416,7 @@ fn finish_last<L: SharedList>(
 fn end_spent<L: SharedList>(worker: &mut Worker, shared: &L)
     requires kept { L.is_kept shared.now }
     requires worker { IsWorker (L.known shared.now) worker.old }
-    requires running { is_running worker.old.phase ≡ true }
+    requires running { is_round worker.old.phase ≡ true }
     requires spent { IsSpent worker.old.meter }
     ensures on { L.goes_on shared.now shared.now }
     ensures turns { Turns (searches_in worker.old.phase) (L.known shared.now) worker.old (L.known shared.now) worker.new }
@@ -366,7 +429,7 @@ fn end_spent<L: SharedList>(worker: &mut Worker, shared: &L)
 fn end_refused<L: SharedList>(worker: &mut Worker, shared: &L)
     requires kept { L.is_kept shared.now }
     requires worker { IsWorker (L.known shared.now) worker.old }
-    requires running { is_running worker.old.phase ≡ true }
+    requires running { is_round worker.old.phase ≡ true }
     ensures on { L.goes_on shared.now shared.now }
     ensures turns { Turns (searches_in worker.old.phase) (L.known shared.now) worker.old (L.known shared.now) worker.new }
 {
@@ -416,8 +479,8 @@ fn post_shared<L: SharedList>(alloc: Global, worker: &mut Worker, entry: Checked
     }
 }
 
-// Searches, and then posts or hands in what it found.
-fn search<L: SharedList>(
+/// Searches, and then posts or hands in what it found.
+pub(crate) fn search<L: SharedList>(
     alloc: Global,
     c: &Arc<Circuit>,
     properties: &[u32],
@@ -440,8 +503,8 @@ fn search<L: SharedList>(
     }
 }
 
-// Asks for a skeleton for the last time.
-fn search_last<L: SharedList>(
+/// Asks for a skeleton for the last time.
+pub(crate) fn search_last<L: SharedList>(
     alloc: Global,
     c: &Arc<Circuit>,
     properties: &[u32],
@@ -472,9 +535,10 @@ impl Phase {
         ensures { result ≡ is_running self }
     {
         match self {
-            Phase::Closed | Phase::Full | Phase::Spent | Phase::Refused => false,
+            Phase::Closed | Phase::Full | Phase::Spent | Phase::Deep | Phase::Refused => false,
             Phase::Asks | Phase::Looks | Phase::Searches => true,
             Phase::AsksLast(_) | Phase::LooksLast | Phase::SearchesLast => true,
+            Phase::AsksDeeper(_) | Phase::Deepens(_) => true,
         }
     }
 
@@ -489,37 +553,10 @@ impl Phase {
     {
         match self {
             Phase::Refused => true,
-            Phase::Closed | Phase::Full | Phase::Spent => false,
+            Phase::Closed | Phase::Full | Phase::Spent | Phase::Deep => false,
             Phase::Asks | Phase::Looks | Phase::Searches => false,
             Phase::AsksLast(_) | Phase::LooksLast | Phase::SearchesLast => false,
+            Phase::AsksDeeper(_) | Phase::Deepens(_) => false,
         }
-    }
-}
-
-/// A turn of a worker that has not ended: what it does up to its next event of the list, and that event. Where memory is
-/// refused, the worker ends.
-pub(crate) fn take_turn<L: SharedList>(
-    alloc: Global,
-    c: &Arc<Circuit>,
-    properties: &[u32],
-    worker: &mut Worker,
-    shared: &mut L,
-)
-    requires kept { L.is_kept shared.old }
-    requires worker { IsWorker (L.known shared.old) worker.old }
-    requires circuit { arc_value c.now ≡ (L.known shared.old).circuit }
-    requires properties { properties.now ≡ (L.known shared.old).properties }
-    requires running { is_running worker.old.phase ≡ true }
-    ensures on { L.goes_on shared.old shared.new }
-    ensures turns { Turns 0 (L.known shared.old) worker.old (L.known shared.new) worker.new }
-{
-    match worker.phase {
-        Phase::Asks => ask(worker, shared),
-        Phase::Looks => look(worker, shared),
-        Phase::Searches => search(alloc, c, properties, worker, shared),
-        Phase::AsksLast(from) => ask_last(worker, from, shared),
-        Phase::LooksLast => look_last(worker, shared),
-        Phase::SearchesLast => search_last(alloc, c, properties, worker, shared),
-        Phase::Closed | Phase::Full | Phase::Spent | Phase::Refused => unreachable!(),
     }
 }

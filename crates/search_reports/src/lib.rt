@@ -4,7 +4,7 @@
 //! | Type | Is |
 //! |---|---|
 //! | `Limits` | how many workers there are, and what they may spend |
-//! | `Report` | the board that they leave, and what each of them has spent |
+//! | `Report` | the board that they leave, what each of them has spent, and how many positions lasso workers have done |
 //! | `Ended` | why they ended without an answer |
 #![tactic(auto)]
 

@@ -5,10 +5,11 @@ use Rattle.std.proofs.lemmas.List.Elements.{All-push}
 use Rattle.fair_workers.specs.declared.board_workers.BoardWorker.{BoardWorker}
 use Rattle.fair_workers.specs.declared.ending.WorkerEnd.{WorkerEnd}
 use Rattle.fair_workers.specs.Runs.{IsInBudget}
+use Rattle.fair_workers.specs.Ends.{end_as}
 use Rattle.fair_workers.proofs.board_workers.ends_of.Goals as goal
 
 abbrev ended_as : BoardWorker → WorkerEnd
-ended_as m = record { spent = m.worker.meter; phase = m.worker.phase }
+ended_as m = end_as m.worker
 
 pub loop-k-preserved : goal.loop-k-preserved
 loop-k-preserved c =

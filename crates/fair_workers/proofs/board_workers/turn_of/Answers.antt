@@ -15,7 +15,7 @@ pub returns-clause-follows : goal.returns-clause-follows
 returns-clause-follows c =
     let d : BoardWorker = c.index-workers-k.result in
     let w : BoardWorker = get_or c.args.workers.now c.args.k d in
-    follows-turn c.args.board c.turn_on_board-after.result w c.turn_on_board-after.new.own c.holds-2.ensures (c.requires.workers.each c.args.k d c.requires.inside)
+    follows-turn c.args.board c.turn_on_board-after.result w c.turn_on_board-after.new.own c.holds.ensures c.holds-2.ensures (c.requires.workers.each c.args.k d c.requires.inside)
     (runs-here c.args.workers.now c.args.k d c.requires.inside ∙ c.requires.running) c.turn_on_board-after.ensures
 
 pub returns-clause-less : goal.returns-clause-less

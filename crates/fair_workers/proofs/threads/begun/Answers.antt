@@ -11,10 +11,10 @@ runners_of-requires-clause-room c =
 pub returns-clause-begun : goal.returns-clause-begun
 returns-clause-begun c =
     begun-for (task_in c.args.task.now) c.in_ok-made.made.0 c.in_ok-made.made.1.items c.runners_of.result.items
-    c.requires.served c.in_ok-made.ensures c.runners_of.ensures
+    c.requires.limits c.requires.one c.requires.served c.in_ok-made.ensures c.runners_of.ensures
 
 pub returns-clause-ready : goal.returns-clause-ready
 returns-clause-ready c =
     may-run-all (task_in c.args.task.now) c.in_ok-made.made.0 c.runners_of.result.items
     (begun-for (task_in c.args.task.now) c.in_ok-made.made.0 c.in_ok-made.made.1.items c.runners_of.result.items
-    c.requires.served c.in_ok-made.ensures c.runners_of.ensures)
+    c.requires.limits c.requires.one c.requires.served c.in_ok-made.ensures c.runners_of.ensures)

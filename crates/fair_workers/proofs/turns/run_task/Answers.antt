@@ -3,8 +3,12 @@ use Rattle.wall_store.specs.Boards.{BoardState}
 use Rattle.fair_workers.specs.declared.board_workers.BoardWorker.{BoardWorker}
 use Rattle.fair_workers.specs.Runs.{Task}
 use Rattle.fair_workers.specs.BoardWorkers.{ServeTask, task_in}
-use Rattle.fair_workers.proofs.Together.{serve-first}
+use Rattle.fair_workers.proofs.Together.{serve-first, fresh-of}
 use Rattle.fair_workers.proofs.turns.run_task.Goals as goal
+
+pub workers_on-requires : goal.workers_on-requires
+workers_on-requires c =
+    fresh-of c.in_ok-board.board (task_in c.args.task.now) c.in_ok-board.ensures c.requires.served c.requires.limits c.requires.one
 
 pub all_turns-board-requires-clause-workers : goal.all_turns-board-requires-clause-workers
 all_turns-board-requires-clause-workers c =

@@ -1,7 +1,7 @@
 use Rattle.std.proofs.Common.{refl, sym, subst}
 use Rattle.fair_workers.specs.declared.working.Phase.TheVariants.{LooksLast, Refused}
 use Rattle.fair_workers.specs.Working.{searches_in, Turns}
-use Rattle.fair_workers.proofs.Turned.{one-more-in, runs-in, end-turn, look-last-turn}
+use Rattle.fair_workers.proofs.Turned.{one-more-in, round-in, end-turn, look-last-turn}
 use Rattle.fair_workers.proofs.working.look_last.Goals.{in-Ok, in-Err}
 use Rattle.fair_workers.proofs.working.look_last.Goals as goal
 
@@ -19,5 +19,5 @@ returns-clause-turns g c =
       | in-Err b ↦
           subst (λ p. Turns 0 k w l (record w { phase = p })) (sym b.worker-is)
           (subst (λ p. Turns (searches_in p) k w l (record w { phase = Refused })) c.requires.phase
-          (end-turn k l w Refused c.requires.worker b.in-Err.ensures.err (runs-in w.phase LooksLast c.requires.phase refl) refl tt))
+          (end-turn k l w Refused c.requires.worker b.in-Err.ensures.err (round-in w.phase LooksLast c.requires.phase refl) refl refl tt))
     ]

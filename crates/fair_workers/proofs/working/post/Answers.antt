@@ -2,7 +2,7 @@ use Rattle.std.proofs.Common.{refl, sym, ◌∙◌, subst}
 use Rattle.std.specs.Arc.{arc_value}
 use Rattle.fair_workers.specs.declared.working.Phase.TheVariants.{Searches, Refused}
 use Rattle.fair_workers.specs.Working.{searches_in, Turns}
-use Rattle.fair_workers.proofs.Turned.{one-more-in, runs-in, end-turn, may-post, post-turn, serves-one}
+use Rattle.fair_workers.proofs.Turned.{one-more-in, round-in, end-turn, may-post, post-turn, serves-one}
 use Rattle.fair_workers.proofs.working.post.Goals.{in-Ok, in-Err}
 use Rattle.fair_workers.proofs.working.post.Goals as goal
 
@@ -28,5 +28,5 @@ returns-clause-turns g c =
           (post-turn k l w b.in-Ok.posted c.requires.worker c.requires.phase b.in-Ok.ensures.ok)
       | in-Err b ↦
           subst (λ p. Turns (searches_in w.phase) k w l (record w { phase = p })) (sym b.worker-is)
-          (end-turn k l w Refused c.requires.worker b.in-Err.ensures.err (runs-in w.phase Searches c.requires.phase refl) refl tt)
+          (end-turn k l w Refused c.requires.worker b.in-Err.ensures.err (round-in w.phase Searches c.requires.phase refl) refl refl tt)
     ]

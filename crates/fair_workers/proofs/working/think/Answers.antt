@@ -48,6 +48,7 @@ returns-clause-thinks g c =
     record {
       property = c.decided.ensures.property;
       phase = c.decided.ensures.phase;
+      lasso_search = c.decided.ensures.lasso_search;
       rounds =
           subst (λ (m : ℕ). IfSome v.rounds (AreRoundsOf k.circuit m (plain k.list))) (sym c.decided.ensures.property)
           (subst (λ e. IfSome v.rounds (AreRoundsOf e w.property (plain k.list))) c.requires.circuit

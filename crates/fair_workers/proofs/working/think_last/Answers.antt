@@ -43,6 +43,7 @@ returns-clause-thinks g c =
     record {
       property = c.skeleton_in.ensures.property;
       phase = c.skeleton_in.ensures.phase;
+      lasso_search = c.skeleton_in.ensures.lasso_search;
       rounds =
           subst (λ (m : ℕ). IfSome v.rounds (AreRoundsOf k.circuit m (plain k.list))) (sym c.skeleton_in.ensures.property)
           (subst (λ e. IfSome v.rounds (AreRoundsOf e w.property (plain k.list))) c.requires.circuit

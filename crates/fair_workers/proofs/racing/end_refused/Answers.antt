@@ -1,0 +1,5 @@
+use Rattle.fair_workers.proofs.LassoTurns.{refused-turn}
+use Rattle.fair_workers.proofs.racing.end_refused.Goals as goal
+
+pub returns-clause-turns : goal.returns-clause-turns
+returns-clause-turns g c = refused-turn (g.L.SharedList.known c.args.shared.now) c.args.worker.now c.args._after c.requires.worker
