@@ -153,26 +153,64 @@ solve_or_none rows =
     by (first_of (codes "MODEL") rows) refl (number_or_none_given rows (codes "property") 0 4294967295 0 (omega arith))
     (number_or_none_given rows (codes "workers") 1 64 1 (omega arith)) (number_or_none_given rows (codes "conflicts") 0 4294967295 1000000 (omega arith))
     (number_or_none_given rows (codes "steps") 0 4294967295 100000 (omega arith)) (number_or_none_given rows (codes "skeletons") 0 65536 10000 (omega arith))
+    (number_or_none_given rows (codes "lassos") 0 63 0 (omega arith)) (number_or_none_given rows (codes "depth") 0 65536 100 (omega arith))
   where
     by : (m : Option (List ℕ)) → first_of (codes "MODEL") rows ≡ m → SomeOrNone (IsNumberOr rows (codes "property") 0 4294967295 0)
         → SomeOrNone (IsNumberOr rows (codes "workers") 1 64 1) → SomeOrNone (IsNumberOr rows (codes "conflicts") 0 4294967295 1000000)
         → SomeOrNone (IsNumberOr rows (codes "steps") 0 4294967295 100000) → SomeOrNone (IsNumberOr rows (codes "skeletons") 0 65536 10000)
+        → SomeOrNone (IsNumberOr rows (codes "lassos") 0 63 0) → SomeOrNone (IsNumberOr rows (codes "depth") 0 65536 100)
         → SomeOrNone (λ (asks : Asks). MeansSolve rows asks.0 asks.1 asks.2)
-    by (Some model) e (inl p) (inl w) (inl c) (inl s) (inl k) = inl (
-      (model, record { property = p.0; workers = w.0; conflicts = c.0; steps = s.0; skeletons = k.0; all = flag_in rows (codes "all") }, given_in rows (codes "resume")),
-      record { model_name = e; property = p.1; workers = w.1; conflicts = c.1; steps = s.1; skeletons = k.1; each = refl; answer_name = refl },
+    by (Some model) e (inl p) (inl w) (inl c) (inl s) (inl k) (inl l) (inl d) = inl (
+      (
+        model,
+        record {
+          property = p.0;
+          workers = w.0;
+          conflicts = c.0;
+          steps = s.0;
+          skeletons = k.0;
+          lassos = l.0;
+          depth = d.0;
+          all = flag_in rows (codes "all");
+        },
+        given_in rows (codes "resume"),
+      ),
+      record {
+        model_name = e;
+        property = p.1;
+        workers = w.1;
+        conflicts = c.1;
+        steps = s.1;
+        skeletons = k.1;
+        lassos = l.1;
+        depth = d.1;
+        each = refl;
+        answer_name = refl;
+      },
     )
-    by None e p w c s k = inr (λ asks h. (let wrong : None ≡ Some asks.0 = sym e ∙ h.model_name in cc))
-    by (Some model) e (inr none) w c s k = inr (λ asks h. none asks.1.property h.property)
-    by (Some model) e (inl p) (inr none) c s k = inr (λ asks h. none asks.1.workers h.workers)
-    by (Some model) e (inl p) (inl w) (inr none) s k = inr (λ asks h. none asks.1.conflicts h.conflicts)
-    by (Some model) e (inl p) (inl w) (inl c) (inr none) k = inr (λ asks h. none asks.1.steps h.steps)
-    by (Some model) e (inl p) (inl w) (inl c) (inl s) (inr none) = inr (λ asks h. none asks.1.skeletons h.skeletons)
+    by None e p w c s k l d = inr (λ asks h. (let wrong : None ≡ Some asks.0 = sym e ∙ h.model_name in cc))
+    by (Some model) e (inr none) w c s k l d = inr (λ asks h. none asks.1.property h.property)
+    by (Some model) e (inl p) (inr none) c s k l d = inr (λ asks h. none asks.1.workers h.workers)
+    by (Some model) e (inl p) (inl w) (inr none) s k l d = inr (λ asks h. none asks.1.conflicts h.conflicts)
+    by (Some model) e (inl p) (inl w) (inl c) (inr none) k l d = inr (λ asks h. none asks.1.steps h.steps)
+    by (Some model) e (inl p) (inl w) (inl c) (inl s) (inr none) l d = inr (λ asks h. none asks.1.skeletons h.skeletons)
+    by (Some model) e (inl p) (inl w) (inl c) (inl s) (inl k) (inr none) d = inr (λ asks h. none asks.1.lassos h.lassos)
+    by (Some model) e (inl p) (inl w) (inl c) (inl s) (inl k) (inl l) (inr none) = inr (λ asks h. none asks.1.depth h.depth)
 
 same_solve : (m n : List ℕ) (a b : SolveRequest) (r q : Option (List ℕ)) → m ≡ n → r ≡ q → a.property ≡ b.property → a.workers ≡ b.workers
-    → a.conflicts ≡ b.conflicts → a.steps ≡ b.steps → a.skeletons ≡ b.skeletons → a.all ≡ b.all → Solve m a r ≡ Solve n b q
-same_solve m n a b r q e f p w c s k l =
-    λ i. Solve (e i) (record { property = p i; workers = w i; conflicts = c i; steps = s i; skeletons = k i; all = l i }) (f i)
+    → a.conflicts ≡ b.conflicts → a.steps ≡ b.steps → a.skeletons ≡ b.skeletons → a.lassos ≡ b.lassos → a.depth ≡ b.depth → a.all ≡ b.all
+    → Solve m a r ≡ Solve n b q
+same_solve m n a b r q e f p w c s k n_lassos d l =
+    λ i. Solve (e i) (record {
+      property = p i;
+      workers = w i;
+      conflicts = c i;
+      steps = s i;
+      skeletons = k i;
+      lassos = n_lassos i;
+      depth = d i;
+      all = l i;
+    }) (f i)
 
 pub one_solve : (rows : List Row) (m n : List ℕ) (a b : SolveRequest) (r q : Option (List ℕ)) → MeansSolve rows m a r → MeansSolve rows n b q
     → Solve m a r ≡ Solve n b q
@@ -182,7 +220,9 @@ one_solve rows m n a b r q h k =
     (one_number_or rows (codes "workers") 1 64 1 a.workers b.workers h.workers k.workers)
     (one_number_or rows (codes "conflicts") 0 4294967295 1000000 a.conflicts b.conflicts h.conflicts k.conflicts)
     (one_number_or rows (codes "steps") 0 4294967295 100000 a.steps b.steps h.steps k.steps)
-    (one_number_or rows (codes "skeletons") 0 65536 10000 a.skeletons b.skeletons h.skeletons k.skeletons) (sym h.each ∙ k.each)
+    (one_number_or rows (codes "skeletons") 0 65536 10000 a.skeletons b.skeletons h.skeletons k.skeletons)
+    (one_number_or rows (codes "lassos") 0 63 0 a.lassos b.lassos h.lassos k.lassos)
+    (one_number_or rows (codes "depth") 0 65536 100 a.depth b.depth h.depth k.depth) (sym h.each ∙ k.each)
 
 -- ---- `demo`
 

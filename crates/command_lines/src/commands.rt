@@ -1,9 +1,10 @@
 //! The commands, each of which has a module of its own: here is one line, or one case, for each in the list of what is
 //! asked for, in the usage text, in `program` and in `asked_as`. The main call is `asked_of`.
 //!
-//! A new command has here a file in `src/commands/` and one in `specs/`, and in `fair_top`, which runs it, again one of each
-//! with a file of lemmas. Else it touches the lists: here `specs/Commands.antt`, this file, `proofs/EachCommand.antt`,
-//! `proofs/commands/program/Answers.antt` and `specs/Lib.antt`, and those that `fair_top/src/commands.rt` names.
+//! A new command has here a file in `src/commands/` and one in `specs/`, and in `plain_commands` or `fair_top`, one of which
+//! runs it, again one of each with a file of lemmas. Else it touches the lists: here `specs/Commands.antt`, this file,
+//! `proofs/EachCommand.antt`, `proofs/commands/program/Answers.antt` and `specs/Lib.antt`, and those that
+//! `fair_top/src/commands.rt` names.
 
 ghost use Rattle.std.specs.Prelude.{◌≡◌, ◌⊎◌, option_map, IfOk, IfErr, IfSome, IfNone};
 ghost use Rattle.clap.specs.Simple.{app_of, subcommand_rows_of, subcommand_of};
@@ -116,7 +117,7 @@ pub enum Asked<'a> {
 
 /// What is written where the words are no command: a line for each command.
 pub const USAGE: &str =
-    "usage: fairlive solve MODEL [--property N] [--workers W] [--conflicts C] [--steps S] [--skeletons K] [--all] [--resume ANSWER]\n       fairlive check MODEL ANSWER\n       fairlive gen KIND SEED SIZE [--binary]\n       fairlive demo SEED SIZE\n       fairlive wave MODEL ANSWER [--property N]\n       fairlive slice MODEL [--property N]\n       fairlive convert MODEL ANSWER\n       fairlive safety MODEL [--property N]\n       fairlive rounds MODEL K [--property N] [--conflicts C] [--steps S]\n       fairlive shortest MODEL [--property N] [--conflicts C] [--depth D]\n       fairlive trim MODEL ANSWER\n       fairlive export MODEL ANSWER ENTRY CLAUSE [--lrat]\n";
+    "usage: fairlive solve MODEL [--property N] [--workers W] [--conflicts C] [--steps S] [--skeletons K] [--lassos N] [--depth D] [--all] [--resume ANSWER]\n       fairlive check MODEL ANSWER\n       fairlive gen KIND SEED SIZE [--binary]\n       fairlive demo SEED SIZE\n       fairlive wave MODEL ANSWER [--property N]\n       fairlive slice MODEL [--property N]\n       fairlive convert MODEL ANSWER\n       fairlive safety MODEL [--property N]\n       fairlive rounds MODEL K [--property N] [--conflicts C] [--steps S]\n       fairlive shortest MODEL [--property N] [--conflicts C] [--depth D]\n       fairlive trim MODEL ANSWER\n       fairlive export MODEL ANSWER ENTRY CLAUSE [--lrat]\n";
 
 /// Why the words ask for nothing.
 #[derive(Drop)]

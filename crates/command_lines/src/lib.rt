@@ -12,7 +12,7 @@
 //! | `WordsEnd` | why the words ask for nothing |
 //! | `USAGE` | a line for each command, for words that are none |
 //!
-//! Nothing is run here: that does `fair_top`. A command has files of its own, as `specs/Check.antt` and
+//! Nothing is run here: that do `plain_commands` and `fair_top`. A command has files of its own, as `specs/Check.antt` and
 //! `src/commands/checking.rt` are, and a line, or a case, in each list of the files that `src/commands.rt` names.
 #![tactic(auto)]
 

@@ -28,7 +28,11 @@ pub struct SolveRequest {
     pub steps: u64,
     /// By how many entries the shared list may grow, 0 to 65,536.
     pub skeletons: u32,
-    /// Whether all properties are to be decided; the number of one plays then no part.
+    /// How many of the workers are lasso workers, 0 to 63, and never all.
+    pub lassos: u32,
+    /// How many positions the lassos have at most that these ask for, 0 to 65,536.
+    pub depth: u32,
+    /// Whether all properties are to be decided; the number of one plays then no part, nor do lasso workers.
     pub all: bool,
 }
 
@@ -39,6 +43,8 @@ pub const DEFAULTS: SolveRequest = SolveRequest {
     conflicts: 1_000_000,
     steps: 100_000,
     skeletons: 10_000,
+    lassos: 0,
+    depth: 100,
     all: false,
 };
 
@@ -53,6 +59,8 @@ fn solve_command<'a>(alloc: Global) -> Result<Command<'a>, AllocError>
         .arg(number_option(alloc, "conflicts", 0, 4_294_967_295))?
         .arg(number_option(alloc, "steps", 0, 4_294_967_295))?
         .arg(number_option(alloc, "skeletons", 0, 65_536))?
+        .arg(number_option(alloc, "lassos", 0, 63))?
+        .arg(number_option(alloc, "depth", 0, 65_536))?
         .arg(flag(alloc, "all"))?
         .arg(text_option(alloc, "resume"))
 }
@@ -82,6 +90,8 @@ pub(crate) fn solve_of<'a>(given: &ArgMatches<'a>) -> Option<Asked<'a>>
     let conflicts = number_or(given, "conflicts", 0, 4_294_967_295, DEFAULTS.conflicts)?;
     let steps = number_or(given, "steps", 0, 4_294_967_295, DEFAULTS.steps)?;
     let skeletons = number_or(given, "skeletons", 0, 65_536, u64::from(DEFAULTS.skeletons))?;
+    let lassos = number_or(given, "lassos", 0, 63, u64::from(DEFAULTS.lassos))?;
+    let depth = number_or(given, "depth", 0, 65_536, u64::from(DEFAULTS.depth))?;
     let all = flag_of(given, "all");
     let request = SolveRequest {
         property: property as u32,
@@ -89,6 +99,8 @@ pub(crate) fn solve_of<'a>(given: &ArgMatches<'a>) -> Option<Asked<'a>>
         conflicts,
         steps,
         skeletons: skeletons as u32,
+        lassos: lassos as u32,
+        depth: depth as u32,
         all,
     };
     Some(Asked::Solve {

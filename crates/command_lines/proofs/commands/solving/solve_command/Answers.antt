@@ -14,8 +14,10 @@ returns-clause-shape c =
     let with_4 = c.in_ok-arg-4.ensures.shape (search rules) ∙ ap₂ with_rule with_3 c.number_option-3.ensures.rule in
     let with_5 = c.in_ok-arg-5.ensures.shape (search rules) ∙ ap₂ with_rule with_4 c.number_option-4.ensures.rule in
     let with_6 = c.in_ok-arg-6.ensures.shape (search rules) ∙ ap₂ with_rule with_5 c.number_option-5.ensures.rule in
-    let with_7 = c.in_ok-arg-7.ensures.shape (search rules) ∙ ap₂ with_rule with_6 c.flag.ensures.rule in
-    IfOk-weaker c.arg-8.result _ _ (λ command h. h.shape (search rules) ∙ ap₂ with_rule with_7 c.text_option.ensures.rule) c.arg-8.ensures
+    let with_7 = c.in_ok-arg-7.ensures.shape (search rules) ∙ ap₂ with_rule with_6 c.number_option-6.ensures.rule in
+    let with_8 = c.in_ok-arg-8.ensures.shape (search rules) ∙ ap₂ with_rule with_7 c.number_option-7.ensures.rule in
+    let with_9 = c.in_ok-arg-9.ensures.shape (search rules) ∙ ap₂ with_rule with_8 c.flag.ensures.rule in
+    IfOk-weaker c.arg-10.result _ _ (λ command h. h.shape (search rules) ∙ ap₂ with_rule with_9 c.text_option.ensures.rule) c.arg-10.ensures
 
 pub returns-clause-local : goal.returns-clause-local
 returns-clause-local c =
@@ -25,5 +27,7 @@ returns-clause-local c =
     let local_4 = none_global _ c.number_option-3.result.global _ c.in_ok-arg-4.ensures.globals local_3 c.number_option-3.ensures.local in
     let local_5 = none_global _ c.number_option-4.result.global _ c.in_ok-arg-5.ensures.globals local_4 c.number_option-4.ensures.local in
     let local_6 = none_global _ c.number_option-5.result.global _ c.in_ok-arg-6.ensures.globals local_5 c.number_option-5.ensures.local in
-    let local_7 = none_global _ c.flag.result.global _ c.in_ok-arg-7.ensures.globals local_6 c.flag.ensures.local in
-    IfOk-weaker c.arg-8.result _ _ (λ command h. none_global _ c.text_option.result.global _ h.globals local_7 c.text_option.ensures.local) c.arg-8.ensures
+    let local_7 = none_global _ c.number_option-6.result.global _ c.in_ok-arg-7.ensures.globals local_6 c.number_option-6.ensures.local in
+    let local_8 = none_global _ c.number_option-7.result.global _ c.in_ok-arg-8.ensures.globals local_7 c.number_option-7.ensures.local in
+    let local_9 = none_global _ c.flag.result.global _ c.in_ok-arg-9.ensures.globals local_8 c.flag.ensures.local in
+    IfOk-weaker c.arg-10.result _ _ (λ command h. none_global _ c.text_option.result.global _ h.globals local_9 c.text_option.ensures.local) c.arg-10.ensures

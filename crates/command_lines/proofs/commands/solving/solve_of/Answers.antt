@@ -17,3 +17,9 @@ returns-in_err-steps-clause-none c = rw c.from_residual-in_err-steps.ensures (no
 
 pub returns-in_err-skeletons-clause-none : goal.returns-in_err-skeletons-clause-none
 returns-in_err-skeletons-clause-none c = rw c.from_residual-in_err-skeletons.ensures (no_solve (rows_of (found_of c.args.given.now)) (λ asks h. c.in_err-skeletons.ensures.none asks.1.skeletons (rw c.from-3.ensures h.skeletons)))
+
+pub returns-in_err-lassos-clause-none : goal.returns-in_err-lassos-clause-none
+returns-in_err-lassos-clause-none c = rw c.from_residual-in_err-lassos.ensures (no_solve (rows_of (found_of c.args.given.now)) (λ asks h. c.in_err-lassos.ensures.none asks.1.lassos (rw c.from-4.ensures h.lassos)))
+
+pub returns-in_err-depth-clause-none : goal.returns-in_err-depth-clause-none
+returns-in_err-depth-clause-none c = rw c.from_residual-in_err-depth.ensures (no_solve (rows_of (found_of c.args.given.now)) (λ asks h. c.in_err-depth.ensures.none asks.1.depth (rw c.from-5.ensures h.depth)))
