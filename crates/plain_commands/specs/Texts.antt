@@ -1,5 +1,5 @@
 -- What each status writes, and the number with which the program ends.
-use Rattle.std.specs.Prelude.{ℕ, false, true, Bool, ◌+◌, List, [], ◌∷◌, ◌++◌, length, Option, None, Some, decimal, codes}
+use Rattle.std.specs.Prelude.{ℕ, false, true, Bool, ◌+◌, ◌-◌, List, [], ◌∷◌, ◌++◌, length, take, drop, Option, None, Some, decimal, codes}
 use Rattle.edge.specs.Units.{Spendings}
 use Rattle.wall_store.specs.declared.outcomes.Served.{Served}
 use Rattle.search_reports.specs.declared.limits.Report.{Report}
@@ -135,6 +135,22 @@ abbrev pub workers_text : ℕ → List Spendings → List ℕ
 workers_text w [] = []
 workers_text w (spent ∷ more) = worker_text w spent ++ workers_text (w + 1) more
 
+-- what the lasso worker with this number has spent, and how many positions it has done of those that it asks for
+abbrev pub lasso_text : ℕ → ℕ → Spendings → ℕ → List ℕ
+lasso_text depth w spent done =
+    codes "c worker " ++ decimal w ++ codes " conflicts " ++ decimal spent.conflicts ++ codes " of "
+    ++ decimal (limit_number spent.conflict_limit) ++ codes " depth " ++ decimal done ++ codes " of " ++ decimal depth ++ codes "\n"
+
+-- the lasso workers from this number on
+abbrev pub lassos_text : ℕ → ℕ → List Spendings → List ℕ → List ℕ
+lassos_text depth w [] depths = []
+lassos_text depth w (spent ∷ more) [] = []
+lassos_text depth w (spent ∷ more) (done ∷ depths) = lasso_text depth w spent done ++ lassos_text depth (w + 1) more depths
+
+-- how many workers of a report are no lasso workers, which are the last ones
+abbrev pub round_workers_in : Report → ℕ
+round_workers_in report = length report.workers - length report.depths
+
 -- the first property that a board serves
 abbrev pub first_property : List Served → ℕ
 first_property [] = 0
@@ -145,18 +161,19 @@ first_property (s ∷ served) = s.property
 abbrev pub unknown_text : Report → List ℕ
 unknown_text report =
     codes "2\nj" ++ decimal (first_property report.board.served) ++ codes "\nc entries " ++ decimal (length report.board.entries)
-    ++ codes " of " ++ decimal report.board.limit ++ codes "\n" ++ workers_text 0 report.workers ++ codes ".\n"
+    ++ codes " of " ++ decimal report.board.limit ++ codes "\n" ++ workers_text 0 (take (round_workers_in report) report.workers)
+    ++ lassos_text report.depth (round_workers_in report) (drop (round_workers_in report) report.workers) report.depths ++ codes ".\n"
 
 -- the same of a search for rounds of a property, by one worker whose list has no entries
 abbrev pub open_text : ℕ → Spendings → List ℕ
 open_text property spent =
     codes "2\nj" ++ decimal property ++ codes "\nc entries 0 of 65536\n" ++ worker_text 0 spent ++ codes ".\n"
 
--- the same of a search for a shortest lasso of a property: up to how many positions there is none, of those that were asked for
+-- the same of a search for a shortest lasso of a property, by one worker: up to how many positions there is none, of those that
+-- were asked for
 abbrev pub depth_text : ℕ → ℕ → ℕ → Spendings → List ℕ
 depth_text property most depth spent =
-    codes "2\nj" ++ decimal property ++ codes "\nc entries 0 of 0\nc worker 0" ++ codes " conflicts " ++ decimal spent.conflicts ++ codes " of "
-    ++ decimal (limit_number spent.conflict_limit) ++ codes " depth " ++ decimal most ++ codes " of " ++ decimal depth ++ codes "\n.\n"
+    codes "2\nj" ++ decimal property ++ codes "\nc entries 0 of 0\n" ++ lasso_text depth 0 spent most ++ codes ".\n"
 
 -- The text that a status tells, where the command has none of its own: `solve` writes the answer for a verdict, and where all
 -- properties are asked for the sheet, `gen` the model, `demo` its summary, and `shortest` where its search is cut short. The usage
