@@ -1,9 +1,9 @@
 -- What a search is asked, from the model and from the list that is loaded for its circuit.
-use Rattle.std.proofs.Common.{◌≡◌, ◌⊎◌, ◌<◌, ◌≤◌, ℕ, Bool, true, false, List, [], ◌∷◌, length, refl, sym, ◌∙◌, ap, subst, inl, inr, arith, Some, None, Ok, Err}
+use Rattle.std.proofs.Common.{◌≡◌, ◌⊎◌, ◌<◌, ◌≤◌, ℕ, Bool, true, false, cond, List, [], ◌∷◌, length, refl, sym, ◌∙◌, ap, subst, inl, inr, arith, Some, None, Ok, Err}
 use Rattle.std.specs.Prelude.{All, AllPairs, Option, Result, IfOk, IfErr, Vec}
 use Rattle.std.specs.declared.alloc.AllocError.{AllocError}
 use Rattle.std.proofs.lemmas.List.Elements.{All-cons, All-nil}
-use Rattle.sheet_commands.specs.Each.{each_of, most_properties}
+use Rattle.sheet_commands.specs.Each.{property_numbers, most_properties}
 use Rattle.sheet_commands.proofs.Numbers.{numbers_ascend, numbers_below}
 use Rattle.std.specs.Arc.{arc_value}
 use Rattle.std.specs.declared.sync.Arc.{Arc}
@@ -17,12 +17,12 @@ use Rattle.edge.specs.Reads.{ReadsOf, KeepsTexts}
 use Rattle.entry.specs.CheckedEntries.{CheckedEntry}
 use Rattle.sheet_answers.specs.declared.ends.JudgeEnd.{JudgeEnd}
 use Rattle.sheet_answers.specs.declared.ends.JudgeEnd.TheVariants as ends
-use Rattle.sheet_answers.specs.Ends.{has_unread, refused_memory}
+use Rattle.sheet_answers.specs.Ends.{has_unread, read_failed, refused_memory, IsUnended}
 use Rattle.entry.specs.declared.origins.Origin.TheVariants.{Given}
 use Rattle.wall_store.specs.Boards.{most_entries, IsSoundList}
 use Rattle.search_reports.specs.declared.limits.Limits.{Limits}
-use Rattle.fair_workers.specs.Runs.{Task, AreServed}
-use Rattle.given_entries.specs.Beginning.{told_of, OfClaimed, IsClaimed, BeginsWith, HasNoList, read_failed, IsUnended, IsRefusedWith, ReadsIfNamed, shared_list}
+use Rattle.fair_workers.specs.Runs.{Task, AreServed, ServesOne}
+use Rattle.given_entries.specs.Beginning.{told_of, OfClaimed, IsClaimed, BeginsWith, HasNoList, IsRefusedWith, ReadsIfNamed, shared_list}
 use Rattle.command_lines.specs.declared.commands.solving.SolveRequest.{SolveRequest}
 use Rattle.command_lines.specs.Commands.{name_in}
 use Rattle.fair_top.specs.declared.beginnings.Beginning.{Beginning}
@@ -426,19 +426,19 @@ one_serves c n there = record {
 }
 
 -- all of them
-pub each_serves : (c : Circuit) (served : List ℕ) → served ≡ each_of c → length served ≤ most_properties → AreServed c served
+pub each_serves : (c : Circuit) (served : List ℕ) → served ≡ property_numbers c → length served ≤ most_properties → AreServed c served
 each_serves c served is few = record {
   ascend = subst (AllPairs (λ i j. i < j)) (sym is) (numbers_ascend 0 (length c.justice));
   inside = subst (All (λ j. j < length c.justice)) (sym is) (numbers_below 0 (length c.justice) (length c.justice) (omega arith));
   few = few;
 }
 
-pub each_is : {A : Type 0} (c : Circuit) (request : SolveRequest) (result : Result (Vec ℕ A) AllocError) → request.all ≡ true → IfOk result (λ numbers. numbers.items ≡ each_of c)
+pub each_is : {A : Type 0} (c : Circuit) (request : SolveRequest) (result : Result (Vec ℕ A) AllocError) → request.all ≡ true → IfOk result (λ numbers. numbers.items ≡ property_numbers c)
     → IfOk result (λ served. served.items ≡ asked_in request.all c request.property)
 each_is c request (Ok numbers) all is = is ∙ ap (λ (b : Bool). asked_in b c request.property) (sym all)
 each_is c request (Err refused) all is = tt
 
-pub each_serve : {A : Type 0} (c : Circuit) (result : Result (Vec ℕ A) AllocError) → IfOk result (λ numbers. numbers.items ≡ each_of c)
+pub each_serve : {A : Type 0} (c : Circuit) (result : Result (Vec ℕ A) AllocError) → IfOk result (λ numbers. numbers.items ≡ property_numbers c)
     → IfOk result (λ numbers. length numbers.items ≤ most_properties) → IfOk result (λ served. AreServed c served.items)
 each_serve c (Ok numbers) is few = each_serves c numbers.items is few
 each_serve c (Err refused) is few = tt
@@ -480,6 +480,20 @@ pub task_lent : (q : Beginning) (request : SolveRequest) (served : List ℕ) (li
 task_lent q request served limits list serves same lent =
     ap (λ (ps : List ℕ). task_by q ps limits (shared_list list)) serves
     ∙ ap (λ (l : Limits). task_by q (served_in q) l (shared_list list)) same ∙ ap (λ l. task_by q (served_in q) (limits_of request) (shared_list l)) lent
+
+-- where all properties are asked for there is no lasso worker, and else one property is served
+serves_one_by : (all : Bool) (c : Circuit) (n lassos : ℕ) → 0 < cond all 0 lassos → length (asked_in all c n) ≡ 1
+serves_one_by true c n lassos some = absurd (omega (arith, some))
+serves_one_by false c n lassos some = refl
+
+pub serves_one : (q : Beginning) (request : SolveRequest) → served_in q ≡ asked_in request.all (circuit_in q) request.property
+    → ServesOne (limits_of request) (served_in q)
+serves_one q request served some = ap length served ∙ serves_one_by request.all (circuit_in q) request.property request.lassos some
+
+pub one_lent : (q : Beginning) (request : SolveRequest) (served : List ℕ) (limits : Limits) → served ≡ served_in q → limits ≡ limits_of request
+    → ServesOne (limits_of request) (served_in q) → ServesOne limits served
+one_lent q request served limits same with_limits one =
+    subst (λ (l : Limits). ServesOne l served) (sym with_limits) (subst (λ (ps : List ℕ). ServesOne (limits_of request) ps) (sym same) one)
 
 -- the task of the beginning is that of the request
 pub asked_task : (q : Beginning) (request : SolveRequest) → served_in q ≡ asked_in request.all (circuit_in q) request.property

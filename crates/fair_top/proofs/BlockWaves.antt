@@ -18,7 +18,7 @@ use Rattle.sheet_answers.specs.declared.blocks.Block.{Block}
 use Rattle.sheet_answers.specs.declared.blocks.Block.TheVariants.{Lasso, Holds, Open}
 use Rattle.sheet_answers.specs.Reading.{is_sheet}
 use Rattle.sheet_answers.specs.Ends.{end_unread}
-use Rattle.sheet_commands.specs.Blocks.{DecidesBlock, DecidesIn, DecidesAs, BlockSays, EndsBlock, read_fault}
+use Rattle.sheet_commands.specs.Blocks.{DecidesBlock, DecidesIn, DecidesBlockAs, BlockSays, EndsBlock, read_fault}
 use Rattle.waves.specs.Dumps.{waves_text}
 use Rattle.plain_commands.specs.declared.status.Status.{Status}
 use Rattle.plain_commands.specs.declared.status.Status.TheVariants as statuses
@@ -82,7 +82,7 @@ good_block m n (Some (Holds r)) found there wrong = absurd (cc wrong)
 good_block m n (Some Open) found there wrong = absurd (cc wrong)
 good_block m n None found there wrong = absurd (cc wrong)
 
-good_in : (m : Model) (text : List ℕ) (n : ℕ) (found : BlockLasso) (test : Bool) → DecidesAs test m.circuit text n (Ok found) → IsGoodLasso m found.property found.lasso
+good_in : (m : Model) (text : List ℕ) (n : ℕ) (found : BlockLasso) (test : Bool) → DecidesBlockAs test m.circuit text n (Ok found) → IsGoodLasso m found.property found.lasso
 good_in m text n found true (inl (sheet, (short, has, good), decided)) =
     good_block m n (slice_get sheet.blocks n) found
     (λ block at. let each = good.each in let inside = slice_get_within sheet.blocks n block at in omega (arith, each, inside)) decided

@@ -11,7 +11,7 @@ use Rattle.sheet_answers.specs.declared.ends.Judged.TheVariants as found_as
 use Rattle.sheet_answers.specs.declared.counts.Counts.{Counts}
 use Rattle.sheet_answers.specs.Sheets.{IsSheetWith, ShowsSheet}
 use Rattle.sheet_answers.specs.Ends.{ShowsText}
-use Rattle.sheet_commands.specs.Each.{each_of}
+use Rattle.sheet_commands.specs.Each.{property_numbers}
 use Rattle.sheet_commands.specs.Boards.{IsSheetOf}
 use Rattle.sheet_commands.proofs.BoardBlocks.{proved_in_order, settled_counts}
 use Rattle.certificate.specs.Answers.{IsGood}
@@ -319,7 +319,7 @@ range_contains n more k j is below = (k, omega (arith, length-range_with_len n m
 each_contained : (served : List Served) (count k : ℕ) → properties_of served ≡ range_with_len 0 count → k < count → Contains (properties_of served) k
 each_contained served count k is below = subst (λ (ps : List ℕ). Contains ps k) (sym is) (range_contains 0 count k k (omega arith) below)
 
-pub sheet_printed : (c : Circuit) (b : BoardState) (counts : Counts) (entries : ℕ) (text : List ℕ) → properties_of b.served ≡ each_of c → IsSettled b.served
+pub sheet_printed : (c : Circuit) (b : BoardState) (counts : Counts) (entries : ℕ) (text : List ℕ) → properties_of b.served ≡ property_numbers c → IsSettled b.served
     → entries ≡ length b.entries → IsSheetOf c b counts text → IsSheetWith c text counts (length b.entries) → ShowsSheet c counts
     → IsSheetPrinted c b (statuses.Done (done_by (found_as.Sheet counts entries))) text
 sheet_printed c b counts entries text each settled counted sheet good shown = (

@@ -22,7 +22,7 @@ use Rattle.sheet_answers.proofs.Others.{no_other}
 use Rattle.certificate.specs.Answers.{IsGood}
 use Rattle.edge.specs.Told.{MayBe}
 use Rattle.sheet_commands.specs.declared.blocks.BlockLasso.{BlockLasso}
-use Rattle.sheet_commands.specs.Blocks.{DecidesBlock, DecidesSheet, DecidesIn, DecidesAs as CutAs, refused as cut_refused}
+use Rattle.sheet_commands.specs.Blocks.{DecidesBlock, DecidesSheet, DecidesIn, DecidesBlockAs as CutAs, refused as cut_refused}
 use Rattle.certificate.specs.declared.ends.AnswerEnd.TheVariants as ends
 use Rattle.certificate.specs.declared.ends.AnswerFault.{AnswerFault}
 use Rattle.certificate.specs.declared.ends.AnswerFault.TheVariants.{NoProperty, UnknownStatus}
@@ -36,7 +36,7 @@ use Rattle.plain_commands.specs.declared.status.Done.TheVariants.{Printed}
 use Rattle.plain_commands.specs.declared.texts.Outcome.{Outcome}
 use Rattle.plain_commands.specs.ModelGiven.{OfSomeText}
 use Rattle.plain_commands.specs.Check.{done_by, status_of_end}
-use Rattle.sheet_answers.specs.First.{opens_as_sheet}
+use Rattle.sheet_answers.specs.Reading.{opens_as_sheet}
 use Rattle.fair_top.specs.Wave.{EndsWaveAs, EndsWaved, EndsBlockWaved, EndsWave, GivesWave, wave_status, block_status, DecidesWaveAs, DecidesWave}
 use Rattle.fair_top.specs.Waved.{CarriesLasso, IsGoodLasso, IsWaved, unknown, BlockWaved}
 use Rattle.plain_commands.specs.Written.{accepts}

@@ -11,7 +11,7 @@ use Rattle.sheet_answers.specs.declared.ends.JudgeEnd.{JudgeEnd}
 use Rattle.sheet_answers.specs.declared.ends.JudgeEnd.TheVariants as ends
 use Rattle.sheet_answers.specs.Reading.{is_sheet}
 use Rattle.sheet_answers.specs.Ends.{RefusesAs, Decides}
-use Rattle.given_entries.specs.Listing.{RefusesAs as GivesNone}
+use Rattle.given_entries.specs.Listing.{ListsNoneAs as GivesNone}
 use Rattle.given_entries.specs.Beginning.{HasNoList}
 use Rattle.command_lines.specs.declared.commands.solving.SolveRequest.{SolveRequest}
 use Rattle.command_lines.specs.declared.commands.demonstrating.DemoRequest.{DemoRequest}

@@ -1,8 +1,8 @@
 -- The command
--- `solve MODEL [--property N] [--workers W] [--conflicts C] [--steps S] [--skeletons K] [--all] [--resume ANSWER]`: what it
+-- `solve MODEL [--property N] [--workers W] [--conflicts C] [--steps S] [--skeletons K] [--lassos N] [--depth D] [--all] [--resume ANSWER]`: what it
 -- gives. The search is FAIR (Bradley, Somenzi, Hassan, Zhang, 2011); that one list serves all properties, and may begin with
 -- the entries of an answer, is this program's.
-use Rattle.std.specs.Prelude.{◌≡◌, ◌⊎◌, ◌≤◌, ◌<◌, ◌+◌, min, ℕ, Bool, true, false, List, [], ◌∷◌, ◌++◌, length, take, Option, None, Some}
+use Rattle.std.specs.Prelude.{◌≡◌, ◌⊎◌, ◌≤◌, ◌<◌, ◌+◌, min, ℕ, Bool, true, false, List, [], ◌∷◌, ◌++◌, length, take, Option, None, Some, if◌then◌else◌}
 use Rattle.aig_semantics.specs.declared.traces.Lasso.{Lasso}
 use Rattle.aig_semantics.specs.Circuits.{Circuit}
 use Rattle.aig_semantics.specs.Stimuli.{StandsFor}
@@ -22,7 +22,7 @@ use Rattle.sheet_answers.specs.declared.ends.JudgeEnd.{JudgeEnd}
 use Rattle.sheet_answers.specs.declared.counts.Counts.{Counts}
 use Rattle.sheet_answers.specs.declared.ends.Judged.TheVariants as judged
 use Rattle.sheet_answers.specs.Sheets.{IsSheetWith, ShowsSheet}
-use Rattle.sheet_commands.specs.Each.{each_of}
+use Rattle.sheet_commands.specs.Each.{property_numbers}
 use Rattle.sheet_commands.specs.Boards.{IsSheetOf}
 use Rattle.given_entries.specs.Beginning.{BeginsWith, HasNoList}
 use Rattle.search_reports.specs.declared.limits.Limits.{Limits}
@@ -37,18 +37,20 @@ use Rattle.plain_commands.specs.ModelGiven.{Taking, OfText, OfSomeText, SaysBadM
 use Rattle.plain_commands.specs.Texts.{text_of}
 use Rattle.plain_commands.specs.Spelled.{IsWrittenAs}
 
--- what the workers may spend
+-- what the workers may spend; where all properties are asked for, none is a lasso worker
 abbrev pub limits_of : SolveRequest → Limits
 limits_of request = record {
   workers = request.workers;
   conflicts = request.conflicts;
   steps = request.steps;
   skeletons = request.skeletons;
+  lassos = if request.all then 0 else request.lassos;
+  depth = request.depth;
 }
 
 -- the properties that are asked for: all of the circuit, or the one of this number
 abbrev pub asked_in : Bool → Circuit → ℕ → List ℕ
-asked_in true c n = each_of c
+asked_in true c n = property_numbers c
 asked_in false c n = n ∷ []
 
 -- what workers are asked for, who serve these properties, by a list that begins with this one
@@ -136,7 +138,8 @@ PrintsAnswer model answer request status text =
     × OfSomeText model (λ bytes. OfAnswer OfSomeText answer (λ claimed. OfModel bytes (λ c. IsAnswerBy c claimed request found text)))
 
 -- The report is one of workers whose list began with the entries of the named answer, and that were asked for what the circuit
--- has: it is full and leaves a skeleton of each open property, or each worker has spent its conflicts or its steps.
+-- has: it is full and leaves a skeleton of each open property, or each worker has spent its conflicts or its steps, a lasso
+-- worker its conflicts or its depth.
 abbrev pub IsReportBy : Circuit → Option (List ℕ) → SolveRequest → Report → Type 0
 IsReportBy c claimed request report =
     HasProperty c request × (given : List CheckedEntry) × BeginsWith c claimed given × IsReport (task_of c request given) report

@@ -9,7 +9,7 @@ use Rattle.entry.specs.CheckedEntries.{CheckedEntry}
 use Rattle.wall_store.specs.Boards.{BoardState, most_entries, IsSoundList}
 use Rattle.given_entries.specs.Beginning.{told_of}
 use Rattle.search_reports.specs.declared.limits.Report.{Report}
-use Rattle.fair_workers.specs.Runs.{AreLimits, AreServed, IsAnswer, IsAnswered as IsAnsweredBy, IsEnded, IsReport}
+use Rattle.fair_workers.specs.Runs.{AreLimits, AreServed, ServesOne, IsAnswer, IsAnswered as IsAnsweredBy, IsEnded, IsReport}
 use Rattle.search_reports.specs.declared.limits.Ended.{Ended}
 use Rattle.command_lines.specs.declared.commands.solving.SolveRequest.{SolveRequest}
 use Rattle.plain_commands.specs.declared.status.Status.{Status}
@@ -92,11 +92,11 @@ SolvesAsked held _ status = Unit {0}
 
 -- A call lets workers search for an answer to a request over a circuit, for the served properties, by a list that begins with
 -- given entries, whatever it is handed for the three: it may be made where the request is within its limits, the properties may be
--- served, and the search may begin with the list, and answers what workers leave.
+-- served, one alone where there are to be lasso workers, and the search may begin with the list, and answers what workers leave.
 pub record IsSearch {Handle : Type 0} (circuit_of : Handle → Circuit) (served_of : Handle → List ℕ) (given_of : Handle → List CheckedEntry)
     (Pre : Handle → SolveRequest → Type 0) (Post : Handle → SolveRequest → Result Report Ended → Type 0) : Type 0 where
   pub called : (q : Handle) (request : SolveRequest) → AreWithin request → AreServed (circuit_of q) (served_of q)
-      → MayBegin (circuit_of q) (given_of q) → Pre q request
+      → ServesOne (limits_of request) (served_of q) → MayBegin (circuit_of q) (given_of q) → Pre q request
   pub answer : (q : Handle) (request : SolveRequest) (result : Result Report Ended) → Post q request result
       → IfOk result (IsAnswer (task_for (circuit_of q) (served_of q) request (given_of q)))
   pub ended : (q : Handle) (request : SolveRequest) (result : Result Report Ended) → Post q request result

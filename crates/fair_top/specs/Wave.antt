@@ -13,7 +13,7 @@ use Rattle.certificate.specs.Answers.{IsGood}
 use Rattle.certificate.specs.Ends.{DecidesEnd, IsRefused}
 use Rattle.certificate.specs.Lassos.{HasGoodLasso}
 use Rattle.sheet_answers.specs.declared.ends.JudgeEnd.{JudgeEnd}
-use Rattle.sheet_answers.specs.First.{opens_as_sheet}
+use Rattle.sheet_answers.specs.Reading.{opens_as_sheet}
 use Rattle.sheet_commands.specs.declared.blocks.BlockLasso.{BlockLasso}
 use Rattle.sheet_commands.specs.Blocks.{DecidesBlock}
 use Rattle.waves.specs.Dumps.{waves_text}

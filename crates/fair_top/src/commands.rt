@@ -1,10 +1,11 @@
-//! The commands, each of which has a module of its own: here is one case for each in `outcome_for`. The main call is
-//! `outcome_of`, which does what the words ask for. Writes nothing.
+//! The commands, each of which has a module of its own here or in `plain_commands`: here is one case for each in
+//! `outcome_for`. The main call is `outcome_of`, which does what the words ask for. Writes nothing.
 //!
-//! A new command has in `command_lines`, which reads its words, a file in `src/commands/` and one in `specs/`, and here again
-//! one of each with a file of lemmas. Else it touches the lists: here `specs/Commands.antt`, this file,
-//! `proofs/EachCommand.antt`, `proofs/commands/outcome_for/Answers.antt`, `specs/Lib.antt` and `proofs/Lib.antt`, and those
-//! that `command_lines/src/commands.rt` names.
+//! A new command has in `command_lines`, which reads its words, a file in `src/commands/` and one in `specs/`, and here, or in
+//! `plain_commands`, again one of each with a file of lemmas. Else it touches the lists: here `specs/Commands.antt`, this
+//! file, `proofs/EachCommand.antt` and `proofs/commands/outcome_for/Answers.antt`; `specs/Lib.antt` and `proofs/Lib.antt` of
+//! that crate, and of `plain_commands` `src/lib.rt` and `src/commands.rt`; and those that `command_lines/src/commands.rt`
+//! names.
 
 ghost use Rattle.std.specs.Prelude.{◌≡◌, ◌⊎◌, List, ℕ, false, IfOk, IfErr};
 ghost use Rattle.edge.specs.Faults.{NoneFell};

@@ -7,8 +7,9 @@
 //! | `Status::number` | the number with which the program ends |
 //! | `runs_agree` | nothing: the law that two runs of `solve` on one property agree |
 //!
-//! What its words ask for, `command_lines` tells. A command has files of its own there, and here, as `specs/Check.antt` and
-//! `src/commands/checking.rt` are, and a line, or a case, in each list of the files that `src/commands.rt` names.
+//! What its words ask for, `command_lines` tells. A command has files of its own there, and here or in `plain_commands`, as
+//! `specs/Wave.antt` and `src/commands/waving.rt` are, and a line, or a case, in each list of the files that
+//! `src/commands.rt` names.
 #![tactic(auto)]
 
 mod beginnings;

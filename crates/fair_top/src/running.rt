@@ -1,7 +1,7 @@
 //! The top call: the one place that decides what a run of the program answers and writes.
 
 ghost use Rattle.std.specs.Prelude.{◌≡◌, ◌≤◌, ◌⊎◌, ℕ, List, Option, IfOk, IfErr};
-ghost use Rattle.fair_workers.specs.Runs.{AreServed, IsAnswer, IsEnded};
+ghost use Rattle.fair_workers.specs.Runs.{AreServed, ServesOne, IsAnswer, IsEnded};
 ghost use Rattle.given_entries.specs.Beginning.{told_of};
 ghost use Rattle.fair_top.specs.Beginnings.{circuit_in, served_in, given_in};
 ghost use Rattle.fair_top.specs.Solved.{AreWithin, MayBegin, IsSearch};
@@ -9,7 +9,7 @@ ghost use Rattle.edge.specs.Faults.{Rose, NoneFell};
 ghost use Rattle.edge.specs.Reads.{KeepsTexts};
 ghost use Rattle.command_lines.specs.Words.{bytes_of};
 ghost use Rattle.command_lines.specs.Commands.Asked.{Solve, Gen, Demo};
-ghost use Rattle.fair_top.specs.Solve.{HasAsked, IsSolved, task_for};
+ghost use Rattle.fair_top.specs.Solve.{HasAsked, IsSolved, limits_of, task_for};
 ghost use Rattle.fair_top.specs.Demo.{IsSummedUp};
 ghost use Rattle.command_lines.specs.Asking.{AsksFor, IsTakenOrUsage};
 ghost use Rattle.fair_top.specs.Headline.{ReadsNothing, IsFound, IsVerdict, IsShown, HasTaken, ReadFailed, HasRead};
@@ -67,6 +67,7 @@ pub fn run<R: Threads + Wait + Sync, H: Shelf, O: Sink, G: Gate>(
     let search = |beginning: &Beginning, request: SolveRequest| -> Result<Report, Ended>
         requires within { AreWithin request }
         requires serves { AreServed (circuit_in beginning.now) (served_in beginning.now) }
+        requires one { ServesOne (limits_of request) (served_in beginning.now) }
         requires begins { MayBegin (circuit_in beginning.now) (given_in beginning.now) }
         ensures answer { IfOk result (IsAnswer (task_for (circuit_in beginning.now) (served_in beginning.now) request (given_in beginning.now))) }
         ensures ended { IfErr result (IsEnded (task_for (circuit_in beginning.now) (served_in beginning.now) request (given_in beginning.now))) }
@@ -125,6 +126,7 @@ pub fn run_alone<H: Shelf, O: Sink>(
     let search = |beginning: &Beginning, request: SolveRequest| -> Result<Report, Ended>
         requires within { AreWithin request }
         requires serves { AreServed (circuit_in beginning.now) (served_in beginning.now) }
+        requires one { ServesOne (limits_of request) (served_in beginning.now) }
         requires begins { MayBegin (circuit_in beginning.now) (given_in beginning.now) }
         ensures answer { IfOk result (IsAnswer (task_for (circuit_in beginning.now) (served_in beginning.now) request (given_in beginning.now))) }
         ensures ended { IfErr result (IsEnded (task_for (circuit_in beginning.now) (served_in beginning.now) request (given_in beginning.now))) }

@@ -2,9 +2,9 @@
 //! calls one of the two.
 
 ghost use Rattle.std.specs.Prelude.{IfOk, IfErr};
-ghost use Rattle.fair_workers.specs.Runs.{AreServed, IsAnswer, IsEnded};
+ghost use Rattle.fair_workers.specs.Runs.{AreServed, ServesOne, IsAnswer, IsEnded};
 ghost use Rattle.fair_top.specs.Beginnings.{circuit_in, served_in, given_in};
-ghost use Rattle.fair_top.specs.Solve.{task_for};
+ghost use Rattle.fair_top.specs.Solve.{limits_of, task_for};
 ghost use Rattle.fair_top.specs.Solved.{AreWithin, MayBegin};
 
 use crate::beginnings::Beginning;
@@ -24,6 +24,7 @@ pub(crate) fn in_turns(
 ) -> Result<Report, Ended>
     requires within { AreWithin request.now }
     requires serves { AreServed (circuit_in beginning.now) (served_in beginning.now) }
+    requires one { ServesOne (limits_of request.now) (served_in beginning.now) }
     requires begins { MayBegin (circuit_in beginning.now) (given_in beginning.now) }
     ensures answer { IfOk result (IsAnswer (task_for (circuit_in beginning.now) (served_in beginning.now) request.now (given_in beginning.now))) }
     ensures ended { IfErr result (IsEnded (task_for (circuit_in beginning.now) (served_in beginning.now) request.now (given_in beginning.now))) }
@@ -44,6 +45,7 @@ pub(crate) fn on_threads<R: Threads + Wait + Sync, G: Gate>(
 ) -> Result<Report, Ended>
     requires within { AreWithin request.now }
     requires serves { AreServed (circuit_in beginning.now) (served_in beginning.now) }
+    requires one { ServesOne (limits_of request.now) (served_in beginning.now) }
     requires begins { MayBegin (circuit_in beginning.now) (given_in beginning.now) }
     ensures answer { IfOk result (IsAnswer (task_for (circuit_in beginning.now) (served_in beginning.now) request.now (given_in beginning.now))) }
     ensures ended { IfErr result (IsEnded (task_for (circuit_in beginning.now) (served_in beginning.now) request.now (given_in beginning.now))) }

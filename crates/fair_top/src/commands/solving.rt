@@ -14,7 +14,7 @@ ghost use Rattle.command_lines.specs.Commands.{name_in};
 ghost use Rattle.fair_workers.specs.Runs.{AreServed, IsAnswered as IsAnsweredBy, IsAnswer, IsReport, IsEnded};
 ghost use Rattle.wall_store.specs.Boards.{properties_of, outcome_of, plain};
 ghost use Rattle.wall_store.specs.Events.{IsSettled};
-ghost use Rattle.sheet_commands.specs.Each.{each_of};
+ghost use Rattle.sheet_commands.specs.Each.{property_numbers};
 ghost use Rattle.plain_commands.specs.Check.{done_by};
 ghost use Rattle.fair_top.specs.Solve.{limits_of, asked_in, task_for, task_of, HasProperty, HasAsked, GivesSolve, DecidesSolve, ShownBySolve, IsStimulusOf, IsTextOfOutcome, IsSheetOfReport};
 ghost use Rattle.fair_top.specs.Solved.{AreWithin, MayBegin, IsSearch, EndsFor, IsPrinted, IsSheetPrinted, SolvesUnlessCut};
@@ -136,7 +136,7 @@ fn decided(
 // The sheet of a board on which each property has an outcome.
 fn sheet_printed(alloc: Global, circuit: &Circuit, board: &Board) -> Result<Outcome, Status>
     requires circuit { board.now.circuit ≡ circuit.now }
-    requires each { properties_of board.now.served ≡ each_of circuit.now }
+    requires each { properties_of board.now.served ≡ property_numbers circuit.now }
     requires settled { IsSettled board.now.served }
     ensures found { IfOk result (λ outcome. IsSheetPrinted circuit.now board.now outcome.status outcome.text.items) }
     ensures ended { IfErr result (λ status. status ≡ Status.Memory) }
@@ -197,6 +197,8 @@ pub(crate) fn limits_of(request: &SolveRequest) -> Limits
         conflicts: request.conflicts,
         steps: request.steps,
         skeletons: request.skeletons,
+        lassos: if request.all { 0 } else { request.lassos },
+        depth: request.depth,
     }
 }
 

@@ -8,7 +8,7 @@ ghost use Rattle.sheet_answers.specs.declared.ends.Judged.{Judged as JudgedOf};
 ghost use Rattle.plain_commands.specs.Check.{done_by};
 ghost use Rattle.sheet_commands.specs.Blocks.{DecidesBlock};
 ghost use Rattle.plain_commands.specs.ModelGiven.{OfSomeText};
-ghost use Rattle.sheet_answers.specs.First.{opens_as_sheet};
+ghost use Rattle.sheet_answers.specs.Reading.{opens_as_sheet};
 ghost use Rattle.fair_top.specs.Wave.{EndsWave, DecidesWaveAs, block_status, GivesWave, DecidesWave};
 ghost use Rattle.fair_top.specs.Waved.{CarriesLasso, IsGoodLasso, IsWaved, unknown, BlockWaved};
 ghost use Rattle.plain_commands.specs.Written.{IsWritten, accepts};

@@ -1,11 +1,16 @@
 use Rattle.std.specs.Prelude.{IfOk, IfErr}
 use Rattle.std.proofs.Common.{subst}
 use Rattle.fair_workers.specs.Runs.{Task, IsAnswer, IsEnded}
-use Rattle.fair_top.proofs.Begun.{few_lent, sound_lent, serves_lent, task_lent}
+use Rattle.fair_top.proofs.Begun.{few_lent, sound_lent, serves_lent, one_lent, task_lent}
 use Rattle.fair_top.proofs.searching.in_turns.Goals as goal
 
 pub run_turns-requires-clause-served : goal.run_turns-requires-clause-served
 run_turns-requires-clause-served c = serves_lent c.args.beginning.now c.as_slice-served.result.now c.as_slice-served.ensures.value c.requires.serves
+
+pub run_turns-requires-clause-one : goal.run_turns-requires-clause-one
+run_turns-requires-clause-one c =
+    one_lent c.args.beginning.now c.args.request.now c.as_slice-served.result.now c.limits_of-limits.result c.as_slice-served.ensures.value
+    c.limits_of-limits.ensures c.requires.one
 
 pub run_turns-requires-clause-few_given : goal.run_turns-requires-clause-few_given
 run_turns-requires-clause-few_given c = few_lent c.args.beginning.now c.as_slice-given.result.now c.as_slice-given.ensures.value c.requires.begins

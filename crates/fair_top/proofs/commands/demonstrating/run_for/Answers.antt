@@ -1,4 +1,4 @@
-use Rattle.std.proofs.Common.{rules, ◌≡◌, inl, inr, subst, arith}
+use Rattle.std.proofs.Common.{rules, ◌≡◌, inl, inr, refl, subst, arith}
 use Rattle.std.specs.Prelude.{IfOk}
 use Rattle.std.specs.Arc.{arc_value}
 use Rattle.std.proofs.lemmas.Result.{IfOk-weaker}
@@ -10,6 +10,9 @@ use Rattle.fair_top.proofs.commands.demonstrating.run_for.Goals as goal
 
 pub run_turns-requires-clause-served : goal.run_turns-requires-clause-served
 run_turns-requires-clause-served c = one_serves (arc_value c.args.circuit.now) 0 (omega (arith, c.requires))
+
+pub run_turns-requires-clause-one : goal.run_turns-requires-clause-one
+run_turns-requires-clause-one c = λ some. refl
 
 pub run_turns-requires-clause-given : goal.run_turns-requires-clause-given
 run_turns-requires-clause-given c = λ before after e wrong. absurd (nothing_before before after e wrong)
