@@ -40,7 +40,7 @@ const APART: &str = "aag 2 0 2 0 0 0 0 2 0\n2 1\n4 4\n1\n1\n3\n4\n";
 const OF_THE_FIRST: &str =
     "0\nj0\nversion 2\nwall 1 0\n\n2 0\nproof 1\n8 0 1 3 7 0\nrefute 1 1\n0\n13 0 1 3 6 11 12 7 0\nend\n";
 
-const ROWS: [Row; 22] = [
+const ROWS: [Row; 23] = [
     (
         RISES,
         &["--skeletons", "0"],
@@ -138,6 +138,26 @@ const ROWS: [Row; 22] = [
         OF_THE_FIRST,
         0,
         "0\nj1\nversion 2\nwall 1 0\n\n2 0\nproof 1\n8 0 1 3 7 0\n",
+    ),
+    (
+        APART,
+        &[
+            "--workers",
+            "2",
+            "--lassos",
+            "1",
+            "--depth",
+            "3",
+            "--property",
+            "1",
+            "--steps",
+            "0",
+            "--resume",
+            "a",
+        ],
+        OF_THE_FIRST,
+        2,
+        "2\nj1\nc entries 1 of 10001\nc worker 0 conflicts 0 of 1000000 steps 0 of 0\nc worker 1 conflicts 0 of 1000000 depth 3 of 3\n.\n",
     ),
     (
         TOGGLE,

@@ -289,7 +289,7 @@ type Found = (&'static str, &'static [&'static str], &'static str, u8);
 const COUNTERS: &str =
     "aag 6 0 2 0 4 0 0 2 0\n2 3\n4 11\n1\n2\n12\n12\n0\n6 5 2\n8 4 3\n10 9 7\n12 4 2\n";
 
-const FOUND: [Found; 9] = [
+const FOUND: [Found; 10] = [
     (
         TWO,
         &[],
@@ -312,6 +312,12 @@ const FOUND: [Found; 9] = [
         APART,
         &["--workers", "4"],
         "accepted sheet lassos 0 holds 2 unknown 0 entries ",
+        0,
+    ),
+    (
+        TWO,
+        &["--workers", "2", "--lassos", "1", "--depth", "0"],
+        "accepted sheet lassos 1 holds 1 unknown 0 entries ",
         0,
     ),
     (

@@ -58,7 +58,7 @@ const ENOUGH: &[&str] = &["--conflicts", "1000", "--steps", "1000"];
 /// certificate and of a report how it begins.
 type Row = (&'static [u8], &'static [&'static str], u8, &'static str);
 
-const ROWS: [Row; 44] = [
+const ROWS: [Row; 51] = [
     (TOGGLE, ENOUGH, 0, TWICE),
     (TOGGLE, &[], 0, TWICE),
     (STUCK, ENOUGH, 0, CERTIFICATE),
@@ -113,6 +113,46 @@ const ROWS: [Row; 44] = [
         2,
         "2\nj0\nc entries 0 of 10000\nc worker 0 conflicts 0 of 0 steps 0 of 100000\nc worker 1 conflicts 0 of 0 steps 0 of 100000\n.\n",
     ),
+    (COUNTER, &["--workers", "2", "--lassos", "1"], 0, ROUND),
+    (
+        STUCK,
+        &["--workers", "2", "--lassos", "1", "--depth", "0"],
+        0,
+        CERTIFICATE,
+    ),
+    (
+        APART,
+        &[
+            "--conflicts",
+            "0",
+            "--workers",
+            "2",
+            "--lassos",
+            "1",
+            "--depth",
+            "3",
+        ],
+        2,
+        "2\nj0\nc entries 0 of 10000\nc worker 0 conflicts 0 of 0 steps 0 of 100000\nc worker 1 conflicts 0 of 0 depth 0 of 3\n.\n",
+    ),
+    (
+        STUCK,
+        &[
+            "--steps",
+            "0",
+            "--workers",
+            "2",
+            "--lassos",
+            "63",
+            "--depth",
+            "2",
+        ],
+        2,
+        "2\nj0\nc entries 0 of 10000\nc worker 0 conflicts 0 of 1000000 steps 0 of 0\nc worker 1 conflicts ",
+    ),
+    (COUNTER, &["--lassos", "64"], 64, USAGE),
+    (COUNTER, &["--lassos", "one"], 64, USAGE),
+    (COUNTER, &["--depth", "65537"], 64, USAGE),
     (TOGGLE, &["--property", "1"], 8, "no property 1\n"),
     (b"aag 1048576 0 0 0 0\n", &[], 8, "no property 0\n"),
     (b"aag 1048577 0 0 0 0\n", &[], 8, "no property 0\n"),

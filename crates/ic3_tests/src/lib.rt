@@ -1,6 +1,6 @@
 //! Tests of searches for paths in small circuits: in some whose steps were worked out by hand, and in drawn ones against
 //! a search of all states, also behind drawn entries, with closed sets as claims, certified, and limits one by one; and of
-//! single steps.
+//! single steps; and of clauses that drawn states suggest as invariants.
 #![tactic(auto)]
 
 #[cfg(test)]
@@ -19,6 +19,8 @@ mod drawing;
 mod drawn_views;
 #[cfg(test)]
 mod entered;
+#[cfg(test)]
+mod invariants;
 #[cfg(test)]
 mod limits;
 #[cfg(test)]

@@ -41,7 +41,7 @@ pub(crate) fn are_over(c: &Circuit, cubes: &[Cube]) -> bool
     cubes.iter().all(|cube| is_over(c, cube.as_slice()))
 }
 
-fn is_goal(c: &Circuit, goal: &Goal<'_>) -> bool
+pub(crate) fn is_goal(c: &Circuit, goal: &Goal<'_>) -> bool
     ensures { result ≡ true → IsGoal c.now goal.now }
 {
     match goal {

@@ -77,7 +77,7 @@ fn step_rows() -> &'static [Row] {
     ]
 }
 
-fn clause_of(alloc: Global, codes: &[u64]) -> Result<Clause, AllocError> {
+pub(crate) fn clause_of(alloc: Global, codes: &[u64]) -> Result<Clause, AllocError> {
     Clause::from_slice(alloc, literals_of(alloc, codes)?.as_slice())
 }
 

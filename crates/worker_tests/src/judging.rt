@@ -25,9 +25,9 @@ pub(crate) enum End {
     Wrong,
 }
 
-// A drawn circuit with its steps, and whether it has a fair lasso.
+/// A drawn circuit with its steps, and whether it has a fair lasso.
 #[derive(Drop)]
-struct SearchedCircuit {
+pub(crate) struct SearchedCircuit {
     circuit: Arc<Circuit>,
     steps: Vec<Step>,
     has_lasso: bool,
@@ -253,20 +253,53 @@ pub(crate) fn all_within(spendings: &[Spending], n: &Numbers, most: u64) -> bool
     true
 }
 
-/// Whether each has spent its conflicts or its steps.
-pub(crate) fn all_spent(spendings: &[Spending]) -> bool {
-    for spent in spendings {
-        if !is_spent(spent) {
+// Whether a worker has spent what it may: its conflicts or its steps; one of the last ones, which are lasso workers, its
+// conflicts or its depth.
+fn is_over(n: &Numbers, depths: &[u32], rounds: usize, k: usize, spent: &Spending) -> bool {
+    if k < rounds {
+        return is_spent(spent);
+    }
+    let done = depths.get(k.saturating_sub(rounds)).copied();
+    spent.conflict_limit() == Some(spent.conflicts()) || done == Some(n.depth)
+}
+
+/// Whether each worker has spent what it may.
+pub(crate) fn all_spent(n: &Numbers, report: &Report) -> bool {
+    let depths = report.depths.as_slice();
+    let rounds = report.workers.len().saturating_sub(depths.len());
+    for (k, spent) in report.workers.as_slice().iter().enumerate() {
+        if !is_over(n, depths, rounds, k, spent) {
             return false;
         }
     }
     true
 }
 
+// Whether a lasso that was found has more positions than these.
+fn is_shorter(done: u32, outcome: Option<&Outcome>) -> bool {
+    match outcome {
+        Some(Outcome::Lasso(lasso)) => (done as usize) < lasso.inputs.len(),
+        _ => true,
+    }
+}
+
+/// Whether the last workers, as many as the numbers say but never all, have done no more positions than they were to ask
+/// for, and fewer than a lasso of property 0 has that was found.
+pub(crate) fn has_right_depths(n: &Numbers, report: &Report) -> bool {
+    let depths = report.depths.as_slice();
+    for done in depths {
+        if *done > n.depth || !is_shorter(*done, report.board.outcome(0)) {
+            return false;
+        }
+    }
+    depths.len() == n.lassos.min(n.workers.saturating_sub(1)) as usize && report.depth == n.depth
+}
+
 // Whether the board and the counts of a report are right, with an outcome or without one.
 fn has_right_counts(c: &Circuit, n: &Numbers, report: &Report) -> bool {
     is_board(&report.board, n, &[0])
         && report.workers.len() == n.workers as usize
+        && has_right_depths(n, report)
         && all_within(report.workers.as_slice(), n, most_steps(c, n.skeletons))
 }
 
@@ -299,7 +332,7 @@ fn is_right_report(
     if report.board.outcome(0).is_some() || !has_right_counts(&*searched.circuit, n, report) {
         return Ok(false);
     }
-    if all_spent(report.workers.as_slice()) {
+    if all_spent(n, report) {
         return Ok(true);
     }
     is_stuck(alloc, searched, n, &report.board)
@@ -363,8 +396,8 @@ fn judged(
     }
 }
 
-// How workers end with these limits and the schedule with a number.
-fn end_of(
+/// How workers end with these limits and the schedule with a number.
+pub(crate) fn end_of(
     alloc: Global,
     searched: &SearchedCircuit,
     n: &Numbers,
@@ -389,13 +422,20 @@ pub(crate) fn circuit_of(alloc: Global, text: &[u8]) -> Result<Option<Arc<Circui
     }
 }
 
-// The circuit of the drawn model with a number, which is always read.
-fn circuit_drawn(alloc: Global, number: u64) -> Result<Option<Arc<Circuit>>, AllocError> {
+/// The circuit of the drawn model with a number, which is always read.
+pub(crate) fn circuit_drawn(
+    alloc: Global,
+    number: u64,
+) -> Result<Option<Arc<Circuit>>, AllocError> {
     let text = model_text(alloc, number)?;
     circuit_of(alloc, text.as_slice())
 }
 
-fn searched(alloc: Global, circuit: Arc<Circuit>) -> Result<SearchedCircuit, AllocError> {
+/// The circuit with what a search of all states says of it.
+pub(crate) fn searched(
+    alloc: Global,
+    circuit: Arc<Circuit>,
+) -> Result<SearchedCircuit, AllocError> {
     let steps = steps_of(alloc, &*circuit, 0)?;
     let has_lasso = has_fair_lasso(alloc, &*circuit, 0, &steps)?;
     Ok(SearchedCircuit {
@@ -411,12 +451,7 @@ fn is_decided_by(
     number: u64,
     k: u32,
 ) -> Result<bool, AllocError> {
-    let n = Numbers {
-        workers: (k / 2).saturating_add(1),
-        conflicts: NO_LIMIT,
-        steps: NO_LIMIT,
-        skeletons: 65_536,
-    };
+    let n = unlimited((k / 2).saturating_add(1));
     let drawn = number.saturating_mul(8).saturating_add(u64::from(k));
     Ok(end_of(alloc, searched, &n, drawn)? == End::Verdict)
 }
@@ -469,20 +504,26 @@ pub(crate) fn run_on_threads<R: Threads + Wait + Sync, G: Gate>(
     }
 }
 
-fn is_decided_on<R: Threads + Wait + Sync>(
+/// Whether workers on threads with these numbers decide the circuit rightly.
+pub(crate) fn is_decided_on<R: Threads + Wait + Sync>(
     rt: &R,
     alloc: Global,
     searched: &SearchedCircuit,
-    workers: u32,
+    n: &Numbers,
 ) -> Result<bool, AllocError> {
-    let n = Numbers {
+    let ended = run_on_threads(rt, alloc, &searched.circuit, n, &FreeGate);
+    Ok(judged(alloc, searched, n, ended)? == End::Verdict)
+}
+
+fn unlimited(workers: u32) -> Numbers {
+    Numbers {
         workers,
         conflicts: NO_LIMIT,
         steps: NO_LIMIT,
         skeletons: 65_536,
-    };
-    let ended = run_on_threads(rt, alloc, &searched.circuit, &n, &FreeGate);
-    Ok(judged(alloc, searched, &n, ended)? == End::Verdict)
+        lassos: 0,
+        depth: 0,
+    }
 }
 
 fn is_circuit_decided_on<R: Threads + Wait + Sync>(
@@ -492,7 +533,7 @@ fn is_circuit_decided_on<R: Threads + Wait + Sync>(
 ) -> Result<bool, AllocError> {
     let searched = searched(alloc, circuit)?;
     for workers in [1, 2, 4] {
-        if !is_decided_on(rt, alloc, &searched, workers)? {
+        if !is_decided_on(rt, alloc, &searched, &unlimited(workers))? {
             return Ok(false);
         }
     }
@@ -533,6 +574,8 @@ pub(crate) fn numbers_of(kind: u32, workers: u32, limit: u32) -> Numbers {
         } else {
             65_536
         },
+        lassos: 0,
+        depth: 0,
     }
 }
 

@@ -6,6 +6,8 @@ mod drawing;
 #[cfg(test)]
 mod judging;
 #[cfg(test)]
+mod lassos;
+#[cfg(test)]
 mod meeting;
 #[cfg(test)]
 mod running;

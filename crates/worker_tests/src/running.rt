@@ -1,6 +1,6 @@
 //! Runs of workers on a model's text.
 
-ghost use Rattle.std.specs.Prelude.{◌+◌, ◌<◌, ◌≤◌, length, IfOk, IfSome, OnOk};
+ghost use Rattle.std.specs.Prelude.{◌≡◌, ◌+◌, ◌<◌, ◌≤◌, length, IfOk, IfSome, OnOk};
 ghost use Rattle.std.specs.Arc.{arc_value};
 ghost use Rattle.fair_workers.specs.Runs.{AreLimits, AreServed};
 ghost use Rattle.worker_tests.specs.Serving.{AreFirst};
@@ -23,17 +23,19 @@ pub fn with_property(c: Arc<Circuit>) -> Option<Arc<Circuit>>
     Some(c)
 }
 
-/// How many workers there are, how many conflicts and steps each of them may count, and by how many entries their list
-/// may grow.
+/// How many workers there are, how many conflicts and steps each of them may count, by how many entries their list may
+/// grow, how many of them are lasso workers, and to what depth these go.
 #[derive(Clone, Copy)]
 pub struct Numbers {
     pub workers: u32,
     pub conflicts: u64,
     pub steps: u64,
     pub skeletons: u32,
+    pub lassos: u32,
+    pub depth: u32,
 }
 
-/// Limits of these numbers, or of the nearest that may be: 1 to 64 workers, and up to 65,536 entries.
+/// Limits of these numbers, or of the nearest that may be: 1 to 64 workers, and up to 65,536 entries and positions.
 pub fn limits(n: &Numbers) -> Limits
     ensures { AreLimits result }
 {
@@ -42,6 +44,8 @@ pub fn limits(n: &Numbers) -> Limits
         conflicts: n.conflicts,
         steps: n.steps,
         skeletons: within(n.skeletons, 0, 65_536),
+        lassos: n.lassos,
+        depth: within(n.depth, 0, 65_536),
     }
 }
 
@@ -74,7 +78,19 @@ pub fn run(
     run_turns(alloc, c, &[0], limits, schedule, &[])
 }
 
-/// Workers that search for an outcome of each of these properties, with no entry given.
+// The same limits, without lasso workers.
+fn without_lassos(limits: Limits) -> Limits
+    requires { AreLimits limits }
+    ensures limits { AreLimits result }
+    ensures none { result.lassos ≡ 0 }
+{
+    Limits {
+        lassos: 0,
+        ..limits
+    }
+}
+
+/// Workers that search for an outcome of each of these properties, with no entry given. None of them is a lasso worker.
 pub fn run_several(
     alloc: Global,
     c: &Arc<Circuit>,
@@ -86,7 +102,7 @@ pub fn run_several(
     requires limits { AreLimits limits }
 {
     sound_lists_grow(&**c);
-    run_turns(alloc, c, properties, limits, schedule, &[])
+    run_turns(alloc, c, properties, without_lassos(limits), schedule, &[])
 }
 
 /// The same on threads.
@@ -102,7 +118,7 @@ pub fn run_several_threaded<R: Threads + Wait + Sync, G: Gate>(
     requires limits { AreLimits limits }
 {
     sound_lists_grow(&**c);
-    run_all(rt, alloc, c, properties, limits, &[], gate)
+    run_all(rt, alloc, c, properties, without_lassos(limits), &[], gate)
 }
 
 /// The properties of the circuit whose bits are 1, of the first 64.

@@ -135,6 +135,7 @@ fn all_found_within(board: &Board, most: u64) -> bool {
 fn has_right_counts(drawn: &Drawn, n: &Numbers, report: &Report) -> bool {
     is_board(&report.board, n, &drawn.properties)
         && report.workers.len() == n.workers as usize
+        && report.depths.as_slice().is_empty()
         && all_within(report.workers.as_slice(), n, most_steps(drawn, n))
         && all_found_within(&report.board, most_turns(drawn, n))
 }
@@ -216,7 +217,7 @@ fn end_of_report(
     if !all_are_right(alloc, drawn, &report.board)? {
         return Ok(End::Wrong);
     }
-    if all_spent(report.workers.as_slice()) || is_full(alloc, drawn, n, &report.board)? {
+    if all_spent(n, report) || is_full(alloc, drawn, n, &report.board)? {
         return Ok(End::Report);
     }
     Ok(End::Wrong)
@@ -266,6 +267,8 @@ fn without_limits(workers: u32) -> Numbers {
         conflicts: NO_LIMIT,
         steps: NO_LIMIT,
         skeletons: 65_536,
+        lassos: 0,
+        depth: 0,
     }
 }
 

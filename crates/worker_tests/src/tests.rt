@@ -1,6 +1,7 @@
 //! What workers come to on small models, for several schedules and limits.
 
 use crate::judging::{circuit_of, ends_within, is_decided, is_decided_on_threads, run_on_threads};
+use crate::lassos;
 use crate::meeting::Meeting;
 use crate::running::{Numbers, limits, run, with_property};
 use crate::several::{all_are_decided, all_are_decided_on_threads, all_end_within};
@@ -108,6 +109,8 @@ fn answer(alloc: Global, row: &Row) -> Result<Answer, AllocError> {
         conflicts: ENOUGH,
         steps: *steps,
         skeletons: *skeletons,
+        lassos: 0,
+        depth: 0,
     };
     match circuit_of(alloc, text.as_bytes())? {
         Some(c) => Ok(answer_by(alloc, c, &n, schedule)),
@@ -178,6 +181,8 @@ fn met_of<R: Threads + Wait + Sync>(
         conflicts: ENOUGH,
         steps: ENOUGH,
         skeletons: 9,
+        lassos: 0,
+        depth: 0,
     };
     let meeting = Meeting::of(u64::from(workers));
     let end = match circuit_of(alloc, text.as_bytes())? {
@@ -217,6 +222,150 @@ fn first_undecided_on_threads<R: Threads + Wait + Sync>(
 #[test]
 fn drawn_models_are_decided_on_threads(rt: HostRuntime) -> Result<(), Fail> {
     assert_eq!(rt; first_undecided_on_threads(&rt, rt.alloc())?, None);
+    Ok(())
+}
+
+// ---- lasso workers
+
+// How a run ended, and what the first lasso worker has done, if there is one.
+type Depth = (End, Option<u32>);
+
+// A model; how many workers there are, and lasso workers; depth, conflicts and entries; a schedule; and the answer.
+type LassoRow = (&'static str, u32, u32, u32, u64, u32, &'static [u32], Depth);
+
+// Ten turns of worker 1.
+const ALONE: &[u32] = &[1, 1, 1, 1, 1, 1, 1, 1, 1, 1];
+
+const LASSO_ROWS: [LassoRow; 12] = [
+    (TOGGLES, 2, 1, 9, ENOUGH, 9, ALONE, (End::Lasso, Some(0))),
+    (TOGGLES, 2, 1, 9, 0, 9, ALONE, (End::Lasso, Some(1))),
+    (COUNTER, 2, 1, 9, ENOUGH, 0, ALONE, (End::Lasso, Some(0))),
+    (COUNTER, 2, 63, 3, ENOUGH, 0, ALONE, (End::Lasso, Some(0))),
+    (INPUT, 4, 3, 9, ENOUGH, 9, &[3, 3], (End::Lasso, Some(0))),
+    (STUCK, 2, 1, 3, ENOUGH, 0, &[], (End::Spent, Some(3))),
+    (STUCK, 2, 1, 0, ENOUGH, 0, &[], (End::Spent, Some(0))),
+    (
+        STUCK,
+        2,
+        63,
+        2,
+        ENOUGH,
+        0,
+        &[0, 0, 0],
+        (End::Spent, Some(2)),
+    ),
+    (STUCK, 1, 1, 5, ENOUGH, 0, &[], (End::Spent, None)),
+    (STUCK, 2, 1, 4, ENOUGH, 9, ALONE, (End::Holds, Some(4))),
+    (NEVER, 2, 1, 3, ENOUGH, 9, ALONE, (End::Holds, Some(3))),
+    (NEVER, 3, 1, 9, ENOUGH, 9, &[0, 0, 0], (End::Holds, Some(0))),
+];
+
+fn all_lasso_rows() -> &'static [LassoRow] {
+    &LASSO_ROWS
+}
+
+fn depth_in(report: &Report) -> Option<u32> {
+    report.depths.as_slice().first().copied()
+}
+
+fn depth_of(ended: Result<Report, Ended>) -> Depth {
+    match ended {
+        Ok(report) => (end_of(&report.board), depth_in(&report)),
+        Err(Ended::Spent(report)) => (End::Spent, depth_in(&report)),
+        Err(Ended::Memory) => (End::Memory, None),
+    }
+}
+
+fn depth_by(alloc: Global, c: Arc<Circuit>, n: &Numbers, schedule: &[u32]) -> Depth {
+    match with_property(c) {
+        Some(c) => depth_of(run(alloc, &c, limits(n), schedule)),
+        None => (End::Memory, None),
+    }
+}
+
+fn depth(alloc: Global, row: &LassoRow) -> Result<Depth, AllocError> {
+    let (text, workers, lassos, depth, conflicts, skeletons, schedule, _) = row;
+    let n = Numbers {
+        workers: *workers,
+        conflicts: *conflicts,
+        steps: ENOUGH,
+        skeletons: *skeletons,
+        lassos: *lassos,
+        depth: *depth,
+    };
+    match circuit_of(alloc, text.as_bytes())? {
+        Some(c) => Ok(depth_by(alloc, c, &n, schedule)),
+        None => Ok((End::Memory, None)),
+    }
+}
+
+// The place of the first row of lasso workers that is not answered so, from 0.
+fn wrong_lasso_row(alloc: Global) -> Result<Option<usize>, AllocError> {
+    for (k, row) in all_lasso_rows().iter().enumerate() {
+        if depth(alloc, row)? != row.7 {
+            return Ok(Some(k));
+        }
+    }
+    Ok(None)
+}
+
+#[test]
+fn lasso_rows(rt: HostRuntime) -> Result<(), Fail> {
+    assert_eq!(rt; wrong_lasso_row(rt.alloc())?, None);
+    Ok(())
+}
+
+// The number of the first drawn model that is not decided rightly with lasso workers.
+fn first_undecided_with_lassos(alloc: Global) -> Result<Option<u64>, AllocError> {
+    for number in 0..100 {
+        if !lassos::is_decided(alloc, number)? {
+            return Ok(Some(number));
+        }
+    }
+    Ok(None)
+}
+
+#[test]
+fn lasso_workers_beside_others(rt: HostRuntime) -> Result<(), Fail> {
+    assert_eq!(rt; first_undecided_with_lassos(rt.alloc())?, None);
+    Ok(())
+}
+
+// The number of the first drawn model that does not end rightly with lasso workers under limits.
+fn first_wrong_end_with_lassos(alloc: Global) -> Result<Option<u64>, AllocError> {
+    for number in 0..100 {
+        if !lassos::ends_within(alloc, number)? {
+            return Ok(Some(number));
+        }
+    }
+    Ok(None)
+}
+
+#[test]
+fn lasso_workers_under_limits(rt: HostRuntime) -> Result<(), Fail> {
+    assert_eq!(rt; first_wrong_end_with_lassos(rt.alloc())?, None);
+    Ok(())
+}
+
+// The number of the first drawn model that is not decided rightly with lasso workers on threads.
+fn first_undecided_with_lassos_on_threads<R: Threads + Wait + Sync>(
+    rt: &R,
+    alloc: Global,
+) -> Result<Option<u64>, AllocError> {
+    for number in 0..40 {
+        if !lassos::is_decided_on_threads(rt, alloc, number)? {
+            return Ok(Some(number));
+        }
+    }
+    Ok(None)
+}
+
+#[test]
+fn lasso_workers_on_threads(rt: HostRuntime) -> Result<(), Fail> {
+    assert_eq!(rt;
+        first_undecided_with_lassos_on_threads(&rt, rt.alloc())?,
+        None
+    );
     Ok(())
 }
 
