@@ -1,7 +1,8 @@
 #!/usr/bin/env python3
 """What `solve` prints: of models worked out by hand, and of small drawn circuits beside a search of all their states. Each
 verdict must be the right one, and an answer that the judge beside this file and `check` accept; each report must show what
-was spent. Of all properties the sheet must be one that both accept, and each block right.
+was spent, and of a lasso worker up to how many positions no lasso is. Of all properties the sheet must be one that both accept,
+and each block right.
 
     solved.py [SEED [CIRCUITS]]     as many as 240 seconds allow, and 60 at least"""
 import concurrent.futures
@@ -16,6 +17,7 @@ import time
 sys.dont_write_bytecode = True
 import judge  # noqa: E402
 import maker  # noqa: E402
+import shortest  # noqa: E402
 
 TOP = os.path.dirname(os.path.dirname(os.path.abspath(__file__)))
 # the program itself, without the script before it that looks for sources that are newer
@@ -24,6 +26,8 @@ CIRCUITS, SECONDS, WORKERS, FEWEST = 300, 240, 4, 60
 KINDS, MOST = ["conflicts", "steps", "skeletons"], 4096
 # how many workers search, each on a thread of its own
 CREWS = (1, 2, 4, 8, 64)
+# up to how many positions lasso workers search
+DEPTH = 12
 
 # ---- what was worked out by hand: a model, options, the status, and the text or how it begins
 
@@ -34,6 +38,7 @@ COUNTER = "aag 6 0 2 0 4 0 0 1 0\n2 3\n4 11\n1\n12\n6 5 2\n8 4 3\n10 9 7\n12 4 2
 APART = "aag 9 2 0 0 7 0 0 1 0\n2\n4\n1\n18\n6 5 3\n8 5 2\n10 4 3\n12 4 2\n14 9 7\n16 13 11\n18 16 14\n"
 TWICE = "1\nj0\n0\n\n\n.\n"
 REPORT = "2\nj0\nc entries {}\nc worker 0 conflicts {} steps {}\n.\n"
+RACED = "2\nj0\nc entries 0 of 10000\nc worker 0 conflicts {0} steps 0 of 100000\nc worker 1 conflicts {0} depth {1}\n.\n"
 USAGE = "usage: fairlive solve MODEL"
 KNOWN = [
     (CHANGING, "", 0, TWICE),
@@ -58,9 +63,18 @@ KNOWN = [
     (COUNTER, "--workers 0", 64, USAGE),
     (COUNTER, "--workers 65", 64, USAGE),
     (COUNTER, "--skeletons 65537", 64, USAGE),
+    (COUNTER, "--workers 2 --lassos 1", 0, "1\nj0\n00\n\n\n\n\n.\n"),
+    (COUNTER, "--workers 64 --lassos 63 --steps 0", 0, "1\nj0\n00\n\n\n\n\n.\n"),
+    (STUCK, "--workers 2 --lassos 63 --depth 0", 0, "0\nj0\nversion 2\n"),
+    (STUCK, "--lassos 1 --steps 0", 2, REPORT.format("0 of 10000", "0 of 1000000", "0 of 0")),
+    (APART, "--conflicts 0 --workers 2 --lassos 1 --depth 3", 2, RACED.format("0 of 0", "0 of 3")),
+    (COUNTER, "--lassos 64", 64, USAGE),
+    (COUNTER, "--lassos one", 64, USAGE),
+    (COUNTER, "--depth 65537", 64, USAGE),
     (COUNTER, "--steps 1 --steps 2", 64, USAGE),
     ("aag 1 0 1 0 0 0 0 2 0\n2 3\n1\n1\n2\n0\n", "--all --workers 2", 0, "all 2\nversion 2\nlasso j0\n0\n\n\n.\nholds j1"),
     ("aag 1 0 1 0 0\n2 3\n", "--all", 0, "all 0\nversion 2\nend\n"),
+    ("aag 1 0 1 0 0\n2 3\n", "--all --workers 2 --lassos 1", 0, "all 0\nversion 2\nend\n"),
     (STUCK, "--all --skeletons 0", 2, "all 1\nversion 2\nopen j0\nend\n"),
     ("aag 4 0 4 0 0 0 0 1\n2 8 1\n4 2\n6 4\n8 6\n4\n2\n4\n6\n8\n", "", 0, "1\nj0\n1000\n\n\n\n\n.\n"),
 ]
@@ -78,8 +92,9 @@ class Cases:
 
     def __init__(self, folder):
         self.folder, self.wrong, self.answers, self.reports, self.sheets = folder, [], 0, 0, 0
-        # reports with two workers whose counts differ, and those of a full list in which steps were taken
-        self.unlike, self.full = 0, 0
+        # reports with two workers whose counts differ, those of a full list in which steps were taken, and those of a lasso
+        # worker that searched
+        self.unlike, self.full, self.raced = 0, 0, 0
 
     def path(self, name, text):
         path = os.path.join(self.folder, name)
@@ -121,18 +136,23 @@ def counts(text):
     return [(int(c), int(s)) for c, s in re.findall(r"^c worker \d+ conflicts (\d+) of \d+ steps (\d+) of", text, re.M)]
 
 
-def is_report(text, workers, conflicts, steps, entries):
-    """Whether a report has its form, and each worker has spent its conflicts or its steps, or the list is full."""
-    lines = text.split("\n")
+def is_report(text, workers, limits, lassos, fewest):
+    """Whether a report has its form, and each worker has spent its conflicts or its steps, the last ones, which are lasso
+    workers, their conflicts or their depth, or the list is full; and there is no lasso of as many positions as these have
+    done (`fewest` is how many the shortest has)."""
+    conflicts, entries, lines = limits["conflicts"], limits["skeletons"], text.split("\n")
     head = re.fullmatch(r"c entries (\d+) of (\d+)", lines[2]) if len(lines) == workers + 5 else None
     if lines[:2] != ["2", "j0"] or lines[-2:] != [".", ""] or not head or int(head[2]) != entries:
         return False
     spent = []
     for w in range(workers):
-        said = re.fullmatch(rf"c worker {w} conflicts (\d+) of {conflicts} steps (\d+) of {steps}", lines[3 + w])
-        if not said or int(said[1]) > conflicts or int(said[2]) > steps:
+        kind = "steps" if w < workers - lassos else "depth"
+        said = re.fullmatch(rf"c worker {w} conflicts (\d+) of {conflicts} {kind} (\d+) of {limits[kind]}", lines[3 + w])
+        if not said or int(said[1]) > conflicts or int(said[2]) > limits[kind]:
             return False
-        spent.append(int(said[1]) == conflicts or int(said[2]) == steps)
+        if kind == "depth" and fewest is not None and int(said[2]) >= fewest:
+            return False
+        spent.append(int(said[1]) == conflicts or int(said[2]) == limits[kind])
     return int(head[1]) <= entries and (all(spent) or int(head[1]) == entries)
 
 
@@ -144,22 +164,35 @@ def budgets():
         budget += 1 if budget < 16 else budget
 
 
-def is_spent(cases, name, model, workers, limits, is_broken):
+def is_spent(cases, name, model, workers, limits, is_broken, lassos=0, fewest=None):
     """Whether a run under these limits ends with a report; what it prints must be right."""
     options = f"--workers {workers} " + " ".join(f"--{kind} {limit}" for kind, limit in limits.items())
+    options += f" --lassos {lassos}" if lassos else ""
     said, code = cases.solve(name, model, options)
     if code == 2:
         cases.reports += 1
         spent = counts(said)
         cases.unlike += len(set(spent)) > 1
         cases.full += f"\nc entries {limits['skeletons']} of " in said and any(0 < steps < limits["steps"] for _, steps in spent)
-        if not is_report(said, workers, limits["conflicts"], limits["steps"], limits["skeletons"]):
+        cases.raced += any(int(done) > 0 for done in re.findall(r" depth (\d+) of", said))
+        if not is_report(said, workers, limits, lassos, fewest):
             cases.complain(f"the report {said!r}", model, options)
         return True
     verdict = cases.verdict(name, model, said) if code == 0 else None
     if verdict is None or verdict.startswith("accepted lasso j0 ") != is_broken:
         cases.complain(f"status {code}, printed {said[:300]!r}, and a fair lasso is there: {is_broken}", model, options)
     return False
+
+
+def compare_raced(cases, name, model, workers, is_broken):
+    """Each answer and report with one lasso worker, and with all but one, under a few limits; none of the last is spent."""
+    fewest = shortest.fewest_positions(judge.read_circuit(model.encode("latin1")), 0)
+    for lassos in {1, workers - 1}:
+        for budget in (0, 1, 2, 4, 16, MOST):
+            limits = {**{kind: budget for kind in KINDS}, "depth": 2 if budget == 2 else DEPTH}
+            came = is_spent(cases, name, model, workers, limits, is_broken, lassos, fewest)
+        if came:
+            cases.complain(f"a report with {MOST} of each", model, f"--workers {workers} --lassos {lassos}")
 
 
 def is_right_sheet(cases, name, model, options, broken):
@@ -205,6 +238,7 @@ def compare_drawn(cases, seed, number, deadline):
                 break
         else:
             cases.complain(f"a report with {MOST} of each", model, f"--workers {workers}")
+    compare_raced(cases, f"raced{number}", model, max(workers, 2), is_broken)
     compare_all(cases, f"all{number}", model, workers)
     return 1
 
@@ -221,8 +255,9 @@ def main(words):
                 run.result()
             runs = [pool.submit(compare_drawn, cases, seed, number, deadline) for number in range(circuits)]
             done = sum(run.result() for run in runs)
-    if cases.reports and not (cases.unlike and cases.full):
-        cases.wrong.append(f"of the reports {cases.unlike} have unlike counts, and {cases.full} a full list and steps")
+    if cases.reports and not (cases.unlike and cases.full and cases.raced):
+        told = f"{cases.unlike} have unlike counts, {cases.full} a full list and steps, {cases.raced} a lasso worker that searched"
+        cases.wrong.append(f"of the reports {told}")
     for wrong in cases.wrong[:10]:
         print(wrong)
     if cases.wrong or done < min(circuits, FEWEST):
