@@ -134,8 +134,9 @@ def workers_row(folder, seconds, known, walls):
 
 # How many conflicts and steps a worker may count for one property alone; for all P of a model it may count P times as many.
 SINGLE = 2_000
-# The arbiters of bench/arbiter.py: which one, and of how many requesters.
-ARBITERS = (("fixed", 200), ("robin", 32))
+# The arbiters of bench/arbiter.py: which one, of how many requesters, and what a worker may count for each of its properties.
+# (With some more the last one takes minutes.)
+ARBITERS = (("fixed", 200, SINGLE), ("robin", 8, SINGLE), ("robin", 32, 60))
 
 
 def measure_all(folder, crew):
@@ -148,18 +149,18 @@ def measure_all(folder, crew):
     alone, together = (sum(float(row[name]) for row in rows) for name in ("each, s", "all, s"))
     lost = sum(int(row["lost"]) for row in rows)
     print(f"workers {crew}: all {together:.2f} s, each {alone:.2f} s, {together / alone:.2f} of it; {lost} properties lost\n")
-    return rows + [arbiter_row(folder, crew, kind, count) for kind, count in ARBITERS]
+    return rows + [arbiter_row(folder, crew, *arbiter) for arbiter in ARBITERS]
 
 
-def all_words(model, crew, count):
-    budget = str(count * SINGLE)
+def all_words(model, crew, count, single):
+    budget = str(count * single)
     return [program("fair_main"), "solve", model, "--all", "--workers", str(crew), "--conflicts", budget, "--steps", budget]
 
 
-def sheet_of(folder, crew, model, count):
+def sheet_of(folder, crew, model, count, single=SINGLE):
     """What `solve --all` prints of a model, wall and processor seconds, memory in MB, and what check says of it."""
     begun = time.monotonic()
-    out, _, usage = run_once(all_words(model, crew, count))
+    out, _, usage = run_once(all_words(model, crew, count, single))
     wall = time.monotonic() - begun
     sheet = os.path.join(folder, "sheet")
     with open(sheet, "w") as file:
@@ -207,10 +208,10 @@ def all_row(folder, crew, name, lines):
     }
 
 
-def arbiter_row(folder, crew, kind, count):
+def arbiter_row(folder, crew, kind, count, single):
     model = os.path.join(folder, f"{kind}_{count}.aag")
     make("arbiter.py", kind, count, model)
-    sheet, together, user, peak, judged = sheet_of(folder, crew, model, count)
+    sheet, together, user, peak, judged = sheet_of(folder, crew, model, count, single)
     return {
         "model": f"{kind} arbiter",
         "properties": str(count),

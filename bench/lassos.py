@@ -12,6 +12,8 @@ from measuring import ABC, BENCH, known_of, limited, make, program, run_once
 DEPTHS = (5, 10, 20, 50, 100)
 # Times are compared where one of the two is above this, which is a few times what ABC takes to begin; and the aim.
 LEAST, AIM = 0.1, 3
+# What a time below it counts as: the clock tells no less.
+TICK = 0.001
 # How ABC takes the model of safety: latches that the reset leaves open become inputs first, and constraints a latch.
 TAKEN = "logic; undc; strash; zero; fold"
 
@@ -32,7 +34,7 @@ def measure_lassos(folder, seconds):
 
 def told_ratios(pairs):
     """The times of both for one depth of one property: in how many the aim is met, and the mean of their ratios."""
-    ratios = [one.spent / other.spent for one, other in pairs if max(one.spent, other.spent) > LEAST]
+    ratios = [max(one.spent, TICK) / max(other.spent, TICK) for one, other in pairs if max(one.spent, other.spent) > LEAST]
     if not ratios:
         return f"no search to a depth, ended by both, takes one of them more than {LEAST} s"
     within = sum(ratio <= AIM for ratio in ratios)
