@@ -1,6 +1,9 @@
 //! A solver in which each part of a closed set stands behind a guard of its own: a variable that is assumed where the
 //! part counts. No contract rests on it. The main type is `Guarded`.
 //!
+//! What uses a wall that names sides has to be on these sides, and so names them too. So a side counts only where a model of
+//! the question is not on it: at first none does but those that are marked already.
+//!
 //! Parts are numbered: the uses; as many for the sides that they name; the clauses; the cubes that a goal avoids; and
 //! then the questions.
 ghost use Rattle.std.specs.Prelude.{◌≡◌, ◌<◌, length, IfErr};
@@ -9,21 +12,24 @@ ghost use Rattle.edge.specs.Ends.{CountsConflicts, IsEnd};
 
 use crate::asking::ask;
 use crate::goals::goal_set;
+use crate::keeping::is_marked;
 use crate::sets::ClosedSet;
 use crate::standing::{is_signed, lend};
 use cdcl::{Asked, Solver};
 use circuit::Circuit;
 use cnf::{Clause, Cube, Lit};
-use cnf_unroll::{Used, shared};
+use cnf_unroll::{Begun, shared};
 use edge::{Meter, SolveEnd};
 use entry::Checked;
-use fair_semantics::{Kind, Use};
+use fair_semantics::Use;
 use std::alloc::{AllocError, Global};
 use std::sync::Arc;
 
 #[derive(Drop)]
 pub(crate) struct Guarded {
     solver: Solver,
+    /// Of each use the literal that is true on the side that it names.
+    sides: Vec<Option<Lit>>,
     /// The guard of part 0.
     first: u64,
     /// The part that is free for a question.
@@ -54,142 +60,134 @@ fn add_behind(
     solver.add_sized(out)
 }
 
-// Adds so many clauses from a place on, and answers the place behind them.
+// Adds the clauses from a place on, up to another, behind the guard, where there is one.
 fn add_some(
     alloc: Global,
     solver: &mut Solver,
     guard: Option<Lit>,
     clauses: &[Clause],
-    place: usize,
-    count: usize,
-) -> Result<usize, AllocError> {
-    for clause in clauses.iter().skip(place).take(count) {
-        add_behind(alloc, solver, guard, clause.as_slice())?;
-    }
-    Ok(place.saturating_add(count))
-}
-
-// How many clauses a block has for a wall with these clauses at one place.
-fn wall_count(clauses: &[Clause]) -> usize {
-    let mut count: usize = 1;
-    for clause in clauses {
-        count = count.saturating_add(clause.len()).saturating_add(1);
-    }
-    count
-}
-
-fn signed_count(uses: &[Use]) -> usize {
-    uses.iter().filter(|u| is_signed(u.side)).count()
-}
-
-// How many clauses a use brings.
-fn use_count(used: &Used<'_>) -> usize {
-    match used.kind {
-        Kind::Reach => used.set.len().saturating_mul(2),
-        Kind::Wall => wall_count(used.set.as_slice())
-            .saturating_mul(2)
-            .saturating_add(signed_count(used.uses)),
-    }
-}
-
-fn all_count(used: &[Used<'_>]) -> usize {
-    let mut count: usize = 0;
-    for one in used {
-        count = count.saturating_add(use_count(one));
-    }
-    count
-}
-
-// Adds what the uses bring, each behind its guard, and answers the place behind it.
-fn add_uses(
-    alloc: Global,
-    solver: &mut Solver,
-    first: u64,
-    clauses: &[Clause],
-    place: usize,
-    used: &[Used<'_>],
-) -> Result<usize, AllocError> {
-    let mut place = place;
-    for (i, one) in used.iter().enumerate() {
-        let behind = Some(guard(first, i)?);
-        place = add_some(alloc, solver, behind, clauses, place, use_count(one))?;
-    }
-    Ok(place)
-}
-
-// Adds the sides that the uses name, each behind its guard, and answers the place behind them.
-fn add_sides(
-    alloc: Global,
-    solver: &mut Solver,
-    first: u64,
-    clauses: &[Clause],
-    place: usize,
-    uses: &[Use],
-) -> Result<usize, AllocError> {
-    let mut place = place;
-    for (i, u) in uses.iter().enumerate() {
-        if is_signed(u.side) {
-            let behind = Some(guard(first, uses.len().saturating_add(i))?);
-            place = add_some(alloc, solver, behind, clauses, place, 1)?;
-        }
-    }
-    Ok(place)
-}
-
-// Adds the clauses of the set, each behind its guard, and those that deny the avoided cubes, all behind one.
-fn add_set(
-    alloc: Global,
-    solver: &mut Solver,
-    first: u64,
-    clauses: &[Clause],
-    place: usize,
-    count: usize,
     from: usize,
+    to: usize,
 ) -> Result<(), AllocError> {
-    for (i, clause) in clauses.iter().skip(place).enumerate() {
-        let part = from.saturating_add(i.min(count));
-        add_behind(alloc, solver, Some(guard(first, part)?), clause.as_slice())?;
+    for place in from..to.min(clauses.len()) {
+        add_behind(alloc, solver, guard, clauses[place].as_slice())?;
     }
     Ok(())
 }
 
-// Adds the clauses of a block, of which so many stand behind guards, each behind the guard of its part.
-fn add_parts(
+// Where the clauses of a use begin; behind the last use, where those of the sides do.
+fn place_of(begun: &Begun, i: usize) -> usize {
+    begun.ends.as_slice().get(i).copied().unwrap_or(0) as usize
+}
+
+// Adds what so many uses bring, each behind its guard.
+fn add_uses(
+    alloc: Global,
+    solver: &mut Solver,
+    begun: &Begun,
+    count: usize,
+) -> Result<(), AllocError> {
+    let clauses = begun.clauses.as_slice();
+    for i in 0..count {
+        let behind = Some(guard(begun.free, i)?);
+        let to = place_of(begun, i.saturating_add(1));
+        add_some(alloc, solver, behind, clauses, place_of(begun, i), to)?;
+    }
+    Ok(())
+}
+
+// The literal of a clause that has one alone.
+fn only_literal(clauses: &[Clause], place: usize) -> Option<Lit> {
+    clauses.get(place)?.as_slice().get(0).copied()
+}
+
+// Of each use the literal of the side that it names.
+fn side_literals(
+    alloc: Global,
+    begun: &Begun,
+    uses: &[Use],
+) -> Result<Vec<Option<Lit>>, AllocError> {
+    let mut place = place_of(begun, uses.len());
+    let mut sides = Vec::new(alloc);
+    for u in uses {
+        if is_signed(u.side) {
+            sides.push(only_literal(begun.clauses.as_slice(), place))?;
+            place = place.saturating_add(1);
+        } else {
+            sides.push(None)?;
+        }
+    }
+    Ok(sides)
+}
+
+// Adds the sides, each behind its guard.
+fn add_sides(
     alloc: Global,
     solver: &mut Solver,
     first: u64,
-    clauses: &[Clause],
-    behind: usize,
-    used: &[Used<'_>],
-    whole: &ClosedSet,
+    sides: &[Option<Lit>],
 ) -> Result<(), AllocError> {
-    let uses = whole.uses.as_slice();
-    let block = clauses.len().saturating_sub(behind);
-    let place = add_some(alloc, solver, None, clauses, 0, block)?;
-    let place = add_uses(alloc, solver, first, clauses, place, used)?;
-    let place = add_sides(alloc, solver, first, clauses, place, uses)?;
-    let parts = uses.len().saturating_mul(2);
-    let count = whole.clauses.len();
-    add_set(alloc, solver, first, clauses, place, count, parts)
+    for (i, side) in sides.iter().enumerate() {
+        if let Some(literal) = side {
+            let behind = Some(guard(first, sides.len().saturating_add(i))?);
+            add_behind(alloc, solver, behind, &[*literal])?;
+        }
+    }
+    Ok(())
 }
 
-// A solver of the clauses of such a block, in which the guards begin with variable `first`.
+// Adds so many clauses of the set, each behind the guard of its part, the first of which is `from`, and those that deny
+// the avoided cubes, all behind one.
+fn add_set(
+    alloc: Global,
+    solver: &mut Solver,
+    begun: &Begun,
+    count: usize,
+    from: usize,
+) -> Result<(), AllocError> {
+    let clauses = begun.clauses.as_slice();
+    let place = begun.sides as usize;
+    for i in place..clauses.len() {
+        let part = from.saturating_add((i - place).min(count));
+        let behind = Some(guard(begun.free, part)?);
+        add_behind(alloc, solver, behind, clauses[i].as_slice())?;
+    }
+    Ok(())
+}
+
+// Adds what was laid out: the block, and each part behind its guard.
+fn add_parts(
+    alloc: Global,
+    solver: &mut Solver,
+    begun: &Begun,
+    sides: &[Option<Lit>],
+    count: usize,
+) -> Result<(), AllocError> {
+    let block = place_of(begun, 0);
+    add_some(alloc, solver, None, begun.clauses.as_slice(), 0, block)?;
+    add_uses(alloc, solver, begun, sides.len())?;
+    add_sides(alloc, solver, begun.free, sides)?;
+    add_set(alloc, solver, begun, count, sides.len().saturating_mul(2))
+}
+
+// A solver of what was laid out, with so many clauses of the set.
 fn guarded_by(
     alloc: Global,
-    first: u64,
-    clauses: &[Clause],
-    behind: usize,
-    used: &[Used<'_>],
-    whole: &ClosedSet,
+    begun: &Begun,
+    sides: Vec<Option<Lit>>,
+    count: usize,
 ) -> Result<Guarded, AllocError> {
     let mut solver = Solver::new(alloc)?;
-    let parts = whole.uses.len().saturating_mul(2);
-    match add_parts(alloc, &mut solver, first, clauses, behind, used, whole) {
-        Ok(()) => Ok(Guarded {
-            solver,
-            first,
-            free: parts.saturating_add(whole.clauses.len()).saturating_add(1),
-        }),
+    match add_parts(alloc, &mut solver, begun, sides.as_slice(), count) {
+        Ok(()) => {
+            let parts = sides.len().saturating_mul(2).saturating_add(count);
+            Ok(Guarded {
+                solver,
+                sides,
+                first: begun.free,
+                free: parts.saturating_add(1),
+            })
+        }
         Err(refused) => {
             drop(solver);
             Err(refused)
@@ -211,11 +209,8 @@ pub(crate) fn solver_behind_guards(
     let used = lend(alloc, view, uses)?;
     let set = goal_set(alloc, whole.clauses.as_slice(), avoid)?;
     let begun = shared(alloc, c, used.as_slice(), uses, &set)?;
-    let behind = all_count(used.as_slice())
-        .saturating_add(signed_count(uses))
-        .saturating_add(set.len());
-    let clauses = begun.clauses.as_slice();
-    guarded_by(alloc, begun.free, clauses, behind, used.as_slice(), whole)
+    let sides = side_literals(alloc, &begun, uses)?;
+    guarded_by(alloc, &begun, sides, whole.clauses.len())
 }
 
 fn are_positive(literals: &[Lit]) -> bool
@@ -240,15 +235,16 @@ fn ask_guarded(
     ask(alloc, solver, guards, meter)
 }
 
-// Puts the guards of the parts that are marked, or of the others, at the end.
+// Puts the guards of those parts at the end that count and are marked, or that count and are not.
 fn push_guards(
     guards: &mut Vec<Lit>,
     first: u64,
+    counted: &[bool],
     marks: &[bool],
     wanted: bool,
 ) -> Result<(), AllocError> {
-    for (part, mark) in marks.iter().enumerate() {
-        if *mark == wanted {
+    for (part, counts) in counted.iter().enumerate() {
+        if *counts && is_marked(marks, part) == wanted {
             guards.push(guard(first, part)?)?;
         }
     }
@@ -265,33 +261,47 @@ fn begin(alloc: Global, g: &mut Guarded, literals: &[Lit]) -> Result<Lit, AllocE
     Ok(own)
 }
 
-// Puts the guards of the avoided cubes, where they count, and of all parts at the end, the marked ones first.
-fn push_parts(
-    guards: &mut Vec<Lit>,
-    first: u64,
-    avoids: bool,
-    marks: &[bool],
-) -> Result<(), AllocError> {
-    if avoids {
-        guards.push(guard(first, marks.len())?)?;
+// Which parts count at first: all but the sides that are not marked.
+fn first_counted(alloc: Global, uses: usize, marks: &[bool]) -> Result<Vec<bool>, AllocError> {
+    let mut counted = Vec::new(alloc);
+    for (part, mark) in marks.iter().enumerate() {
+        let is_side = part >= uses && part < uses.saturating_mul(2);
+        counted.push(*mark || !is_side)?;
     }
-    push_guards(guards, first, marks, true)?;
-    push_guards(guards, first, marks, false)
+    Ok(counted)
 }
 
-// The guards of a question whether all these literals can be true.
+// The guards of a question with this guard: those of the avoided cubes, where they count, and of the parts that count, the
+// marked ones first.
 fn question(
     alloc: Global,
-    g: &mut Guarded,
-    literals: &[Lit],
+    g: &Guarded,
+    own: Lit,
     avoids: bool,
+    counted: &[bool],
     marks: &[bool],
 ) -> Result<Vec<Lit>, AllocError> {
-    let own = begin(alloc, g, literals)?;
     let mut guards = Vec::new(alloc);
     guards.push(own)?;
-    push_parts(&mut guards, g.first, avoids, marks)?;
+    if avoids {
+        guards.push(guard(g.first, marks.len())?)?;
+    }
+    push_guards(&mut guards, g.first, counted, marks, true)?;
+    push_guards(&mut guards, g.first, counted, marks, false)?;
     Ok(guards)
+}
+
+// The part of the first side that does not count, and that the model of the solver is not on.
+fn other_side(g: &Guarded, counted: &[bool]) -> Option<usize> {
+    for (i, side) in g.sides.as_slice().iter().enumerate() {
+        if let Some(literal) = side {
+            let part = g.sides.len().saturating_add(i);
+            if !is_marked(counted, part) && g.solver.value(literal.var) != literal.positive {
+                return Some(part);
+            }
+        }
+    }
+    None
 }
 
 /// Marks a part.
@@ -309,8 +319,8 @@ fn mark_guarded(marks: &mut [bool], first: u64, core: &[Lit]) {
     }
 }
 
-/// Marks the parts that a core of the question needs whether all these literals can be true. `avoids` says whether the
-/// avoided cubes count.
+/// Marks the parts that a core of the question needs whether all these literals can be true, with few sides. `avoids` says
+/// whether the avoided cubes count.
 pub(crate) fn mark_core(
     alloc: Global,
     g: &mut Guarded,
@@ -322,11 +332,27 @@ pub(crate) fn mark_core(
     ensures end { IfErr result (IsEnd meter.new) }
     ensures counted { CountsConflicts meter.old meter.new }
 {
-    let guards = question(alloc, g, literals, avoids, marks.as_slice())?;
-    let first = g.first;
-    match ask_guarded(alloc, &mut g.solver, guards.as_slice(), meter)? {
-        Asked::Sat => {}
-        Asked::Unsat(core) => mark_guarded(marks.as_mut_slice(), first, core.as_slice()),
+    let own = begin(alloc, g, literals)?;
+    let mut counted = first_counted(alloc, g.sides.len(), marks.as_slice())?;
+    for _side in 0..=g.sides.len() {
+        let guards = question(
+            alloc,
+            &*g,
+            own,
+            avoids,
+            counted.as_slice(),
+            marks.as_slice(),
+        )?;
+        match ask_guarded(alloc, &mut g.solver, guards.as_slice(), meter)? {
+            Asked::Unsat(core) => {
+                mark_guarded(marks.as_mut_slice(), g.first, core.as_slice());
+                return Ok(());
+            }
+            Asked::Sat => match other_side(&*g, counted.as_slice()) {
+                Some(part) => mark(counted.as_mut_slice(), part),
+                None => return Ok(()),
+            },
+        }
     }
     Ok(())
 }
