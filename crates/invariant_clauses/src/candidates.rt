@@ -7,8 +7,8 @@ use entry::holds_initial;
 use items::Items;
 use std::alloc::{AllocError, Global};
 
-/// How many clauses there are, at most.
-const MOST_CLAUSES: usize = 20_000;
+/// More clauses than these are not worth their questions.
+pub(crate) const MOST_CLAUSES: usize = 1_000;
 
 /// How many words are looked at for pairs of latches, about.
 const MOST_WORDS: u64 = 50_000_000;
@@ -21,7 +21,7 @@ fn literal(latch: usize, positive: bool) -> Lit {
     }
 }
 
-// Appends a clause, while there is room, where a literal of it is true in each initial state.
+// Appends a clause where a literal of it is true in each initial state, up to one more than there may be.
 fn put(
     alloc: Global,
     c: &Circuit,
@@ -29,7 +29,7 @@ fn put(
     clauses: &mut Items<Clause>,
 ) -> Result<(), AllocError> {
     let clause = Clause::from_slice(alloc, literals)?;
-    if clauses.len() < MOST_CLAUSES && holds_initial(c, &clause) {
+    if clauses.len() <= MOST_CLAUSES && holds_initial(c, &clause) {
         clauses.push(clause)?;
     }
     Ok(())
@@ -124,7 +124,7 @@ fn put_all_pairs(
     let mut words_left = MOST_WORDS;
     for (k, first) in others.iter().enumerate() {
         for second in others.iter().skip(k.saturating_add(1)) {
-            if clauses.len() >= MOST_CLAUSES || words_left == 0 {
+            if clauses.len() > MOST_CLAUSES || words_left == 0 {
                 return Ok(());
             }
             let pairs = columns.pairs_of(*first, *second);
@@ -138,7 +138,7 @@ fn put_all_pairs(
 }
 
 /// The clauses of one latch, and then of two others, that no state breaks, with a literal each that is true in each initial
-/// state: over the places of the latches, whose words stand in the rows.
+/// state: over the places of the latches, whose words stand in the rows. Of too many one more comes than there may be.
 pub(crate) fn candidates(
     alloc: Global,
     c: &Circuit,
