@@ -5,10 +5,10 @@ use crate::batches::{Batch, RunLoop, Supply, run_batch};
 use crate::drawn_states::DrawnStates;
 use crate::draws::{Draws, mixed};
 use crate::parts::{Part, part_of};
-use crate::repeating::whole_lasso;
+use crate::repeating::{Bounds, whole_stimulus};
 use crate::tasks::{Task, fair_literals};
 use crate::words::{RUNS, bit_of, word_at};
-use circuit::{Circuit, Lasso, Reset, Stimulus};
+use circuit::{Circuit, Reset, Stimulus};
 use cone::cone_of;
 use edge::Meter;
 use items::Items;
@@ -26,10 +26,17 @@ const MOST_WORDS: u64 = 40_000_000;
 /// How many values of variables are computed where the runs that are chosen are judged, about.
 const MOST_VALUES: u64 = 10_000_000;
 
-/// A lasso, or none, and the stimuli of some runs, with the states of all runs. None of it is judged.
+/// Bounds for the repetitions of a loop.
+const MOST_REPEATED: Bounds = Bounds {
+    positions: 65_536,
+    values: 8_000_000,
+    work: 40_000_000,
+};
+
+/// The stimulus of a lasso, or none, and the stimuli of some runs, with the states of all runs. None of it is judged.
 #[derive(Drop)]
 pub(crate) struct Chosen {
-    pub(crate) lasso: Option<Lasso>,
+    pub(crate) lasso: Option<Stimulus>,
     pub(crate) runs: Vec<Stimulus>,
     pub(crate) states: DrawnStates,
 }
@@ -154,19 +161,26 @@ fn keep_deepest(
     Ok(())
 }
 
-// The lasso of a loop that a batch shows.
+// The stimulus of the loop that a batch shows.
 fn lasso_of(
     alloc: Global,
     task: &Task<'_>,
     batch: &Batch,
     found: RunLoop,
-) -> Result<Option<Lasso>, AllocError> {
+) -> Result<Option<Stimulus>, AllocError> {
     let stimulus = first_positions(alloc, task, batch, found.run, found.count)?;
-    whole_lasso(alloc, task.circuit, &stimulus, found.from as usize)
+    whole_stimulus(
+        alloc,
+        task.circuit,
+        &stimulus,
+        found.from as usize,
+        MOST_REPEATED,
+        task.meter,
+    )
 }
 
-// The shorter one of two lassos; the first where they are of one length.
-fn shorter(a: Option<Lasso>, b: Option<Lasso>) -> Option<Lasso> {
+// The shorter one of two; the first where they are of one length.
+fn shorter(a: Option<Stimulus>, b: Option<Stimulus>) -> Option<Stimulus> {
     match (a, b) {
         (Some(a), Some(b)) => Some(if b.inputs.len() < a.inputs.len() {
             b

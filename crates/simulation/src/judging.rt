@@ -7,32 +7,32 @@ ghost use Rattle.lasso_join.specs.Fitting.{IsStemTo};
 ghost use Rattle.lasso_join.specs.Prefixes.{stimulus_of};
 
 use circuit::{
-    Circuit, Lasso, Position, Stimulus, eval_into, is_fair_lasso, is_initial, literal_value,
-    next_into,
+    Circuit, Lasso, Position, Stimulus, eval_into, is_initial, literal_value, next_into,
 };
 use items::Items;
-use lasso_join::shortest_prefix;
 use std::alloc::{AllocError, Global};
 use std::mem;
+use stimulus::{ReplayEnd, replay};
 
-/// The lasso, where it is a fair one, with no position more than it needs.
+/// The lasso that the stimulus stands for, if it has one.
 pub(crate) fn judged_lasso(
     alloc: Global,
     c: &Circuit,
     j: u32,
-    chosen: Option<Lasso>,
+    chosen: Option<Stimulus>,
 ) -> Result<Option<Lasso>, AllocError>
     ensures fair { IfOk result (λ found. IfSome found (IsFairLassoOf c.now j)) }
     ensures whole { IfOk result (λ found. IfSome found
         (λ lasso. StandsFor c.now j (stimulus_of lasso) (length lasso.inputs) lasso.from)) }
 {
-    let Some(lasso) = chosen else {
+    let Some(stimulus) = chosen else {
         return Ok(None);
     };
-    if !is_fair_lasso(alloc, c, j, &lasso)? {
-        return Ok(None);
+    match replay(alloc, c, j, &stimulus) {
+        Ok(lasso) => Ok(Some(lasso)),
+        Err(ReplayEnd::Memory) => Err(AllocError),
+        Err(ReplayEnd::Fault(_)) => Ok(None),
     }
-    Ok(Some(shortest_prefix(alloc, c, j, lasso)?))
 }
 
 // Whether the literals are all true.
