@@ -1,5 +1,6 @@
-//! Questions to the solver, and what their answers mean. The main calls are `find` and `find_first`.
-ghost use Rattle.std.specs.Prelude.{◌≡◌, ◌<◌, ◌^◌, [], length, IfOk, IfErr};
+//! Questions to the solver, and what their answers mean. The main calls are `find`, `find_first` and
+//! `find_valued`.
+ghost use Rattle.std.specs.Prelude.{◌≡◌, ◌<◌, ◌^◌, [], length, IfOk, IfErr, IfSome};
 ghost use Rattle.edge.specs.Ends.{CountsConflicts, IsEnd};
 ghost use Rattle.cdcl.specs.Asking.{IsAsked};
 ghost use Rattle.cdcl.specs.Refuting.{IsRefuted};
@@ -8,19 +9,19 @@ ghost use Rattle.cnf_unroll.specs.Numbers.{state_place};
 ghost use Rattle.cnf_unroll.specs.Obligations.{skeleton_clauses};
 ghost use Rattle.entry.specs.CheckedEntries.{viewed};
 ghost use Rattle.entry.specs.Laws.{IsGoodList};
-ghost use Rattle.skeleton.specs.Finding.{IsFound, IsFirst};
+ghost use Rattle.skeleton.specs.Finding.{IsAllowed, IsFound, IsFirst};
 ghost use Rattle.skeleton.specs.Reading.{state_literals, uses_from};
 
-use crate::finding::{First, Found};
+use crate::finding::{First, Found, ValueAt};
 use crate::lessening::lessened;
 use crate::reading::skeleton_in;
 use crate::states::{core_cube, state_literals};
-use cdcl::{Asked, Refuted, Solver};
+use cdcl::{Asked, Refuted, Solver, are_sized, has_opposites};
 use circuit::{Circuit, one_valuation};
 use cnf::Lit;
 use edge::{Meter, SolveEnd};
 use entry::{Checked, Refutation};
-use fair_semantics::{Side, Use};
+use fair_semantics::{Side, Skeleton, Use};
 use items::Items;
 use std::alloc::{AllocError, Global};
 use std::sync::Arc;
@@ -168,4 +169,73 @@ pub(crate) fn find_first(
         assumptions.as_slice(),
         answer,
     )?)
+}
+
+// The literals of values of latches at places, over the numbers of the blocks.
+fn literals_at(alloc: Global, c: &Circuit, values: &[ValueAt]) -> Result<Items<Lit>, AllocError> {
+    let size = c.max().saturating_mul(2).saturating_add(2);
+    let mut literals = Items::new(alloc);
+    for at in values {
+        if let Some(latch) = c.latches().get(at.latch) {
+            let base = at.situation.saturating_mul(size).saturating_add(latch.var);
+            let behind = if at.after {
+                c.max().saturating_add(2)
+            } else {
+                1
+            };
+            literals.push(Lit {
+                var: base.saturating_add(behind),
+                positive: at.value,
+            })?;
+        }
+    }
+    Ok(literals)
+}
+
+fn valued_of(
+    alloc: Global,
+    c: &Circuit,
+    j: u32,
+    solver: &Solver,
+    view: &[Arc<Checked>],
+    assumptions: &[Lit],
+    answer: Asked,
+) -> Result<Option<Skeleton>, AllocError>
+    requires property { j < length c.now.justice }
+    requires good { IsGoodList c.now (viewed view.now) }
+    requires answer { IsAsked (skeleton_clauses c.now j (numbered (viewed view.now))) assumptions.now solver.now.values answer }
+    ensures { IfOk result (λ found. IfSome found (IsAllowed c.now j (viewed view.now))) }
+{
+    let _checked = c.max();
+    one_valuation(c);
+    match answer {
+        Asked::Sat => Ok(Some(skeleton_in(alloc, c, j, solver)?)),
+        Asked::Unsat(_core) => Ok(None),
+    }
+}
+
+/// A skeleton that the entries of the view allow, looked for where latches have these values at its places.
+pub(crate) fn find_valued(
+    alloc: Global,
+    c: &Circuit,
+    j: u32,
+    solver: &mut Solver,
+    view: &[Arc<Checked>],
+    values: &[ValueAt],
+    meter: &mut Meter,
+) -> Result<Option<Skeleton>, SolveEnd>
+    requires property { j < length c.now.justice }
+    requires good { IsGoodList c.now (viewed view.now) }
+    requires built { solver.old.added ≡ skeleton_clauses c.now j (numbered (viewed view.now)) }
+    ensures found { IfOk result (λ found. IfSome found (IsAllowed c.now j (viewed view.now))) }
+    ensures added { solver.new.added ≡ solver.old.added }
+    ensures end { IfErr result (IsEnd meter.new) }
+    ensures counted { CountsConflicts meter.old meter.new }
+{
+    let assumptions = literals_at(alloc, c, values)?;
+    if has_opposites(assumptions.as_slice()) || !are_sized(assumptions.as_slice()) {
+        return Ok(None);
+    }
+    let answer = solver.ask(alloc, assumptions.as_slice(), meter)?;
+    Ok(valued_of(alloc, c, j, solver, view, assumptions.as_slice(), answer)?)
 }

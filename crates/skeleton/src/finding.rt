@@ -21,3 +21,12 @@ pub enum First {
     /// A cube over latch numbers that holds the state. In no state of it an allowed skeleton begins.
     Never(Cube),
 }
+
+/// A value of a latch at a place of a skeleton: in the state of a situation, or in its successor.
+#[derive(Clone, Copy)]
+pub struct ValueAt {
+    pub situation: u64,
+    pub after: bool,
+    pub latch: usize,
+    pub value: bool,
+}

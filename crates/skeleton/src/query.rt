@@ -1,19 +1,20 @@
 //! The query. The main type is `Query`.
-ghost use Rattle.std.specs.Prelude.{◌≡◌, ◌<◌, ◌^◌, [], length, IfOk, IfErr, OnOk};
+ghost use Rattle.std.specs.Prelude.{◌≡◌, ◌<◌, ◌^◌, [], length, IfOk, IfErr, IfSome, OnOk};
 ghost use Rattle.std.specs.Arc.{arc_value};
 ghost use Rattle.edge.specs.Ends.{CountsConflicts, IsEnd};
 ghost use Rattle.entry.specs.CheckedEntries.{viewed, GoesOnFrom};
 ghost use Rattle.entry.specs.Laws.{IsGoodList};
-ghost use Rattle.skeleton.specs.Finding.{IsFound, IsFirst};
+ghost use Rattle.skeleton.specs.Finding.{IsAllowed, IsFound, IsFirst};
 ghost use Rattle.skeleton.specs.Keeping.{IsBegun};
 
-use crate::asking::{find, find_first};
-use crate::finding::{First, Found};
+use crate::asking::{find, find_first, find_valued};
+use crate::finding::{First, Found, ValueAt};
 use crate::known::{Known, catch_up, nothing_known};
 use cdcl::FirstValues;
 use circuit::Circuit;
 use edge::{Meter, SolveEnd};
 use entry::Checked;
+use fair_semantics::Skeleton;
 use std::alloc::{AllocError, Global};
 use std::marker::Model;
 use std::sync::Arc;
@@ -98,6 +99,33 @@ fn next_first(
 {
     catch_up(alloc, c, j, known, view)?;
     find_first(alloc, c, j, &mut known.solver, view, state, meter)
+}
+
+// The same with values of latches at places.
+fn next_valued(
+    alloc: Global,
+    c: &Circuit,
+    j: u32,
+    known: &mut Known,
+    view: &[Arc<Checked>],
+    values: &[ValueAt],
+    meter: &mut Meter,
+) -> Result<Option<Skeleton>, SolveEnd>
+    requires property { j < length c.now.justice }
+    requires begun { IsBegun c.now j known.old }
+    requires on { GoesOnFrom (viewed known.old.seen) (viewed view.now) }
+    requires good { IsGoodList c.now (viewed view.now) }
+    requires few { length view.now < 2 ^ 32 }
+    ensures found { IfOk result (λ found. IfSome found (IsAllowed c.now j (viewed view.now))) }
+    ensures end { IfErr result (IsEnd meter.new) }
+    ensures counted { CountsConflicts meter.old meter.new }
+    ensures begun { IsBegun c.now j known.new }
+    ensures view { OnOk result (viewed known.new.seen ≡ viewed view.now) }
+    ensures grows { GoesOnFrom (viewed known.old.seen) (viewed known.new.seen) }
+    ensures seen { GoesOnFrom (viewed known.new.seen) (viewed view.now) }
+{
+    catch_up(alloc, c, j, known, view)?;
+    find_valued(alloc, c, j, &mut known.solver, view, values, meter)
 }
 
 // The values that a worker's solver decides variables with first: another skeleton for each.
@@ -187,6 +215,39 @@ impl Query {
             &mut self.known,
             view,
             state,
+            meter,
+        )
+    }
+
+    /// A skeleton that all entries of the view allow, or none, looked for where latches have these values at its places;
+    /// that it has them no clause says, nor that there is none. `Spent` comes where the meter's count of conflicts is at
+    /// its limit. After an error the query can be asked again.
+    pub fn with_values(
+        &mut self,
+        alloc: Global,
+        view: &[Arc<Checked>],
+        values: &[ValueAt],
+        meter: &mut Meter,
+    ) -> Result<Option<Skeleton>, SolveEnd>
+        requires on { GoesOnFrom self.old.seen (viewed view.now) }
+        requires good { IsGoodList self.old.circuit (viewed view.now) }
+        requires few { length view.now < 2 ^ 32 }
+        ensures found { IfOk result (λ found. IfSome found (IsAllowed self.old.circuit self.old.property (viewed view.now))) }
+        ensures end { IfErr result (IsEnd meter.new) }
+        ensures counted { CountsConflicts meter.old meter.new }
+        ensures circuit { self.new.circuit ≡ self.old.circuit }
+        ensures property { self.new.property ≡ self.old.property }
+        ensures view { OnOk result (self.new.seen ≡ viewed view.now) }
+        ensures grows { GoesOnFrom self.old.seen self.new.seen }
+        ensures seen { GoesOnFrom self.new.seen (viewed view.now) }
+    {
+        next_valued(
+            alloc,
+            &*self.circuit,
+            self.property,
+            &mut self.known,
+            view,
+            values,
             meter,
         )
     }
