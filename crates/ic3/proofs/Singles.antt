@@ -1,5 +1,5 @@
 -- A set of one clause separates: it is the closed set of three frames.
-use Rattle.std.proofs.Common.{◌≡◌, ℕ, zero, suc, ◌+◌, ◌<◌, Bool, true, false, ◌&&◌, ◌||◌, List, [], ◌∷◌, ◌++◌, map, length, get_or, refl, sym, ap, subst, ◌∙◌, arith}
+use Rattle.std.proofs.Common.{◌≡◌, ℕ, zero, suc, ◌+◌, ◌<◌, Bool, true, false, ◌&&◌, ◌||◌, List, [], ◌∷◌, ◌++◌, map, length, get_or, refl, sym, ap, subst, ◌∙◌, Option, Some, None, IfSome, arith}
 use Rattle.std.specs.List.{All}
 use Rattle.std.proofs.lemmas.Bool.{and_parts, and_from}
 use Rattle.std.proofs.lemmas.List.{length-map, get_or-map}
@@ -10,6 +10,7 @@ use Rattle.aig_semantics.specs.Circuits.{Circuit}
 use Rattle.aig_semantics.specs.Runs.{successor}
 use Rattle.proof_semantics.specs.declared.literals.Lit.{Lit}
 use Rattle.proof_semantics.specs.Clauses.{literal_value, clause_value, clauses_value, cube_value, values_of}
+use Rattle.fair_semantics.specs.declared.entries.Use.{Use}
 use Rattle.fair_semantics.specs.Entries.{Entry}
 use Rattle.fair_semantics.specs.Validity.{AreValid}
 use Rattle.ic3_frames.specs.Frames.{frame_at}
@@ -31,6 +32,7 @@ use Rattle.edge.specs.Ends.{CountsConflicts}
 use Rattle.ic3_loops.proofs.Ended.{up_to_on, up_to_conflicts}
 use Rattle.ic3_loops.proofs.Sounds.{Levels}
 use Rattle.ic3_loops.proofs.Begins.{one_of}
+use Rattle.ic3.specs.Searches.{IsOfOneLiteral}
 use Rattle.ic3.proofs.Separating.{closed_reached}
 
 -- ---- three frames: the starts, and the clause twice
@@ -106,6 +108,22 @@ single-reached c view start (goals.State to) cube clause r valid is exact single
     (are-sound q cube clause to.now exact single)
     (record { below = omega arith; same = refl; misses = ap (λ b. b && true) single.breaks }) answer
 single-reached c view start (goals.Literal literal avoid) cube clause r valid is exact single answer = absurd single
+
+-- ---- its one literal
+
+one-literal : (clause : List Lit) → length clause ≡ 1 → (l : Lit) × (clause ≡ l ∷ [])
+one-literal [] e = absurd (omega (arith, e))
+one-literal (l ∷ []) e = (l, refl)
+one-literal (l ∷ m ∷ clause) e = absurd (omega (arith, e))
+
+pub of-one-literal : (clause : List Lit) (uses : List Use) (r : Reached) → length clause ≡ 1 → r ≡ Closed (clause ∷ []) uses → IsOfOneLiteral r
+of-one-literal clause uses r one is =
+    let h : (l : Lit) × (clause ≡ l ∷ []) = one-literal clause one in
+    (h.0, (uses, is ∙ ap (λ x. Closed (x ∷ []) uses) h.1))
+
+pub if-some : (P Q : Reached → Type 0) (found : Option Reached) → ((r : Reached) → P r → Q r) → IfSome found P → IfSome found Q
+if-some P Q None more h = tt
+if-some P Q (Some r) more h = more r h
 
 -- ---- what it leaves to the frames
 

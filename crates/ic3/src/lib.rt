@@ -4,6 +4,7 @@
 //! | Call | Gives |
 //! |---|---|
 //! | `reach` | a path from a start to a goal, or a set that holds the start, misses the goal and is left by no step |
+//! | `by_latch` | such a set of the literal of one latch, from a state to a state, where there is one |
 //! | `Search::new` | a search from a start, which was asked nothing yet |
 //! | `Search::reach` | what `reach` gives; goal after goal, while the view grows, over frames that are kept |
 //! | `Search::frames`, `Search::solver_questions` | how many these are, and how many questions its solvers were asked |
@@ -27,5 +28,5 @@ mod trying;
 
 pub use asking_again::Search;
 pub use ic3_semantics::{Goal, ReachEnd, Reached, Start};
-pub use searching::reach;
+pub use searching::{by_latch, reach};
 pub use steps::Steps;

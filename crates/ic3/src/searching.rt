@@ -1,5 +1,6 @@
 //! The search. The main call is `reach`.
-ghost use Rattle.std.specs.Prelude.{◌≡◌, ◌+◌, ◌≤◌, [], ◌∷◌, length, IfOk, IfErr, OnOk};
+ghost use Rattle.std.specs.Prelude.{◌≡◌, ◌+◌, ◌≤◌, [], ◌∷◌, length, IfOk, IfErr, IfSome, OnOk};
+ghost use Rattle.edge.specs.Ends.{CountsConflicts, IsEnd};
 ghost use Rattle.entry.specs.CheckedEntries.{viewed};
 ghost use Rattle.entry.specs.Laws.{IsGoodList};
 ghost use Rattle.ic3_frames.specs.Frames.{frame_at};
@@ -7,6 +8,7 @@ ghost use Rattle.ic3_frames.specs.Room.{room};
 ghost use Rattle.ic3_loops.specs.Sound.{AvoidsAsked};
 ghost use Rattle.ic3_semantics.specs.Searching.{CountsUpTo};
 ghost use Rattle.ic3_loops.specs.Resuming.{MayGoOn};
+ghost use Rattle.ic3.specs.Searches.{IsOfOneLiteral};
 ghost use Rattle.ic3.specs.SearchesInside.{question_of, IsPosed, GoesFurther};
 ghost use Rattle.ic3_questions.specs.SteppingClauses.{own_uses};
 ghost use Rattle.ic3_semantics.specs.Stepping.{no_lemmas};
@@ -15,7 +17,7 @@ ghost use Rattle.ic3_semantics.specs.Searching.{IsStart, IsGoal, IsReached, IsRe
 use crate::steps::Steps;
 use circuit::Circuit;
 use cnf::{Clause, Cube};
-use edge::Meter;
+use edge::{Meter, SolveEnd};
 use entry::Checked;
 use ic3_frames::Frames;
 use ic3_loops::{Iterated, iterate, lemmas_from, resume, single, start_cube};
@@ -58,6 +60,78 @@ pub fn reach(
         goal,
     };
     reach_on(alloc, &asked, &mut frames, &mut solver_questions, meter)
+}
+
+/// A closed set of one clause, which has one literal: that of a latch whose value in the start no step leaves, and which
+/// the goal has otherwise. None where no such latch is seen; it is looked for from a state to a state.
+pub fn by_latch(
+    alloc: Global,
+    c: &Circuit,
+    view: &[Arc<Checked>],
+    start: &Start,
+    goal: &Goal<'_>,
+    meter: &mut Meter,
+) -> Result<Option<Reached>, SolveEnd>
+    requires view { IsGoodList c.now (viewed view.now) }
+    requires start { IsStart c.now start.now }
+    requires goal { IsGoal c.now goal.now }
+    ensures reached { IfOk result (λ found. IfSome found (IsReached (record {
+      circuit = c.now;
+      view = viewed view.now;
+      start = start.now;
+    }) goal.now)) }
+    ensures one { IfOk result (λ found. IfSome found IsOfOneLiteral) }
+    ensures end { IfErr result (IsEnd meter.new) }
+    ensures counted { CountsConflicts meter.old meter.new }
+{
+    let starts = start_cube(alloc, c, start)?;
+    let mut steps = Steps::new(alloc, c, view, start, avoided(goal))?;
+    let asked = Asked {
+        c,
+        view,
+        start,
+        starts: &starts,
+        goal,
+    };
+    close_by_latch(alloc, &asked, &mut steps, meter)
+}
+
+// The same by a solver that has no lemmas.
+fn close_by_latch(
+    alloc: Global,
+    asked: &Asked<'_, '_>,
+    steps: &mut Steps<'_>,
+    meter: &mut Meter,
+) -> Result<Option<Reached>, SolveEnd>
+    requires asked { IsPosed asked.now.c.now (viewed asked.now.view.now) asked.now.start.now asked.now.starts.now asked.now.goal.now }
+    requires steps { steps.old ≡ no_lemmas (question_of asked.now.c.now (viewed asked.now.view.now) asked.now.start.now) steps.old.avoid }
+    ensures reached { IfOk result (λ found. IfSome found
+        (IsReached (question_of asked.now.c.now (viewed asked.now.view.now) asked.now.start.now) asked.now.goal.now)) }
+    ensures one { IfOk result (λ found. IfSome found IsOfOneLiteral) }
+    ensures end { IfErr result (IsEnd meter.new) }
+    ensures counted { CountsConflicts meter.old meter.new }
+{
+    match single(alloc, asked.start, asked.starts, asked.goal, steps, meter)? {
+        Some(clause) => Ok(of_one(alloc, asked.view, asked.start, clause)?),
+        None => Ok(None),
+    }
+}
+
+// The closed set of the clause, which has one literal.
+fn of_one(
+    alloc: Global,
+    view: &[Arc<Checked>],
+    start: &Start,
+    clause: Clause,
+) -> Result<Option<Reached>, AllocError>
+    ensures closed { IfOk result (λ found. IfSome found (λ reached.
+        reached ≡ Reached.Closed (clause ∷ []) (own_uses (viewed view.now) start.now))) }
+    ensures one { IfOk result (λ found. IfSome found IsOfOneLiteral) }
+{
+    if clause.len() != 1 {
+        return Ok(None);
+    }
+    Ok(Some(close_one(alloc, view, start, clause)?))
 }
 
 /// What is asked: a circuit, the entries that are known, a start with its cube, and a goal.
