@@ -79,7 +79,8 @@ fn certified(
 /// A round: an entry that excludes a skeleton which the view allows, or an outcome of property `j`: a fair lasso, or the
 /// refutation of all skeletons. `rounds` is what the worker keeps from round to round, and `view` what it has seen. It
 /// counts at most the steps of a search for each situation of a skeleton, and of one more. The first round begins with
-/// simulation, where neither count is at its limit; simulation counts nothing.
+/// simulation, where neither count is at its limit; simulation counts nothing. Behind it, and before each round, worker 0 and
+/// each third one asks for lassos of the property's cone with few positions, which counts conflicts.
 pub fn decide(
     alloc: Global,
     c: &Arc<Circuit>,
@@ -103,6 +104,9 @@ pub fn decide(
     ensures seen { GoesOnFrom rounds.new.seen (viewed view.now) }
 {
     if let Some(lasso) = rounds.simulate(alloc, c, j, meter)? {
+        return Ok(Deed::Finish(Outcome::Lasso(lasso)));
+    }
+    if let Some(lasso) = rounds.deepen(alloc, c, j, meter)? {
         return Ok(Deed::Finish(Outcome::Lasso(lasso)));
     }
     decided(alloc, c, j, view, rounds, author, meter)

@@ -12,14 +12,17 @@
 //! excludes the skeleton. The definitions stand in `specs/`.
 #![tactic(auto)]
 
+mod bounded;
 mod deciding;
 mod invariants;
+mod latch_walls;
 mod pool;
 mod rounds;
 mod scope;
 mod seeking;
 mod stopping;
 mod walking;
+mod walls;
 mod ways;
 
 pub use deciding::{Author, Deed, decide};

@@ -9,14 +9,16 @@ ghost use Rattle.entry.specs.Laws.{IsGoodList};
 ghost use Rattle.fair_semantics.specs.Entries.{Entry};
 ghost use Rattle.skeleton.specs.Finding.{IsFound, BeginsNone};
 ghost use Rattle.fair_round.specs.Spending.{IsStop};
-ghost use Rattle.fair_round.specs.Scopes.{IsScope, asking_of_scope, entries_of};
+ghost use Rattle.fair_round.specs.Scopes.{IsScope, IsAllowedIn, IsQueryOf, asking_of_scope, entries_of};
 ghost use Rattle.fair_round.specs.Pools.{IsBegun, IsBegunIn, IsReachedRun, IsRun};
 ghost use Rattle.fair_round.specs.Stems.{IsFit};
 
+use crate::bounded::{Bounded, deepened};
 use crate::invariants::suggested;
 use crate::pool::{Begun, Run, keep, keep_all, pooled, tried};
 use crate::scope::Scope;
 use crate::stopping::{Stop, solver_stop};
+use arena_values::cone_latches;
 use circuit::{Circuit, Lasso, Position};
 use cnf::{Clause, Cube};
 use edge::Meter;
@@ -25,14 +27,14 @@ use fair_semantics::Skeleton;
 use ic3::{Search, Start};
 use items::Items;
 use simulation::{DrawnStates, simulate};
-use skeleton::{Found, Query, never_stays};
+use skeleton::{Found, Query, ValueAt, never_stays};
 use std::alloc::{AllocError, Global};
 use std::marker::Model;
 use std::sync::Arc;
 
 /// What a worker keeps from round to round: its query, the entries that it has seen, runs whose states were reached, cubes
 /// of states in which no skeleton begins, the search from the initial states, what each of two kinds of rounds has cost,
-/// and whether simulation is done. Contracts see of it what they see of a query.
+/// whether simulation is done, and of which latches walls are looked for. Contracts see of it what they see of a query.
 #[derive(Drop)]
 pub struct Rounds {
     circuit: Arc<Circuit>,
@@ -45,6 +47,9 @@ pub struct Rounds {
     worker: u32,
     has_simulated: bool,
     states: Option<DrawnStates>,
+    wanted: Vec<bool>,
+    pauses: Pauses,
+    bounded: Bounded,
 }
 
 // What rounds have cost in which the first literal was asked for, and those in which a state was. The cheaper comes next.
@@ -52,6 +57,41 @@ pub struct Rounds {
 struct Costs {
     by_literal: u64,
     by_state: u64,
+}
+
+/// How many rounds pass at most between two that look for walls of one latch in vain.
+const MOST_PAUSE: u32 = 15;
+
+// How many rounds have passed without looking for such walls, and how many are to.
+#[derive(Clone, Copy)]
+struct Pauses {
+    passed: u32,
+    most: u32,
+}
+
+const NO_PAUSE: Pauses = Pauses { passed: 0, most: 0 };
+
+// Whether this round looks for walls of one latch. Behind it more rounds pass than before it.
+fn looks(pauses: &mut Pauses) -> bool {
+    if pauses.passed < pauses.most {
+        pauses.passed += 1;
+        return false;
+    }
+    pauses.passed = 0;
+    pauses.most = pauses
+        .most
+        .saturating_mul(2)
+        .saturating_add(1)
+        .min(MOST_PAUSE);
+    true
+}
+
+// The latches of which walls are looked for at first: those of the property's cone; for one worker in three none.
+fn first_wanted(alloc: Global, c: &Circuit, j: u32, worker: u32) -> Result<Vec<bool>, AllocError> {
+    if worker % 3 == 2 {
+        return Ok(Vec::new(alloc));
+    }
+    cone_latches(alloc, c, j)
 }
 
 // Where a worker begins: the first by literals, the second by states; the third never asks for literals.
@@ -143,6 +183,33 @@ fn simulated(
     Ok(found.lasso)
 }
 
+// A skeleton that the entries allow, looked for with these values.
+fn valued(
+    alloc: Global,
+    scope: &Scope<'_>,
+    query: &mut Query,
+    values: &[ValueAt],
+    meter: &mut Meter,
+) -> Result<Option<Skeleton>, Stop>
+    requires scope { IsScope scope.now }
+    requires query { IsQueryOf scope.now query.old }
+    ensures found { IfOk result (λ found. IfSome found (IsAllowedIn scope.now)) }
+    ensures query { IsQueryOf scope.now query.new }
+    ensures stop { IfErr result (IsStop meter.new) }
+    ensures counted { CountsConflicts meter.old meter.new }
+{
+    match query.with_values(alloc, scope.view, values, meter) {
+        Ok(found) => Ok(found),
+        Err(end) => Err(solver_stop(end, meter)),
+    }
+}
+
+fn unmark(marks: &mut Vec<bool>, i: usize) {
+    if i < marks.len() {
+        marks[i] = false;
+    }
+}
+
 impl Rounds {
     /// The rounds of a worker of this number for property `j`, before the first: nothing is seen. The error is want of
     /// memory.
@@ -162,6 +229,9 @@ impl Rounds {
             worker,
             has_simulated: false,
             states: None,
+            wanted: first_wanted(alloc, &**c, j, worker)?,
+            pauses: NO_PAUSE,
+            bounded: Bounded::unused(),
         })
     }
 
@@ -292,6 +362,26 @@ impl Rounds {
         )
     }
 
+    /// Behind simulation, of worker 0 and each third one: a fair lasso that bounded search over the property's cone finds, which
+    /// goes on from round to round, or none. Nothing is begun where a count is at its limit.
+    pub(crate) fn deepen(
+        &mut self,
+        alloc: Global,
+        c: &Circuit,
+        j: u32,
+        meter: &mut Meter,
+    ) -> Result<Option<Lasso>, Stop>
+        ensures lasso { IfOk result (λ found. IfSome found (IsFairLassoOf c.now j)) }
+        ensures stop { IfErr result (IsStop meter.new) }
+        ensures counted { CountsConflicts meter.old meter.new }
+        ensures same { self.new ≡ self.old }
+    {
+        if self.worker % 3 != 0 || is_at_limit(meter) {
+            return Ok(None);
+        }
+        deepened(alloc, c, j, &mut self.bounded, meter)
+    }
+
     /// Once behind simulation: clauses that the states of its runs suggest as invariants, if any.
     pub(crate) fn take_invariants(
         &mut self,
@@ -336,5 +426,50 @@ impl Rounds {
         ensures { self.new ≡ self.old }
     {
         keep(c, &mut self.runs, positions)
+    }
+
+    /// A skeleton that the entries, which were seen, allow, looked for where latches have these values at its places.
+    pub(crate) fn with_values(
+        &mut self,
+        alloc: Global,
+        scope: &Scope<'_>,
+        values: &[ValueAt],
+        meter: &mut Meter,
+    ) -> Result<Option<Skeleton>, Stop>
+        requires scope { IsScope scope.now }
+        requires seen { self.old ≡ asking_of_scope scope.now }
+        ensures found { IfOk result (λ found. IfSome found (IsAllowedIn scope.now)) }
+        ensures stop { IfErr result (IsStop meter.new) }
+        ensures counted { CountsConflicts meter.old meter.new }
+        ensures same { self.new ≡ self.old }
+    {
+        valued(alloc, scope, &mut self.query, values, meter)
+    }
+
+    /// Of each latch whether walls of it are looked for.
+    pub(crate) fn wanted(&self) -> &[bool] {
+        self.wanted.as_slice()
+    }
+
+    /// Whether this round looks for walls of one latch: behind one that found none some rounds pass, twice as many and one
+    /// more each time.
+    pub(crate) fn looks_for_walls(&mut self) -> bool
+        ensures { self.new ≡ self.old }
+    {
+        looks(&mut self.pauses)
+    }
+
+    /// The next round looks for such walls.
+    pub(crate) fn look_again(&mut self)
+        ensures { self.new ≡ self.old }
+    {
+        self.pauses = NO_PAUSE;
+    }
+
+    /// Walls of a latch are looked for no more.
+    pub(crate) fn dismiss(&mut self, latch: usize)
+        ensures { self.new ≡ self.old }
+    {
+        unmark(&mut self.wanted, latch);
     }
 }

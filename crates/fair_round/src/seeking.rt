@@ -13,6 +13,7 @@ ghost use Rattle.fair_round.specs.Walks.{AreWalked, IsSought, skeleton_of, state
 ghost use Rattle.fair_round.specs.Pools.{IsBegun, IsReachedRun, IsBeginning};
 ghost use Rattle.fair_round.specs.Stems.{IsFit};
 
+use crate::latch_walls::{lasting_literals, other_wall, own_wall};
 use crate::pool::{Begun, append, append_one};
 use crate::rounds::Rounds;
 use crate::scope::Scope;
@@ -233,6 +234,36 @@ pub(crate) fn seek(
         (max 1 (length (fair_literals scope.now.circuit.now scope.now.property)) + 1) meter.old meter.new }
     ensures same { rounds.new ≡ rounds.old }
 {
+    let situations = skeleton.situations.as_slice();
+    let values = lasting_literals(alloc, scope, rounds, situations, meter)?;
+    if let Some(bar) = own_wall(alloc, scope, situations, values.as_slice(), meter)? {
+        rounds.look_again();
+        return Ok(Sought::Barred(bar, skeleton));
+    }
+    if let Some(sought) = other_wall(alloc, scope, rounds, situations, values.as_slice(), meter)? {
+        rounds.look_again();
+        return Ok(sought);
+    }
+    seek_charged(alloc, scope, rounds, skeleton, meter)
+}
+
+// The same by a stem, a walk and its close.
+fn seek_charged(
+    alloc: Global,
+    scope: &Scope<'_>,
+    rounds: &mut Rounds,
+    skeleton: Skeleton,
+    meter: &mut Meter,
+) -> Result<Sought, Stop>
+    requires scope { IsScope scope.now }
+    requires seen { rounds.old ≡ asking_of_scope scope.now }
+    requires allowed { IsAllowedIn scope.now skeleton }
+    ensures sought { IfOk result (IsSought scope.now.circuit.now (entries_of scope.now) scope.now.property) }
+    ensures stop { IfErr result (IsStop meter.new) }
+    ensures counted { Asks (length scope.now.circuit.now.latches)
+        (max 1 (length (fair_literals scope.now.circuit.now scope.now.property)) + 1) meter.old meter.new }
+    ensures same { rounds.new ≡ rounds.old }
+{
     let literal = rounds.asks_literal();
     let before = work_of(meter);
     let sought = seek_by_mode(alloc, scope, rounds, skeleton, meter)?;
@@ -241,8 +272,8 @@ pub(crate) fn seek(
     Ok(sought)
 }
 
-// What was counted.
-fn work_of(meter: &Meter) -> u64 {
+/// What was counted.
+pub(crate) fn work_of(meter: &Meter) -> u64 {
     let spent = meter.spending();
     spent.steps().saturating_add(spent.conflicts())
 }
