@@ -9,7 +9,7 @@ use Rattle.edge.specs.Units.{Spendings}
 use Rattle.fair_workers.specs.declared.working.Phase.{Phase}
 use Rattle.fair_workers.specs.declared.working.Phase.TheVariants as phases
 use Rattle.fair_workers.specs.Runs.{last_turns, most_situations}
-use Rattle.fair_workers.specs.Knowing.{Known}
+use Rattle.shared_lists.specs.Knowing.{Known}
 use Rattle.fair_workers.specs.Working.{count, is_ahead, is_running, left, searches_left, searches_in, room_of, ahead_of, left_in, searches_left_in, IsIn}
 
 -- ---- members of a list

@@ -17,7 +17,7 @@ use Rattle.fair_workers.specs.declared.working.Phase.{Phase}
 use Rattle.fair_workers.specs.declared.working.Phase.TheVariants as phases
 use Rattle.fair_workers.specs.declared.working.Worker.{Worker}
 use Rattle.fair_workers.specs.Runs.{AreServed}
-use Rattle.fair_workers.specs.Knowing.{Known, KeepsList, HasAsked, HasFinished}
+use Rattle.shared_lists.specs.Knowing.{Known, KeepsList, HasAsked, HasFinished}
 use Rattle.fair_workers.specs.Working.{left_in, left_to, searches_left_in, searches_left_to, search_steps, steps_through, first_left, phase_deeper, phase_told, AreRoundsOf, HasSolver, IsBefore, IsBehind, IsDeepIn, IsIn, IsOfKind, IsSearchOf, IsSought, IsUpTo, IsWorker, Seeks, SeeksOn, StaysOfKind, Turns, UnlessFound}
 use Rattle.fair_workers.proofs.Ahead.{first-in}
 use Rattle.fair_workers.proofs.WorkerKinds.{same-kind, on-kind, seeks-on}

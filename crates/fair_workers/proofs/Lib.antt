@@ -2,10 +2,8 @@ pub mod Ahead
 pub mod WorkerKinds
 pub mod Turned
 pub mod LassoTurns
-pub mod LentBoards
 pub mod Causes
 pub mod Together
-pub mod HeldPasses
 pub mod Threaded
 pub mod RunnersCross
 pub mod Skeletons

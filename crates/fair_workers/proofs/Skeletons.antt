@@ -20,13 +20,13 @@ use Rattle.fair_semantics.proofs.Staying.{front_allows}
 use Rattle.entry.specs.CheckedEntries.{CheckedEntry}
 use Rattle.entry.specs.declared.origins.Origin.{Origin}
 use Rattle.entry.specs.declared.origins.Origin.TheVariants.{Given, Worker as FoundBy}
-use Rattle.wall_store.specs.Boards.{BoardState, plain, Allow, FromWorker, IsFind, properties_of, most_entries}
+use Rattle.wall_store.specs.Boards.{BoardState, plain, Allow, FromWorker, IsFind, most_entries}
 use Rattle.fair_round.specs.Spending.{IsSpent}
 use Rattle.search_reports.specs.declared.limits.Report.{Report}
-use Rattle.fair_workers.specs.Runs.{Task, AreLimits, IsFull, IsReport, round_workers}
+use Rattle.fair_workers.specs.Runs.{Task, IsFull, IsReport, round_workers}
 use Rattle.fair_workers.specs.Laws.{skeleton_lists, NoReportWithoutLimits}
 use Rattle.fair_workers.proofs.Ahead.{member}
-use Rattle.fair_workers.proofs.LentBoards.{not-excluded}
+use Rattle.shared_lists.proofs.LentBoards.{not-excluded}
 
 -- ---- counting lists of values
 

@@ -1,7 +1,7 @@
 -- Workers on threads: what each of them begins with and comes to, and what the board of their ledger is then.
 use Rattle.std.proofs.Common.{◌≡◌, ℕ, zero, suc, ◌+◌, ◌-◌, ◌*◌, ◌<◌, ◌≤◌, min, Bool, true, false, cond, List, [], ◌∷◌, ◌++◌, map, Some, None, ◌⊎◌, inl, inr, length, get_or, take, drop, refl, sym, ap, ◌∙◌, subst, arith}
-use Rattle.std.specs.Prelude.{Contains, Option, ◌==◌}
-use Rattle.std.specs.List.{All, Any, AllPairs, remove}
+use Rattle.std.specs.Prelude.{Contains, Option}
+use Rattle.std.specs.List.{All, remove}
 use Rattle.std.proofs.lemmas.Bool.{false≢true, false_from_ne_true, cases_lt, eq-eqb, ne_eqb}
 use Rattle.std.proofs.lemmas.List.{get_or-map, get_or_default, length-map, length-append, append-nil, append_assoc, map-append, drop-append-le, drop_all, take_all, take-append-le}
 use Rattle.std.proofs.lemmas.List.Elements.{All-nil, All-cons, filter-append}
@@ -12,7 +12,7 @@ use Rattle.entry.specs.declared.origins.Origin.{Origin}
 use Rattle.entry.specs.declared.origins.Origin.TheVariants.{Given, Worker as FoundBy}
 use Rattle.entry.specs.CheckedEntries.{CheckedEntry}
 use Rattle.skeleton.specs.Finding.{IsAllowed}
-use Rattle.wall_store.specs.Boards.{BoardState, FromWorker, AscendBy, Ascend, IsFind, is_by, found_by, turn_of, most_entries, plain, first_board, properties_of}
+use Rattle.wall_store.specs.Boards.{BoardState, FromWorker, AscendBy, Ascend, IsFind, is_by, found_by, turn_of, most_entries, plain, properties_of}
 use Rattle.wall_store.specs.Events.{IsSettled}
 use Rattle.wall_store.proofs.Ascending.{none_found, ascend_empty, ascend_later, found_others}
 use Rattle.wall_ledger.specs.Passes.{Marked, PassState, LedgerState, GoesOn, OwnTurns, blank, shown_of, new_pass, new_passes}
@@ -23,16 +23,17 @@ use Rattle.fair_workers.specs.declared.runners.Runner.{Runner}
 use Rattle.fair_workers.specs.declared.working.Phase.{Phase}
 use Rattle.fair_workers.specs.declared.working.Phase.TheVariants as phases
 use Rattle.fair_workers.specs.declared.working.Worker.{Worker}
-use Rattle.fair_workers.specs.Runs.{Task, AreLimits, AreServed, ServesOne, IsByRoundWorker, IsFoundWithin, IsBoardOf, IsFull, IsInBudget, IsWithLimits, last_turns, most_turns, round_workers}
-use Rattle.fair_workers.specs.Knowing.{Known, AreSettled}
+use Rattle.fair_workers.specs.Runs.{Task, AreLimits, AreServed, ServesOne, IsByRoundWorker, IsFoundWithin, IsBoardOf, IsFull, IsInBudget, last_turns, most_turns, round_workers}
+use Rattle.shared_lists.specs.Knowing.{Known, AreSettled}
 use Rattle.fair_workers.specs.Working.{left_to, left_at_first, searches_left_to, search_steps, steps_through, is_running, first_left, Begins, IsIn, IsNumbered, IsOfKind, IsStuck, IsWorker, Turns}
 use Rattle.fair_workers.specs.Ends.{Tells, IsDone, AreDone, IsEndNumbered, done_in, end_as}
-use Rattle.fair_workers.specs.Holding.{is_shown, known_by, fresh_meter, steps_within, Goes, HasTurned, StaysHeld, IsPassOf, IsReady, IsThrough, MayRun, HasRun, HaveRun, HasEnded, IsBegunFor}
+use Rattle.shared_lists.specs.Holding.{is_shown, known_by, StaysHeld}
+use Rattle.fair_workers.specs.OnThreads.{fresh_meter, steps_within, Goes, HasTurned, IsReady, IsThrough, MayRun, HasRun, HaveRun, HasEnded, IsBegunFor}
 use Rattle.fair_workers.proofs.Causes.{steps-least}
 use Rattle.fair_workers.specs.declared.lasso_search.LassoSearch.{LassoSearch}
 use Rattle.fair_workers.proofs.WorkerKinds.{numbered-on, ends-kind, ends-numbered}
 use Rattle.fair_workers.proofs.Together.{within-on, first-worker, first-within, most-least, kind-told}
-use Rattle.fair_workers.proofs.HeldPasses.{marks-tell}
+use Rattle.shared_lists.proofs.HeldPasses.{marks-tell}
 use Rattle.fair_round.proofs.Counting.{steps-kept, steps-over, steps-last}
 
 -- ---- one worker

@@ -7,7 +7,7 @@ use Rattle.std.proofs.lemmas.Bool.{false≢true, cases_lt, eq-eqb, ne_eqb}
 use Rattle.std.proofs.lemmas.List.{get_or-map, get_or_past, get_or_append_left, get_or-set_same, get_or-set_other, get_or-replicate, length-set, length-map, length-append, append-nil, append_assoc, map-append, map-set, take_all, take-append-le, drop_all, drop-append-le}
 use Rattle.std.proofs.Math.Seq.{get_or-append_seam}
 use Rattle.std.proofs.lemmas.List.Sums.{sum_by-cons}
-use Rattle.std.proofs.lemmas.List.Elements.{All-nil, All-push, All-set, All-map, All-head, All-tail, All-cons, All-append, All-weaker}
+use Rattle.std.proofs.lemmas.List.Elements.{All-nil, All-push, All-set, All-map, All-head, All-tail, All-append, All-weaker}
 use Rattle.aig_semantics.specs.Circuits.{Circuit}
 use Rattle.edge.specs.Units.{Spendings}
 use Rattle.entry.specs.declared.origins.Origin.{Origin}
@@ -25,18 +25,19 @@ use Rattle.fair_workers.specs.declared.working.Phase.{Phase}
 use Rattle.fair_workers.specs.declared.working.Phase.TheVariants as phases
 use Rattle.fair_workers.specs.declared.working.Worker.{Worker}
 use Rattle.fair_workers.specs.declared.board_workers.BoardWorker.{BoardWorker}
-use Rattle.fair_workers.specs.declared.lending.LentBoard.{LentBoard}
-use Rattle.fair_workers.specs.Runs.{Task, AreLimits, AreServed, ServesOne, IsByRoundWorker, IsFoundWithin, IsBoardOf, IsWithLimits, IsInBudget, IsFull, last_turns, most_depth, most_steps, most_turns, round_workers}
-use Rattle.fair_workers.specs.Knowing.{Known, AreSettled}
-use Rattle.fair_workers.specs.Working.{is_ahead, is_running, left, left_in, left_to, left_at_first, searches_left, searches_left_in, searches_left_to, search_steps, steps_through, room_of, ahead_of, AreRoundsOf, IsStuck, IsIn, IsWorker, Turns, KeepsLimits, first_left, is_deep, Begins, BeginsAs, HasSolver, IsDeepIn, IsNumbered, IsOfKind, StaysOfKind}
-use Rattle.fair_workers.specs.BoardWorkers.{known_at, known_of, left_by, left_of, searches_left_by, turns_on, steps_on, KeepsWithin, runs_at, turns_at, IsOfTurn, GoesOnBy, StaysLent, IsFresh, IsBoardWorker, TakesTurn, Follows, AreWorkers, ServeTask, HaveEnded}
+use Rattle.shared_lists.specs.declared.lending.LentBoard.{LentBoard}
+use Rattle.fair_workers.specs.Runs.{Task, AreLimits, AreServed, ServesOne, IsByRoundWorker, IsFoundWithin, IsBoardOf, IsWithLimits, IsInBudget, IsFull, last_turns, most_depth, most_turns, round_workers}
+use Rattle.shared_lists.specs.Knowing.{Known, AreSettled}
+use Rattle.fair_workers.specs.Working.{is_ahead, is_running, left, left_in, left_to, left_at_first, searches_left_in, searches_left_to, search_steps, steps_through, room_of, ahead_of, AreRoundsOf, IsStuck, IsIn, IsWorker, Turns, KeepsLimits, first_left, is_deep, Begins, BeginsAs, HasSolver, IsDeepIn, IsNumbered, IsOfKind, StaysOfKind}
+use Rattle.shared_lists.specs.Lending.{known_at, known_of, IsOfTurn, GoesOnBy, StaysLent}
+use Rattle.fair_workers.specs.BoardWorkers.{left_by, left_of, searches_left_by, turns_on, steps_on, KeepsWithin, runs_at, turns_at, IsFresh, IsBoardWorker, TakesTurn, Follows, AreWorkers, ServeTask, HaveEnded}
 use Rattle.fair_workers.specs.Ends.{Tells, IsDone, AreDone, IsEndNumbered, IsEndOfKind, done_in, end_as}
 use Rattle.fair_workers.specs.declared.ending.WorkerEnd.{WorkerEnd}
 use Rattle.fair_workers.proofs.Causes.{steps-least}
 use Rattle.fair_workers.proofs.Ahead.{Stay, ahead-on, ahead-within, count-most, left-on, searches-on}
 use Rattle.fair_workers.proofs.WorkerKinds.{same-kind, kind-stays, numbered-on, ends-kind, ends-numbered}
 use Rattle.fair_workers.proofs.Turned.{turn-of-kind, rounds-same, served-on, past-on, stuck-on, first-kind-on}
-use Rattle.fair_workers.proofs.LentBoards.{is-not-none, some-is, some-not-none, seen-size, seen-within}
+use Rattle.shared_lists.proofs.LentBoards.{is-not-none, some-is, some-not-none, seen-size, seen-within}
 use Rattle.fair_round.proofs.Counting.{steps-kept, steps-over, steps-last}
 use Rattle.std.proofs.Math.Nat.{mul-le-mul_right}
 

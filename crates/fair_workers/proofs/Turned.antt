@@ -1,34 +1,41 @@
 -- What a worker's calls come to, by what it knows.
 use Rattle.std.proofs.Common.{◌≡◌, ℕ, max, min, ◌+◌, ◌-◌, ◌*◌, ◌^◌, ◌<◌, ◌≤◌, Bool, true, false, cond, ◌⊎◌, inl, inr, List, [], ◌∷◌, ◌++◌, length, get_or, refl, sym, ap, ◌∙◌, subst, arith}
 use Rattle.std.specs.Prelude.{◌==◌, nat_lt, Option, Some, None, Result, Ok, Err, Contains, IfSome, IfOk}
-use Rattle.std.specs.List.{Any, All, AllPairs}
-use Rattle.std.proofs.lemmas.Bool.{false≢true, both_ways, cases_lt, cases_Bool, eqb-true, eqb-false, ltb-true, ltb-false}
+use Rattle.std.specs.List.{Any, AllPairs}
+use Rattle.std.proofs.lemmas.Bool.{false≢true, both_ways, cases_lt, eqb-true, eqb-false, ltb-true, ltb-false}
 use Rattle.std.proofs.lemmas.List.{length-append, map-append, append_assoc, append-nil}
 use Rattle.std.proofs.Math.Nat.{mul-le-mul_right}
 use Rattle.aig_semantics.specs.Circuits.{Circuit, fair_literals}
 use Rattle.edge.specs.Units.{Spendings}
 use Rattle.fair_semantics.specs.Entries.{Entry, used_entries, AreClosed}
 use Rattle.fair_semantics.specs.Skeletons.{IsSkeleton}
-use Rattle.fair_semantics.specs.declared.skeletons.Skeleton.{Skeleton}
 use Rattle.entry.specs.CheckedEntries.{CheckedEntry, GoesOnFrom}
 use Rattle.skeleton.specs.Finding.{Asking, IsAllowed}
 use Rattle.entry.specs.declared.origins.Origin.{Origin}
 use Rattle.entry.specs.declared.origins.Origin.TheVariants.{Given, Worker as FoundBy}
+use Rattle.wall_store.specs.declared.outcomes.Outcome.{Outcome}
+use Rattle.wall_store.specs.declared.outcomes.Outcome.TheVariants as outcomes
 use Rattle.wall_store.specs.declared.outcomes.Posted.{Posted}
 use Rattle.wall_store.specs.declared.outcomes.Posted.TheVariants as posts
-use Rattle.wall_store.specs.Boards.{FromWorker, most_entries, plain}
+use Rattle.wall_store.specs.Boards.{FromWorker, IsTrueOf, most_entries, plain}
 use Rattle.fair_round.specs.Spending.{Asks, path_steps}
-use Rattle.fair_round.specs.Deeds.{IsWorkOf}
-use Rattle.fair_workers.specs.Runs.{AreServed, last_turns, most_situations, most_properties}
-use Rattle.fair_workers.specs.Knowing.{Known, AreSettled, Keeps, KeepsList, SeesMore, IsNext, HasAsked, HasPosted, HasFinished, IsOwn}
+use Rattle.fair_round.specs.Deeds.{IsTrueBehind, IsWorkOf}
+use Rattle.fair_workers.specs.Runs.{AreServed, last_turns, most_situations}
+use Rattle.shared_lists.specs.Knowing.{Known, AreSettled, Keeps, KeepsList, SeesMore, IsNext, HasAsked, HasPosted, HasFinished, IsOwn}
 use Rattle.fair_workers.specs.declared.working.Phase.{Phase}
 use Rattle.fair_workers.specs.declared.working.Phase.TheVariants as phases
 use Rattle.fair_workers.specs.declared.working.Worker.{Worker}
-use Rattle.fair_workers.specs.Working.{left, left_in, left_to, left_at_first, searches_in, searches_left, searches_left_in, searches_left_to, search_steps, steps_through, room_of, ahead_of, is_running, phase_after, phase_finished, phase_passed, serving, asked, asked_last, AreRoundsOf, IsAtLimit, IsAllowing, IsStuck, IsPast, ServesLast, IsIn, IsOfKind, IsWorker, StaysOfKind, Turns, Thinks, first_left, is_deep, is_round}
+use Rattle.fair_workers.specs.Working.{left, left_in, left_to, left_at_first, searches_in, searches_left_in, searches_left_to, search_steps, steps_through, room_of, ahead_of, is_running, phase_after, phase_finished, phase_passed, serving, asked, asked_last, AreRoundsOf, IsAtLimit, IsAllowing, IsStuck, IsPast, ServesLast, IsIn, IsOfKind, IsWorker, StaysOfKind, Turns, Thinks, first_left, is_deep, is_round}
 use Rattle.fair_workers.specs.declared.lasso_search.LassoSearch.{LassoSearch}
 use Rattle.fair_workers.proofs.WorkerKinds.{same-kind, round-kind, round-runs, kind-thinks}
-use Rattle.fair_workers.proofs.Ahead.{Stay, was-open, only-in, none-above, are-two, last-of-two, some-in, ahead-on, looks-ahead, asks-ahead, full-ahead, last-looks-ahead, passed-ahead, passed-out, finished-ahead, finished-out, settled-out, serves-searches, serves-last, ahead-within, ahead-less, searches-some, looks-some, last-some, running-left, ended-left, ended-searches, turn-searches, left-on, searches-on, situations-within}
+use Rattle.fair_workers.proofs.Ahead.{Stay, was-open, only-in, none-above, are-two, last-of-two, some-in, ahead-on, looks-ahead, asks-ahead, full-ahead, last-looks-ahead, passed-ahead, passed-out, finished-ahead, finished-out, settled-out, serves-searches, serves-last, ahead-within, ahead-less, searches-some, looks-some, running-left, ended-left, ended-searches, turn-searches, situations-within}
 use Rattle.fair_round.proofs.Counting.{steps-fewer, steps-behind}
+
+-- ---- outcomes that are handed in
+
+pub true-of : (c : Circuit) (entries : List CheckedEntry) (j : ℕ) (o : Outcome) → IsTrueBehind c (plain entries) j o → IsTrueOf c entries j o
+true-of c entries j (outcomes.Lasso lasso) h = h
+true-of c entries j (outcomes.Holds r) h = h
 
 -- ---- lists that go on
 

@@ -1,5 +1,5 @@
 -- Of which kind a worker is, from turn to turn.
-use Rattle.std.proofs.Common.{◌≡◌, ℕ, zero, suc, ◌-◌, ◌<◌, ◌≤◌, min, ◌⊎◌, inl, inr, Bool, true, false, List, [], ◌∷◌, length, get_or, refl, sym, ap, ◌∙◌, subst, arith}
+use Rattle.std.proofs.Common.{◌≡◌, ℕ, zero, suc, ◌-◌, ◌<◌, ◌≤◌, min, ◌⊎◌, inl, inr, true, false, List, [], ◌∷◌, length, get_or, refl, sym, ap, ◌∙◌, subst, arith}
 use Rattle.std.specs.Prelude.{Option, Some, None}
 use Rattle.std.specs.List.{All}
 use Rattle.std.proofs.lemmas.Bool.{false≢true}
@@ -10,7 +10,7 @@ use Rattle.fair_workers.specs.declared.lasso_search.LassoSearch.{LassoSearch}
 use Rattle.search_reports.specs.declared.limits.Limits.{Limits}
 use Rattle.fair_workers.specs.declared.working.Phase.{Phase}
 use Rattle.fair_workers.specs.declared.working.Phase.TheVariants as phases
-use Rattle.fair_workers.specs.Knowing.{Known}
+use Rattle.shared_lists.specs.Knowing.{Known}
 use Rattle.fair_workers.specs.Working.{is_running, is_deep, is_round, Seeks, IsSearchOf, IsDeepIn, IsOfKind, StaysOfKind, IsNumbered}
 use Rattle.fair_workers.specs.Ends.{done_in, EndsDeep, IsEndOfKind, IsEndNumbered}
 

@@ -1,7 +1,6 @@
 pub mod Runs
-pub mod Knowing
 pub mod Working
 pub mod BoardWorkers
 pub mod Ends
-pub mod Holding
+pub mod OnThreads
 pub mod Laws

@@ -75,7 +75,7 @@ most_lasso_turns depth = depth * 2 + 3
 abbrev pub IsFoundWithin : ℕ → CheckedEntry → Type 0
 IsFoundWithin turns e = FromWorker e.origin (λ work. work.turn < turns)
 
--- a worker found the entry that is no lasso worker
+-- a worker that is no lasso worker found the entry
 abbrev pub IsByRoundWorker : Limits → CheckedEntry → Type 0
 IsByRoundWorker limits e = FromWorker e.origin (λ work. work.author < round_workers limits)
 

@@ -1,9 +1,11 @@
 -- Scaffolding of inner functions. A worker, and what a turn comes to, by what it knows of the list that it shares.
-use Rattle.std.specs.Prelude.{◌≡◌, ℕ, ◌+◌, ◌-◌, ◌*◌, ◌<◌, ◌≤◌, ◌==◌, ◌||◌, ◌&&◌, not, nat_le, nat_lt, Bool, true, false, List, ◌∷◌, [], length, slice_index_or, Contains, Option, Some, None, IfSome, if◌then◌else◌}
+use Rattle.std.specs.Prelude.{◌≡◌, ℕ, ◌+◌, ◌-◌, ◌*◌, ◌<◌, ◌≤◌, ◌==◌, ◌||◌, ◌&&◌, not, nat_le, nat_lt, Bool, true, false, List, ◌∷◌, [], length, slice_index_or, Contains, Option, Some, None, Result, IfOk, IfSome, if◌then◌else◌}
 use Rattle.aig_semantics.specs.declared.traces.Lasso.{Lasso}
 use Rattle.aig_semantics.specs.Circuits.{Circuit}
+use Rattle.aig_semantics.specs.Stimuli.{IsFairLassoOf}
 use Rattle.edge.specs.Units.{Spendings}
 use Rattle.edge.specs.Ends.{CountsConflicts}
+use Rattle.edge.specs.declared.solve_end.SolveEnd.{SolveEnd}
 use Rattle.entry.specs.CheckedEntries.{GoesOnFrom}
 use Rattle.fair_semantics.specs.Entries.{Entry}
 use Rattle.fair_semantics.specs.declared.skeletons.Skeleton.{Skeleton}
@@ -21,7 +23,7 @@ use Rattle.fair_workers.specs.declared.working.Phase.{Phase}
 use Rattle.fair_workers.specs.declared.working.Phase.TheVariants as phases
 use Rattle.fair_workers.specs.declared.working.Worker.{Worker}
 use Rattle.fair_workers.specs.Runs.{AreServed, IsLassoSpent, last_turns, most_depth, most_lasso_turns, most_situations, round_workers}
-use Rattle.fair_workers.specs.Knowing.{Known, AreSettled}
+use Rattle.shared_lists.specs.Knowing.{Known, AreSettled}
 
 -- ---- phases
 
@@ -324,6 +326,15 @@ pub record IsBehind (c : Circuit) (j after : ℕ) (s : LassoSearch) : Type 0 whe
 abbrev pub UnlessFound : Type 0 → Option Lasso → Type 0
 UnlessFound P (Some lasso) = Unit {0}
 UnlessFound P None = P
+
+-- What a question for one position more leaves of a search, by its answer: a fair lasso; or there is none, one position more
+-- is done, and the solver has its clauses.
+pub record HasDeepened (c : Circuit) (j : ℕ) (s t : LassoSearch) (answer : Result (Option Lasso) SolveEnd) : Type 0 where
+  pub depth : t.depth ≡ s.depth
+  pub search : IsSearchOf c j t
+  pub lasso : IfOk answer (λ found. IfSome found (IsFairLassoOf c j))
+  pub done : IfOk answer (UnlessFound (t.done ≡ s.done + 1))
+  pub solver : IfOk answer (UnlessFound (HasSolver c j t.done t.solver))
 
 -- A lasso worker serves the only property, and has seen the given entries alone.
 pub record Seeks (k : Known) (j : ℕ) (s : LassoSearch) : Type 0 where

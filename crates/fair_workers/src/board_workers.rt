@@ -10,13 +10,13 @@ ghost use Rattle.fair_workers.specs.Ends.{end_as};
 ghost use Rattle.fair_workers.specs.BoardWorkers.{task_in, IsFresh, IsBoardWorker, TakesTurn, Follows, AreWorkers, HaveEnded, runs_at, left_of};
 
 use crate::ending::{WorkerEnd, end_of};
-use crate::lending::LentBoard;
 use crate::turning::take_turn;
 use crate::working::{Worker, begin};
 use circuit::Circuit;
 use edge::Meter;
 use entry::Checked;
 use search_reports::Limits;
+use shared_lists::LentBoard;
 use std::alloc::{AllocError, Global};
 use std::sync::Arc;
 use wall_store::Board;

@@ -6,7 +6,7 @@ ghost use Rattle.aig_semantics.specs.Stimuli.{IsFairLassoOf};
 ghost use Rattle.edge.specs.Ends.{CountsConflicts, IsEnd};
 ghost use Rattle.lasso_bmc.specs.Searching.{IsSearched};
 ghost use Rattle.fair_workers.specs.Ends.{done_in};
-ghost use Rattle.fair_workers.specs.Working.{HasSolver, IsBefore, IsBehind, IsSearchOf, IsUpTo, UnlessFound};
+ghost use Rattle.fair_workers.specs.Working.{HasDeepened, HasSolver, IsBefore, IsBehind, IsSearchOf, IsUpTo, UnlessFound};
 
 use circuit::{Circuit, Lasso};
 use edge::{Meter, SolveEnd};
@@ -88,12 +88,8 @@ fn told(
     requires searched { IfOk answer (IsSearched _c.now _j (search.old.done + 1)) }
     requires solver { OnOk answer (HasSolver _c.now _j (search.old.done + 1) search.old.solver) }
     requires end { IfErr answer (IsEnd _meter.now) }
-    ensures lasso { IfOk result (λ found. IfSome found (IsFairLassoOf _c.now _j)) }
+    ensures deepened { HasDeepened _c.now _j search.old search.new result }
     ensures end { IfErr result (IsEnd _meter.now) }
-    ensures depth { search.new.depth ≡ search.old.depth }
-    ensures search { IsSearchOf _c.now _j search.new }
-    ensures done { IfOk result (UnlessFound (search.new.done ≡ search.old.done + 1)) }
-    ensures solver { IfOk result (UnlessFound (HasSolver _c.now _j search.new.done search.new.solver)) }
 {
     match answer {
         Ok(Searched::Found(lasso)) => Ok(Some(lasso)),
@@ -117,13 +113,9 @@ fn deepened(
     requires solver { HasSolver c.now j search.old.done search.old.solver }
     requires search { IsSearchOf c.now j search.old }
     requires more { search.old.done < search.old.depth }
-    ensures lasso { IfOk result (λ found. IfSome found (IsFairLassoOf c.now j)) }
+    ensures deepened { HasDeepened c.now j search.old search.new result }
     ensures end { IfErr result (IsEnd meter.new) }
     ensures counted { CountsConflicts meter.old meter.new }
-    ensures depth { search.new.depth ≡ search.old.depth }
-    ensures search { IsSearchOf c.now j search.new }
-    ensures done { IfOk result (UnlessFound (search.new.done ≡ search.old.done + 1)) }
-    ensures solver { IfOk result (UnlessFound (HasSolver c.now j search.new.done search.new.solver)) }
 {
     let mut solver = taken(alloc, &mut search.solver, c, j, search.done)?;
     let answer = deepen(alloc, c, j, &mut solver, meter);

@@ -11,7 +11,7 @@
 //! |---|---|
 //! | worker (`Worker`) | its rounds (of `fair_round`), its meter, and its phase: what it does next, or how it ended |
 //! | lasso worker | a worker without rounds, which simulates, and then asks for lassos of one position more at a time (`LassoSearch`) |
-//! | shared list (`SharedList`) | the list of entries with the outcomes, as one worker has it in a turn, whatever it is kept in |
+//! | shared list (`SharedList` of `shared_lists`) | the list of entries with the outcomes, as one worker has it in a turn, whatever it is kept in |
 //! | worker of a board (`BoardWorker`) | a worker with its number, how many entries of the board it has seen, and its turns |
 //! | lent board (`LentBoard`) | the board as the shared list of one of its workers, for one turn |
 //! | held pass (`Held`) | a ledger as the shared list of the worker that has one of its passes |
@@ -23,14 +23,11 @@
 
 mod board_workers;
 mod ending;
-mod held;
 mod lasso_search;
 mod laws;
-mod lending;
 mod numbering;
 mod racing;
 mod runners;
-mod shared_list;
 mod threads;
 mod turning;
 mod turns;

@@ -7,10 +7,10 @@ ghost use Rattle.edge.specs.Ends.{CountsConflicts, IsEnd};
 ghost use Rattle.fair_workers.specs.Working.{phase_deeper, phase_told, IsBefore, IsBehind, IsSearchOf, IsSought, IsWorker, SeeksOn, StaysOfKind, Turns, UnlessFound};
 
 use crate::lasso_search::seek;
-use crate::shared_list::SharedList;
 use crate::working::{Phase, Worker};
 use circuit::{Circuit, Lasso};
 use edge::SolveEnd;
+use shared_lists::SharedList;
 use std::alloc::Global;
 use std::sync::Arc;
 use wall_store::Outcome;

@@ -2,15 +2,14 @@
 
 ghost use Rattle.std.specs.Prelude.{◌≡◌, ◌≤◌, [], false, Some, map, vec_len, vec_capacity, All};
 ghost use Rattle.fair_workers.specs.Working.{is_running};
-ghost use Rattle.fair_workers.specs.Holding.{fresh_meter, Goes, IsReady, IsThrough, MayRun, HasRun, HasEnded};
+ghost use Rattle.fair_workers.specs.OnThreads.{fresh_meter, Goes, IsReady, IsThrough, MayRun, HasRun, HasEnded};
 
 use crate::ending::{WorkerEnd, end_of};
-use crate::held::Held;
-use crate::shared_list::SharedList;
 use crate::turning::take_turn;
 use crate::working::{Phase, Worker, begin};
 use edge::{Bell, Gate, Meter, Point};
 use search_reports::Limits;
+use shared_lists::{Held, SharedList};
 use std::alloc::Global;
 use std::sync::{Arc, Wait};
 use wall_ledger::{Ledger, Pass};
@@ -18,7 +17,7 @@ use wall_ledger::{Ledger, Pass};
 /// What the workers of a run share: where they wait, their ledger, the numbers of their properties, what each of them may
 /// spend, the gate that they pass, and the bell that ends their searches.
 #[derive(Drop)]
-pub(crate) struct Crew<'a, R: Wait, G: Gate> {
+pub(crate) struct ThreadRun<'a, R: Wait, G: Gate> {
     pub(crate) rt: &'a R,
     pub(crate) alloc: Global,
     pub(crate) ledger: &'a Ledger,
@@ -36,10 +35,14 @@ pub(crate) struct Runner {
 }
 
 // The turns of a worker until it ends. It passes the gate after each round.
-fn take_turns<R: Wait, G: Gate>(crew: &Crew<'_, R, G>, worker: &mut Worker, held: &mut Held<'_, R>)
-    requires goes { Goes crew.now.limits held.old.ledger.now held.old.pass worker.old }
-    requires properties { crew.now.properties.now ≡ held.old.ledger.now.properties }
-    ensures goes { Goes crew.now.limits held.new.ledger.now held.new.pass worker.new }
+fn take_turns<R: Wait, G: Gate>(
+    run: &ThreadRun<'_, R, G>,
+    worker: &mut Worker,
+    held: &mut Held<'_, R>,
+)
+    requires goes { Goes run.now.limits held.old.ledger.now held.old.pass worker.old }
+    requires properties { run.now.properties.now ≡ held.old.ledger.now.properties }
+    ensures goes { Goes run.now.limits held.new.ledger.now held.new.pass worker.new }
     ensures ledger { held.new.ledger.now ≡ held.old.ledger.now }
     ensures number { held.new.pass.number ≡ held.old.pass.number }
     ensures over { is_running worker.new.phase ≡ false }
@@ -48,26 +51,26 @@ fn take_turns<R: Wait, G: Gate>(crew: &Crew<'_, R, G>, worker: &mut Worker, held
     while worker.phase.is_running() {
         let ledger = held.ledger;
         let searches = worker.phase.searches();
-        take_turn(crew.alloc, ledger.circuit(), crew.properties, worker, held);
+        take_turn(run.alloc, ledger.circuit(), run.properties, worker, held);
         if searches {
-            crew.gate.pass(number, Point::Turn);
+            run.gate.pass(number, Point::Turn);
         }
     }
 }
 
 // The work of a worker, which may have begun.
 fn run_worker<R: Wait, G: Gate>(
-    crew: &Crew<'_, R, G>,
+    run: &ThreadRun<'_, R, G>,
     worker: Worker,
     held: &mut Held<'_, R>,
 ) -> WorkerEnd
-    requires goes { Goes crew.now.limits held.old.ledger.now held.old.pass worker }
-    requires properties { crew.now.properties.now ≡ held.old.ledger.now.properties }
+    requires goes { Goes run.now.limits held.old.ledger.now held.old.pass worker }
+    requires properties { run.now.properties.now ≡ held.old.ledger.now.properties }
     ensures number { held.new.pass.number ≡ held.old.pass.number }
-    ensures through { IsThrough crew.now.limits held.old.ledger.now held.new.pass result }
+    ensures through { IsThrough run.now.limits held.old.ledger.now held.new.pass result }
 {
     let mut worker = worker;
-    take_turns(crew, &mut worker, held);
+    take_turns(run, &mut worker, held);
     end_of(&worker)
 }
 
@@ -98,14 +101,14 @@ fn begun_worker(
 }
 
 // The work of the worker that has this pass.
-fn run_held<R: Wait, G: Gate>(crew: &Crew<'_, R, G>, held: &mut Held<'_, R>) -> WorkerEnd
-    requires { IsReady crew.now.limits crew.now.properties.now held.old.ledger.now held.old.pass }
+fn run_held<R: Wait, G: Gate>(run: &ThreadRun<'_, R, G>, held: &mut Held<'_, R>) -> WorkerEnd
+    requires { IsReady run.now.limits run.now.properties.now held.old.ledger.now held.old.pass }
     ensures number { held.new.pass.number ≡ held.old.pass.number }
-    ensures through { IsThrough crew.now.limits held.old.ledger.now held.new.pass result }
+    ensures through { IsThrough run.now.limits held.old.ledger.now held.new.pass result }
 {
     let ledger = held.ledger;
-    let worker = begun_worker(crew.bell, crew.limits, crew.properties, ledger, &held.pass);
-    run_worker(crew, worker, held)
+    let worker = begun_worker(run.bell, run.limits, run.properties, ledger, &held.pass);
+    run_worker(run, worker, held)
 }
 
 // Rings the bell where the worker was told that each property has an outcome.
@@ -126,21 +129,21 @@ fn taken(runner: &mut Runner, _limits: Limits, _properties: &[u32], _ledger: &Le
 }
 
 /// The work of a worker from its start to its end. Where memory is refused, it ends alone.
-pub(crate) fn run_through<R: Wait, G: Gate>(crew: &Crew<'_, R, G>, runner: &mut Runner)
-    requires { MayRun crew.now.limits crew.now.properties.now crew.now.ledger.now runner.old }
-    ensures { HasRun crew.now.limits crew.now.ledger.now runner.old runner.new }
+pub(crate) fn run_through<R: Wait, G: Gate>(run: &ThreadRun<'_, R, G>, runner: &mut Runner)
+    requires { MayRun run.now.limits run.now.properties.now run.now.ledger.now runner.old }
+    ensures { HasRun run.now.limits run.now.ledger.now runner.old runner.new }
 {
-    let pass = taken(runner, crew.limits, crew.properties, crew.ledger);
+    let pass = taken(runner, run.limits, run.properties, run.ledger);
     let number = pass.number();
-    crew.gate.pass(number, Point::Start);
+    run.gate.pass(number, Point::Start);
     let mut held = Held {
-        rt: crew.rt,
-        ledger: crew.ledger,
+        rt: run.rt,
+        ledger: run.ledger,
         pass,
     };
-    let end = run_held(crew, &mut held);
-    ring_where_closed(crew.bell, &end);
-    crew.gate.pass(number, Point::Done);
+    let end = run_held(run, &mut held);
+    ring_where_closed(run.bell, &end);
+    run.gate.pass(number, Point::Done);
     let Held { pass, .. } = held;
     pass.own_turns();
     runner.pass = Some(pass);

@@ -7,11 +7,11 @@ ghost use Rattle.wall_store.specs.Boards.{IsSoundList, most_entries};
 ghost use Rattle.fair_workers.specs.Runs.{AreLimits, AreServed, IsAnswer, IsEnded, ServesOne};
 ghost use Rattle.fair_workers.specs.BoardWorkers.{task_in};
 ghost use Rattle.fair_workers.specs.Ends.{AreDone};
-ghost use Rattle.fair_workers.specs.Holding.{MayRun, HasRun, HaveRun, IsBegunFor};
+ghost use Rattle.fair_workers.specs.OnThreads.{MayRun, HasRun, HaveRun, IsBegunFor};
 
 use crate::board_workers::RunTask;
 use crate::ending::{WorkerEnd, ended, report_room};
-use crate::runners::{Crew, Runner, parted, run_through, runners_of};
+use crate::runners::{Runner, ThreadRun, parted, run_through, runners_of};
 use circuit::Circuit;
 use edge::{Bell, Gate};
 use entry::Checked;
@@ -66,7 +66,7 @@ fn run_each<R: Threads + Wait + Sync, G: Gate>(
             requires { MayRun limits properties.now ledger.now runner.old }
             ensures { HasRun limits ledger.entry.now runner.old runner.new }
         {
-            let crew = Crew {
+            let thread_run = ThreadRun {
                 rt,
                 alloc,
                 ledger,
@@ -75,7 +75,7 @@ fn run_each<R: Threads + Wait + Sync, G: Gate>(
                 gate,
                 bell,
             };
-            run_through(&crew, runner);
+            run_through(&thread_run, runner);
         },
     );
 }

@@ -6,9 +6,9 @@ ghost use Rattle.std.specs.Arc.{arc_value};
 ghost use Rattle.fair_workers.specs.Working.{is_running, IsWorker, Turns};
 
 use crate::racing::{ask_deeper, deepen};
-use crate::shared_list::SharedList;
 use crate::working::{Phase, Worker, ask, ask_last, look, look_last, search, search_last};
 use circuit::Circuit;
+use shared_lists::SharedList;
 use std::alloc::Global;
 use std::sync::Arc;
 

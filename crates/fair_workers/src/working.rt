@@ -4,7 +4,7 @@ ghost use Rattle.std.specs.Prelude.{◌≡◌, ◌+◌, ◌^◌, ◌<◌, ◌≤
 ghost use Rattle.std.specs.Arc.{arc_value};
 ghost use Rattle.aig_semantics.specs.Circuits.{fair_literals};
 ghost use Rattle.edge.specs.Ends.{CountsConflicts};
-ghost use Rattle.entry.specs.CheckedEntries.{viewed, GoesOnFrom};
+ghost use Rattle.entry.specs.CheckedEntries.{viewed};
 ghost use Rattle.entry.specs.Laws.{IsGoodList};
 ghost use Rattle.skeleton.specs.Finding.{IsFound};
 ghost use Rattle.wall_store.specs.Boards.{plain};
@@ -15,12 +15,12 @@ ghost use Rattle.fair_workers.specs.Working.{is_running, is_refused, is_round, p
 
 use crate::lasso_search::LassoSearch;
 use crate::numbering::is_round_worker;
-use crate::shared_list::SharedList;
 use circuit::Circuit;
 use edge::Meter;
 use entry::Checked;
 use fair_round::{Author, Deed, Rounds, Stop, decide};
 use search_reports::Limits;
+use shared_lists::SharedList;
 use skeleton::Found;
 use std::alloc::{AllocError, Global};
 use std::sync::Arc;

@@ -10,6 +10,6 @@ deepened-requires-clause-more c = first-more c.args.search.now c.args.after c.is
 
 pub returns-clause-behind : goal.returns-clause-behind
 returns-clause-behind c =
-    let d = c.deepened.ensures in
+    let d = c.deepened.ensures.deepened in
     deepened-found c.deepened.result c.args.c.now c.args.j c.args.after c.args.search.now c.deepened.new.search c.is_first.result c.requires.before
     c.is_first.ensures c.if-is_first.false d.depth d.done d.solver

@@ -1,10 +1,10 @@
-use Rattle.std.proofs.Common.{◌≡◌, ◌+◌, ◌<◌, ◌++◌, [], ◌∷◌, Some, map, length, get_or, sym, ap, ◌∙◌, subst, append-nil, arith}
+use Rattle.std.proofs.Common.{◌+◌, ◌<◌, ◌++◌, [], ◌∷◌, Some, map, length, sym, ap, ◌∙◌, subst, arith}
 use Rattle.std.specs.Prelude.{is_some}
-use Rattle.std.specs.List.{All, remove}
+use Rattle.std.specs.List.{All}
 use Rattle.wall_ledger.specs.Passes.{PassState}
 use Rattle.fair_workers.specs.declared.ending.WorkerEnd.{WorkerEnd}
 use Rattle.fair_workers.specs.declared.runners.Runner.{Runner}
-use Rattle.fair_workers.specs.Holding.{HasEnded}
+use Rattle.fair_workers.specs.OnThreads.{HasEnded}
 use Rattle.fair_workers.proofs.Threaded.{moved-on, all-rest}
 use Rattle.fair_workers.proofs.runners.parted.Goals as goal
 

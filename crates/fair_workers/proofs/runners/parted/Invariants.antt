@@ -1,6 +1,6 @@
 use Rattle.std.proofs.Common.{◌≡◌, ◌+◌, ◌≤◌, ◌++◌, Some, map, length, vec_len, vec_capacity}
 use Rattle.std.specs.List.{All}
-use Rattle.fair_workers.specs.Holding.{HasEnded}
+use Rattle.fair_workers.specs.OnThreads.{HasEnded}
 use Rattle.fair_workers.proofs.runners.parted.Given as goal
 
 abbrev pub invariant-loop-number : goal.invariant-loop-number

@@ -5,7 +5,7 @@ use Rattle.fair_workers.proofs.runners.take_turns.Goals as goal
 
 pub loop-ledger-preserved : goal.loop-ledger-preserved
 loop-ledger-preserved g c =
-    let k = c.args.crew.now in
+    let k = c.args.run.now in
     let before = c.loop-ledger.invariant in
     let on = c.take_turn.ensures.on in
     record {

@@ -1,13 +1,14 @@
 use Rattle.std.proofs.Common.{◌≡◌}
 use Rattle.fair_workers.specs.Working.{left_to}
-use Rattle.fair_workers.specs.Holding.{known_by, Goes}
+use Rattle.shared_lists.specs.Holding.{known_by}
+use Rattle.fair_workers.specs.OnThreads.{Goes}
 use Rattle.fair_workers.proofs.runners.take_turns.Given as goal
 
 abbrev pub invariant-loop-ledger : goal.invariant-loop-ledger
 invariant-loop-ledger g l = record {
-  goes : Goes l.crew.limits l.held.ledger.now l.held.pass l.worker;
+  goes : Goes l.run.limits l.held.ledger.now l.held.pass l.worker;
   ledger : l.held.ledger.now ≡ l.fn.held.ledger.now;
-  properties : l.crew.properties.now ≡ l.held.ledger.now.properties;
+  properties : l.run.properties.now ≡ l.held.ledger.now.properties;
   number : l.held.pass.number ≡ l.fn.held.pass.number;
 }
 

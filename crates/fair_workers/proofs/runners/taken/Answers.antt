@@ -2,7 +2,7 @@ use Rattle.std.proofs.Common.{◌≡◌, sym, ap, ◌∙◌, subst}
 use Rattle.std.specs.Prelude.{is_some}
 use Rattle.wall_ledger.specs.Passes.{PassState}
 use Rattle.wall_ledger.proofs.Events.{some_same}
-use Rattle.fair_workers.specs.Holding.{IsReady}
+use Rattle.fair_workers.specs.OnThreads.{IsReady}
 use Rattle.fair_workers.proofs.runners.taken.Goals as goal
 
 pub unwrap-requires : goal.unwrap-requires

@@ -1,5 +1,4 @@
-use Rattle.std.proofs.Common.{◌≡◌, ◌≤◌, length, sym, ap, ◌∙◌, arith}
-use Rattle.std.specs.Arc.{arc_value}
+use Rattle.std.proofs.Common.{arith}
 use Rattle.wall_ledger.specs.Passes.{new_passes}
 use Rattle.fair_workers.specs.Runs.{Task}
 use Rattle.fair_workers.specs.BoardWorkers.{task_in}

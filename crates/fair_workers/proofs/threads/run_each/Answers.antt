@@ -3,7 +3,7 @@ use denote.Exit.{yes}
 use denote.Param.Send.{param_send, arg_send, sendable}
 use Rattle.std.proofs.Crossing.{crosses}
 use Rattle.fair_workers.specs.contracts.runners.Runner as Runner
-use Rattle.fair_workers.specs.Holding.{MayRun}
+use Rattle.fair_workers.specs.OnThreads.{MayRun}
 use Rattle.fair_workers.proofs.RunnersCross.{runner_send}
 use Rattle.fair_workers.proofs.threads.run_each.Goals as goal
 

@@ -1,4 +1,4 @@
-use Rattle.std.proofs.Common.{ℕ, ◌<◌, length, sym, ◌∙◌, subst, IfOk}
+use Rattle.std.proofs.Common.{ℕ, ◌<◌, length, sym, subst, IfOk}
 use Rattle.std.specs.Prelude.{IfSome}
 use Rattle.std.specs.Arc.{arc_value}
 use Rattle.entry.specs.Laws.{IsGoodList}

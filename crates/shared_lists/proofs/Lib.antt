@@ -1,0 +1,2 @@
+pub mod LentBoards
+pub mod HeldPasses
