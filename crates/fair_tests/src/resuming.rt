@@ -3,6 +3,7 @@
 use crate::certificates::{RISES, WALL};
 use crate::counting::REACHED;
 use crate::runs::{Outcome, first_taken, is_end, run_words, run_words_alone};
+use crate::sheets::APART;
 use crate::solving::is_printed_accepted;
 use crate::tests::{CYCLE, STUCK, TOGGLE, TWO_POSITIONS};
 use std::alloc::{AllocError, Global};
@@ -33,9 +34,6 @@ const TWICE: &str = "aag 1 0 1 0 0 0 0 2 0\n2 1\n1\n1\n3\n3\n";
 
 const OF_THE_OTHER: &str =
     "0\nj1\nversion 2\nwall 1 0\n\n2 0\nproof 1\n6 0 1 3 5 0\nrefute 1 1\n0\n11 0 1 3 4 9 10 5 0\nend\n";
-
-// Two latches: one rises, and is to be 0 again and again; the other stays at 0, and is to be 1.
-const APART: &str = "aag 2 0 2 0 0 0 0 2 0\n2 1\n4 4\n1\n1\n3\n4\n";
 
 const OF_THE_FIRST: &str =
     "0\nj0\nversion 2\nwall 1 0\n\n2 0\nproof 1\n8 0 1 3 7 0\nrefute 1 1\n0\n13 0 1 3 6 11 12 7 0\nend\n";

@@ -34,7 +34,7 @@ const BINARY_TOGGLE: &[u8] = b"aig 1 0 1 0 0 0 0 1 0\n3\n1\n2\n";
 const BINARY_STUCK: &[u8] = b"aig 3 1 1 0 1 0 0 1 0\n6\n1\n4\n\x02\x02l0 t\nc\nany";
 
 // The literal is a conjunction of two formulas over two inputs that exclude each other.
-const APART: &[u8] =
+const EXCLUSIVE: &[u8] =
     b"aag 9 2 0 0 7 0 0 1 0\n2\n4\n1\n18\n6 5 3\n8 5 2\n10 4 3\n12 4 2\n14 9 7\n16 13 11\n18 16 14\n";
 
 // A gate that reads itself.
@@ -102,13 +102,13 @@ const ROWS: [Row; 51] = [
         "2\nj0\nc entries 0 of 10000\nc worker 0 conflicts 0 of 1000000 steps 0 of 0\n.\n",
     ),
     (
-        APART,
+        EXCLUSIVE,
         &["--conflicts", "0"],
         2,
         "2\nj0\nc entries 0 of 10000\nc worker 0 conflicts 0 of 0 steps 0 of 100000\n.\n",
     ),
     (
-        APART,
+        EXCLUSIVE,
         &["--conflicts", "0", "--workers", "2"],
         2,
         "2\nj0\nc entries 0 of 10000\nc worker 0 conflicts 0 of 0 steps 0 of 100000\nc worker 1 conflicts 0 of 0 steps 0 of 100000\n.\n",
@@ -121,7 +121,7 @@ const ROWS: [Row; 51] = [
         CERTIFICATE,
     ),
     (
-        APART,
+        EXCLUSIVE,
         &[
             "--conflicts",
             "0",

@@ -26,6 +26,12 @@ const INPUT: &str = "aag 1 1 0 0 0 0 0 1 0\n2\n1\n2\n";
 // A counter of two bits that starts at 0, and is asked to be 3 again and again.
 const COUNTER: &str = "aag 6 0 2 0 4 0 0 1 0\n2 3\n4 11\n1\n12\n6 5 2\n8 4 3\n10 9 7\n12 4 2\n";
 
+// A counter of four bits, the lowest first, that stays at 15; the lowest bit is asked to be 0 and to be 1 again and again.
+// Of each bit that is 1 no step makes a 0 while the higher ones stay: so a wall for each bit, the highest first, and no step
+// is counted.
+const STOPS: &str =
+    "aag 15 0 4 0 11 0 0 1 0\n2 17\n4 22\n6 28\n8 31\n2\n3\n2\n10 4 2\n12 10 6\n14 12 8\n16 15 2\n18 5 3\n20 15 10\n22 21 19\n24 11 7\n26 15 12\n28 27 25\n30 13 9\n";
+
 // A property that no position meets.
 const NEVER: &str = "aag 1 0 1 0 0 0 0 1 0\n2 3\n1\n0\n";
 
@@ -82,7 +88,7 @@ fn answer_by(alloc: Global, c: Arc<Circuit>, n: &Numbers, schedule: &[u32]) -> A
 // skipped. The second of two workers that find the same entry is told that its own is stale.
 type Row = (&'static str, u32, u64, u32, &'static [u32], Answer);
 
-const ROWS: [Row; 12] = [
+const ROWS: [Row; 15] = [
     (STUCK, 2, ENOUGH, 9, &[0, 1, 0, 1], (End::Holds, 1, Some(0))),
     (STUCK, 2, ENOUGH, 9, &[0, 0, 1, 1], (End::Holds, 1, Some(0))),
     (STUCK, 2, ENOUGH, 9, &[1, 1], (End::Holds, 1, Some(1))),
@@ -95,6 +101,9 @@ const ROWS: [Row; 12] = [
     (TOGGLES, 3, ENOUGH, 9, &[2, 1, 0, 2], (End::Lasso, 0, None)),
     (INPUT, 1, ENOUGH, 9, &[], (End::Lasso, 0, None)),
     (NEVER, 2, ENOUGH, 9, &[1], (End::Holds, 0, None)),
+    (STOPS, 1, 1, 4, &[], (End::Holds, 4, Some(0))),
+    (STOPS, 1, 1, 3, &[], (End::Spent, 3, Some(0))),
+    (STOPS, 1, 0, 9, &[], (End::Spent, 0, None)),
 ];
 
 fn all_rows() -> &'static [Row] {
