@@ -13,16 +13,22 @@ NO_LIMITS = ("--conflicts", "4294967295", "--steps", "4294967295", "--skeletons"
 
 def measure_solving_models(folder, seconds):
     """Deciding each property of bench/models within so many processor seconds, one worker, no other limit."""
-    return solved_rows(folder, seconds, "models")
+    return solved_rows(folder, seconds, "models", beside_abc)
 
 
 def measure_solving_designs(folder, seconds):
-    """The same of bench/big."""
-    return solved_rows(folder, seconds, "big")
+    """The same of bench/big, beside two methods of ABC that are not told what is known."""
+    rows = solved_rows(folder, seconds, "big", beside_both)
+    for name, _ in BOTH:
+        found = [row for row in rows if row.get(f"{name}: answer") in VERDICTS.values()]
+        alone = [row for row in found if row["answer"] not in VERDICTS.values()]
+        if shutil.which(ABC):
+            print(f"ABC, {name}: {len(found)} of {len(rows)} decided, {len(alone)} of them not by solve\n")
+    return rows
 
 
-def solved_rows(folder, seconds, place):
-    rows = [solved_row(folder, seconds, place, row) for row in known_of(place)]
+def solved_rows(folder, seconds, place, beside):
+    rows = [solved_row(folder, seconds, place, row, beside) for row in known_of(place)]
     times = sorted(float(row["solve, s"]) for row in rows if row["answer"] in VERDICTS.values())
     if times:
         within = sum(time <= 2 for time in times)
@@ -61,7 +67,7 @@ def check_answer(folder, model, known, text):
     return judged, checked.ru_utime
 
 
-def solved_row(folder, seconds, place, known):
+def solved_row(folder, seconds, place, known, beside):
     model = os.path.join(BENCH, place, known["name"] + ".aag")
     out, _, usage = run_once(limited(seconds, solve_words(model, known, 1)))
     said = verdict_of(out, model, known)
@@ -76,7 +82,7 @@ def solved_row(folder, seconds, place, known):
         "memory, MB": f"{usage.ru_maxrss * 1024 / 1e6:.0f}",
         "entries": "",
         "check, s": "",
-        **beside_abc(folder, seconds, model, known),
+        **beside(folder, seconds, model, known),
         "prototype, s": known["prototype_s"],
     }
     if said:
@@ -231,6 +237,8 @@ def arbiter_row(folder, crew, kind, count, single):
 ABC_WORDS = {"l2s+bmc3": "bmc3", "l2s+pdr": "pdr", "l2s+sc+pdr": "scorr; pdr"}
 ABC_BY_VERDICT = {"fails": "bmc3", "holds": "scorr; pdr", "open": "pdr"}
 ABC_SAYS = {"was asserted in frame": "fails", "Property proved": "holds"}
+# What it is asked of a larger design, whatever is known of the property.
+BOTH = (("bmc3", "scorr; bmc3"), ("pdr", "scorr; pdr"))
 
 
 def beside_abc(folder, seconds, model, known):
@@ -238,12 +246,35 @@ def beside_abc(folder, seconds, model, known):
     method may be another."""
     row = {"ABC, s": "", "index: ABC, s": known.get("abc_cpu_s", "")}
     if shutil.which(ABC):
-        safety = os.path.join(folder, "safety.aig")
-        make("l2s.py", model, known["property"], safety)
         words = ABC_WORDS.get(known.get("abc_method"), ABC_BY_VERDICT[known["verdict"].rstrip("?")])
-        out, _, usage = run_once(limited(seconds, [ABC, "-q", f"read {safety}; {words}"]))
-        said = next((verdict for words, verdict in ABC_SAYS.items() if words in out), "")
-        if said and known["verdict"] not in (said, said + "?", "open"):
-            sys.exit(f"{model} {known['property']}: ABC says {said}, and it is known that it {known['verdict']}")
+        said, usage = said_by_abc(seconds, safety_of(folder, model, known), model, known, words)
         row["ABC, s"] = f"{usage.ru_utime:.2f}" if said else "none in time"
     return row
+
+
+def beside_both(folder, seconds, model, known):
+    """What ABC says of it by both methods, what they take, and the most memory."""
+    row = {f"{name}: {what}": "" for name, _ in BOTH for what in ("answer", "s", "MB")}
+    if shutil.which(ABC):
+        safety = safety_of(folder, model, known)
+        for name, words in BOTH:
+            said, usage = said_by_abc(seconds, safety, model, known, words)
+            row[f"{name}: answer"] = said or "none in time"
+            row[f"{name}: s"] = f"{usage.ru_utime:.2f}"
+            row[f"{name}: MB"] = f"{usage.ru_maxrss * 1024 / 1e6:.0f}"
+    return row
+
+
+def safety_of(folder, model, known):
+    safety = os.path.join(folder, "safety.aig")
+    make("l2s.py", model, known["property"], safety)
+    return safety
+
+
+def said_by_abc(seconds, safety, model, known, words):
+    """The verdict of ABC, or nothing, and what it used; the bench ends where it is another one than is known."""
+    out, _, usage = run_once(limited(seconds, [ABC, "-q", f"read {safety}; {words}"]))
+    said = next((verdict for words, verdict in ABC_SAYS.items() if words in out), "")
+    if said and known["verdict"] not in (said, said + "?", "open"):
+        sys.exit(f"{model} {known['property']}: ABC says {said}, and it is known that it {known['verdict']}")
+    return said, usage

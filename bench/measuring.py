@@ -16,8 +16,14 @@ ABC = "berkeley-abc"
 # ---- programs: built where they are older than their sources, which proves them and the crates below them
 
 
+# Programs that are named in place of those that are built, by their crates.
+GIVEN = {}
+
+
 def program(crate):
-    """The program of a crate, built where it is older than its sources."""
+    """The program of a crate: the one that is named, or one that is built where it is older than its sources."""
+    if crate in GIVEN:
+        return GIVEN[crate]
     path = os.path.join(TOP, "crates", crate, "out", crate)
     if is_stale(crate, path):
         build(crate, path)
