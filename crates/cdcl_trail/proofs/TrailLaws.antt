@@ -11,7 +11,8 @@ use Rattle.std.proofs.lemmas.Bool.Decides.{leb_tells}
 use Rattle.std.proofs.Math.Dec.{leb}
 use Rattle.proof_semantics.specs.declared.literals.Lit.{Lit}
 use Rattle.cdcl_trail.specs.Trails.{Step, step, assumed, opened_by, literals_of, reasons_in, step_of, value_of, reason_in, reason_of, level, up_to_variable, level_of, up_to_level, once}
-use Rattle.packed_literals.specs.Tables.{told}
+use Rattle.cdcl_trail.specs.DenseOf.{told}
+use Rattle.cdcl_trail.specs.ValuesOf.{value_told}
 use Rattle.cdcl_trail.specs.AssignmentOf.{steps_from, place_in, reason_at, count_assumed, levels_from, state_of, IsTabulated}
 use Rattle.cdcl_trail.specs.declared.assignment.Assignment.TheInside.{Inside}
 use Rattle.packed_literals.proofs.NamingLaws.{place_cases, no_place_cases, swap_cond, map_cond, apart_at}
@@ -373,7 +374,7 @@ value_popped xs s v none =
 pub pushed : (t u : Inside) (a : Lit) (r : Option ℕ) → IsTabulated t → value_of (state_of t).steps a.var ≡ None
     → u.literals.items ≡ t.literals.items ++ a ∷ [] → u.reasons.items ≡ t.reasons.items ++ r ∷ []
     → ((v : ℕ) → told u.places v ≡ cond (eqb a.var v) (Some (length t.literals.items)) (told t.places v))
-    → ((v : ℕ) → told u.values v ≡ cond (eqb a.var v) (Some a.positive) (told t.values v))
+    → ((v : ℕ) → value_told u.values v ≡ cond (eqb a.var v) (Some a.positive) (value_told t.values v))
     → u.level ≡ t.level + opened_by r → u.levels.items ≡ t.levels.items ++ u.level ∷ [] → IsTabulated u
 pushed t u a r orderly fresh literals reasons places values deep levels =
     let none_there = without_value t.literals.items t.reasons.items a.var (place_in t.literals.items a.var) orderly.beside refl fresh in
@@ -403,7 +404,7 @@ pushed t u a r orderly fresh literals reasons places values deep levels =
 pub popped : (t u : Inside) (a : Lit) (r : Option ℕ) → IsTabulated t
     → t.literals.items ≡ u.literals.items ++ a ∷ [] → t.reasons.items ≡ u.reasons.items ++ r ∷ []
     → ((v : ℕ) → told u.places v ≡ cond (eqb a.var v) None (told t.places v))
-    → ((v : ℕ) → told u.values v ≡ cond (eqb a.var v) None (told t.values v))
+    → ((v : ℕ) → value_told u.values v ≡ cond (eqb a.var v) None (value_told t.values v))
     → u.level ≡ t.level - opened_by r → u.levels.items ≡ take (length u.literals.items) t.levels.items → IsTabulated u
 popped t u a r orderly literals reasons places values deep levels =
     let beside : length u.reasons.items ≡ length u.literals.items = popped_beside t u a r orderly literals reasons in

@@ -1,10 +1,11 @@
 -- Laws of a look at one clause.
-use Rattle.std.proofs.Common.{◌≡◌, ℕ, ◌<◌, true, false, not, ◌||◌, List, [], ◌∷◌, ◌++◌, take, Option, Some, None, ap, sym, subst, ◌∙◌, inl, inr}
+use Rattle.std.proofs.Common.{◌≡◌, ℕ, ◌<◌, true, false, not, ◌||◌, List, [], ◌∷◌, ◌++◌, take, Option, Some, None, refl, ap, sym, subst, ◌∙◌, ◌⊎◌, inl, inr, length, arith, zero, suc, ◌+◌, Bool, get_or, drop}
 use Rattle.std.specs.Prelude.{slice_get, is_some}
 use Rattle.std.specs.List.{list_any, list_all}
 use Rattle.std.specs.Option.{option_map, IfNone}
 use Rattle.std.proofs.Math.ListN.{set}
-use Rattle.std.proofs.lemmas.Bool.{false≢true, and_from, or_left}
+use Rattle.std.proofs.lemmas.Bool.{false≢true, and_from, or_cases, or_left, or_right}
+use Rattle.std.proofs.lemmas.List.{drop_more}
 use Rattle.std.proofs.lemmas.Option.{none-some, same_Some}
 use Rattle.proof_semantics.specs.Clauses.{lit_eq, has_literal}
 use Rattle.proof_semantics.specs.declared.literals.Lit.{Lit}
@@ -18,7 +19,7 @@ use Rattle.cdcl_trail.specs.Storing.{held, IsRewatched, IsPairAt, IsOther}
 use Rattle.cdcl_trail.specs.Visiting.{IsVisited}
 use Rattle.cdcl_trail.specs.declared.pairs.Pair.{Pair}
 use Rattle.cdcl_trail.specs.declared.watching.Watching.{Watching}
-use Rattle.cdcl_trail.proofs.TrailLaws.{either}
+use Rattle.cdcl_trail.proofs.TrailLaws.{either, or_neither}
 use Rattle.cdcl_trail.proofs.ScanLaws.{all_has}
 use Rattle.cdcl_trail.proofs.PassLaws.{step_comes, no_step, propagates_none}
 use Rattle.cdcl_trail.proofs.PrefixLaws.{all_from}
@@ -34,6 +35,73 @@ pub other_apart : (clause : List Lit) (pair : Pair) (a b : Lit) → IsPairOf cla
 other_apart clause pair a b of (inl e) =
     lit_apart a b (ap (λ (x : Lit). lit_eq x b) (sym e.0) ∙ ap (lit_eq pair.first) (sym e.1) ∙ of.apart)
 other_apart clause pair a b of (inr e) = ap (λ (x : Lit). lit_eq x a) (sym e.1) ∙ ap (lit_eq pair.first) (sym e.0) ∙ of.apart
+
+has_own : (clause : List Lit) (pair : Pair) (a b : Lit) → IsPairOf clause pair → IsOther pair a b → has_literal clause a ≡ true
+has_own clause pair a b of (inl e) = subst (λ (x : Lit). has_literal clause x ≡ true) e.0 of.first
+has_own clause pair a b of (inr e) = subst (λ (x : Lit). has_literal clause x ≡ true) e.0 of.second
+
+-- a pair, with the given literal first
+pub pair_turned : (clause : List Lit) (pair : Pair) (a b : Lit) → IsPairOf clause pair → IsOther pair a b → IsPairOf clause (record { first = a; second = b })
+pair_turned clause pair a b of other = record {
+  first = has_own clause pair a b of other;
+  second = has_other clause pair a b of other;
+  apart = lit_apart b a (other_apart clause pair a b of other);
+}
+
+-- Literals from the last to the first.
+
+pub has_at : (xs : List Lit) (p : ℕ) (d : Lit) → p < length xs → has_literal xs (get_or xs p d) ≡ true
+has_at [] p d below = absurd (omega (arith, below))
+has_at (x ∷ xs) zero d below = or_left _ _ (lit_eq-same x)
+has_at (x ∷ xs) (suc p) d below = or_right _ _ (has_at xs p d (omega (arith, below)))
+
+pub all_behind : (f : Lit → Bool) (xs : List Lit) (p q : ℕ) (d : Lit) → q ≡ p + 1 → p < length xs → f (get_or xs p d) ≡ true
+    → list_all f (drop q xs) ≡ true → list_all f (drop p xs) ≡ true
+all_behind f xs p q d next below holds behind =
+    ap (list_all f) (drop_more xs p d below) ∙ and_from _ _ holds (ap (λ n. list_all f (drop n xs)) (sym next) ∙ behind)
+
+-- a literal that is not passed
+pub replaces : (steps : List Step) (clause : List Lit) (other a : Lit) → has_literal clause a ≡ true → (lit_eq other a || is_false steps a) ≡ false
+    → IsReplacement steps clause other a
+replaces steps clause other a has open_too =
+    let parts = or_neither _ _ open_too in record { inside = has; unfalsified = parts.1; apart = parts.0 }
+
+-- Clauses of two literals.
+
+in_two : (x y a : Lit) → has_literal (x ∷ y ∷ []) a ≡ true → (a ≡ x) ⊎ (a ≡ y)
+in_two x y a has =
+    elim (or_cases _ _ has) [
+      | inl here ↦ inl (lit_eq-true a x here)
+      | inr later ↦
+          elim (or_cases _ _ later) [
+            | inl there ↦ inr (lit_eq-true a y there)
+            | inr none ↦ absurd (false≢true none)
+          ]
+    ]
+
+-- where one of two literals is false, none but the other is open
+pub two_done : (steps : List Step) (clause : List Lit) (a b : Lit) → length clause ≡ 2 → IsPairOf clause (record { first = a; second = b })
+    → is_false steps a ≡ true → list_all (λ x. lit_eq b x || is_false steps x) clause ≡ true
+two_done steps [] a b e of gone = refl
+two_done steps (x ∷ []) a b e of gone = absurd (omega (arith, e))
+two_done steps (x ∷ y ∷ []) a b e of gone =
+    elim (in_two x y a of.first) [
+      | inl here ↦
+          elim (in_two x y b of.second) [
+            | inl same ↦ absurd (false≢true (sym of.apart ∙ ap (lit_eq a) (same ∙ sym here) ∙ lit_eq-same a))
+            | inr there ↦
+                and_from _ _ (or_right _ _ (ap (is_false steps) (sym here) ∙ gone))
+                (and_from _ _ (or_left _ _ (ap (lit_eq b) (sym there) ∙ lit_eq-same b)) refl)
+          ]
+      | inr there ↦
+          elim (in_two x y b of.second) [
+            | inl here ↦
+                and_from _ _ (or_left _ _ (ap (lit_eq b) (sym here) ∙ lit_eq-same b))
+                (and_from _ _ (or_right _ _ (ap (is_false steps) (sym there) ∙ gone)) refl)
+            | inr same ↦ absurd (false≢true (sym of.apart ∙ ap (lit_eq a) (same ∙ sym there) ∙ lit_eq-same a))
+          ]
+    ]
+two_done steps (x ∷ y ∷ z ∷ clause) a b e of gone = absurd (omega (arith, e))
 
 pub pair_found : (steps : List Step) (clause : List Lit) (b m : Lit) → has_literal clause b ≡ true → IsReplacement steps clause b m
     → IsPairOf clause (record { first = m; second = b })

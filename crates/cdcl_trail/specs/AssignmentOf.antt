@@ -2,7 +2,8 @@
 use Rattle.std.specs.Prelude.{◌≡◌, ℕ, ◌+◌, true, List, [], ◌∷◌, length, Option, None, Some, if◌then◌else◌, ◌==◌, slice_get}
 use Rattle.std.specs.Option.{option_map, option_flatten}
 use Rattle.proof_semantics.specs.declared.literals.Lit.{Lit}
-use Rattle.packed_literals.specs.Tables.{told}
+use Rattle.cdcl_trail.specs.DenseOf.{told}
+use Rattle.cdcl_trail.specs.ValuesOf.{value_told}
 use Rattle.cdcl_trail.specs.Trails.{Step, Steps, step, opened_by, once, level, value_of}
 use Rattle.cdcl_trail.specs.declared.assignment.Assignment.TheInside.{Inside}
 
@@ -42,5 +43,5 @@ pub record IsTabulated (t : Inside) : Type 0 where
   pub apart : once t.literals.items ≡ true
   pub levels : t.levels.items ≡ levels_from 0 t.reasons.items
   pub places : (var : ℕ) → told t.places var ≡ place_in t.literals.items var
-  pub values : (var : ℕ) → told t.values var ≡ value_of (steps_from t.literals.items t.reasons.items) var
+  pub values : (var : ℕ) → value_told t.values var ≡ value_of (steps_from t.literals.items t.reasons.items) var
   pub depth : t.level ≡ level (steps_from t.literals.items t.reasons.items)

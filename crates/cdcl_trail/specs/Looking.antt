@@ -4,9 +4,9 @@ use Rattle.std.specs.List.{list_all}
 use Rattle.proof_semantics.specs.Clauses.{lit_eq, has_literal}
 use Rattle.proof_semantics.specs.declared.literals.Lit.{Lit}
 use Rattle.cdcl_trail.specs.Trails.{Step}
-use Rattle.cdcl_trail.specs.Propagation.{is_true, is_false, is_falsified, is_unit_for}
+use Rattle.cdcl_trail.specs.Propagation.{is_false, is_falsified, is_unit_for}
 use Rattle.cdcl_trail.specs.declared.looking.Finding.{Finding}
-use Rattle.cdcl_trail.specs.declared.looking.Finding.TheVariants.{Stays, Moves, Forces, Conflict}
+use Rattle.cdcl_trail.specs.declared.looking.Finding.TheVariants.{Moves, Forces, Conflict}
 use Rattle.cdcl_trail.specs.declared.pairs.Pair.{Pair}
 
 -- the literal beside a given one; none where the given one is neither
@@ -21,7 +21,6 @@ pub record IsReplacement (steps : List Step) (clause : List Lit) (other a : Lit)
   pub apart : lit_eq other a ≡ false
 
 abbrev pub LookSays : List Step → List Lit → Lit → Finding → Type 0
-LookSays steps clause other Stays = is_true steps other ≡ true
 LookSays steps clause other (Moves a) = IsReplacement steps clause other a
 LookSays steps clause other Forces = is_unit_for steps clause other ≡ true
 LookSays steps clause other Conflict = is_falsified steps clause ≡ true

@@ -3,11 +3,18 @@ ghost use Rattle.std.specs.Prelude.{◌≡◌, ◌≤◌, ◌<◌, ℕ, [], ◌�
 ghost use Rattle.std.specs.Option.{unwrap_or};
 ghost use Rattle.cdcl_trail.specs.Trails.{Step, step, opened_by, assumed, literals_of, reasons_in, step_of, value_of, reason_of, level, level_of, up_to_level, once};
 ghost use Rattle.cdcl_trail.specs.AssignmentOf.{reason_at, place_in};
-ghost use Rattle.packed_literals.specs.Tables.{told};
+ghost use Rattle.cdcl_trail.specs.DenseOf.{told, HasRoom};
+ghost use Rattle.cdcl_trail.specs.ValuesOf.{value_told, HasValueRoom};
+ghost use Rattle.cdcl_trail.specs.Propagation.{is_value};
 
-use packed_literals::{Packed, Table};
+use crate::dense::Dense;
+use crate::values::Values;
+use packed_literals::Packed;
 use std::alloc::{AllocError, Global};
 use std::marker::Model;
+
+/// The places of literals are at most this one, so that each is one of four bytes.
+const LAST: usize = u32::MAX as usize;
 
 /// The literals that are true, with their reasons and levels. Contracts see the steps.
 #[derive(Drop)]
@@ -15,8 +22,8 @@ pub struct Assignment {
     literals: Vec<Packed>,
     reasons: Vec<Option<u64>>,
     levels: Vec<usize>,
-    places: Table<usize>,
-    values: Table<bool>,
+    places: Dense<u32>,
+    values: Values,
     level: usize,
 }
 
@@ -41,8 +48,8 @@ impl Assignment {
             literals: Vec::new(alloc),
             reasons: Vec::new(alloc),
             levels: Vec::new(alloc),
-            places: Table::new(alloc),
-            values: Table::new(alloc),
+            places: Dense::new(alloc),
+            values: Values::new(alloc),
             level: 0,
         }
     }
@@ -63,7 +70,14 @@ impl Assignment {
     pub fn value(&self, number: u32) -> Option<bool>
         ensures { result ≡ value_of self.now.steps number }
     {
-        self.values.get(number as u64)
+        self.values.get(number)
+    }
+
+    /// Whether the variable with a number has this value. Takes no memory.
+    pub fn has_value(&self, number: u32, value: bool) -> bool
+        ensures { result ≡ is_value (value_of self.now.steps number) value }
+    {
+        self.values.is(number, value)
     }
 
     /// The level: how many literals are assumed. Takes no memory.
@@ -95,8 +109,8 @@ impl Assignment {
         requires { IsSome (value_of self.now.steps number) }
         ensures { result ≡ level_of self.now.steps number }
     {
-        match self.places.get(number as u64) {
-            Some(place) => level_at(self.levels.as_slice(), place),
+        match self.places.get(number) {
+            Some(place) => level_at(self.levels.as_slice(), place as usize),
             None => 0,
         }
     }
@@ -106,11 +120,11 @@ impl Assignment {
     pub fn reason(&self, number: u32) -> Option<u64>
         ensures { result ≡ reason_of self.now.steps number }
     {
-        reason_at(self.reasons.as_slice(), self.places.get(number as u64))
+        reason_at(self.reasons.as_slice(), self.places.get(number))
     }
 
     /// The place of each variable among the literals. Takes no memory.
-    pub fn places(&self) -> &Table<usize>
+    pub fn places(&self) -> &Dense<u32>
         ensures { (var : ℕ) → told result.now var ≡ place_in (literals_of self.now.steps) var }
     {
         &self.places
@@ -121,13 +135,14 @@ impl Assignment {
     pub fn place(&self, number: u32) -> usize
         ensures { value_of (take result self.now.steps) number ≡ None }
     {
-        match self.places.get(number as u64) {
-            Some(place) => place,
+        match self.places.get(number) {
+            Some(place) => place as usize,
             None => self.literals.as_slice().len(),
         }
     }
 
-    // Puts a literal at the end, with its reason. The error is want of memory, and changes nothing.
+    // Puts a literal at the end, with its reason. The error is want of memory, or a place past
+    // 2^32 - 1, and changes nothing.
     pub(crate) fn put(&mut self, literal: Packed, reason: Option<u64>) -> Result<(), AllocError>
         requires { value_of self.old.steps literal.var ≡ None }
         ensures ok { OnOk result (self.new.steps ≡ self.old.steps ++ step literal reason ∷ []) }
@@ -137,7 +152,11 @@ impl Assignment {
         self.reasons.reserve(1)?;
         self.levels.reserve(1)?;
         let place = self.literals.as_slice().len();
-        tell(&mut self.places, &mut self.values, literal, place)?;
+        if place > LAST {
+            return Err(AllocError);
+        }
+        reach(&mut self.places, &mut self.values, literal.number())?;
+        tell(&mut self.places, &mut self.values, literal, place as u32);
         self.level += opened_by(reason);
         self.literals.push_reserved(literal);
         self.reasons.push_reserved(reason);
@@ -158,44 +177,45 @@ impl Assignment {
     }
 }
 
-// Tells the place and the value of a variable. The error is want of memory, and leaves both tables
-// as they were.
-fn tell(
-    places: &mut Table<usize>,
-    values: &mut Table<bool>,
-    literal: Packed,
-    place: usize,
-) -> Result<(), AllocError>
-    requires { told values.old literal.var ≡ None }
-    ensures places { OnOk result ((v : ℕ) → told places.new v ≡ (if literal.var == v then Some place else told places.old v)) }
-    ensures values { OnOk result ((v : ℕ) → told values.new v ≡ (if literal.var == v then Some literal.positive else told values.old v)) }
-    ensures same_places { OnErr result ((v : ℕ) → told places.new v ≡ told places.old v) }
-    ensures same_values { OnErr result ((v : ℕ) → told values.new v ≡ told values.old v) }
+// Makes room for the place and the value of the variable with a number. The error is want of
+// memory.
+fn reach(places: &mut Dense<u32>, values: &mut Values, number: u32) -> Result<(), AllocError>
+    ensures same_places { (v : ℕ) → told places.new v ≡ told places.old v }
+    ensures same_values { (v : ℕ) → value_told values.new v ≡ value_told values.old v }
+    ensures places { OnOk result (HasRoom places.new number) }
+    ensures values { OnOk result (HasValueRoom values.new number) }
 {
-    let var = literal.number() as u64;
-    values.insert(var, literal.is_positive())?;
-    let told = places.insert(var, place);
-    if told.is_err() {
-        values.remove(var);
-    }
-    told
+    places.reach(number)?;
+    values.reach(number)
+}
+
+// Tells the place and the value of a variable. The condition is that there is room for both.
+fn tell(places: &mut Dense<u32>, values: &mut Values, literal: Packed, place: u32)
+    requires place_room { HasRoom places.old literal.var }
+    requires value_room { HasValueRoom values.old literal.var }
+    ensures places { (v : ℕ) → told places.new v ≡ (if literal.var == v then Some place else told places.old v) }
+    ensures values { (v : ℕ) → value_told values.new v ≡ (if literal.var == v then Some literal.positive else value_told values.old v) }
+{
+    let number = literal.number();
+    places.tell(number, place);
+    values.tell(number, literal.is_positive());
 }
 
 // Takes the place and the value of a variable away.
-fn untell(places: &mut Table<usize>, values: &mut Table<bool>, literal: Packed)
+fn untell(places: &mut Dense<u32>, values: &mut Values, literal: Packed)
     ensures places { (v : ℕ) → told places.new v ≡ (if literal.var == v then None else told places.old v) }
-    ensures values { (v : ℕ) → told values.new v ≡ (if literal.var == v then None else told values.old v) }
+    ensures values { (v : ℕ) → value_told values.new v ≡ (if literal.var == v then None else value_told values.old v) }
 {
-    let var = literal.number() as u64;
-    places.remove(var);
-    values.remove(var);
+    let number = literal.number();
+    places.forget(number);
+    values.forget(number);
 }
 
 // The reason at a place.
-fn reason_at(reasons: &[Option<u64>], place: Option<usize>) -> Option<u64>
+fn reason_at(reasons: &[Option<u64>], place: Option<u32>) -> Option<u64>
     ensures { result ≡ reason_at reasons.now place }
 {
-    *reasons.get(place?)?
+    *reasons.get(place? as usize)?
 }
 
 // The level at a place.

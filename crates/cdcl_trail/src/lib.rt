@@ -16,6 +16,7 @@
 
 mod assignment;
 mod choosing;
+mod dense;
 mod lists;
 mod looking;
 mod pairs;
@@ -23,6 +24,7 @@ mod places;
 mod propagation;
 mod tracks;
 mod trail;
+mod values;
 mod watching;
 
 pub use packed_literals::Table;

@@ -1,65 +1,98 @@
 //! What has to be done with a clause of which a watched literal became false. The main call is
 //! `look`.
-ghost use Rattle.std.specs.Prelude.{◌≡◌, IfNone, IfSome, true, ◌||◌};
+ghost use Rattle.std.specs.Prelude.{◌≡◌, IfNone, IfSome, true, false, ◌||◌};
 ghost use Rattle.std.specs.List.{list_all};
 ghost use Rattle.proof_semantics.specs.Clauses.{lit_eq, has_literal};
-ghost use Rattle.cdcl_trail.specs.Propagation.{is_false};
+ghost use Rattle.cdcl_trail.specs.Guards.{IsPairOf};
+ghost use Rattle.cdcl_trail.specs.Propagation.{is_false, is_true};
 ghost use Rattle.cdcl_trail.specs.Looking.{LookSays, IsReplacement};
 
 use crate::assignment::Assignment;
 use packed_literals::Packed;
 
-/// The other watched literal is true; a further literal can be watched in place of the false one;
-/// the other one is forced; or the clause is false.
+/// A further literal can be watched in place of the false one; the other watched one is forced; or
+/// the clause is false.
 #[derive(Clone, Copy)]
 pub(crate) enum Finding {
-    Stays,
     Moves(Packed),
     Forces,
     Conflict,
 }
 
-/// What has to be done with a clause whose watched literal beside `other` is false.
-pub(crate) fn look(assignment: &Assignment, clause: &[Packed], other: Packed) -> Finding
-    requires { has_literal clause.now other ≡ true }
+/// What has to be done with a clause of whose watched literals one is false, and `other` is not true.
+pub(crate) fn look(
+    assignment: &Assignment,
+    clause: &[Packed],
+    falsified: Packed,
+    other: Packed,
+) -> Finding
+    requires pair { IsPairOf clause.now (record { first = falsified; second = other }) }
+    requires falsified { is_false assignment.now.steps falsified ≡ true }
+    requires unmet { is_true assignment.now.steps other ≡ false }
     ensures { LookSays assignment.now.steps clause.now other result }
 {
-    let value = assignment.value(other.number());
-    if value == Some(other.is_positive()) {
-        return Finding::Stays;
-    }
-    match replacement(assignment, clause, other) {
+    match further(assignment, clause, falsified, other) {
         Some(found) => Finding::Moves(found),
-        None => match value {
+        None => match assignment.value(other.number()) {
             None => Finding::Forces,
             Some(_) => Finding::Conflict,
         },
     }
 }
 
-// The first literal but `other` that is not false.
+// The last literal but `other` that is not false. A clause of two literals has none, and is not
+// read.
+fn further(
+    assignment: &Assignment,
+    clause: &[Packed],
+    falsified: Packed,
+    other: Packed,
+) -> Option<Packed>
+    requires pair { IsPairOf clause.now (record { first = falsified; second = other }) }
+    requires falsified { is_false assignment.now.steps falsified ≡ true }
+    ensures none { IfNone result (list_all (λ b. lit_eq other b || is_false assignment.now.steps b) clause.now ≡ true) }
+    ensures some { IfSome result (λ a. IsReplacement assignment.now.steps clause.now other a) }
+{
+    if clause.len() == 2 {
+        return None;
+    }
+    replacement(assignment, clause, other)
+}
+
+// The last literal but `other` that is not false. Those that became false first stand in front of
+// learned clauses.
 fn replacement(assignment: &Assignment, clause: &[Packed], other: Packed) -> Option<Packed>
     ensures none { IfNone result (list_all (λ b. lit_eq other b || is_false assignment.now.steps b) clause.now ≡ true) }
     ensures some { IfSome result (λ a. IsReplacement assignment.now.steps clause.now other a) }
 {
-    for literal in clause {
-        if other.is(*literal) {
-            continue;
+    let mut place = clause.len();
+    'places: while place > 0 {
+        place -= 1;
+        let literal = clause[place];
+        if !is_passed(assignment, literal, other) {
+            return Some(literal);
         }
-        if is_false(assignment, *literal) {
-            continue;
-        }
-        return Some(*literal);
     }
     None
+}
+
+// Whether a literal is the other one, or false.
+fn is_passed(assignment: &Assignment, literal: Packed, other: Packed) -> bool
+    ensures { result ≡ (lit_eq other literal || is_false assignment.now.steps literal) }
+{
+    other.is(literal) || is_false(assignment, literal)
 }
 
 /// Whether a literal is false.
 pub(crate) fn is_false(assignment: &Assignment, literal: Packed) -> bool
     ensures { result ≡ is_false assignment.now.steps literal }
 {
-    match assignment.value(literal.number()) {
-        None => false,
-        Some(value) => value != literal.is_positive(),
-    }
+    assignment.has_value(literal.number(), !literal.is_positive())
+}
+
+/// Whether a literal is true.
+pub(crate) fn is_true(assignment: &Assignment, literal: Packed) -> bool
+    ensures { result ≡ is_true assignment.now.steps literal }
+{
+    assignment.has_value(literal.number(), literal.is_positive())
 }

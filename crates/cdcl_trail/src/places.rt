@@ -2,19 +2,20 @@
 ghost use Rattle.std.specs.Prelude.{◌≡◌};
 ghost use Rattle.cdcl_trail.specs.Places.{told};
 
+use crate::dense::Dense;
 use cnf::Var;
-use packed_literals::{Names, Table};
+use packed_literals::Names;
 
 /// Where variables stand among the literals of a trail, as a trail lends it.
 #[derive(Clone, Copy)]
 pub struct Places<'a> {
     names: &'a Names,
-    numbered: &'a Table<usize>,
+    numbered: &'a Dense<u32>,
 }
 
 impl<'a> Places<'a> {
     /// The places of variables, by those of their numbers.
-    pub(crate) fn new(names: &'a Names, numbered: &'a Table<usize>) -> Places<'a>
+    pub(crate) fn new(names: &'a Names, numbered: &'a Dense<u32>) -> Places<'a>
         ensures names { result.names.now ≡ names.now }
         ensures numbered { result.numbered.now ≡ numbered.now }
     {
@@ -27,7 +28,17 @@ impl<'a> Places<'a> {
     {
         match self.names.get(var) {
             None => None,
-            Some(number) => self.numbered.get(number as u64),
+            Some(number) => widened(self.numbered.get(number)),
         }
+    }
+}
+
+// The same place.
+fn widened(place: Option<u32>) -> Option<usize>
+    ensures { result ≡ place }
+{
+    match place {
+        None => None,
+        Some(place) => Some(place as usize),
     }
 }

@@ -9,7 +9,7 @@ ghost use Rattle.cdcl_trail.specs.Trails.{literals_of, once};
 ghost use Rattle.cdcl_trail.specs.Visiting.{IsVisited, VisitSays, IsSettled, SingleSays};
 
 use crate::assignment::Assignment;
-use crate::looking::{Finding, is_false, look};
+use crate::looking::{Finding, is_false, is_true, look};
 use crate::pairs::{Pair, beside};
 use crate::watching::Watching;
 use packed_literals::Packed;
@@ -131,11 +131,13 @@ fn visit(
     let Some(other) = beside(pair, falsified) else {
         return Ok(Visited::Stands);
     };
+    if is_true(assignment, other) {
+        return Ok(Visited::Stands);
+    }
     let Some(clause) = watching.clause(number) else {
         return Ok(Visited::Stands);
     };
-    match look(assignment, clause, other) {
-        Finding::Stays => Ok(Visited::Stands),
+    match look(assignment, clause, falsified, other) {
         Finding::Conflict => Ok(Visited::Conflict(number as u64 + 1)),
         Finding::Forces => {
             assignment.put(other, Some(number as u64 + 1))?;

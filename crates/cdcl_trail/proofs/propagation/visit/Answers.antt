@@ -4,15 +4,14 @@ use Rattle.cdcl_trail.specs.Guards.{IsPairOf, IsDone}
 use Rattle.cdcl_trail.specs.Propagation.{is_true}
 use Rattle.cdcl_trail.specs.declared.pairs.Pair.{Pair}
 use Rattle.proof_semantics.specs.declared.literals.Lit.{Lit}
-use Rattle.cdcl_trail.proofs.VisitLaws.{has_other, other_apart, pair_found, visited_moved, visited_kept, true_comes, done_true}
+use Rattle.cdcl_trail.proofs.VisitLaws.{has_other, pair_turned, other_apart, pair_found, visited_moved, visited_kept, true_comes, done_true}
 use Rattle.cdcl_trail.proofs.PassLaws.{unit_unvalued}
 use Rattle.cdcl_trail.proofs.propagation.visit.Goals as goal
 
-pub look-requires : goal.look-requires
-look-requires c =
-    let w = c.args.watching.now in
+pub look-requires-clause-pair : goal.look-requires-clause-pair
+look-requires-clause-pair c =
     let of = c.requires.stored.paired c.args.number c.in-Some.pair c.in-Some-clause.clause.now c.in-Some.ensures.some (sym c.in-Some-clause.ensures) in
-    has_other c.in-Some-clause.clause.now c.in-Some.pair c.args.falsified c.in-Some-beside.other of c.in-Some-beside.ensures
+    pair_turned c.in-Some-clause.clause.now c.in-Some.pair c.args.falsified c.in-Some-beside.other of c.in-Some-beside.ensures
 
 pub overflow_add-result : goal.overflow_add-result
 overflow_add-result c =

@@ -1,5 +1,5 @@
 use Rattle.std.proofs.Common.{◌≡◌, ◌+◌, ◌++◌, ◌∷◌, [], Some, None, length, cond, eqb, ap, sym, subst, ◌∙◌, arith}
-use Rattle.packed_literals.specs.Tables.{told}
+use Rattle.cdcl_trail.specs.DenseOf.{told}
 use Rattle.cdcl_trail.specs.Trails.{Steps, step, value_of}
 use Rattle.cdcl_trail.specs.AssignmentOf.{state_of}
 use Rattle.cdcl_trail.proofs.TrailLaws.{pushed, pushed_steps, level_length, length_beside, opened_small}
@@ -21,8 +21,8 @@ invariant_of-self-2 c =
     (subst (λ (s : Steps). value_of s.steps c.args.literal.var ≡ None) (sym c.self.view_is) c.requires)
     (c.push_reserved.ensures.items ∙ ap (λ xs. xs ++ c.args.literal ∷ []) c.in_ok-reserve.ensures.items)
     (c.push_reserved-2.ensures.items ∙ ap (λ xs. xs ++ c.args.reason ∷ []) c.in_ok-reserve-2.ensures.items)
-    (λ v. c.in_ok-tell.ensures.places v ∙ ap (λ n. cond (eqb c.args.literal.var v) (Some n) (told t.places v)) same)
-    c.in_ok-tell.ensures.values
+    (λ v. c.tell.ensures.places v ∙ ap (cond (eqb c.args.literal.var v) (Some (length c.as_slice-place.result.now))) (c.reach.ensures.same_places v) ∙ ap (λ n. cond (eqb c.args.literal.var v) (Some n) (told t.places v)) same)
+    (λ v. c.tell.ensures.values v ∙ ap (cond (eqb c.args.literal.var v) (Some c.args.literal.positive)) (c.reach.ensures.same_values v))
     (ap (λ n. t.level + n) c.opened_by.ensures)
     (c.push_reserved-3.ensures.items ∙ ap (λ xs. xs ++ (t.level + c.opened_by.result) ∷ []) c.in_ok-reserve-3.ensures.items)
 
