@@ -7,6 +7,7 @@ pub mod WritingLaws
 pub mod PuttingLaws
 pub mod SearchLaws
 pub mod CoverLaws
+pub mod FullLaws
 pub mod BackLaws
 pub mod AboveLaws
 pub mod WayLaws

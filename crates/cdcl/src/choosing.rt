@@ -1,9 +1,9 @@
 //! The choice of the next literal to assume. The main call is `choose`.
-ghost use Rattle.std.specs.Prelude.{◌≡◌, IfNone, IfSome, IsTrue, true, false, is_some, slice_get, option_copied};
+ghost use Rattle.std.specs.Prelude.{◌≡◌, ℕ, List, IfNone, IfSome, IsTrue, true, false, is_some, slice_get, option_copied};
 ghost use Rattle.std.specs.List.{list_any, list_all};
 ghost use Rattle.cdcl_trail.specs.Propagation.{is_complete, is_true, is_falsified};
-ghost use Rattle.cdcl_trail.specs.Trails.{value_of};
-ghost use Rattle.cdcl.specs.Searching.{IsUndecided, IsOpenIn, has_variable, is_satisfied};
+ghost use Rattle.cdcl_trail.specs.Trails.{value_of, literals_of};
+ghost use Rattle.cdcl.specs.Searching.{IsUndecided, IsOpenIn, has_variable, is_satisfied, is_over, are_over};
 
 use crate::log::Log;
 use crate::order::{Candidate, Order};
@@ -11,30 +11,52 @@ use cdcl_trail::Trail;
 use cnf::{Clause, Lit, Var};
 
 /// The most active variable without a value, with the value that it had last. `None` where every
-/// clause has a true literal.
-pub(crate) fn choose(order: &mut Order, trail: &Trail, log: &Log) -> Option<Lit>
-    requires { is_complete log.now.clauses trail.now.steps ≡ true }
+/// clause has a true literal. The condition is that no clause is unit or false, and that the trail
+/// has no variables but those of the clauses and of the assumptions.
+pub(crate) fn choose(
+    order: &mut Order,
+    trail: &Trail,
+    log: &Log,
+    assumptions: &[Lit],
+) -> Option<Lit>
+    requires complete { is_complete log.now.clauses trail.now.steps ≡ true }
+    requires over { (vars : List ℕ) → are_over vars log.now.clauses ≡ true → is_over vars assumptions.now ≡ true → is_over vars (literals_of trail.now.steps) ≡ true }
     ensures none { IfNone result (is_satisfied log.now.clauses trail.now.steps ≡ true) }
     ensures open { IfSome result (λ a. IsUndecided log.now.clauses trail.now.steps a) }
 {
-    if is_full(trail, log.variables()) {
+    if is_full(trail, log, assumptions) {
         return None;
     }
     choose_open(order, trail, log.clauses().as_slice())
 }
 
-// Whether each of the variables has a value. Where there are more variables than values, none is
-// looked at.
-fn is_full(trail: &Trail, variables: &[Var]) -> bool
-    ensures { IsTrue result → list_all (λ v. is_some (value_of trail.now.steps v)) variables.now ≡ true }
+// Whether each variable of the clauses has a value. Where there are more variables than values, none
+// is looked at; and where all of the trail are among them, as many values are enough.
+fn is_full(trail: &Trail, log: &Log, assumptions: &[Lit]) -> bool
+    requires complete { is_complete log.now.clauses trail.now.steps ≡ true }
+    requires over { (vars : List ℕ) → are_over vars log.now.clauses ≡ true → is_over vars assumptions.now ≡ true → is_over vars (literals_of trail.now.steps) ≡ true }
+    ensures { IsTrue result → is_satisfied log.now.clauses trail.now.steps ≡ true }
 {
+    let variables = log.variables();
     if trail.literals().len() < variables.len() {
         return false;
     }
-    have_values(trail, variables)
+    match log.variables_with(assumptions) {
+        Some(all) => are_as_many(trail, all),
+        None => have_values(trail, variables),
+    }
 }
 
-// The same, by the values.
+// Whether the trail has as many variables as these, which are all that it may have: then each of
+// them has a value.
+fn are_as_many(trail: &Trail, variables: &[Var]) -> bool
+    requires { is_over variables.now (literals_of trail.now.steps) ≡ true }
+    ensures { IsTrue result → list_all (λ v. is_some (value_of trail.now.steps v)) variables.now ≡ true }
+{
+    trail.literals().len() >= variables.len()
+}
+
+// Whether each of the variables has a value.
 fn have_values(trail: &Trail, variables: &[Var]) -> bool
     ensures { result ≡ list_all (λ v. is_some (value_of trail.now.steps v)) variables.now }
 {
@@ -57,11 +79,9 @@ fn choose_open(order: &mut Order, trail: &Trail, clauses: &[Clause]) -> Option<L
 fn most_active(order: &mut Order, trail: &Trail, clauses: &[Clause]) -> Option<Lit>
     ensures { IfSome result (λ a. IsUndecided clauses.now trail.now.steps a) }
 {
-    for _turn in 0..order.most() {
-        let candidate = order.take()?;
-        if is_open(trail, clauses, candidate) {
-            return Some(candidate.literal);
-        }
+    let candidate = order.take(trail)?;
+    if is_open(trail, clauses, candidate) {
+        return Some(candidate.literal);
     }
     None
 }

@@ -66,6 +66,18 @@ impl Cover {
         self.places.insert(var, place)
     }
 
+    /// Whether the variables of the literals were taken in. Takes no memory.
+    pub(crate) fn has_all(&self, lits: &[Lit]) -> bool
+        ensures { IsTrue result → is_over self.now lits.now ≡ true }
+    {
+        for literal in lits {
+            if !self.has(literal.var) {
+                return false;
+            }
+        }
+        true
+    }
+
     // Whether a variable was taken in, as far as its place tells.
     fn has(&self, var: Var) -> bool
         ensures { IsTrue result → list_any (nat_eq var) self.now ≡ true }

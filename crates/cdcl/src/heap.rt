@@ -2,6 +2,7 @@
 //! rests on it.
 ghost use Rattle.std.specs.Prelude.{◌≡◌, [], length};
 
+use cdcl_trail::Trail;
 use cnf::Var;
 use std::alloc::{AllocError, Global};
 
@@ -74,9 +75,27 @@ impl Heap {
         Some(first)
     }
 
+    /// Takes out variables until the first one has no value. Takes no memory.
+    pub(crate) fn drop_valued(&mut self, trail: &Trail) {
+        for _turn in 0..self.len() {
+            let Some(top) = self.first() else {
+                break;
+            };
+            if trail.value(top.var).is_none() {
+                break;
+            }
+            self.take();
+        }
+    }
+
+    /// Whether it has the variable with a number. Takes no memory.
+    pub(crate) fn has(&self, number: usize) -> bool {
+        self.place(number) < NOWHERE
+    }
+
     /// Puts a variable into the heap, if it is not there.
     pub(crate) fn insert(&mut self, entry: Entry) -> Result<(), AllocError> {
-        if self.place(entry.number) < NOWHERE {
+        if self.has(entry.number) {
             return Ok(());
         }
         let count = entry.number.saturating_add(1);

@@ -1,5 +1,5 @@
 //! The clauses that a solver holds, with the hints of those that it learned. The main type is `Log`.
-ghost use Rattle.std.specs.Prelude.{◌≡◌, ◌+◌, ◌<◌, [], ◌∷◌, ◌++◌, length, vec_capacity, OnOk, OnErr, IfErr, Some, None, true};
+ghost use Rattle.std.specs.Prelude.{◌≡◌, ◌+◌, ◌<◌, [], ◌∷◌, ◌++◌, length, vec_capacity, OnOk, OnErr, IfErr, IfSome, Some, None, true};
 ghost use Rattle.edge.specs.Units.{SpentConflict};
 ghost use Rattle.edge.specs.Faults.{one_more};
 ghost use Rattle.edge.specs.Ends.{IsEnd};
@@ -89,6 +89,17 @@ impl Log {
         ensures { are_over result.now self.now.clauses ≡ true }
     {
         self.cover.variables()
+    }
+
+    /// The same, where these literals have no other variable. Takes no memory.
+    pub(crate) fn variables_with(&self, lits: &[Lit]) -> Option<&[Var]>
+        ensures clauses { IfSome result (λ vars. are_over vars.now self.now.clauses ≡ true) }
+        ensures lits { IfSome result (λ vars. is_over vars.now lits.now ≡ true) }
+    {
+        if self.cover.has_all(lits) {
+            return Some(self.cover.variables());
+        }
+        None
     }
 
     /// Adds a clause. The error is want of memory, and changes nothing.

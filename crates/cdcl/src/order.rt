@@ -5,10 +5,10 @@ ghost use Rattle.std.specs.Prelude.{◌≡◌, []};
 
 use crate::first_values::FirstValues;
 use crate::heap::{Entry, Heap, SHIFT};
-use crate::inactive::Inactive;
 use crate::log::Log;
+use crate::ranked::Ranked;
 use cdcl_learn::Learned;
-use cdcl_trail::Table;
+use cdcl_trail::{Table, Trail};
 use cnf::{Clause, Db, Lit, Var};
 use std::alloc::{AllocError, Global};
 
@@ -36,10 +36,10 @@ struct Rank {
 
 /// The activities of variables, and the values that they had last. Each conflict adds its weight to
 /// the activities of the variables that it comes from, and weighs a twentieth more than the one
-/// before it. The variables are numbered as they come. Those that may be decided stand in a binary
-/// heap by their activities, or, where no conflict was met in them, in a list; of two that are as
-/// active the smaller variable comes first, which in a circuit's clauses is what the other one is
-/// computed from.
+/// before it. The variables are numbered as they come. Those that may be decided stand in a list in
+/// the order in which they are decided, or, where a conflict was met in them since it was put in
+/// order, or they are new, in a binary heap; of two that are as active the smaller variable comes
+/// first, which in a circuit's clauses is what the other one is computed from.
 #[derive(Drop)]
 pub(crate) struct Order {
     alloc: Global,
@@ -47,7 +47,7 @@ pub(crate) struct Order {
     candidates: Vec<Candidate>,
     ranks: Vec<Rank>,
     heap: Heap,
-    inactive: Inactive,
+    ranked: Ranked,
     first_values: FirstValues,
     met: usize,
     weight: u64,
@@ -65,7 +65,7 @@ impl Order {
             candidates: Vec::new(alloc),
             ranks: Vec::new(alloc),
             heap: Heap::new(alloc),
-            inactive: Inactive::new(alloc),
+            ranked: Ranked::new(alloc),
             first_values,
             met: 0,
             weight: FIRST_WEIGHT,
@@ -73,8 +73,9 @@ impl Order {
         }
     }
 
-    /// Meets the variables of the clauses that are new, and lets them be decided.
-    pub(crate) fn begin(&mut self, log: &Log) -> Result<(), AllocError> {
+    /// Meets the variables of the clauses that are new, and lets them be decided. Forgets those that
+    /// have a value, for no search takes it back.
+    pub(crate) fn begin(&mut self, log: &Log, trail: &Trail) -> Result<(), AllocError> {
         let clauses = log.clauses().as_slice();
         for place in self.met..clauses.len() {
             if let Some(clause) = clauses.get(place) {
@@ -82,7 +83,9 @@ impl Order {
             }
         }
         self.met = clauses.len();
-        self.inactive.put_in_order(self.alloc)
+        let count = self.candidates.len();
+        self.ranked
+            .put_in_order(self.alloc, &mut self.heap, trail, count)
     }
 
     // Meets the variables of the clause at a place.
@@ -100,7 +103,6 @@ impl Order {
         let number = self.candidates.len();
         self.candidates.reserve(1)?;
         self.ranks.reserve(1)?;
-        self.inactive.push(var, number)?;
         self.numbers.insert(var, number)?;
         let positive = self.first_values.of(var);
         self.candidates.push_reserved(Candidate {
@@ -111,30 +113,26 @@ impl Order {
             activity: 0,
             conflict: 0,
         });
-        Ok(())
+        self.insert(var, number)
     }
 
-    /// No fewer than the variables that may be decided. Takes no memory.
-    pub(crate) fn most(&self) -> usize {
-        self.heap.len().saturating_add(self.inactive.most_waiting())
-    }
-
-    /// Takes the most active variable that may be decided. Takes no memory.
-    pub(crate) fn take(&mut self) -> Option<Candidate> {
+    /// Takes the most active variable without a value. Takes no memory.
+    pub(crate) fn take(&mut self, trail: &Trail) -> Option<Candidate> {
+        self.heap.drop_valued(trail);
         let number = match self.heap.first() {
-            Some(top) if self.is_before_inactive(&top) => self.heap.take()?.number,
-            _ => self.inactive.take()?.number,
+            Some(top) if self.is_before_ranked(&top, trail) => self.heap.take()?.number,
+            _ => self.ranked.first_open(trail)?.number,
         };
         self.candidates.as_slice().get(number).copied()
     }
 
-    // Whether a variable of the heap is decided before those that no conflict was met in.
-    fn is_before_inactive(&mut self, top: &Entry) -> bool {
-        if top.activity > 0 {
+    // Whether a variable of the heap is decided before those of the list.
+    fn is_before_ranked(&mut self, top: &Entry, trail: &Trail) -> bool {
+        if self.ranked.front().is_none_or(|other| top.precedes(&other)) {
             return true;
         }
-        match self.inactive.first() {
-            Some(other) => top.var < other.var,
+        match self.ranked.first_open(trail) {
+            Some(other) => top.precedes(&other),
             None => true,
         }
     }
@@ -148,7 +146,7 @@ impl Order {
             if let Some(candidate) = self.candidates.get_mut(number) {
                 candidate.literal = *literal;
             }
-            if !self.inactive.keep(number) {
+            if !self.ranked.keep(number) && !self.heap.has(number) {
                 self.insert(literal.var, number)?;
             }
         }
@@ -189,6 +187,7 @@ impl Order {
             rank.activity >>= SHIFT;
         }
         self.heap.shrink();
+        self.ranked.shrink();
     }
 
     // Makes the variables of a clause more active that were not yet met in this conflict.
@@ -201,7 +200,7 @@ impl Order {
     }
 
     // Makes a variable more active that was not yet met in this conflict. Each has a value, so one
-    // that was met in none before comes into the heap when its value is taken back.
+    // that is taken out of the list comes into the heap when its value is taken back.
     fn bump_one(&mut self, var: Var, number: usize) {
         let Some(rank) = self.ranks.get_mut(number) else {
             return;
@@ -209,13 +208,10 @@ impl Order {
         if rank.conflict == self.conflict {
             return;
         }
-        let was_inactive = rank.conflict == 0;
         rank.conflict = self.conflict;
         rank.activity = rank.activity.saturating_add(self.weight);
         let activity = rank.activity;
-        if was_inactive {
-            self.inactive.take_out(number);
-        } else {
+        if !self.ranked.take_out(number) {
             self.heap.raise(Entry {
                 activity,
                 var,

@@ -69,7 +69,7 @@ fn settle_base(log: &Log, order: &mut Order, trail: &mut Trail) -> Result<Option
 {
     order.keep(above_level(trail, 0))?;
     trail.back_to(0);
-    order.begin(log)?;
+    order.begin(log, trail)?;
     trail.propagate(log.clauses())
 }
 
@@ -121,7 +121,7 @@ fn decide(
             return Err(SolveEnd::Memory);
         }
         let Some(conflict) = trail.propagate(log.clauses())? else {
-            let Some(literal) = choose(order, trail, log) else {
+            let Some(literal) = choose(order, trail, log, assumptions) else {
                 return Ok(Found::Satisfied);
             };
             trail.assume(literal)?;

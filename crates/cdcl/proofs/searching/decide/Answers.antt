@@ -25,6 +25,11 @@ decisions-init c = record {
 pub propagate-requires : goal.propagate-requires
 propagate-requires c = subst (λ cs. Extends c.decisions.trail.taken cs) (sym c.clauses.ensures) c.decisions.invariant.extends
 
+pub choose-requires-clause-over : goal.choose-requires-clause-over
+choose-requires-clause-over c =
+    (way_propagates c.decisions.log.clauses c.args.assumptions.now c.level-base.result c.decisions.trail.steps c.propagate.new.self.steps c.decisions.invariant.on_way
+    (subst (λ cs. Propagates cs c.decisions.trail.steps c.propagate.new.self.steps) c.clauses.ensures c.propagate.ensures.reasons)).over
+
 pub returns-in_default-choose-clause-found : goal.returns-in_default-choose-clause-found
 returns-in_default-choose-clause-found c =
     let way = way_propagates c.decisions.log.clauses c.args.assumptions.now c.level-base.result c.decisions.trail.steps c.propagate.new.self.steps c.decisions.invariant.on_way
