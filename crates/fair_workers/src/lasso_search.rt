@@ -14,8 +14,9 @@ use lasso_bmc::{Deepening, Searched, deepen};
 use simulation::simulate;
 use std::alloc::{AllocError, Global};
 
-/// The search of a lasso worker: from what its simulation draws; how many positions it asks for at most, and how many are
-/// done; and its solver, which it makes when it first asks.
+/// The search of a lasso worker: its number, from which its simulation draws and its solver takes the values that it
+/// decides with first; how many positions it asks for at most, and how many are done; and its solver, which it makes when it
+/// first asks.
 #[derive(Drop)]
 pub(crate) struct LassoSearch {
     pub(crate) seed: u32,
@@ -64,13 +65,14 @@ fn taken(
     _c: &Circuit,
     _j: u32,
     _done: u32,
+    seed: u32,
 ) -> Result<Deepening, AllocError>
     requires { HasSolver _c.now _j _done solver.old }
     ensures { IfOk result (IsUpTo _c.now _j _done) }
 {
     match solver.take() {
         Some(solver) => Ok(solver),
-        None => Deepening::new(alloc),
+        None => Deepening::new(alloc, seed),
     }
 }
 
@@ -117,7 +119,7 @@ fn deepened(
     ensures end { IfErr result (IsEnd meter.new) }
     ensures counted { CountsConflicts meter.old meter.new }
 {
-    let mut solver = taken(alloc, &mut search.solver, c, j, search.done)?;
+    let mut solver = taken(alloc, &mut search.solver, c, j, search.done, search.seed)?;
     let answer = deepen(alloc, c, j, &mut solver, meter);
     drop(search.solver.replace(solver));
     told(search, answer, c, j, meter)

@@ -49,7 +49,7 @@ impl ConeSearch {
         match cone_circuit(alloc, c, j)? {
             Some(circuit) => Ok(Some(ConeSearch {
                 circuit,
-                solver: Some(Deepening::new(alloc)?),
+                solver: Some(Deepening::new(alloc, 0)?),
                 done: 0,
             })),
             None => Ok(None),

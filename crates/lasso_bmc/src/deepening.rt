@@ -15,7 +15,7 @@ use crate::ends::Searched;
 use crate::parting::{Choice, part};
 use crate::reading::stimulus_in;
 use crate::replaying::replayed;
-use cdcl::{Asked, Solver};
+use cdcl::{Asked, FirstValues, Solver};
 use circuit::{Circuit, Lasso};
 use cnf::Clause;
 use cone::cone_of;
@@ -36,14 +36,15 @@ pub struct Deepening {
 }
 
 impl Deepening {
-    /// A solver without clauses, for no positions. The error is want of memory.
-    pub fn new(alloc: Global) -> Result<Deepening, AllocError>
+    /// A solver without clauses, for no positions. `worker` is the number of whoever asks; it changes with which values
+    /// variables are decided first, of which no clause says anything. The error is want of memory.
+    pub fn new(alloc: Global, worker: u32) -> Result<Deepening, AllocError>
         ensures clauses { IfOk result (λ d. d.solver.added ≡ []) }
         ensures positions { IfOk result (λ d. positions_in d ≡ 0) }
         ensures grown { IfOk result (λ d. (c : CircuitOf) (j : ℕ) → IsGrown c j d) }
     {
         Ok(Deepening {
-            solver: Solver::new(alloc)?,
+            solver: Solver::deciding(alloc, first_values(worker))?,
             rest: Vec::new(alloc),
             is_whole: false,
             positions: 0,
@@ -70,6 +71,16 @@ impl Deepening {
         self.solver.add_all(rest)?;
         self.is_whole = true;
         Ok(())
+    }
+}
+
+// The values that a worker's solver decides variables with first: another search for each, but that the first lasso worker
+// of two workers searches as `search` does.
+fn first_values(worker: u32) -> FirstValues {
+    match worker {
+        0 | 1 => FirstValues::AllFalse,
+        2 => FirstValues::AllTrue,
+        _ => FirstValues::Seeded(u64::from(worker)),
     }
 }
 

@@ -31,7 +31,7 @@ pub fn search(
     if depth <= done {
         return Ok(Searched::NoneWithin);
     }
-    let mut d = Deepening::new(alloc)?;
+    let mut d = Deepening::new(alloc, 0)?;
     let searched = searched(alloc, c, j, &mut d, done, depth, meter);
     drop(d);
     searched
