@@ -14,6 +14,7 @@ mod questions_run;
 mod reach_run;
 mod rewrite_run;
 mod sat_run;
+mod search_run;
 mod stamps;
 mod verdict;
 
@@ -25,6 +26,7 @@ use crate::questions_run::run_questions;
 use crate::reach_run::run_reach;
 use crate::rewrite_run::run_rewrite;
 use crate::sat_run::run_sat;
+use crate::search_run::run_search;
 use std::process::ExitCode;
 use std::{env, io};
 
@@ -35,6 +37,7 @@ usage: fair_bench certify MODEL
        fair_bench reach MODEL
        fair_bench rewrite MODEL
        fair_bench sat CNF
+       fair_bench search MODEL STEPS
 ";
 
 fn main(rt: HostRuntime) -> ExitCode {
@@ -85,13 +88,16 @@ fn run_one(rt: &HostRuntime, command: &str, name: &str) -> Result<u8, Failure> {
     print_usage(rt)
 }
 
-// A subcommand with the names of two files.
+// A subcommand with two words.
 fn run_two(rt: &HostRuntime, command: &str, first: &str, second: &str) -> Result<u8, Failure> {
     if command == "lrat" {
         return run_lrat(rt, first, second);
     }
     if command == "questions" {
         return run_questions(rt, first, second, None);
+    }
+    if command == "search" {
+        return run_search(rt, first, second);
     }
     print_usage(rt)
 }

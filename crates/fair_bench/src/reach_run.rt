@@ -20,11 +20,13 @@ use std::alloc::{AllocError, Global};
 use std::io;
 use std::sync::Arc;
 
-/// What a search answered: the positions of a path and the state of its last one, or how many clauses a closed set has.
+/// What a search answered: the positions of a path and the state of its last one, or how many clauses a closed set has; or
+/// that it took all steps that it may take.
 #[derive(Drop)]
-enum Answer {
+pub(crate) enum Answer {
     Path { positions: usize, last: Items<bool> },
     Closed { clauses: usize },
+    Spent,
 }
 
 /// What a search answered, how many questions its solver was asked, and how many frames it came to.
@@ -81,7 +83,7 @@ fn search_from_state(
 }
 
 /// The literals of the properties and of fairness, in their order.
-fn goals_of(alloc: Global, c: &Circuit) -> Result<Vec<u64>, AllocError> {
+pub(crate) fn goals_of(alloc: Global, c: &Circuit) -> Result<Vec<u64>, AllocError> {
     let mut goals = Vec::new(alloc);
     add_goals(c, &mut goals)?;
     Ok(goals)
@@ -136,12 +138,12 @@ fn search(
     from: &str,
     literal: u64,
 ) -> Result<Option<Items<bool>>, Failure> {
-    let answer = answer_timed(rt, c, start, literal)?;
+    let answer = answer_timed(rt, c, start, literal, NO_LIMIT)?;
     say_answer(rt, from, literal, answer)
 }
 
 // Writes an answer, and gives the state that it came to.
-fn say_answer(
+pub(crate) fn say_answer(
     rt: &HostRuntime,
     from: &str,
     literal: u64,
@@ -151,13 +153,15 @@ fn say_answer(
     Ok(last_of(answer))
 }
 
-fn answer_timed(
+/// What a search of at most so many steps answers; what it took goes to standard error.
+pub(crate) fn answer_timed(
     rt: &HostRuntime,
     c: &Arc<Circuit>,
     start: &Start,
     literal: u64,
+    steps: u64,
 ) -> Result<Answer, Failure> {
-    let mut meter = Meter::new(NO_LIMIT, NO_LIMIT);
+    let mut meter = Meter::new(NO_LIMIT, steps);
     let before = Stamp::now(rt)?;
     let told = told_of(rt.alloc(), c, start, literal, &mut meter)?;
     say_costs(rt, &meter, before, told)
@@ -197,6 +201,7 @@ fn answer_text(
         Answer::Closed { clauses } => {
             format!(in alloc; "{from} to {literal}: closed {clauses}\n")
         }
+        Answer::Spent => format!(in alloc; "{from} to {literal}: spent\n"),
     }
 }
 
@@ -204,7 +209,7 @@ fn answer_text(
 fn last_of(answer: Answer) -> Option<Items<bool>> {
     match answer {
         Answer::Path { positions: _, last } => Some(last),
-        Answer::Closed { clauses: _ } => None,
+        Answer::Closed { clauses: _ } | Answer::Spent => None,
     }
 }
 
@@ -276,7 +281,14 @@ fn answer_of(
     requires circuit { search.old.circuit ≡ c.now }
     requires on { GoesOnFrom search.old.view [] }
 {
-    let reached = ask_literal(alloc, c, search, literal, meter)?;
+    match ask_literal(alloc, c, search, literal, meter) {
+        Ok(reached) => answer_to(alloc, reached),
+        Err(Failure::Spent) => Ok(Answer::Spent),
+        Err(failure) => Err(failure),
+    }
+}
+
+fn answer_to(alloc: Global, reached: Reached) -> Result<Answer, Failure> {
     let answer = answer_in(alloc, &reached);
     drop(reached);
     answer
