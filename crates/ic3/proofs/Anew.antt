@@ -1,51 +1,204 @@
--- The clauses of all lemmas in a new solver.
-use Rattle.std.proofs.Common.{◌≡◌, ℕ, zero, suc, ◌+◌, ◌<◌, ◌≤◌, List, [], ◌∷◌, ◌++◌, length, take, get_or, refl, sym, ap, subst, ◌∙◌, Bool, true, arith, add-one, append-nil, append_assoc}
-use Rattle.std.specs.List.{AllByRecursion}
-use Rattle.std.proofs.Math.Seq.{take-suc}
-use Rattle.std.proofs.lemmas.List.{take_all}
+-- The clauses of all lemmas in a new solver, but of those that a later one implies.
+use Rattle.std.proofs.Common.{◌≡◌, ℕ, zero, suc, ◌+◌, ◌<◌, ◌≤◌, ◌&&◌, ◌||◌, List, [], ◌∷◌, ◌++◌, length, drop, get_or, refl, sym, ap, subst, ◌∙◌, inl, inr, Bool, true, false, arith, append-nil, append_assoc, nat_lt}
+use Rattle.std.specs.Prelude.{nat_le}
+use Rattle.std.specs.List.{AllByRecursion, list_all}
+use Rattle.std.proofs.lemmas.Bool.{false≢true, and_parts, and_from, or_cases, ltb-true, leb-true, lt-ltb}
+use Rattle.std.proofs.lemmas.List.{drop_all, drop_more}
+use Rattle.std.proofs.lemmas.List.Folds.{list_all-append}
 use Rattle.proof_semantics.specs.declared.literals.Lit.{Lit}
-use Rattle.proof_semantics.specs.Clauses.{clauses_value}
-use Rattle.ic3_semantics.specs.Stepping.{Stepping, no_lemmas, IsOver}
+use Rattle.proof_semantics.specs.Clauses.{literal_value, clause_value, clauses_value, values_of, has_literal, is_part}
+use Rattle.proof_semantics.proofs.LiteralLaws.{clause_value-has}
+use Rattle.ic3_semantics.specs.Stepping.{Stepping, no_lemmas, meets_from, IsOver}
 use Rattle.ic3_semantics.specs.Searching.{Question}
 use Rattle.ic3_semantics.specs.declared.lemmas.Lemma.{Lemma}
-use Rattle.ic3.specs.SteppingInside.{IsHeldBy, IsHeldWith, Holds}
-use Rattle.ic3.specs.SteppingStart.{HoldsAll}
+use Rattle.ic3.specs.SteppingInside.{SayTheSame, keeping, IsHeldBy, IsHeldWith, Holds}
+use Rattle.ic3.specs.SteppingStart.{HoldsAll, IsImpliedBehind, IsHeldUpTo}
 use Rattle.ic3.specs.declared.stepping_questions.Questions.{Questions}
 use Rattle.ic3.proofs.Holding.{more_held, after_growth}
 
 holds_none : (s : Questions) → HoldsAll [] s s
 holds_none s = λ st by over.
-    subst (λ xs. IsHeldBy (record { question = st.question; avoid = st.avoid; lemmas = xs }) s) (sym (append-nil st.lemmas)) by
+    subst (λ xs. IsHeldBy (keeping st xs) s) (sym (append-nil st.lemmas)) by
 
-pub holds_first : (lemmas : List Lemma) (s : Questions) → HoldsAll (take 0 lemmas) s s
-holds_first [] s = holds_none s
-holds_first (lemma ∷ lemmas) s = holds_none s
+-- before the first
+pub held_up_to_first : (lemmas : List Lemma) (s : Questions) → IsHeldUpTo lemmas 0 s s
+held_up_to_first lemmas s = record {
+  kept = [];
+  same = λ level state. refl;
+  among = λ n over. tt;
+  holds = holds_none s;
+}
 
-front_over : (P : Lemma → Type 0) (front : List Lemma) (last : Lemma) → AllByRecursion P (front ++ last ∷ [])
-    → AllByRecursion P front × P last
-front_over P [] last h = (tt, h.0)
-front_over P (lemma ∷ front) last h = let rest = front_over P front last h.1 in ((h.0, rest.0), rest.1)
+-- ---- a lemma that is left out
+
+part_true : (v : ℕ → Bool) (part whole : List Lit) → is_part part whole ≡ true → clause_value v part ≡ true → clause_value v whole ≡ true
+part_true v [] whole h true_there = absurd (false≢true true_there)
+part_true v (a ∷ part) whole h true_there =
+    let parts = and_parts (has_literal whole a) (is_part part whole) h in
+    elim (or_cases (literal_value v a) (clause_value v part) true_there) [
+      | inl here ↦ clause_value-has v whole a here parts.0
+      | inr later ↦ part_true v part whole parts.1 later
+    ]
+
+or_first : (a b : Bool) → a ≡ true → (a || b) ≡ true
+or_first true b h = refl
+or_first false b h = absurd (false≢true h)
+
+or_second : (a b : Bool) → b ≡ true → (a || b) ≡ true
+or_second true b h = refl
+or_second false b h = h
+
+-- where the one of a higher level whose literals are among those of the other is met
+met_by : (lemma other : Lemma) (level : ℕ) (state : List Bool) → nat_le lemma.level other.level ≡ true
+    → is_part other.clause lemma.clause ≡ true
+    → (nat_lt other.level level || clause_value (values_of state) other.clause) ≡ true
+    → (nat_lt lemma.level level || clause_value (values_of state) lemma.clause) ≡ true
+met_by lemma other level state high part met =
+    elim (or_cases (nat_lt other.level level) (clause_value (values_of state) other.clause) met) [
+      | inl lower ↦
+          let a : lemma.level ≤ other.level = leb-true lemma.level other.level high in
+          let b : other.level < level = ltb-true other.level level lower in
+          or_first (nat_lt lemma.level level) (clause_value (values_of state) lemma.clause) (lt-ltb lemma.level level (omega arith))
+      | inr there ↦
+          or_second (nat_lt lemma.level level) (clause_value (values_of state) lemma.clause)
+          (part_true (values_of state) other.clause lemma.clause part there)
+    ]
+
+all_at : (f : Lemma → Bool) (lemmas : List Lemma) (i : ℕ) (d : Lemma) → i < length lemmas → list_all f lemmas ≡ true
+    → f (get_or lemmas i d) ≡ true
+all_at f [] i d below h = absurd (omega arith)
+all_at f (lemma ∷ lemmas) zero d below h = (and_parts (f lemma) (list_all f lemmas) h).0
+all_at f (lemma ∷ lemmas) (suc i) d below h =
+    all_at f lemmas i d (omega arith) (and_parts (f lemma) (list_all f lemmas) h).1
+
+all_behind : (f : Lemma → Bool) (lemmas : List Lemma) (n i : ℕ) (d : Lemma) → n ≤ i → i < length lemmas
+    → list_all f (drop n lemmas) ≡ true → f (get_or lemmas i d) ≡ true
+all_behind f lemmas zero i d from below h = all_at f lemmas i d below h
+all_behind f [] (suc n) i d from below h = absurd (omega arith)
+all_behind f (lemma ∷ lemmas) (suc n) zero d from below h = absurd (omega arith)
+all_behind f (lemma ∷ lemmas) (suc n) (suc i) d from below h = all_behind f lemmas n i d (omega arith) (omega arith) h
+
+pub implied_behind : (lemmas : List Lemma) (place other : ℕ) (lemma by : Lemma) → place < other → other < length lemmas
+    → by ≡ get_or lemmas other by → (nat_le lemma.level by.level && is_part by.clause lemma.clause) ≡ true
+    → IsImpliedBehind lemmas place lemma
+implied_behind lemmas place other lemma by behind below is h = λ level state met.
+    let f : Lemma → Bool = λ x. nat_lt x.level level || clause_value (values_of state) x.clause in
+    let parts = and_parts (nat_le lemma.level by.level) (is_part by.clause lemma.clause) h in
+    let there : f by ≡ true = ap f is ∙ all_behind f lemmas (place + 1) other by (omega arith) below met in
+    and_from (f lemma) true (met_by lemma by level state parts.0 parts.1 there) refl
+
+-- a state that meets what follows meets the lemma
+absorbed : (a b c : Bool) → (b ≡ true → (c && true) ≡ true) → (a && b) ≡ (a && (c && b))
+absorbed a true true h = refl
+absorbed a false true h = refl
+absorbed a false false h = refl
+absorbed a true false h = absurd (false≢true (h refl))
+
+pub held_by_later : (lemmas : List Lemma) (i : ℕ) (lemma : Lemma) (begun s : Questions) → i < length lemmas
+    → lemma ≡ get_or lemmas i lemma → IsImpliedBehind lemmas i lemma → IsHeldUpTo lemmas i begun s → IsHeldUpTo lemmas (i + 1) begun s
+held_by_later lemmas i lemma begun s below is implied held = record {
+  kept = held.kept;
+  same =
+      λ level state.
+      let f : Lemma → Bool = λ x. nat_lt x.level level || clause_value (values_of state) x.clause in
+      let rest : drop i lemmas ≡ lemma ∷ drop (i + 1) lemmas =
+      drop_more lemmas i lemma below ∙ ap (λ x. x ∷ drop (i + 1) lemmas) (sym is)
+      in
+      list_all-append f held.kept (drop (i + 1) lemmas)
+      ∙ (absorbed (list_all f held.kept) (list_all f (drop (i + 1) lemmas)) (f lemma) (implied level state)
+      ∙ (ap (λ xs. list_all f held.kept && list_all f xs) (sym rest)
+      ∙ (sym (list_all-append f held.kept (drop i lemmas))
+      ∙ held.same level state)));
+  among = held.among;
+  holds = held.holds;
+}
+
+-- ---- a lemma that comes
+
+over_push : (n : ℕ) (front : List Lemma) (last : Lemma) → AllByRecursion (λ x. IsOver n x.clause) front → IsOver n last.clause
+    → AllByRecursion (λ x. IsOver n x.clause) (front ++ last ∷ [])
+over_push n [] last h over = (over, tt)
+over_push n (lemma ∷ front) last h over = (h.0, over_push n front last h.1 over)
+
+over_parts : (n : ℕ) (front : List Lemma) (last : Lemma) → AllByRecursion (λ x. IsOver n x.clause) (front ++ last ∷ [])
+    → AllByRecursion (λ x. IsOver n x.clause) front × IsOver n last.clause
+over_parts n [] last h = (tt, h.0)
+over_parts n (lemma ∷ front) last h = let rest = over_parts n front last h.1 in ((h.0, rest.0), rest.1)
+
+over_at : (n : ℕ) (lemmas : List Lemma) (i : ℕ) (d : Lemma) → i < length lemmas → AllByRecursion (λ x. IsOver n x.clause) lemmas
+    → IsOver n (get_or lemmas i d).clause
+over_at n [] i d below h = absurd (omega arith)
+over_at n (lemma ∷ lemmas) zero d below h = h.0
+over_at n (lemma ∷ lemmas) (suc i) d below h = over_at n lemmas i d (omega arith) h.1
 
 holds_next : (front : List Lemma) (lemma : Lemma) (old middle new : Questions) → HoldsAll front old middle
     → Holds lemma.level lemma.clause middle new → HoldsAll (front ++ lemma ∷ []) old new
 holds_next front lemma old middle new held one = λ st by over.
-    let parts = front_over (λ x. IsOver (length st.question.circuit.latches) x.clause) front lemma over in
-    let before : Stepping = record { question = st.question; avoid = st.avoid; lemmas = st.lemmas ++ front } in
-    subst (λ xs. IsHeldBy (record { question = st.question; avoid = st.avoid; lemmas = xs }) new)
+    let parts = over_parts (length st.question.circuit.latches) front lemma over in
+    let before : Stepping = keeping st (st.lemmas ++ front) in
+    subst (λ xs. IsHeldBy (keeping st xs) new)
     (append_assoc st.lemmas front (lemma ∷ []))
     (more_held before middle new lemma.level lemma.clause (held st by parts.0) parts.1 one)
 
-pub holds_more : (lemmas : List Lemma) (i : ℕ) (lemma : Lemma) (clause : List Lit) (old middle new : Questions) → i < length lemmas
-    → lemma ≡ get_or lemmas i lemma → clause ≡ lemma.clause → HoldsAll (take i lemmas) old middle → Holds lemma.level clause middle new
-    → HoldsAll (take (i + 1) lemmas) old new
-holds_more lemmas i lemma clause old middle new below is same held one =
-    subst (λ xs. HoldsAll xs old new)
-    (sym (ap (λ n. take n lemmas) (add-one i) ∙ (take-suc lemmas i lemma below ∙ ap (λ x. take i lemmas ++ x ∷ []) (sym is))))
-    (holds_next (take i lemmas) lemma old middle new held (subst (λ x. Holds lemma.level x middle new) same one))
+pub held_by_itself : (lemmas : List Lemma) (i : ℕ) (lemma : Lemma) (clause : List Lit) (begun old new : Questions) → i < length lemmas
+    → lemma ≡ get_or lemmas i lemma → clause ≡ lemma.clause → Holds lemma.level clause old new
+    → IsHeldUpTo lemmas i begun old → IsHeldUpTo lemmas (i + 1) begun new
+held_by_itself lemmas i lemma clause begun old new below is there one held = record {
+  kept = held.kept ++ lemma ∷ [];
+  same =
+      λ level state.
+      let rest : drop i lemmas ≡ lemma ∷ drop (i + 1) lemmas =
+      drop_more lemmas i lemma below ∙ ap (λ x. x ∷ drop (i + 1) lemmas) (sym is)
+      in
+      ap (λ xs. meets_from xs level state) (append_assoc held.kept (lemma ∷ []) (drop (i + 1) lemmas))
+      ∙ (ap (λ xs. meets_from (held.kept ++ xs) level state) (sym rest)
+      ∙ held.same level state);
+  among =
+      λ n over.
+      over_push n held.kept lemma (held.among n over)
+      (subst (λ x. IsOver n x.clause) (sym is) (over_at n lemmas i lemma below over));
+  holds = holds_next held.kept lemma begun old new held.holds (subst (λ x. Holds lemma.level x old new) there one);
+}
 
-pub holds_whole : (lemmas : List Lemma) (i : ℕ) (old new : Questions) → length lemmas ≤ i → HoldsAll (take i lemmas) old new
+-- ---- behind the last
+
+over_both : (n : ℕ) (front back : List Lemma) → AllByRecursion (λ x. IsOver n x.clause) front → AllByRecursion (λ x. IsOver n x.clause) back
+    → AllByRecursion (λ x. IsOver n x.clause) (front ++ back)
+over_both n [] back h over = over
+over_both n (lemma ∷ front) back h over = (h.0, over_both n front back h.1 over)
+
+-- other lemmas that say the same
+held_as : (st : Stepping) (lemmas : List Lemma) (s : Questions) → IsHeldBy st s → SayTheSame st.lemmas lemmas
+    → AllByRecursion (λ lemma. IsOver (length st.question.circuit.latches) lemma.clause) lemmas → IsHeldBy (keeping st lemmas) s
+held_as st lemmas s by same over = record {
+  kept = by.kept;
+  same = λ level state. by.same level state ∙ same level state;
+  checked = by.checked;
+  law = by.law;
+  good = by.good;
+  here = by.here;
+  next = by.next;
+  free = by.free;
+  levels = by.levels;
+  over = by.over;
+  lemmas = over;
+  avoid = by.avoid;
+  retires = by.retires;
+}
+
+pub held_up_to_last : (lemmas : List Lemma) (i : ℕ) (old new : Questions) → length lemmas ≤ i → IsHeldUpTo lemmas i old new
     → HoldsAll lemmas old new
-holds_whole lemmas i old new past held = subst (λ xs. HoldsAll xs old new) (take_all i lemmas past) held
+held_up_to_last lemmas i old new past held = λ st by over.
+    let none : held.kept ++ drop i lemmas ≡ held.kept = ap (λ xs. held.kept ++ xs) (drop_all i lemmas past) ∙ append-nil held.kept in
+    held_as (keeping st (st.lemmas ++ held.kept)) (st.lemmas ++ lemmas) new
+    (held.holds st by (held.among (length st.question.circuit.latches) over))
+    (λ level state.
+    let f : Lemma → Bool = λ x. nat_lt x.level level || clause_value (values_of state) x.clause in
+    let kept : list_all f held.kept ≡ list_all f lemmas = ap (list_all f) (sym none) ∙ held.same level state in
+    list_all-append f st.lemmas held.kept
+    ∙ (ap (λ b. list_all f st.lemmas && b) kept
+    ∙ sym (list_all-append f st.lemmas lemmas)))
+    (over_both (length st.question.circuit.latches) st.lemmas lemmas by.lemmas over)
 
 -- a new solver with all lemmas, whatever its count of questions is
 pub renewed_held : (st : Stepping) (base : List (List Lit)) (old made full new : Questions) → IsHeldWith st base old

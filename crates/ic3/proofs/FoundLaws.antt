@@ -18,7 +18,7 @@ use Rattle.cnf_unroll.proofs.BlockWriting.{Shows}
 use Rattle.cnf_unroll.proofs.ObligationLaws.{state_length, successor_length}
 use Rattle.ic3_semantics.specs.Stepping.{Stepping, meets_from, IsArenaStep, EntersFrom, IsPredecessor, IsMissing, IsOver}
 use Rattle.ic3_questions.specs.SteppingClauses.{base_clauses, level_guard, question_guard, guarded, denied_at, lemma_clause, avoid_clause, held_clauses, AreBelow, IsOn, AreAssumed, part_at}
-use Rattle.ic3.specs.SteppingInside.{IsHeldBy, IsWhole, ModelInto, CoreInto, question_clause}
+use Rattle.ic3.specs.SteppingInside.{keeping, IsHeldBy, IsWhole, ModelInto, CoreInto, question_clause}
 use Rattle.ic3_semantics.specs.declared.lemmas.Lemma.{Lemma}
 use Rattle.ic3.specs.declared.stepping_questions.Questions.{Questions}
 use Rattle.ic3_questions.proofs.BaseLaws.{base_read, base_written}
@@ -216,7 +216,7 @@ step_read st s level v by whole h guard =
     let c = st.question.circuit in
     let place = state_place st.question.circuit 0 in
     let avoids = map (avoid_clause (state_place st.question.circuit 0) s.free) st.avoid in
-    let lemmas = map (lemma_clause (state_place st.question.circuit 0) s.free) st.lemmas in
+    let lemmas = map (lemma_clause (state_place st.question.circuit 0) s.free) by.kept in
     let held = by.retires.fewer v (together v (base_clauses st.question) s.solver.added (whole v h) h) in
     let parts = both v (base_clauses st.question ++ avoids) lemmas held in
     let front = both v (base_clauses st.question) avoids parts.0 in
@@ -224,7 +224,9 @@ step_read st s level v by whole h guard =
     record {
       step = read.step;
       next = read.next;
-      frame = lemmas_read v place (length c.latches) s.free level s.levels st.lemmas (state_length c 0) by.levels by.lemmas guard parts.1;
+      frame =
+          sym (by.same level (map v (state_place st.question.circuit 0)))
+          ∙ lemmas_read v place (length c.latches) s.free level s.levels by.kept (state_length c 0) by.levels by.over guard parts.1;
       block = read.block;
       avoided = front.1;
     }
@@ -259,11 +261,12 @@ step_written st s level number p by step frame other avoids =
     let levels : (k : ℕ) → v (level_guard s.free k) ≡ not (nat_lt k level) = level_value v lv qs s.free guard in
     let questions : (t : ℕ) → v (question_guard s.free t) ≡ (t == number) = question_value v lv qs s.free guard in
     let avoided = map (avoid_clause (state_place st.question.circuit 0) s.free) st.avoid in
-    let lemmas = map (lemma_clause (state_place st.question.circuit 0) s.free) st.lemmas in
-    let held : clauses_value v (held_clauses st s.free) ≡ true =
+    let lemmas = map (lemma_clause (state_place st.question.circuit 0) s.free) by.kept in
+    let held : clauses_value v (held_clauses (keeping st by.kept) s.free) ≡ true =
     together v (base_clauses st.question ++ avoided) lemmas
     (together v (base_clauses st.question) avoided w.base (avoids v w.here (questions 0)))
-    (lemmas_written v place (length c.latches) s.free level st.lemmas (state_length c 0) by.lemmas levels (ap (meets_from st.lemmas level) w.here ∙ frame))
+    (lemmas_written v place (length c.latches) s.free level by.kept (state_length c 0) by.over levels
+    (ap (meets_from by.kept level) w.here ∙ (by.same level p.latches ∙ frame)))
     in
     record {
       value = v;

@@ -1,9 +1,11 @@
 -- What the solver of a search keeps, from call to call, and what its calls tell.
-use Rattle.std.proofs.Common.{◌≡◌, ℕ, ◌<◌, ◌≤◌, List, [], ◌∷◌, ◌++◌, map, length, Option, Some, None, Result, Ok, Err, IfOk, refl, sym, ap, subst, ◌∙◌, inl, inr, arith, append-nil, append_assoc}
-use Rattle.std.specs.List.{AllByRecursion}
+use Rattle.std.proofs.Common.{◌≡◌, ℕ, ◌<◌, ◌≤◌, ◌&&◌, ◌||◌, nat_lt, Bool, List, [], ◌∷◌, ◌++◌, map, length, Option, Some, None, Result, Ok, Err, IfOk, refl, sym, ap, subst, ◌∙◌, inl, inr, arith, append-nil, append_assoc}
+use Rattle.std.specs.List.{AllByRecursion, list_all}
+use Rattle.std.proofs.lemmas.List.Folds.{list_all-append}
 use Rattle.aig_semantics.specs.declared.traces.Position.{Position}
 use Rattle.aig_semantics.specs.Circuits.{IsChecked}
 use Rattle.proof_semantics.specs.declared.literals.Lit.{Lit}
+use Rattle.proof_semantics.specs.Clauses.{clause_value, values_of}
 use Rattle.edge.specs.declared.solve_end.SolveEnd.{SolveEnd}
 use Rattle.cnf_unroll.specs.Numbers.{state_place, successor_place, clause_at_place, literal_in_block}
 use Rattle.cnf_unroll.specs.Laws.{AreOver}
@@ -11,7 +13,7 @@ use Rattle.entry.specs.Laws.{IsGoodList}
 use Rattle.ic3_semantics.specs.Searching.{Question}
 use Rattle.ic3_semantics.specs.Stepping.{Stepping, no_lemmas, with_lemma, IsOver, IsPredecessor, IsMissing, IsFound, MeetsFrom, IsGoalFound}
 use Rattle.ic3_questions.specs.SteppingClauses.{base_clauses, first_guard, level_guard, guarded, avoid_clause, lemma_clause, held_clauses, Retires, AreBelow}
-use Rattle.ic3.specs.SteppingInside.{HasOneValuation, IsHeldBy, IsHeldWith, KeepsNumbers, Keeps, Grows, IsWhole, Holds, MayHold, TellsInto, TellsGoal, TellsLiteral}
+use Rattle.ic3.specs.SteppingInside.{HasOneValuation, SayTheSame, keeping, IsHeldBy, IsHeldWith, KeepsNumbers, Keeps, Grows, IsWhole, Holds, MayHold, TellsInto, TellsGoal, TellsLiteral}
 use Rattle.ic3_semantics.specs.declared.lemmas.Lemma.{Lemma}
 use Rattle.ic3_semantics.specs.declared.found.Found.{Found}
 use Rattle.ic3_semantics.specs.declared.found.Found.TheVariants.{Step, Missing}
@@ -44,6 +46,8 @@ pub begun_held : (q : Question) (avoid front : List (List Lit)) (s : Questions) 
 begun_held q avoid front s checked law good over here next free grows added =
     let avoids : List (List Lit) = map (avoid_clause (state_place q.circuit 0) s.free) avoid in
     record {
+      kept = [];
+      same = λ level state. refl;
       checked = checked;
       law = law;
       good = good;
@@ -51,6 +55,7 @@ begun_held q avoid front s checked law good over here next free grows added =
       next = next;
       free = free;
       levels = tt;
+      over = tt;
       lemmas = tt;
       avoid = over;
       retires =
@@ -74,37 +79,43 @@ retires_grown base old new held free asked grows r = record {
 pub grown_held : (st : Stepping) (old new : Questions) → IsHeldBy st old → KeepsNumbers old new → new.asked ≡ old.asked
     → Grows (base_clauses st.question) old.solver.added new.solver.added → IsHeldBy st new
 grown_held st old new by numbers asked grows = record {
+  kept = by.kept;
+  same = by.same;
   checked = by.checked;
   law = by.law;
   good = by.good;
   here = numbers.here ∙ by.here;
   next = numbers.next ∙ by.next;
   free = numbers.free ∙ by.free;
-  levels = subst (λ n. AreBelow n st.lemmas) (sym numbers.levels) by.levels;
+  levels = subst (λ n. AreBelow n by.kept) (sym numbers.levels) by.levels;
+  over = by.over;
   lemmas = by.lemmas;
   avoid = by.avoid;
   retires =
-      subst (λ f. Retires (base_clauses st.question ++ new.solver.added) (held_clauses st f) f new.asked) (sym numbers.free)
-      (subst (λ n. Retires (base_clauses st.question ++ new.solver.added) (held_clauses st old.free) old.free n) (sym asked)
-      (retires_grown (base_clauses st.question) old.solver.added new.solver.added (held_clauses st old.free) old.free old.asked grows by.retires));
+      subst (λ f. Retires (base_clauses st.question ++ new.solver.added) (held_clauses (keeping st by.kept) f) f new.asked) (sym numbers.free)
+      (subst (λ n. Retires (base_clauses st.question ++ new.solver.added) (held_clauses (keeping st by.kept) old.free) old.free n) (sym asked)
+      (retires_grown (base_clauses st.question) old.solver.added new.solver.added (held_clauses (keeping st by.kept) old.free) old.free old.asked grows by.retires));
 }
 
 -- ---- after a question
 
 pub still_held : (st : Stepping) (old new : Questions) → IsHeldBy st old → Keeps old new → IsHeldBy st new
 still_held st old new by keeps = record {
+  kept = by.kept;
+  same = by.same;
   checked = by.checked;
   law = by.law;
   good = by.good;
   here = keeps.numbers.here ∙ by.here;
   next = keeps.numbers.next ∙ by.next;
   free = keeps.numbers.free ∙ by.free;
-  levels = subst (λ n. AreBelow n st.lemmas) (sym keeps.numbers.levels) by.levels;
+  levels = subst (λ n. AreBelow n by.kept) (sym keeps.numbers.levels) by.levels;
+  over = by.over;
   lemmas = by.lemmas;
   avoid = by.avoid;
   retires =
-      keeps.retires (base_clauses st.question) (held_clauses st new.free)
-      (subst (λ f. Retires (base_clauses st.question ++ old.solver.added) (held_clauses st f) old.free old.asked) (sym keeps.numbers.free)
+      keeps.retires (base_clauses st.question) (held_clauses (keeping st by.kept) new.free)
+      (subst (λ f. Retires (base_clauses st.question ++ old.solver.added) (held_clauses (keeping st by.kept) f) old.free old.asked) (sym keeps.numbers.free)
       by.retires);
 }
 
@@ -148,35 +159,45 @@ held_more st free level clause =
     ap (λ xs. front ++ xs) (map_push place free st.lemmas lemma)
     ∙ sym (append_assoc front (map (lemma_clause (state_place st.question.circuit 0) free) st.lemmas) (lemma_clause place free lemma ∷ []))
 
+same_more : (these those : List Lemma) (lemma : Lemma) → SayTheSame these those → SayTheSame (these ++ lemma ∷ []) (those ++ lemma ∷ [])
+same_more these those lemma same = λ level state.
+    let f : Lemma → Bool = λ x. nat_lt x.level level || clause_value (values_of state) x.clause in
+    list_all-append f these (lemma ∷ [])
+    ∙ (ap (λ b. b && list_all f (lemma ∷ [])) (same level state)
+    ∙ sym (list_all-append f those (lemma ∷ [])))
+
 pub more_held : (st : Stepping) (old new : Questions) (level : ℕ) (clause : List Lit) → IsHeldBy st old
     → IsOver (length st.question.circuit.latches) clause → Holds level clause old new → IsHeldBy (with_lemma st level clause) new
 more_held st old new level clause by over h =
     let lemma : Lemma = record { level = level; clause = clause } in
-    let place : List ℕ = state_place st.question.circuit 0 in
+    let few : Stepping = keeping st by.kept in
     let added : new.solver.added ≡ old.solver.added ++ guarded (level_guard old.free level) (clause_at_place (state_place st.question.circuit 0) clause) ∷ [] =
     h.added ∙ ap (λ here. old.solver.added ++ guarded (level_guard old.free level) (clause_at_place here clause) ∷ []) by.here
     in
     let held : List Lit = guarded (level_guard old.free level) (clause_at_place (state_place st.question.circuit 0) clause) in
     let base : List (List Lit) = base_clauses st.question in
-    let more : Retires (base_clauses st.question ++ new.solver.added) (held_clauses (with_lemma st level clause) old.free) old.free old.asked =
-    subst (λ cs. Retires (base ++ cs) (held_clauses (with_lemma st level clause) old.free) old.free old.asked) (sym added)
-    (behind base old.solver.added (held ∷ []) (held_clauses (with_lemma st level clause) old.free) old.free old.asked
-    (subst (λ all. Retires ((base ++ old.solver.added) ++ held ∷ []) all old.free old.asked) (sym (held_more st old.free level clause))
-    (retires_more (base ++ old.solver.added) (held_clauses st old.free) (held ∷ []) old.free old.asked by.retires)))
+    let more : Retires (base_clauses st.question ++ new.solver.added) (held_clauses (with_lemma few level clause) old.free) old.free old.asked =
+    subst (λ cs. Retires (base ++ cs) (held_clauses (with_lemma few level clause) old.free) old.free old.asked) (sym added)
+    (behind base old.solver.added (held ∷ []) (held_clauses (with_lemma few level clause) old.free) old.free old.asked
+    (subst (λ all. Retires ((base ++ old.solver.added) ++ held ∷ []) all old.free old.asked) (sym (held_more few old.free level clause))
+    (retires_more (base ++ old.solver.added) (held_clauses few old.free) (held ∷ []) old.free old.asked by.retires)))
     in
     record {
+      kept = by.kept ++ lemma ∷ [];
+      same = same_more by.kept st.lemmas lemma by.same;
       checked = by.checked;
       law = by.law;
       good = by.good;
       here = h.here ∙ by.here;
       next = h.next ∙ by.next;
       free = h.free ∙ by.free;
-      levels = all_push (λ x. x.level < new.levels) st.lemmas lemma (all_below old.levels new.levels h.levels st.lemmas by.levels) h.below;
+      levels = all_push (λ x. x.level < new.levels) by.kept lemma (all_below old.levels new.levels h.levels by.kept by.levels) h.below;
+      over = all_push (λ x. IsOver (length st.question.circuit.latches) x.clause) by.kept lemma by.over over;
       lemmas = all_push (λ x. IsOver (length st.question.circuit.latches) x.clause) st.lemmas lemma by.lemmas over;
       avoid = by.avoid;
       retires =
-          subst (λ n. Retires (base_clauses st.question ++ new.solver.added) (held_clauses (with_lemma st level clause) new.free) new.free n) (sym h.asked)
-          (subst (λ f. Retires (base_clauses st.question ++ new.solver.added) (held_clauses (with_lemma st level clause) f) f old.asked) (sym h.free) more);
+          subst (λ n. Retires (base_clauses st.question ++ new.solver.added) (held_clauses (with_lemma few level clause) new.free) new.free n) (sym h.asked)
+          (subst (λ f. Retires (base_clauses st.question ++ new.solver.added) (held_clauses (with_lemma few level clause) f) f old.asked) (sym h.free) more);
     }
 
 pub may_held : (st : Stepping) (old new : Questions) (level : ℕ) (clause : List Lit) (lemmas : List Lemma) → IsHeldBy st old

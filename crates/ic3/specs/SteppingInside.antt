@@ -29,19 +29,30 @@ HasOneValuation c =
     (latches inputs values : List Bool) → length latches ≡ length c.latches → length inputs ≡ length c.inputs
     → (IsValuation c latches inputs values ↔ (values ≡ valuation c latches inputs))
 
+-- a state meets these lemmas from a level on exactly where it meets those
+abbrev pub SayTheSame : List Lemma → List Lemma → Type 0
+SayTheSame these those = (level : ℕ) (state : List Bool) → meets_from these level state ≡ meets_from those level state
+
+-- other lemmas in the place of all
+abbrev pub keeping : Stepping → List Lemma → Stepping
+keeping st lemmas = record { question = st.question; avoid = st.avoid; lemmas = lemmas }
+
 -- The numbers are those of this solver of a search, and so are the clauses, together with those of the base, of which the
--- solver has a part.
+-- solver has a part. Of the lemmas it has the clauses of those that are kept, which say what all say.
 pub record IsHeldBy (st : Stepping) (s : Questions) : Type 0 where
+  pub kept : List Lemma
+  pub same : SayTheSame kept st.lemmas
   pub checked : IsChecked st.question.circuit
   pub law : HasOneValuation st.question.circuit
   pub good : IsGoodList st.question.circuit st.question.view
   pub here : s.here ≡ state_place st.question.circuit 0
   pub next : s.next ≡ successor_place st.question.circuit 0
   pub free : s.free ≡ first_guard st.question
-  pub levels : AreBelow s.levels st.lemmas
+  pub levels : AreBelow s.levels kept
+  pub over : AllByRecursion (λ lemma. IsOver (length st.question.circuit.latches) lemma.clause) kept
   pub lemmas : AllByRecursion (λ lemma. IsOver (length st.question.circuit.latches) lemma.clause) st.lemmas
   pub avoid : AreOver (length st.question.circuit.latches) st.avoid
-  pub retires : Retires (base_clauses st.question ++ s.solver.added) (held_clauses st s.free) s.free s.asked
+  pub retires : Retires (base_clauses st.question ++ s.solver.added) (held_clauses (keeping st kept) s.free) s.free s.asked
 
 -- These are all clauses of the base, and those of the solver.
 pub record IsHeldWith (st : Stepping) (base : List (List Lit)) (s : Questions) : Type 0 where

@@ -1,11 +1,13 @@
-//! A solver that many questions were asked is made anew: it gets the clauses of all lemmas, and none of those that guards
-//! of old questions switched off. The main calls are `is_old` and `renewed`.
-ghost use Rattle.std.specs.Prelude.{IfOk, OnOk};
+//! A solver that many questions were asked is made anew: it gets the clauses of all lemmas that no later one implies, and
+//! none of those that guards of old questions switched off. The main calls are `is_old` and `renewed`.
+ghost use Rattle.std.specs.Prelude.{◌+◌, ◌<◌, length, IfOk, OnOk};
 ghost use Rattle.entry.specs.CheckedEntries.{viewed};
 ghost use Rattle.ic3.specs.SteppingInside.{IsHeldWith};
-ghost use Rattle.ic3.specs.SteppingStart.{HoldsAll, stepping_of};
+ghost use Rattle.ic3.specs.SteppingStart.{HoldsAll, IsHeldUpTo, stepping_of};
+ghost use Rattle.ic3.specs.declared.stepping_questions.Questions.{Questions};
 
 use crate::cone::Cone;
+use crate::standing_in::{stand_ins, stands_in};
 use crate::stepping_questions::{Questions, hold_clause};
 use crate::stepping_start::questions_of;
 use circuit::Circuit;
@@ -27,12 +29,34 @@ pub(crate) fn is_old(s: &Questions, cone: &Cone, lemmas: usize) -> bool {
             .saturating_add(lemmas as u64)
 }
 
-// Adds the clauses of lemmas.
+// Adds the clause of the lemma at a place, but where the other one stands in for it.
+fn hold_at(
+    alloc: Global,
+    lemmas: &[Lemma],
+    place: usize,
+    other: usize,
+    s: &mut Questions,
+) -> Result<(), AllocError>
+    requires { place < length lemmas.now }
+    ensures { OnOk result ((begun : Questions) → IsHeldUpTo lemmas.now place begun s.old
+        → IsHeldUpTo lemmas.now (place + 1) begun s.new) }
+{
+    let lemma = &lemmas[place];
+    if stands_in(lemmas, place, lemma, other) {
+        return Ok(());
+    }
+    hold_clause(alloc, s, lemma.level, lemma.clause.as_slice())?;
+    Ok(())
+}
+
+// Adds the clauses of lemmas, but of those that a later one implies.
 fn hold_all(alloc: Global, lemmas: &[Lemma], s: &mut Questions) -> Result<(), AllocError>
     ensures { OnOk result (HoldsAll lemmas.now s.old s.new) }
 {
-    for lemma in lemmas {
-        hold_clause(alloc, s, lemma.level, lemma.clause.as_slice())?;
+    let mut others = stand_ins(alloc, lemmas, s.here.len())?;
+    for place in 0..lemmas.len() {
+        let other = others.pop().unwrap_or(place);
+        hold_at(alloc, lemmas, place, other, s)?;
     }
     Ok(())
 }

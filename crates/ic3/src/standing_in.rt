@@ -1,0 +1,142 @@
+//! Which lemmas need no clause in a new solver: those that a later one implies. The main calls are `stand_ins`, which
+//! chooses and has no contract, and `stands_in`, which judges what was chosen.
+ghost use Rattle.std.specs.Prelude.{◌≡◌, ◌<◌, ◌&&◌, true, nat_le, length};
+ghost use Rattle.proof_semantics.specs.Clauses.{is_part};
+ghost use Rattle.ic3.specs.SteppingStart.{IsImpliedBehind};
+
+use cnf::{Lit, subset};
+use ic3_semantics::Lemma;
+use std::alloc::{AllocError, Global};
+
+// A lemma that nothing stands in for: its place, and marks of its literals. Clauses whose literals are among those of
+// another have no other marks.
+#[derive(Drop)]
+struct Kept {
+    place: usize,
+    marks: u64,
+}
+
+fn number_of(literal: Lit) -> usize {
+    let twice = (literal.var as usize).saturating_mul(2);
+    if literal.positive {
+        twice
+    } else {
+        twice.saturating_add(1)
+    }
+}
+
+fn marks_of(clause: &[Lit]) -> u64 {
+    let mut marks = 0;
+    for literal in clause {
+        marks |= 1_u64 << (number_of(*literal) % 64);
+    }
+    marks
+}
+
+fn no_lists(alloc: Global, count: usize) -> Result<Vec<Vec<Kept>>, AllocError> {
+    let mut lists = Vec::new(alloc);
+    for _ in 0..count {
+        lists.push(Vec::new(alloc))?;
+    }
+    Ok(lists)
+}
+
+// How many lemmas are listed by the literal.
+fn listed(lists: &[Vec<Kept>], literal: usize) -> usize {
+    match lists.get(literal) {
+        Some(list) => list.len(),
+        None => usize::MAX,
+    }
+}
+
+// The literal of the clause by which the fewest are listed.
+fn rarest(lists: &[Vec<Kept>], clause: &[Lit]) -> usize {
+    let mut best = 0;
+    let mut least = usize::MAX;
+    for literal in clause {
+        let number = number_of(*literal);
+        let count = listed(lists, number);
+        if count < least {
+            least = count;
+            best = number;
+        }
+    }
+    best
+}
+
+fn list(lists: &mut [Vec<Kept>], literal: usize, kept: Kept) -> Result<(), AllocError> {
+    if let Some(list) = lists.get_mut(literal) {
+        list.push(kept)?;
+    }
+    Ok(())
+}
+
+// The place of a listed lemma that implies this one, if there is one.
+fn found_in(list: &[Kept], lemmas: &[Lemma], lemma: &Lemma, marks: u64) -> Option<usize> {
+    for kept in list {
+        if kept.marks & !marks == 0
+            && kept.place < lemmas.len()
+            && implies(&lemmas[kept.place], lemma)
+        {
+            return Some(kept.place);
+        }
+    }
+    None
+}
+
+fn found(lists: &[Vec<Kept>], lemmas: &[Lemma], lemma: &Lemma, marks: u64) -> Option<usize> {
+    for literal in lemma.clause.as_slice() {
+        if let Some(list) = lists.get(number_of(*literal)) {
+            if let Some(place) = found_in(list.as_slice(), lemmas, lemma, marks) {
+                return Some(place);
+            }
+        }
+    }
+    None
+}
+
+// What is found for the lemma at a place, which is listed where nothing is.
+fn stand_in(lists: &mut [Vec<Kept>], lemmas: &[Lemma], place: usize) -> Result<usize, AllocError>
+    requires { place < length lemmas.now }
+{
+    let lemma = &lemmas[place];
+    let marks = marks_of(lemma.clause.as_slice());
+    match found(lists, lemmas, lemma, marks) {
+        Some(other) => Ok(other),
+        None => {
+            let literal = rarest(lists, lemma.clause.as_slice());
+            list(lists, literal, Kept { place, marks })?;
+            Ok(place)
+        }
+    }
+}
+
+/// For each lemma, the last first, the place of a later one that implies it, or its own. The lemmas are over so many latches.
+pub(crate) fn stand_ins(
+    alloc: Global,
+    lemmas: &[Lemma],
+    latches: usize,
+) -> Result<Vec<usize>, AllocError> {
+    let mut lists = no_lists(alloc, latches.saturating_mul(2))?;
+    let mut places = Vec::new(alloc);
+    for place in (0..lemmas.len()).rev() {
+        places.push(stand_in(&mut lists, lemmas, place)?)?;
+    }
+    Ok(places)
+}
+
+fn implies(by: &Lemma, lemma: &Lemma) -> bool
+    ensures { result ≡ (nat_le lemma.now.level by.now.level && is_part by.now.clause lemma.now.clause) }
+{
+    lemma.level <= by.level && subset(&by.clause, &lemma.clause)
+}
+
+/// Whether the other lemma is one behind this place and implies the lemma.
+pub(crate) fn stands_in(lemmas: &[Lemma], place: usize, lemma: &Lemma, other: usize) -> bool
+    ensures { result ≡ true → IsImpliedBehind lemmas.now place lemma.now }
+{
+    if other <= place || lemmas.len() <= other {
+        return false;
+    }
+    implies(&lemmas[other], lemma)
+}
