@@ -10,6 +10,9 @@ ghost use Rattle.cdcl_trail.specs.Looking.{LookSays, IsReplacement};
 use crate::assignment::Assignment;
 use packed_literals::Packed;
 
+/// A clause of more literals is looked at from its last literal on.
+const LONG: usize = 32;
+
 /// A further literal can be watched in place of the false one; the other watched one is forced; or
 /// the clause is false.
 #[derive(Clone, Copy)]
@@ -40,8 +43,8 @@ pub(crate) fn look(
     }
 }
 
-// The last literal but `other` that is not false. A clause of two literals has none, and is not
-// read.
+// A literal but `other` that is not false: the first one, or in a long clause the last one. A clause of
+// two literals has none, and is not read.
 fn further(
     assignment: &Assignment,
     clause: &[Packed],
@@ -56,12 +59,31 @@ fn further(
     if clause.len() == 2 {
         return None;
     }
-    replacement(assignment, clause, other)
+    if clause.len() > LONG {
+        return last_replacement(assignment, clause, other);
+    }
+    first_replacement(assignment, clause, other)
 }
 
-// The last literal but `other` that is not false. Those that became false first stand in front of
-// learned clauses.
-fn replacement(assignment: &Assignment, clause: &[Packed], other: Packed) -> Option<Packed>
+// The first literal but `other` that is not false.
+fn first_replacement(assignment: &Assignment, clause: &[Packed], other: Packed) -> Option<Packed>
+    ensures none { IfNone result (list_all (λ b. lit_eq other b || is_false assignment.now.steps b) clause.now ≡ true) }
+    ensures some { IfSome result (λ a. IsReplacement assignment.now.steps clause.now other a) }
+{
+    for literal in clause {
+        if other.is(*literal) {
+            continue;
+        }
+        if is_false(assignment, *literal) {
+            continue;
+        }
+        return Some(*literal);
+    }
+    None
+}
+
+// The last such literal: a learned clause has those in front that became false first.
+fn last_replacement(assignment: &Assignment, clause: &[Packed], other: Packed) -> Option<Packed>
     ensures none { IfNone result (list_all (λ b. lit_eq other b || is_false assignment.now.steps b) clause.now ≡ true) }
     ensures some { IfSome result (λ a. IsReplacement assignment.now.steps clause.now other a) }
 {

@@ -2,7 +2,7 @@ use Rattle.std.proofs.Common.{◌≡◌, ◌≤◌, ◌||◌, true, drop, length
 use Rattle.std.specs.List.{list_all}
 use Rattle.proof_semantics.specs.Clauses.{lit_eq}
 use Rattle.cdcl_trail.specs.Propagation.{is_false}
-use Rattle.cdcl_trail.proofs.looking.replacement.Given as goal
+use Rattle.cdcl_trail.proofs.looking.last_replacement.Given as goal
 
 -- the literals behind the place are the other one, or false
 abbrev pub invariant-places : goal.invariant-places

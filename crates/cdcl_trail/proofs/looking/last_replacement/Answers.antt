@@ -3,7 +3,7 @@ use Rattle.proof_semantics.specs.Clauses.{lit_eq, has_literal}
 use Rattle.proof_semantics.specs.declared.literals.Lit.{Lit}
 use Rattle.cdcl_trail.specs.Propagation.{is_false}
 use Rattle.cdcl_trail.proofs.VisitLaws.{has_at, all_behind, replaces}
-use Rattle.cdcl_trail.proofs.looking.replacement.Goals as goal
+use Rattle.cdcl_trail.proofs.looking.last_replacement.Goals as goal
 
 pub places-preserved : goal.places-preserved
 places-preserved c =
