@@ -1,6 +1,8 @@
 -- Scaffolding of inner functions. What a round is over.
-use Rattle.std.specs.Prelude.{◌≡◌, ◌<◌, ◌^◌, List, length}
+use Rattle.std.specs.Prelude.{◌≡◌, ◌<◌, ◌+◌, ◌^◌, max, List, length}
 use Rattle.std.specs.List.{All}
+use Rattle.aig_semantics.specs.Circuits.{fair_literals}
+use Rattle.edge.specs.Units.{Spendings}
 use Rattle.proof_semantics.specs.declared.literals.Lit.{Lit}
 use Rattle.entry.specs.CheckedEntries.{viewed, GoesOnFrom}
 use Rattle.entry.specs.Laws.{IsGoodList}
@@ -8,6 +10,7 @@ use Rattle.fair_semantics.specs.declared.skeletons.Skeleton.{Skeleton}
 use Rattle.fair_semantics.specs.Entries.{Entry}
 use Rattle.skeleton.specs.Finding.{Asking, IsAllowed, BeginsNone}
 use Rattle.fair_round.specs.declared.scope.Scope.{Scope}
+use Rattle.fair_round.specs.Spending.{Asks}
 
 -- the entries of the scope
 abbrev pub entries_of : Scope → List Entry
@@ -35,3 +38,7 @@ IsAllowedIn s skeleton = IsAllowed s.circuit.now s.property (entries_of s) skele
 -- in these cubes no skeleton begins that the entries allow
 abbrev pub AreAvoided : Scope → List (List Lit) → Type 0
 AreAvoided s cubes = All (BeginsNone s.circuit.now s.property (entries_of s)) cubes
+
+-- at most the steps of a search for a path for each situation of a skeleton, and of one more, were counted
+abbrev pub AsksRound : Scope → Spendings → Spendings → Type 0
+AsksRound s old new = Asks (length s.circuit.now.latches) (max 1 (length (fair_literals s.circuit.now s.property)) + 1) old new

@@ -16,6 +16,7 @@ use Rattle.fair_semantics.specs.Skeletons.{excludes}
 use Rattle.fair_semantics.specs.Validity.{IsValid}
 use Rattle.lasso_join.specs.Fitting.{LeadsTo, IsStemTo}
 use Rattle.skeleton.specs.Finding.{IsAllowed}
+use Rattle.fair_round.specs.declared.scope.Scope.{Scope}
 use Rattle.fair_round.specs.declared.ways.Bar.{Bar}
 use Rattle.fair_round.specs.declared.ways.Way.{Way}
 use Rattle.fair_round.specs.declared.ways.Way.TheVariants as ways
@@ -25,6 +26,7 @@ use Rattle.fair_round.specs.declared.walking.Walked.{Walked}
 use Rattle.fair_round.specs.declared.walking.Walked.TheVariants as walks
 use Rattle.fair_round.specs.declared.seeking.Sought.{Sought}
 use Rattle.fair_round.specs.declared.seeking.Sought.TheVariants as soughts
+use Rattle.fair_round.specs.Scopes.{entries_of}
 
 abbrev pub entry_of_bar : Bar → Entry
 entry_of_bar bar = record { kind = bar.kind; clauses = bar.clauses; uses = bar.uses }
@@ -105,3 +107,11 @@ abbrev pub IsSought : Circuit → List Entry → ℕ → Sought → Type 0
 IsSought c view j (soughts.Lasso lasso) = IsFairLassoOf c j lasso
 IsSought c view j (soughts.Barred bar skeleton) =
     IsAllowed c j view skeleton × Excludes c view (entry_of_bar bar) skeleton
+
+-- the same over a scope
+abbrev pub IsSoughtIn : Scope → Sought → Type 0
+IsSoughtIn s sought = IsSought s.circuit.now (entries_of s) s.property sought
+
+-- over a scope: an entry that excludes the skeleton of these situations
+abbrev pub IsBarIn : Scope → List Situation → Bar → Type 0
+IsBarIn s situations bar = Excludes s.circuit.now (entries_of s) (entry_of_bar bar) (skeleton_of situations)

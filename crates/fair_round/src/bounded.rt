@@ -5,39 +5,22 @@ ghost use Rattle.aig_semantics.specs.Stimuli.{IsFairLassoOf};
 ghost use Rattle.edge.specs.Ends.{CountsConflicts};
 ghost use Rattle.fair_round.specs.Spending.{IsStop};
 
-use crate::seeking::work_of;
 use crate::stopping::{Stop, solver_stop};
 use circuit::{Circuit, Lasso};
 use edge::Meter;
 use lasso_bmc::{ConeSearch, deepen_cone};
+use round_choices::{Expense, Size, charge, is_due, no_expense};
 use std::alloc::{AllocError, Global};
 use std::mem;
 
 /// How many positions are asked for behind one another, at most.
 const MOST_AT_ONCE: u32 = 64;
 
-/// How much all positions may weigh.
-const MOST_WEIGHT: u64 = 500_000;
-
-/// What a latch weighs at a position, where a gate weighs 1: the state is compared with that of each position.
-const LATCH_WEIGHT: u64 = 5;
-
-/// What the search may cost before the first round, for each latch of the cone.
-const COST_PER_LATCH: u64 = 400;
-
-/// What it may cost for each conflict and step that rounds have counted: a tenth of what a conflict costs.
-const COST_PER_WORK: u64 = 10;
-
-/// What a conflict costs. A question costs what its positions weigh, beside its conflicts.
-const COST_PER_CONFLICT: u64 = 100;
-
-/// A bounded search, and what it has cost; and what the meter had counted when it was made.
+/// A bounded search, and what it has cost.
 #[derive(Drop)]
 struct BegunSearch {
     search: ConeSearch,
-    conflicts: u64,
-    cost: u64,
-    before: u64,
+    expense: Expense,
 }
 
 /// A bounded search, which is made at first use, where there is such a property.
@@ -67,9 +50,7 @@ fn begin(
     match ConeSearch::new(alloc, c, j)? {
         Some(search) => Ok(Some(BegunSearch {
             search,
-            conflicts: 0,
-            cost: 0,
-            before: work_of(meter),
+            expense: no_expense(meter),
         })),
         None => Ok(None),
     }
@@ -92,36 +73,13 @@ fn use_first(
     Ok(())
 }
 
-// What the positions weigh over which the next question is.
-fn weight_asked(search: &ConeSearch) -> u64 {
-    let positions = u64::from(search.done()).saturating_add(1);
-    let latches = search.latch_count().saturating_mul(LATCH_WEIGHT);
-    let weight = latches.saturating_add(search.gate_count());
-    weight.saturating_mul(positions)
-}
-
-// What the search may have cost when the next question comes.
-fn most_cost(begun: &BegunSearch, meter: &Meter) -> u64 {
-    let all = work_of(meter).saturating_sub(begun.before);
-    let others = all.saturating_sub(begun.conflicts);
-    let first = begun.search.latch_count().saturating_mul(COST_PER_LATCH);
-    first.saturating_add(others.saturating_mul(COST_PER_WORK))
-}
-
-// Whether the search goes on: it is not over, nor too large, and has cost no more than it may.
-fn is_due(begun: &BegunSearch, meter: &Meter) -> bool {
-    !begun.search.is_over()
-        && weight_asked(&begun.search) <= MOST_WEIGHT
-        && begun.cost <= most_cost(begun, meter)
-}
-
-// Adds what a question of this weight has cost.
-fn charge(begun: &mut BegunSearch, weight: u64, conflicts: u64) {
-    begun.conflicts = begun.conflicts.saturating_add(conflicts);
-    begun.cost = begun
-        .cost
-        .saturating_add(conflicts.saturating_mul(COST_PER_CONFLICT))
-        .saturating_add(weight);
+// The size of the next question.
+fn size_asked(search: &ConeSearch) -> Size {
+    Size {
+        positions: u64::from(search.done()).saturating_add(1),
+        latches: search.latch_count(),
+        gates: search.gate_count(),
+    }
 }
 
 // The question for one position more.
@@ -136,11 +94,11 @@ fn ask_once(
     ensures stop { IfErr result (IsStop meter.new) }
     ensures counted { CountsConflicts meter.old meter.new }
 {
-    let weight = weight_asked(&begun.search);
+    let size = size_asked(&begun.search);
     let before = meter.spending().conflicts();
     let answer = deepen_cone(alloc, c, j, &mut begun.search, meter);
     let conflicts = meter.spending().conflicts().saturating_sub(before);
-    charge(begun, weight, conflicts);
+    charge(&mut begun.expense, size, conflicts);
     match answer {
         Ok(found) => Ok(found),
         Err(end) => Err(solver_stop(end, meter)),
@@ -160,7 +118,8 @@ fn go_on(
     ensures counted { CountsConflicts meter.old meter.new }
 {
     for _position in 0..MOST_AT_ONCE {
-        if !is_due(begun, meter) {
+        let size = size_asked(&begun.search);
+        if begun.search.is_over() || !is_due(&begun.expense, size, meter) {
             return Ok(None);
         }
         if let Some(lasso) = ask_once(alloc, c, j, begun, meter)? {

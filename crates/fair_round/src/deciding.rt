@@ -7,11 +7,10 @@ ghost use Rattle.edge.specs.Ends.{CountsConflicts};
 ghost use Rattle.entry.specs.CheckedEntries.{viewed, GoesOnFrom};
 ghost use Rattle.entry.specs.Laws.{IsGoodList};
 ghost use Rattle.fair_round.specs.Spending.{IsStop, Asks};
-ghost use Rattle.fair_round.specs.Scopes.{IsScope, IsAllowedIn, asking_of_scope, entries_of};
-ghost use Rattle.fair_round.specs.Walks.{Excludes, IsSought, entry_of_bar};
+ghost use Rattle.fair_round.specs.Scopes.{IsScope, IsAllowedIn, IsQueryOf, AsksRound, asking_of_scope, entries_of};
+ghost use Rattle.fair_round.specs.Walks.{Excludes, entry_of_bar};
 ghost use Rattle.fair_round.specs.Deeds.{IsDeed, IsPosting};
 
-use crate::invariants::by_invariants;
 use crate::rounds::Rounds;
 use crate::scope::Scope;
 use crate::seeking::{Sought, seek};
@@ -109,65 +108,35 @@ pub fn decide(
     if let Some(lasso) = rounds.deepen(alloc, c, j, meter)? {
         return Ok(Deed::Finish(Outcome::Lasso(lasso)));
     }
-    decided(alloc, c, j, view, rounds, author, meter)
+    let scope = Scope {
+        circuit: &**c,
+        property: j,
+        view,
+    };
+    decided(alloc, c, &scope, rounds, author, meter)
 }
 
-// The same by a skeleton that the view allows.
+// The same by a skeleton that the entries allow.
 fn decided(
     alloc: Global,
     c: &Arc<Circuit>,
-    j: u32,
-    view: &[Arc<Checked>],
+    scope: &Scope<'_>,
     rounds: &mut Rounds,
     author: Author,
     meter: &mut Meter,
 ) -> Result<Deed, Stop>
-    requires circuit { rounds.old.circuit ≡ arc_value c.now }
-    requires property { rounds.old.property ≡ j }
-    requires on { GoesOnFrom rounds.old.seen (viewed view.now) }
-    requires good { IsGoodList (arc_value c.now) (viewed view.now) }
-    requires few { length view.now < 2 ^ 32 }
-    ensures deed { IfOk result (IsDeed (arc_value c.now) (viewed view.now) j author.number author.turn) }
-    ensures stop { IfErr result (IsStop meter.new) }
-    ensures counted { Asks (length (arc_value c.now).latches) (max 1 (length (fair_literals (arc_value c.now) j)) + 1) meter.old
-        meter.new }
-    ensures circuit { rounds.new.circuit ≡ rounds.old.circuit }
-    ensures property { rounds.new.property ≡ rounds.old.property }
-    ensures seen { GoesOnFrom rounds.new.seen (viewed view.now) }
-{
-    match rounds.next(alloc, view, meter)? {
-        Found::Skeleton(skeleton) => {
-            let scope = Scope {
-                circuit: &**c,
-                property: j,
-                view,
-            };
-            deed_for(alloc, c, &scope, rounds, skeleton, author, meter)
-        }
-        Found::Refuted(refutation) => Ok(Deed::Finish(Outcome::Holds(refutation))),
-    }
-}
-
-// An entry of invariants, where there is one now; else what the search for a lasso through the skeleton comes to.
-fn sought_for(
-    alloc: Global,
-    scope: &Scope<'_>,
-    rounds: &mut Rounds,
-    skeleton: Skeleton,
-    meter: &mut Meter,
-) -> Result<Sought, Stop>
+    requires circuit { scope.now.circuit.now ≡ arc_value c.now }
     requires scope { IsScope scope.now }
-    requires seen { rounds.old ≡ asking_of_scope scope.now }
-    requires allowed { IsAllowedIn scope.now skeleton }
-    ensures sought { IfOk result (IsSought scope.now.circuit.now (entries_of scope.now) scope.now.property) }
+    requires query { IsQueryOf scope.now rounds.old }
+    ensures deed { IfOk result
+        (IsDeed scope.now.circuit.now (entries_of scope.now) scope.now.property author.number author.turn) }
     ensures stop { IfErr result (IsStop meter.new) }
-    ensures counted { Asks (length scope.now.circuit.now.latches)
-        (max 1 (length (fair_literals scope.now.circuit.now scope.now.property)) + 1) meter.old meter.new }
-    ensures same { rounds.new ≡ rounds.old }
+    ensures counted { AsksRound scope.now meter.old meter.new }
+    ensures query { IsQueryOf scope.now rounds.new }
 {
-    match by_invariants(alloc, scope, rounds, meter)? {
-        Some(sought) => Ok(sought),
-        None => seek(alloc, scope, rounds, skeleton, meter),
+    match rounds.next(alloc, scope.view, meter)? {
+        Found::Skeleton(skeleton) => deed_for(alloc, c, scope, rounds, skeleton, author, meter),
+        Found::Refuted(refutation) => Ok(Deed::Finish(Outcome::Holds(refutation))),
     }
 }
 
@@ -188,11 +157,10 @@ fn deed_for(
     ensures deed { IfOk result
         (IsDeed scope.now.circuit.now (entries_of scope.now) scope.now.property author.number author.turn) }
     ensures stop { IfErr result (IsStop meter.new) }
-    ensures counted { Asks (length scope.now.circuit.now.latches)
-        (max 1 (length (fair_literals scope.now.circuit.now scope.now.property)) + 1) meter.old meter.new }
+    ensures counted { AsksRound scope.now meter.old meter.new }
     ensures same { rounds.new ≡ rounds.old }
 {
-    match sought_for(alloc, scope, rounds, skeleton, meter)? {
+    match seek(alloc, scope, rounds, skeleton, meter)? {
         Sought::Lasso(lasso) => Ok(Deed::Finish(Outcome::Lasso(lasso))),
         Sought::Barred(bar, skeleton) => {
             let entry = certified(alloc, c, scope, bar, skeleton, author, meter)?;

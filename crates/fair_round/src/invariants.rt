@@ -1,36 +1,31 @@
 //! Invariants of one latch and of two, as an entry. The main call is `by_invariants`.
 
 ghost use Rattle.std.specs.Prelude.{◌≡◌, ◌<◌, true, length, IfOk, IfErr, IfSome};
-ghost use Rattle.edge.specs.Ends.{CountsConflicts, IsEnd};
+ghost use Rattle.edge.specs.Ends.{CountsConflicts};
 ghost use Rattle.ic3_semantics.specs.declared.questions.Start.TheVariants.{Initial};
 ghost use Rattle.ic3_semantics.specs.Searching.{IsGoal, Separates, closed_entry};
 ghost use Rattle.fair_round.specs.Spending.{IsStop};
 ghost use Rattle.fair_round.specs.Scopes.{IsScope, asking_of_scope, entries_of};
 ghost use Rattle.fair_round.specs.Pools.{IsBegunIn};
 ghost use Rattle.fair_round.specs.Stems.{question_of};
-ghost use Rattle.fair_round.specs.Walks.{IsSought};
+ghost use Rattle.fair_round.specs.Walks.{IsSoughtIn};
 
-use crate::rounds::{Rounds, is_at_limit};
+use crate::rounds::Rounds;
 use crate::scope::Scope;
 use crate::seeking::Sought;
 use crate::stopping::{Stop, solver_stop};
 use crate::ways::Bar;
-use cdcl::{Asked, Solver, are_sized, has_opposites};
 use circuit::Circuit;
-use cnf::{Clause, Lit};
-use cnf_unroll::unrolled_skeleton;
-use edge::{Meter, SolveEnd};
-use entry::lend_view;
+use cnf::Clause;
+use edge::Meter;
 use fair_semantics::{Kind, Skeleton};
 use ic3::Goal;
 use ic3_closing::{ClosedSet, separates};
 use invariant_clauses::inductive_clauses;
 use items::Items;
+use round_choices::{breaking_state, is_at_limit};
 use simulation::DrawnStates;
-use std::alloc::{AllocError, Global};
-
-/// For how many clauses a skeleton is asked for that begins in a state which breaks them.
-const MOST_ASKED: usize = 100;
+use std::alloc::Global;
 
 /// Clauses that the states of runs suggest as invariants. A worker in three has none, nor one whose count is at its limit.
 pub(crate) fn suggested(
@@ -52,79 +47,7 @@ pub(crate) fn suggested(
     }
 }
 
-// A solver of the skeletons that the entries allow.
-fn solver_of(alloc: Global, scope: &Scope<'_>) -> Result<Solver, AllocError>
-    requires scope { IsScope scope.now }
-    requires property { scope.now.property < length scope.now.circuit.now.justice }
-{
-    let uses = lend_view(alloc, scope.view)?;
-    let unrolled = unrolled_skeleton(alloc, scope.circuit, scope.property, uses.as_slice())?;
-    Solver::with_clauses(alloc, unrolled.clauses.into_vec())
-}
-
-// The literals by which the first state of a skeleton breaks a clause.
-fn broken_first(alloc: Global, c: &Circuit, clause: &Clause) -> Result<Items<Lit>, AllocError> {
-    let mut literals = Items::new(alloc);
-    for literal in clause.as_slice() {
-        if let Some(latch) = c.latches().get(literal.var as usize) {
-            literals.push(Lit {
-                var: latch.var.saturating_add(1),
-                positive: !literal.positive,
-            })?;
-        }
-    }
-    Ok(literals)
-}
-
-// The first state of the skeleton that the solver has found.
-fn first_state(alloc: Global, c: &Circuit, solver: &Solver) -> Result<Items<bool>, AllocError> {
-    let mut state = Items::new(alloc);
-    for latch in c.latches() {
-        state.push(solver.value(latch.var.saturating_add(1)))?;
-    }
-    Ok(state)
-}
-
-// Whether there is a skeleton whose first state makes the literals true.
-fn is_found(
-    alloc: Global,
-    solver: &mut Solver,
-    literals: &[Lit],
-    meter: &mut Meter,
-) -> Result<bool, SolveEnd>
-    ensures end { IfErr result (IsEnd meter.new) }
-    ensures counted { CountsConflicts meter.old meter.new }
-{
-    if has_opposites(literals) || !are_sized(literals) {
-        return Ok(false);
-    }
-    match solver.ask(alloc, literals, meter)? {
-        Asked::Sat => Ok(true),
-        Asked::Unsat(_) => Ok(false),
-    }
-}
-
 // The first state of a skeleton that breaks a clause, if one is found.
-fn breaking_state(
-    alloc: Global,
-    c: &Circuit,
-    solver: &mut Solver,
-    clauses: &[Clause],
-    meter: &mut Meter,
-) -> Result<Option<Items<bool>>, SolveEnd>
-    ensures end { IfErr result (IsEnd meter.new) }
-    ensures counted { CountsConflicts meter.old meter.new }
-{
-    for clause in clauses.iter().take(MOST_ASKED) {
-        let literals = broken_first(alloc, c, clause)?;
-        if is_found(alloc, solver, literals.as_slice(), meter)? {
-            return Ok(Some(first_state(alloc, c, solver)?));
-        }
-    }
-    Ok(None)
-}
-
-// The same with a solver for it.
 fn state_asked(
     alloc: Global,
     scope: &Scope<'_>,
@@ -136,10 +59,14 @@ fn state_asked(
     ensures stop { IfErr result (IsStop meter.new) }
     ensures counted { CountsConflicts meter.old meter.new }
 {
-    let mut solver = solver_of(alloc, scope)?;
-    let found = breaking_state(alloc, scope.circuit, &mut solver, clauses, meter);
-    drop(solver);
-    match found {
+    match breaking_state(
+        alloc,
+        scope.circuit,
+        scope.property,
+        scope.view,
+        clauses,
+        meter,
+    ) {
         Ok(state) => Ok(state),
         Err(end) => Err(solver_stop(end, meter)),
     }
@@ -178,8 +105,7 @@ fn judged(
     requires scope { IsScope scope.now }
     requires state { length state.now ≡ length scope.now.circuit.now.latches }
     requires begun { IsBegunIn scope.now.circuit.now scope.now.property (entries_of scope.now) state.now skeleton }
-    ensures sought { IfOk result (λ found. IfSome found
-        (IsSought scope.now.circuit.now (entries_of scope.now) scope.now.property)) }
+    ensures sought { IfOk result (λ found. IfSome found (IsSoughtIn scope.now)) }
     ensures stop { IfErr result (IsStop meter.new) }
     ensures counted { CountsConflicts meter.old meter.new }
 {
@@ -209,8 +135,7 @@ fn excluding(
 ) -> Result<Option<Sought>, Stop>
     requires scope { IsScope scope.now }
     requires seen { rounds.old ≡ asking_of_scope scope.now }
-    ensures sought { IfOk result (λ found. IfSome found
-        (IsSought scope.now.circuit.now (entries_of scope.now) scope.now.property)) }
+    ensures sought { IfOk result (λ found. IfSome found (IsSoughtIn scope.now)) }
     ensures stop { IfErr result (IsStop meter.new) }
     ensures counted { CountsConflicts meter.old meter.new }
     ensures same { rounds.new ≡ rounds.old }
@@ -235,8 +160,7 @@ pub(crate) fn by_invariants(
     requires scope { IsScope scope.now }
     requires property { scope.now.property < length scope.now.circuit.now.justice }
     requires seen { rounds.old ≡ asking_of_scope scope.now }
-    ensures sought { IfOk result (λ found. IfSome found
-        (IsSought scope.now.circuit.now (entries_of scope.now) scope.now.property)) }
+    ensures sought { IfOk result (λ found. IfSome found (IsSoughtIn scope.now)) }
     ensures stop { IfErr result (IsStop meter.new) }
     ensures counted { CountsConflicts meter.old meter.new }
     ensures same { rounds.new ≡ rounds.old }

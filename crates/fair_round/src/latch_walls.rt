@@ -7,31 +7,27 @@
 ghost use Rattle.std.specs.Prelude.{◌≡◌, IfOk, IfErr, IfSome};
 ghost use Rattle.edge.specs.Ends.{CountsConflicts};
 ghost use Rattle.fair_round.specs.Spending.{IsStop};
-ghost use Rattle.fair_round.specs.Scopes.{IsScope, IsAllowedIn, asking_of_scope, entries_of};
-ghost use Rattle.fair_round.specs.Walks.{Excludes, IsSought, entry_of_bar, skeleton_of};
+ghost use Rattle.fair_round.specs.Scopes.{IsScope, IsAllowedIn, asking_of_scope};
+ghost use Rattle.fair_round.specs.Walks.{IsBarIn, IsSoughtIn, skeleton_of};
 
-use crate::rounds::{Rounds, is_at_limit};
+use crate::rounds::Rounds;
 use crate::scope::Scope;
 use crate::seeking::Sought;
 use crate::stopping::{Stop, solver_stop};
-use crate::walls::{Place, latch_wall};
+use crate::walls::latch_wall;
 use crate::ways::Bar;
 use arena_values::lasting_values;
 use cnf::Lit;
 use edge::Meter;
-use entry::Checked;
-use fair_semantics::{Kind, Situation, Skeleton};
+use fair_semantics::{Situation, Skeleton};
 use ic3::Start;
 use items::Items;
+use round_choices::{is_at_limit, place_with, wall_sides};
 use skeleton::ValueAt;
 use std::alloc::{AllocError, Global};
 
 /// At how many places behind the first another value of a latch is looked for.
 const MOST_PLACES: usize = 12;
-
-fn bit(values: &[bool], i: usize) -> bool {
-    values.get(i).copied().unwrap_or(false)
-}
 
 // ---- values that no step leaves
 
@@ -76,25 +72,6 @@ fn lasting_from(
 
 // ---- the skeleton at hand
 
-// The place of a skeleton where latch i has, or has not, a value.
-fn place_with(situations: &[Situation], i: usize, value: bool) -> Option<Place> {
-    for (k, situation) in situations.iter().enumerate() {
-        if bit(situation.position.latches.as_slice(), i) == value {
-            return Some(Place {
-                situation: k,
-                after: false,
-            });
-        }
-        if bit(situation.successor.as_slice(), i) == value {
-            return Some(Place {
-                situation: k,
-                after: true,
-            });
-        }
-    }
-    None
-}
-
 // A wall of the value between two places of the skeleton, where it has both.
 fn wall_across(
     alloc: Global,
@@ -105,8 +82,7 @@ fn wall_across(
 ) -> Result<Option<Bar>, Stop>
     requires scope { IsScope scope.now }
     requires allowed { IsAllowedIn scope.now (skeleton_of situations.now) }
-    ensures bar { IfOk result (λ found. IfSome found (λ bar.
-        Excludes scope.now.circuit.now (entries_of scope.now) (entry_of_bar bar) (skeleton_of situations.now))) }
+    ensures bar { IfOk result (λ found. IfSome found (IsBarIn scope.now situations.now)) }
     ensures stop { IfErr result (IsStop meter.new) }
     ensures counted { CountsConflicts meter.old meter.new }
 {
@@ -130,8 +106,7 @@ pub(crate) fn own_wall(
 ) -> Result<Option<Bar>, Stop>
     requires scope { IsScope scope.now }
     requires allowed { IsAllowedIn scope.now (skeleton_of situations.now) }
-    ensures bar { IfOk result (λ found. IfSome found (λ bar.
-        Excludes scope.now.circuit.now (entries_of scope.now) (entry_of_bar bar) (skeleton_of situations.now))) }
+    ensures bar { IfOk result (λ found. IfSome found (IsBarIn scope.now situations.now)) }
     ensures stop { IfErr result (IsStop meter.new) }
     ensures counted { CountsConflicts meter.old meter.new }
 {
@@ -145,43 +120,11 @@ pub(crate) fn own_wall(
 
 // ---- other skeletons
 
-// The latch of a wall of one latch.
-fn latch_of(entry: &Checked) -> Option<usize> {
-    let listed = entry.listed();
-    match (listed.kind, listed.set.as_slice()) {
-        (Kind::Wall, [clause]) => match clause.as_slice() {
-            [literal] => Some(literal.var as usize),
-            _ => None,
-        },
-        _ => None,
-    }
-}
-
-// The values of a state in the latches of such walls.
-fn sides_of(
-    alloc: Global,
-    scope: &Scope<'_>,
-    state: &[bool],
-) -> Result<Items<ValueAt>, AllocError> {
-    let mut sides = Items::new(alloc);
-    for entry in scope.view {
-        if let Some(latch) = latch_of(&**entry) {
-            sides.push(ValueAt {
-                situation: 0,
-                after: false,
-                latch,
-                value: bit(state, latch),
-            })?;
-        }
-    }
-    Ok(sides)
-}
-
 // What a skeleton is to cross: a latch that has one value in the first state, which is on these sides, and the other one at
 // one of so many places.
 #[derive(Clone, Copy)]
 struct Crossing<'a> {
-    sides: &'a [ValueAt],
+    sides: &'a [Lit],
     latch: usize,
     places: usize,
 }
@@ -195,7 +138,12 @@ fn crossing_values(
 ) -> Result<Items<ValueAt>, AllocError> {
     let mut values = Items::new(alloc);
     for side in crossing.sides {
-        values.push(*side)?;
+        values.push(ValueAt {
+            situation: 0,
+            after: false,
+            latch: side.var as usize,
+            value: side.positive,
+        })?;
     }
     values.push(ValueAt {
         situation: 0,
@@ -295,8 +243,7 @@ fn wall_of(
 ) -> Result<Option<Sought>, Stop>
     requires scope { IsScope scope.now }
     requires seen { rounds.old ≡ asking_of_scope scope.now }
-    ensures sought { IfOk result (λ found. IfSome found
-        (IsSought scope.now.circuit.now (entries_of scope.now) scope.now.property)) }
+    ensures sought { IfOk result (λ found. IfSome found (IsSoughtIn scope.now)) }
     ensures stop { IfErr result (IsStop meter.new) }
     ensures counted { CountsConflicts meter.old meter.new }
     ensures same { rounds.new ≡ rounds.old }
@@ -324,8 +271,7 @@ pub(crate) fn other_wall(
 ) -> Result<Option<Sought>, Stop>
     requires scope { IsScope scope.now }
     requires seen { rounds.old ≡ asking_of_scope scope.now }
-    ensures sought { IfOk result (λ found. IfSome found
-        (IsSought scope.now.circuit.now (entries_of scope.now) scope.now.property)) }
+    ensures sought { IfOk result (λ found. IfSome found (IsSoughtIn scope.now)) }
     ensures stop { IfErr result (IsStop meter.new) }
     ensures counted { CountsConflicts meter.old meter.new }
     ensures same { rounds.new ≡ rounds.old }
@@ -333,7 +279,7 @@ pub(crate) fn other_wall(
     let Some(first) = situations.get(0) else {
         return Ok(None);
     };
-    let sides = sides_of(alloc, scope, first.position.latches.as_slice())?;
+    let sides = wall_sides(alloc, scope.view, first.position.latches.as_slice())?;
     let places = situations.len().saturating_mul(2).min(MOST_PLACES);
     for literal in values {
         let crossing = Crossing {

@@ -10,10 +10,11 @@ ghost use Rattle.fair_round.specs.Pools.{IsRun, IsHit, IsBegun, IsReachedRun, Is
 use crate::scope::Scope;
 use crate::stopping::{Stop, solver_stop};
 use circuit::{Circuit, Position};
-use cnf::{Cube, Lit};
+use cnf::Cube;
 use edge::Meter;
 use fair_semantics::Skeleton;
 use items::Items;
+use round_choices::lies_in;
 use skeleton::{First, Query};
 use std::alloc::{AllocError, Global};
 
@@ -84,17 +85,6 @@ fn front(alloc: Global, positions: &[Position], n: usize) -> Result<Items<Positi
     let mut copy = Vec::new(alloc);
     append(alloc, &mut copy, &positions[..n])?;
     Ok(Items::from_vec(copy))
-}
-
-// Whether each literal is true in the state.
-fn holds(literals: &[Lit], state: &[bool]) -> bool {
-    literals.iter().all(|literal| state.get(literal.var as usize).copied()
-        == Some(literal.positive))
-}
-
-// Whether the state lies in one of the cubes.
-fn lies_in(cubes: &[Cube], state: &[bool]) -> bool {
-    cubes.iter().any(|cube| holds(cube.as_slice(), state))
 }
 
 // A skeleton that begins in the state, or a cube of states in which none begins.

@@ -26,6 +26,9 @@ use entry::{Checked, catch_up};
 use fair_semantics::Skeleton;
 use ic3::{Search, Start};
 use items::Items;
+use round_choices::{
+    Costs, NO_PAUSE, Pauses, add_cost, asks_literal, first_costs, is_at_limit, looks,
+};
 use simulation::{DrawnStates, simulate};
 use skeleton::{Found, Query, ValueAt, never_stays};
 use std::alloc::{AllocError, Global};
@@ -33,8 +36,9 @@ use std::marker::Model;
 use std::sync::Arc;
 
 /// What a worker keeps from round to round: its query, the entries that it has seen, runs whose states were reached, cubes
-/// of states in which no skeleton begins, the search from the initial states, what each of two kinds of rounds has cost,
-/// whether simulation is done, and of which latches walls are looked for. Contracts see of it what they see of a query.
+/// of states in which no skeleton begins, the search from the initial states, what each of two kinds of rounds has cost, its
+/// number, whether simulation is done, and the states that it drew up to the search for invariants, of which latches walls
+/// are looked for and when, and the bounded search. Contracts see of it what they see of a query.
 #[derive(Drop)]
 pub struct Rounds {
     circuit: Arc<Circuit>,
@@ -52,67 +56,12 @@ pub struct Rounds {
     bounded: Bounded,
 }
 
-// What rounds have cost in which the first literal was asked for, and those in which a state was. The cheaper comes next.
-#[derive(Clone, Copy)]
-struct Costs {
-    by_literal: u64,
-    by_state: u64,
-}
-
-/// How many rounds pass at most between two that look for walls of one latch in vain.
-const MOST_PAUSE: u32 = 15;
-
-// How many rounds have passed without looking for such walls, and how many are to.
-#[derive(Clone, Copy)]
-struct Pauses {
-    passed: u32,
-    most: u32,
-}
-
-const NO_PAUSE: Pauses = Pauses { passed: 0, most: 0 };
-
-// Whether this round looks for walls of one latch. Behind it more rounds pass than before it.
-fn looks(pauses: &mut Pauses) -> bool {
-    if pauses.passed < pauses.most {
-        pauses.passed += 1;
-        return false;
-    }
-    pauses.passed = 0;
-    pauses.most = pauses
-        .most
-        .saturating_mul(2)
-        .saturating_add(1)
-        .min(MOST_PAUSE);
-    true
-}
-
 // The latches of which walls are looked for at first: those of the property's cone; for one worker in three none.
 fn first_wanted(alloc: Global, c: &Circuit, j: u32, worker: u32) -> Result<Vec<bool>, AllocError> {
     if worker % 3 == 2 {
         return Ok(Vec::new(alloc));
     }
     cone_latches(alloc, c, j)
-}
-
-// Where a worker begins: the first by literals, the second by states; the third never asks for literals.
-fn first_costs(worker: u32) -> Costs {
-    let by_literal = match worker % 3 {
-        0 => 0,
-        1 => 1,
-        _ => u64::MAX,
-    };
-    Costs {
-        by_literal,
-        by_state: 0,
-    }
-}
-
-fn add_cost(costs: &mut Costs, by_literal: bool, cost: u64) {
-    if by_literal {
-        costs.by_literal = costs.by_literal.saturating_add(cost);
-    } else {
-        costs.by_state = costs.by_state.saturating_add(cost);
-    }
 }
 
 impl Model for Rounds {
@@ -154,12 +103,6 @@ fn new_search(alloc: Global, c: &Arc<Circuit>) -> Result<Search, AllocError>
     ensures { IfOk result (λ made. (view : List Entry) → IsFit (arc_value c.now) view made) }
 {
     Search::new(alloc, c, Start::Initial)
-}
-
-/// Whether the count of conflicts, or that of steps, equals its limit.
-pub(crate) fn is_at_limit(meter: &Meter) -> bool {
-    let spent = meter.spending();
-    spent.conflict_limit() == Some(spent.conflicts()) || spent.step_limit() == Some(spent.steps())
 }
 
 // What simulation shows: a fair lasso, or none. Its runs are kept.
@@ -302,7 +245,7 @@ impl Rounds {
 
     /// Whether the first literal is asked for next, and not a state.
     pub(crate) fn asks_literal(&self) -> bool {
-        self.costs.by_literal < u64::MAX && self.costs.by_literal <= self.costs.by_state
+        asks_literal(&self.costs)
     }
 
     /// Adds to what one of the two has cost, in conflicts, steps, questions for a literal and rounds.

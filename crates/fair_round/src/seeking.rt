@@ -1,6 +1,6 @@
 //! The search for a lasso through a skeleton. The main call is `seek`.
 
-ghost use Rattle.std.specs.Prelude.{◌≡◌, ◌+◌, ◌-◌, ◌<◌, ◌↔◌, [], max, length, slice_index_or, IsTrue, All, IfOk, IfErr, OnOk};
+ghost use Rattle.std.specs.Prelude.{◌≡◌, ◌-◌, ◌<◌, ◌↔◌, [], max, length, slice_index_or, IsTrue, All, IfOk, IfErr, OnOk};
 ghost use Rattle.aig_semantics.specs.Circuits.{fair_literals};
 ghost use Rattle.aig_semantics.specs.Stimuli.{IsFairLassoOf};
 ghost use Rattle.ic3_semantics.specs.Searching.{CountsUpTo};
@@ -8,11 +8,12 @@ ghost use Rattle.fair_semantics.specs.Skeletons.{IsSituation, IsSkeleton};
 ghost use Rattle.ic3.specs.Searches.{steps_left};
 ghost use Rattle.lasso_join.specs.Fitting.{IsStemTo, Fit};
 ghost use Rattle.fair_round.specs.Spending.{IsStop, Asks};
-ghost use Rattle.fair_round.specs.Scopes.{IsScope, IsAllowedIn, asking_of_scope, entries_of};
-ghost use Rattle.fair_round.specs.Walks.{AreWalked, IsSought, skeleton_of, states};
+ghost use Rattle.fair_round.specs.Scopes.{IsScope, IsAllowedIn, AsksRound, asking_of_scope, entries_of};
+ghost use Rattle.fair_round.specs.Walks.{AreWalked, IsSoughtIn, skeleton_of, states};
 ghost use Rattle.fair_round.specs.Pools.{IsBegun, IsReachedRun, IsBeginning};
 ghost use Rattle.fair_round.specs.Stems.{IsFit};
 
+use crate::invariants::by_invariants;
 use crate::latch_walls::{lasting_literals, other_wall, own_wall};
 use crate::pool::{Begun, append, append_one};
 use crate::rounds::Rounds;
@@ -26,6 +27,7 @@ use fair_semantics::{Situation, Skeleton};
 use ic3::Search;
 use items::Items;
 use lasso_join::{join, shortest_prefix};
+use round_choices::work_of;
 use std::alloc::{AllocError, Global};
 
 /// How often a literal is asked for before a state is.
@@ -142,7 +144,7 @@ fn begin_by_search(
     ensures counted { CountsUpTo (steps_left search.old) meter.old meter.new }
     ensures same { rounds.new ≡ rounds.old }
 {
-    if rounds.asks_literal() && has_literal(scope.circuit, scope.property) {
+    if rounds.asks_literal() && has_fair_literal(scope.circuit, scope.property) {
         begin_by_literal(alloc, scope, rounds, search, skeleton, meter)
     } else {
         begin_by_state(alloc, scope, search, skeleton, meter)
@@ -150,7 +152,7 @@ fn begin_by_search(
 }
 
 // Whether the property or fairness has a literal.
-fn has_literal(c: &Circuit, j: u32) -> bool
+fn has_fair_literal(c: &Circuit, j: u32) -> bool
     requires { j < length c.now.justice }
     ensures { IsTrue result ↔ (0 < length (fair_literals c.now j)) }
 {
@@ -228,12 +230,14 @@ pub(crate) fn seek(
     requires scope { IsScope scope.now }
     requires seen { rounds.old ≡ asking_of_scope scope.now }
     requires allowed { IsAllowedIn scope.now skeleton }
-    ensures sought { IfOk result (IsSought scope.now.circuit.now (entries_of scope.now) scope.now.property) }
+    ensures sought { IfOk result (IsSoughtIn scope.now) }
     ensures stop { IfErr result (IsStop meter.new) }
-    ensures counted { Asks (length scope.now.circuit.now.latches)
-        (max 1 (length (fair_literals scope.now.circuit.now scope.now.property)) + 1) meter.old meter.new }
+    ensures counted { AsksRound scope.now meter.old meter.new }
     ensures same { rounds.new ≡ rounds.old }
 {
+    if let Some(sought) = by_invariants(alloc, scope, rounds, meter)? {
+        return Ok(sought);
+    }
     let situations = skeleton.situations.as_slice();
     let values = lasting_literals(alloc, scope, rounds, situations, meter)?;
     if let Some(bar) = own_wall(alloc, scope, situations, values.as_slice(), meter)? {
@@ -247,7 +251,7 @@ pub(crate) fn seek(
     seek_charged(alloc, scope, rounds, skeleton, meter)
 }
 
-// The same by a stem, a walk and its close.
+// The same by a stem, a walk and its close, by the mode that has cost less.
 fn seek_charged(
     alloc: Global,
     scope: &Scope<'_>,
@@ -258,47 +262,20 @@ fn seek_charged(
     requires scope { IsScope scope.now }
     requires seen { rounds.old ≡ asking_of_scope scope.now }
     requires allowed { IsAllowedIn scope.now skeleton }
-    ensures sought { IfOk result (IsSought scope.now.circuit.now (entries_of scope.now) scope.now.property) }
+    ensures sought { IfOk result (IsSoughtIn scope.now) }
     ensures stop { IfErr result (IsStop meter.new) }
-    ensures counted { Asks (length scope.now.circuit.now.latches)
-        (max 1 (length (fair_literals scope.now.circuit.now scope.now.property)) + 1) meter.old meter.new }
+    ensures counted { AsksRound scope.now meter.old meter.new }
     ensures same { rounds.new ≡ rounds.old }
 {
     let literal = rounds.asks_literal();
     let before = work_of(meter);
-    let sought = seek_by_mode(alloc, scope, rounds, skeleton, meter)?;
+    let sought = match begin(alloc, scope, rounds, skeleton, meter)? {
+        Beginning::Begun(begun) => seek_from(alloc, scope, rounds, begun, meter)?,
+        Beginning::Barred(bar, skeleton) => Sought::Barred(bar, skeleton),
+    };
     let cost = work_of(meter).saturating_sub(before).saturating_add(1);
     rounds.charge(literal, cost);
     Ok(sought)
-}
-
-/// What was counted.
-pub(crate) fn work_of(meter: &Meter) -> u64 {
-    let spent = meter.spending();
-    spent.steps().saturating_add(spent.conflicts())
-}
-
-// The same, by the mode that has cost less.
-fn seek_by_mode(
-    alloc: Global,
-    scope: &Scope<'_>,
-    rounds: &mut Rounds,
-    skeleton: Skeleton,
-    meter: &mut Meter,
-) -> Result<Sought, Stop>
-    requires scope { IsScope scope.now }
-    requires seen { rounds.old ≡ asking_of_scope scope.now }
-    requires allowed { IsAllowedIn scope.now skeleton }
-    ensures sought { IfOk result (IsSought scope.now.circuit.now (entries_of scope.now) scope.now.property) }
-    ensures stop { IfErr result (IsStop meter.new) }
-    ensures counted { Asks (length scope.now.circuit.now.latches)
-        (max 1 (length (fair_literals scope.now.circuit.now scope.now.property)) + 1) meter.old meter.new }
-    ensures same { rounds.new ≡ rounds.old }
-{
-    match begin(alloc, scope, rounds, skeleton, meter)? {
-        Beginning::Begun(begun) => seek_from(alloc, scope, rounds, begun, meter),
-        Beginning::Barred(bar, skeleton) => Ok(Sought::Barred(bar, skeleton)),
-    }
 }
 
 // The same for a skeleton whose first state is reached. The states that are reached go into the pool.
@@ -312,7 +289,7 @@ fn seek_from(
     requires scope { IsScope scope.now }
     requires circuit { rounds.old.circuit ≡ scope.now.circuit.now }
     requires begun { IsBegun scope.now.circuit.now scope.now.property (entries_of scope.now) begun }
-    ensures sought { IfOk result (IsSought scope.now.circuit.now (entries_of scope.now) scope.now.property) }
+    ensures sought { IfOk result (IsSoughtIn scope.now) }
     ensures stop { IfErr result (IsStop meter.new) }
     ensures counted { Asks (length scope.now.circuit.now.latches)
         (max 1 (length (fair_literals scope.now.circuit.now scope.now.property))) meter.old meter.new }
@@ -351,7 +328,7 @@ fn close_loop(
     requires allowed { IsAllowedIn scope.now (skeleton_of situations.items) }
     requires begun { IsStemTo scope.now.circuit.now (slice_index_or (states situations.items) 0 []) begun }
     requires walked { AreWalked scope.now.circuit.now situations.items (length situations.items - 1) pieces }
-    ensures sought { IfOk result (IsSought scope.now.circuit.now (entries_of scope.now) scope.now.property) }
+    ensures sought { IfOk result (IsSoughtIn scope.now) }
     ensures stop { IfErr result (IsStop meter.new) }
     ensures counted { Asks (length scope.now.circuit.now.latches) 1 meter.old meter.new }
     ensures same { rounds.new ≡ rounds.old }

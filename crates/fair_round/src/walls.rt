@@ -6,8 +6,8 @@ ghost use Rattle.fair_semantics.specs.Skeletons.{IsSituation};
 ghost use Rattle.ic3.specs.Searches.{IsOfOneLiteral};
 ghost use Rattle.ic3_semantics.specs.Searching.{IsStart, IsGoal, IsReached, Separates, closed_entry};
 ghost use Rattle.fair_round.specs.Spending.{IsStop};
-ghost use Rattle.fair_round.specs.Scopes.{IsScope, IsAllowedIn, entries_of};
-ghost use Rattle.fair_round.specs.Walks.{Excludes, entry_of_bar, skeleton_of};
+ghost use Rattle.fair_round.specs.Scopes.{IsScope, IsAllowedIn};
+ghost use Rattle.fair_round.specs.Walks.{IsBarIn, skeleton_of};
 ghost use Rattle.fair_round.specs.Places.{IsStateOf};
 ghost use Rattle.fair_round.specs.Stems.{question_of};
 
@@ -20,14 +20,8 @@ use fair_semantics::{Kind, Situation};
 use ic3::{Goal, Reached, Start, by_latch};
 use ic3_closing::{ClosedSet, shrink};
 use items::Items;
+use round_choices::Place;
 use std::alloc::Global;
-
-/// A place of a skeleton: the state of a situation, or its successor.
-#[derive(Clone, Copy)]
-pub(crate) struct Place {
-    pub(crate) situation: usize,
-    pub(crate) after: bool,
-}
 
 // The state at a place.
 fn state_at<'a>(_c: &Circuit, situations: &'a [Situation], place: Place) -> &'a Items<bool>
@@ -126,8 +120,7 @@ pub(crate) fn latch_wall(
 ) -> Result<Option<Bar>, Stop>
     requires scope { IsScope scope.now }
     requires allowed { IsAllowedIn scope.now (skeleton_of situations.now) }
-    ensures bar { IfOk result (λ found. IfSome found (λ bar.
-        Excludes scope.now.circuit.now (entries_of scope.now) (entry_of_bar bar) (skeleton_of situations.now))) }
+    ensures bar { IfOk result (λ found. IfSome found (IsBarIn scope.now situations.now)) }
     ensures stop { IfErr result (IsStop meter.new) }
     ensures counted { CountsConflicts meter.old meter.new }
 {
@@ -153,8 +146,7 @@ fn wall_between(
     requires from_size { length from.now ≡ length scope.now.circuit.now.latches }
     requires to { IsStateOf situations.now to.now }
     requires to_size { length to.now ≡ length scope.now.circuit.now.latches }
-    ensures bar { IfOk result (λ found. IfSome found (λ bar.
-        Excludes scope.now.circuit.now (entries_of scope.now) (entry_of_bar bar) (skeleton_of situations.now))) }
+    ensures bar { IfOk result (λ found. IfSome found (IsBarIn scope.now situations.now)) }
     ensures stop { IfErr result (IsStop meter.new) }
     ensures counted { CountsConflicts meter.old meter.new }
 {

@@ -1,4 +1,4 @@
-use Rattle.std.proofs.Common.{◌≡◌, List, sym, ap, ◌∙◌, subst}
+use Rattle.std.proofs.Common.{List, sym, ap, ◌∙◌, subst}
 use Rattle.fair_semantics.specs.Entries.{Entry}
 use Rattle.entry.specs.CheckedEntries.{viewed, GoesOnFrom}
 use Rattle.skeleton.specs.Finding.{Asking}
