@@ -25,6 +25,8 @@ def measure_trimming(folder, seconds):
 def told_sums(rows, before, after):
     """What all certificates have before and after, the share that is not needed, and the median of the shares of each."""
     pairs = [(float(row[before].replace(",", "")), float(row[after].replace(",", ""))) for row in rows]
+    if not pairs:
+        return "none"
     first, last = (sum(column) for column in zip(*pairs))
     shares = [1 - kept / whole for whole, kept in pairs if whole]
     return f"{first:,.10g} before, {last:,.10g} after, {1 - last / first:.1%} less; in the median {statistics.median(shares):.1%}"

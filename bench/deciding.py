@@ -52,8 +52,9 @@ def verdict_of(text, model, known):
     return said
 
 
-def solve_words(model, known, workers):
-    return [program("fair_main"), "solve", model, "--property", known["property"], "--workers", str(workers), *NO_LIMITS]
+def solve_words(model, known, workers, lassos=0):
+    crew = ("--workers", str(workers), "--lassos", str(lassos))
+    return [program("fair_main"), "solve", model, "--property", known["property"], *crew, *NO_LIMITS]
 
 
 def check_answer(folder, model, known, text):
@@ -92,26 +93,35 @@ def solved_row(folder, seconds, place, known, beside):
     return row
 
 
-# How many workers the table of workers has, by column.
-CREWS = (1, 2, 4)
+# The crews of the table of workers, by column: how many workers, and how many of them are lasso workers.
+ALONE = (1, 0)
+CREWS = (ALONE, (2, 0), (4, 0), (2, 1), (4, 1), (4, 3))
+
+
+def crew_name(crew):
+    workers, lassos = crew
+    return f"{workers}, {lassos} for lassos" if lassos else str(workers)
 
 
 def measure_workers(folder, seconds):
-    """Deciding each property of bench/models within so many seconds of wall time, by one, two and four workers."""
+    """Deciding each property of bench/models within so many seconds of wall time, by each crew."""
     rows, walls = [], {crew: {} for crew in CREWS}
     for known in known_of("models"):
         rows.append(workers_row(folder, seconds, known, walls))
     for crew in CREWS:
         times = sorted(walls[crew].values())
         if times:
-            said = f"workers {crew}: {len(times)} of {len(rows)} decided"
+            said = f"workers {crew_name(crew)}: {len(times)} of {len(rows)} decided"
             print(f"{said}; median {statistics.median(times):.3f} s, 90 % {nine_tenths_of(times):.3f} s of wall time")
+    with_lassos = [crew for crew in CREWS if crew == ALONE or crew[1]]
+    decided = set().union(*(walls[crew] for crew in with_lassos))
+    print(f"by one worker, or by several with lasso workers among them: {len(decided)} of {len(rows)} decided")
     for crew in CREWS[1:]:
-        ratios = [walls[crew][key] / walls[1][key] for key in walls[crew] if walls[1].get(key, 0) > 0.1]
+        ratios = [walls[crew][key] / walls[ALONE][key] for key in walls[crew] if walls[ALONE].get(key, 0) > 0.1]
         if ratios:
             slower = sum(ratio > 1.2 for ratio in ratios)
             mean = statistics.geometric_mean(ratios)
-            print(f"workers {crew}: {mean:.2f} of one worker's time over {len(ratios)} above 0.1 s; {slower} above 1.2")
+            print(f"workers {crew_name(crew)}: {mean:.2f} of one worker's time over {len(ratios)} above 0.1 s; {slower} above 1.2")
     print()
     return rows
 
@@ -121,7 +131,7 @@ def workers_row(folder, seconds, known, walls):
     row = {"model": known["name"], "property": known["property"], "latches": known["latches"]}
     for crew in CREWS:
         begun = time.monotonic()
-        out, _, usage = run_once(["timeout", str(seconds), *solve_words(model, known, crew)])
+        out, _, usage = run_once(["timeout", str(seconds), *solve_words(model, known, *crew)])
         spent = time.monotonic() - begun
         said = verdict_of(out, model, known)
         entries = ""
@@ -129,10 +139,11 @@ def workers_row(folder, seconds, known, walls):
             walls[crew][model, known["property"]] = spent
             judged, _ = check_answer(folder, model, known, out)
             entries = judged.split()[-1] if said == "holds" else ""
-        row[f"{crew}: answer"] = said or "none in time"
-        row[f"{crew}: s"] = f"{spent:.3f}"
-        row[f"{crew}: entries"] = entries
-        row[f"{crew}: MB"] = f"{usage.ru_maxrss * 1024 / 1e6:.0f}"
+        name = crew_name(crew)
+        row[f"{name}: answer"] = said or "none in time"
+        row[f"{name}: s"] = f"{spent:.3f}"
+        row[f"{name}: entries"] = entries
+        row[f"{name}: MB"] = f"{usage.ru_maxrss * 1024 / 1e6:.0f}"
     return row
 
 
@@ -154,7 +165,8 @@ def measure_all(folder, crew):
     rows = [all_row(folder, crew, name, lines) for name, lines in known.items() if len(lines) > 1]
     alone, together = (sum(float(row[name]) for row in rows) for name in ("each, s", "all, s"))
     lost = sum(int(row["lost"]) for row in rows)
-    print(f"workers {crew}: all {together:.2f} s, each {alone:.2f} s, {together / alone:.2f} of it; {lost} properties lost\n")
+    if rows:
+        print(f"workers {crew}: all {together:.2f} s, each {alone:.2f} s, {together / alone:.2f} of it; {lost} properties lost\n")
     return rows + [arbiter_row(folder, crew, *arbiter) for arbiter in ARBITERS]
 
 

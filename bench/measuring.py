@@ -144,7 +144,15 @@ def time_after(words, text):
     return number_after(words, text) / 1e6 if f"{words} " in text else None
 
 
+# The names of the models that alone are measured; all where there are none.
+ONLY = set()
+
+
+def is_asked(name):
+    return not ONLY or name in ONLY
+
+
 def known_of(place):
-    """The lines of an index of models."""
+    """The lines of an index of models, of those that are asked for."""
     with open(os.path.join(BENCH, place, "index.tsv")) as file:
-        return list(csv.DictReader(file, delimiter="\t"))
+        return [row for row in csv.DictReader(file, delimiter="\t") if is_asked(row["name"])]

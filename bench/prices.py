@@ -4,7 +4,7 @@ import os
 import re
 import sys
 
-from measuring import BENCH, make, program, run_once
+from measuring import BENCH, is_asked, make, program, run_once
 
 # The models, how many positions the drawn run has whose last state is searched for, and the place of a latch that has the
 # other value there, so that the search is long enough.
@@ -24,6 +24,8 @@ FIRST, NEAR = 100, 0.05
 def measure_prices(folder, size, other):
     """One search of a model from its initial states to a state, ended behind so many steps that it asked so many questions."""
     place, name, positions, latch = size
+    if not is_asked(name):
+        return []
     target = os.path.join(folder, "target.aag")
     source = os.path.join(BENCH, place, name + ".aag")
     make("target.py", SEED, positions, source, target, *([] if latch is None else [latch]))
