@@ -15,6 +15,8 @@ mod joins;
 #[cfg(test)]
 mod models;
 #[cfg(test)]
+mod promised;
+#[cfg(test)]
 mod repeated;
 #[cfg(test)]
 mod round_counts;

@@ -18,6 +18,8 @@ mod literals;
 #[cfg(test)]
 mod packing;
 #[cfg(test)]
+mod promised;
+#[cfg(test)]
 mod shortening;
 #[cfg(test)]
 mod trails;

@@ -11,6 +11,8 @@ mod claims;
 #[cfg(test)]
 mod parts;
 #[cfg(test)]
+mod promised;
+#[cfg(test)]
 mod queries;
 #[cfg(test)]
 mod rounds;

@@ -19,6 +19,8 @@ mod passing;
 #[cfg(test)]
 mod plain;
 #[cfg(test)]
+mod promised;
+#[cfg(test)]
 mod races;
 #[cfg(test)]
 mod racing;

@@ -13,6 +13,8 @@ mod lassos;
 #[cfg(test)]
 mod lengths;
 #[cfg(test)]
+mod promised;
+#[cfg(test)]
 mod properties;
 #[cfg(test)]
 mod tests;

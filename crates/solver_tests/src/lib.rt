@@ -9,6 +9,8 @@ mod drawing;
 #[cfg(test)]
 mod judging;
 #[cfg(test)]
+mod promised;
+#[cfg(test)]
 mod questions;
 #[cfg(test)]
 mod sequences;

@@ -22,4 +22,6 @@ mod numerals;
 #[cfg(test)]
 mod outside;
 #[cfg(test)]
+mod promised;
+#[cfg(test)]
 mod told;

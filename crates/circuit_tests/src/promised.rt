@@ -1,0 +1,124 @@
+//! Clauses of public calls, said again as clauses of this crate's own: where such a call comes to say less, the function
+//! here that makes it is not proved.
+ghost use Rattle.std.specs.Prelude.{◌≡◌, ℕ, IfOk, OnOk, ◌+◌, length, map, ◌↔◌, IsTrue, ◌<◌, All, take, Err, IsOk, ◌≤◌};
+ghost use Rattle.aig_semantics.specs.Circuits.{IsChecked, AreDefined};
+ghost use Rattle.circuit.specs.declared.faults.ModelFault.{ModelFault};
+ghost use Rattle.circuit.specs.Sections.{circuit_of, used_by, AreInRange};
+ghost use Rattle.circuit.specs.Faults.{IsFirstTwice, IsFirstUndefined, IsOnlyOnCycle, AnswersNoOther};
+ghost use Rattle.unless_memory.specs.Answers.{GivesExactlyWhere, GivesOneExactlyWhere, GivesSome};
+ghost use Rattle.aig_semantics.specs.Valuations.{valuation};
+ghost use Rattle.aig_semantics.specs.Literals.{literal_in};
+ghost use Rattle.aig_semantics.specs.Stimuli.{IsFairLassoOf, HasLasso, StandsFor};
+ghost use Rattle.aig_semantics.specs.Runs.{IsPosition};
+ghost use Rattle.circuit.specs.Rounds.{IsMostRounds};
+ghost use Rattle.stimulus.specs.declared.ends.ReplayFault.{ReplayFault};
+ghost use Rattle.stimulus.specs.Faults.{HasReplayFault};
+ghost use Rattle.cnf_unroll.specs.Blocks.{step_clauses};
+ghost use Rattle.cnf_unroll.specs.Layout.{BeginWith, before_latch, AreUseEnds, before_set};
+ghost use Rattle.cnf_unroll.specs.Obligations.{step_with_uses, after_step, shared_clauses, skeleton_clauses};
+ghost use Rattle.cnf_unroll.specs.Lending.{lent_all};
+
+use circuit::{Circuit, Lasso, ModelEnd, Parts, Position};
+use cnf_unroll::{Begun, ClauseSet, Unrolled, Used};
+use fair_semantics::Use;
+use std::alloc::{AllocError, Global};
+use stimulus::{ReplayEnd, Stimulus};
+
+/// Of faulty parts the fault is told: a second definition, none, and a cycle, each exactly where it is.
+fn checked(alloc: Global, parts: &Parts) -> Result<Circuit, ModelEnd>
+    requires { AreInRange parts.now }
+    ensures ok { IfOk result (λ c. c ≡ circuit_of parts.now) }
+    ensures checked { OnOk result (IsChecked (circuit_of parts.now)) }
+    ensures defined { OnOk result (AreDefined (circuit_of parts.now) (used_by parts.now)) }
+    ensures faulty { (fault : ModelFault) → result ≡ Err (ModelEnd.Fault fault)
+        → IsChecked (circuit_of parts.now) → AreDefined (circuit_of parts.now) (used_by parts.now) → ⊥ }
+    ensures twice { (v : ℕ) → GivesExactlyWhere (Err ModelEnd.Memory) (Err (ModelEnd.Fault (ModelFault.Twice v)))
+        (IsFirstTwice parts.now v) result }
+    ensures undefined { (v : ℕ) → GivesExactlyWhere (Err ModelEnd.Memory)
+        (Err (ModelEnd.Fault (ModelFault.Undefined v))) (IsFirstUndefined parts.now v) result }
+    ensures cycle { GivesOneExactlyWhere (Err ModelEnd.Memory) (λ v. Err (ModelEnd.Fault (ModelFault.Cycle v)))
+        (IsOnlyOnCycle parts.now) result }
+    ensures no_other { AnswersNoOther result }
+{
+    circuit::check_circuit(alloc, parts)
+}
+
+/// The values of all variables are those of the position.
+fn evaluated(c: &Circuit, latches: &[bool], inputs: &[bool], out: &mut [bool])
+    requires latches { length latches.now ≡ length c.now.latches }
+    requires inputs { length inputs.now ≡ length c.now.inputs }
+    requires out { length out.old ≡ c.now.max + 1 }
+    ensures { out.new ≡ valuation c.now latches.now inputs.now }
+{
+    circuit::eval_into(c, latches, inputs, out)
+}
+
+/// The next values of the latches are those of their literals.
+fn followed(c: &Circuit, values: &[bool], out: &mut [bool])
+    requires { length out.old ≡ length c.now.latches }
+    ensures { out.new ≡ map (λ latch. literal_in values.now latch.next) c.now.latches }
+{
+    circuit::next_into(c, values, out)
+}
+
+/// A lasso is fair exactly where it closes and meets each literal.
+fn is_fair(alloc: Global, c: &Circuit, j: u32, lasso: &Lasso) -> Result<bool, AllocError>
+    ensures { IfOk result (λ fair. IsTrue fair ↔ IsFairLassoOf c.now j lasso.now) }
+{
+    circuit::is_fair_lasso(alloc, c, j, lasso)
+}
+
+/// No more rounds than there are, and no fewer.
+fn counted(alloc: Global, c: &Circuit, j: u32, run: &[Position]) -> Result<u64, AllocError>
+    requires property { j < length c.now.justice }
+    requires positions { All (IsPosition c.now) run.now }
+    ensures { IfOk result (IsMostRounds c.now j run.now) }
+{
+    circuit::rounds(alloc, c, j, run)
+}
+
+/// The replay of a stimulus gives its lasso, or its first fault.
+fn replayed(alloc: Global, c: &Circuit, j: u32, s: &Stimulus) -> Result<Lasso, ReplayEnd>
+    ensures found { IfOk result (λ lasso. StandsFor c.now j s.now (length lasso.inputs) lasso.from) }
+    ensures start { IfOk result (λ lasso. lasso.start ≡ s.now.latches) }
+    ensures inputs { IfOk result (λ lasso. lasso.inputs ≡ take (length lasso.inputs) s.now.inputs) }
+    ensures every { (k from : ℕ) → HasLasso c.now j s.now k from → GivesSome (Err ReplayEnd.Memory) IsOk result }
+    ensures fault { (fault : ReplayFault) → GivesExactlyWhere (Err ReplayEnd.Memory) (Err (ReplayEnd.Fault fault))
+        (HasReplayFault c.now j s.now fault) result }
+{
+    stimulus::replay(alloc, c, j, s)
+}
+
+/// Where the clauses of a latch begin.
+fn before_latch(c: &Circuit, i: usize) -> usize
+    requires { i ≤ length c.now.latches }
+    ensures { BeginWith (step_clauses c.now) (before_latch c.now i) result }
+{
+    cnf_unroll::before_latch(c, i)
+}
+
+/// What the obligations of an entry share: its clauses, and where the parts end.
+fn shared(
+    alloc: Global,
+    c: &Circuit,
+    uses: &[Used],
+    own: &[Use],
+    set: &ClauseSet,
+) -> Result<Begun, AllocError>
+    ensures clauses { IfOk result (λ begun. begun.clauses.clauses ≡ shared_clauses c.now (lent_all uses.now) own.now set.now) }
+    ensures free { IfOk result (λ begun. begun.free ≡ (after_step c.now (lent_all uses.now)).free) }
+    ensures ends { IfOk result (λ begun. AreUseEnds (step_with_uses c.now) (lent_all uses.now) begun.clauses.clauses begun.ends) }
+    ensures sides { IfOk result (λ begun. BeginWith begun.clauses.clauses (before_set c.now (lent_all uses.now) own.now) begun.sides) }
+{
+    cnf_unroll::shared(alloc, c, uses, own, set)
+}
+
+/// The clauses of a skeleton, and where those of each use end.
+fn unrolled(alloc: Global, c: &Circuit, j: u32, uses: &[Used]) -> Result<Unrolled, AllocError>
+    requires { j < length c.now.justice }
+    ensures clauses { IfOk result (λ unrolled. unrolled.clauses.clauses ≡ skeleton_clauses c.now j (lent_all uses.now)) }
+    ensures ends { IfOk result (λ unrolled.
+        AreUseEnds (skeleton_clauses c.now j) (lent_all uses.now) unrolled.clauses.clauses unrolled.ends) }
+{
+    cnf_unroll::unrolled_skeleton(alloc, c, j, uses)
+}
