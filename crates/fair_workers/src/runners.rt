@@ -71,7 +71,9 @@ fn run_worker<R: Wait, G: Gate>(
 {
     let mut worker = worker;
     take_turns(run, &mut worker, held);
-    end_of(&worker)
+    let end = end_of(&worker);
+    drop(worker);
+    end
 }
 
 // A meter that has counted nothing, with the bell where a handle of it is not refused. No other meter is made for the work of
