@@ -161,9 +161,11 @@ impl Rounds {
         ensures { IfOk result (λ made. made ≡ record { circuit = arc_value c.now; property = j; seen = [] }) }
     {
         let circuit = Arc::try_clone(c)?;
+        let wanted = first_wanted(alloc, &**c, j, worker)?;
+        let query = Query::new(alloc, c, j, worker)?;
         Ok(Rounds {
             circuit,
-            query: Query::new(alloc, c, j, worker)?,
+            query,
             seen: Items::new(alloc),
             runs: Vec::new(alloc),
             avoid: Items::new(alloc),
@@ -172,7 +174,7 @@ impl Rounds {
             worker,
             has_simulated: false,
             states: None,
-            wanted: first_wanted(alloc, &**c, j, worker)?,
+            wanted,
             pauses: NO_PAUSE,
             bounded: Bounded::unused(),
         })
