@@ -93,7 +93,9 @@ pub fn by_latch(
         starts: &starts,
         goal,
     };
-    close_by_latch(alloc, &asked, &mut steps, meter)
+    let found = close_by_latch(alloc, &asked, &mut steps, meter);
+    drop(steps);
+    found
 }
 
 // The same by a solver that has no lemmas.
@@ -164,6 +166,7 @@ pub(crate) fn reach_on(
     let mut steps = Steps::new(alloc, asked.c, asked.view, asked.start, avoided(asked.goal))?;
     let reached = reach_by(alloc, asked, &mut steps, frames, meter);
     *solver_questions = solver_questions.saturating_add(steps.solver_questions());
+    drop(steps);
     reached
 }
 

@@ -82,8 +82,13 @@ fn filled(
         (map (λ cube. guarded guard (denied_at here.now cube)) avoid.now) solver.added) }
 {
     let mut solver = Solver::new(alloc)?;
-    fill(alloc, c, base, cone, used, guard, here, avoid, &mut solver)?;
-    Ok(solver)
+    match fill(alloc, c, base, cone, used, guard, here, avoid, &mut solver) {
+        Ok(()) => Ok(solver),
+        Err(error) => {
+            drop(solver);
+            Err(error)
+        }
+    }
 }
 
 /// The solver of a search before its first lemma.
