@@ -360,9 +360,16 @@ fn from_start<S: StepSolver>(
     if misses_starts(starts, &found.cube) {
         return Ok(found);
     }
-    match steps.predecessor(alloc, 0, asked, meter)? {
-        Found::Step(first) => Ok(lifted(alloc, into, asked, 0, below, first, steps, frames)?),
-        Found::Missing(_) => Ok(found),
+    match steps.predecessor(alloc, 0, asked, meter) {
+        Ok(Found::Step(first)) => {
+            drop(found);
+            Ok(lifted(alloc, into, asked, 0, below, first, steps, frames)?)
+        }
+        Ok(Found::Missing(_)) => Ok(found),
+        Err(end) => {
+            drop(found);
+            Err(end)
+        }
     }
 }
 

@@ -265,9 +265,16 @@ fn last_from_start<S: StepSolver>(
     if misses_starts(starts, &node.cube) {
         return Ok(node);
     }
-    match steps.meets_goal(alloc, 0, literal, meter)? {
-        Some(position) => Ok(last_node(alloc, literal, 0, top, position, steps)?),
-        None => Ok(node),
+    match steps.meets_goal(alloc, 0, literal, meter) {
+        Ok(Some(position)) => {
+            drop(node);
+            Ok(last_node(alloc, literal, 0, top, position, steps)?)
+        }
+        Ok(None) => Ok(node),
+        Err(end) => {
+            drop(node);
+            Err(end)
+        }
     }
 }
 
