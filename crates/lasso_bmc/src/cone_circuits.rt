@@ -47,13 +47,12 @@ fn one_property(alloc: Global, c: &Circuit, j: u32) -> Result<Items<Items<u64>>,
 }
 
 // What lies in the cone, with the numbers that it has in the circuit.
-fn parts_of(alloc: Global, c: &Circuit, j: u32) -> Result<Parts, AllocError> {
-    let cone = cone_of(alloc, c, j)?;
+fn parts_in(alloc: Global, c: &Circuit, j: u32, cone: &Cone) -> Result<Parts, AllocError> {
     Ok(Parts {
         max: c.max(),
-        inputs: inputs_in(alloc, c.inputs(), &cone)?,
-        latches: latches_in(alloc, c.latches(), &cone)?,
-        gates: gates_in(alloc, c.gates(), &cone)?,
+        inputs: inputs_in(alloc, c.inputs(), cone)?,
+        latches: latches_in(alloc, c.latches(), cone)?,
+        gates: gates_in(alloc, c.gates(), cone)?,
         outputs: Items::new(alloc),
         bad: Items::new(alloc),
         constraints: Items::from_slice(alloc, c.constraints())?,
@@ -62,11 +61,19 @@ fn parts_of(alloc: Global, c: &Circuit, j: u32) -> Result<Parts, AllocError> {
     })
 }
 
+fn parts_of(alloc: Global, c: &Circuit, j: u32) -> Result<Parts, AllocError> {
+    let cone = cone_of(alloc, c, j)?;
+    let parts = parts_in(alloc, c, j, &cone);
+    drop(cone);
+    parts
+}
+
 // The circuit, where it has a property.
 fn with_property(kept: Kept) -> Option<Circuit>
     ensures { IfSome result (λ c. 0 < length c.justice) }
 {
     if kept.circuit.property_count() == 0 {
+        drop(kept);
         return None;
     }
     Some(kept.circuit)
@@ -83,6 +90,7 @@ pub(crate) fn cone_circuit(
 {
     let parts = parts_of(alloc, c, j)?;
     if !parts.is_in_range() {
+        drop(parts);
         return Ok(None);
     }
     match keep_circuit(alloc, parts) {

@@ -98,13 +98,19 @@ fn told(
     ensures end { IfErr result (IsEnd _meter.now) }
 {
     match answer {
-        Ok(Searched::Found(lasso)) => Ok(Some(lasso)),
+        Ok(Searched::Found(lasso)) => {
+            drop(asked);
+            Ok(Some(lasso))
+        }
         Ok(Searched::NoneWithin) => {
             *done += 1;
             drop(solver.replace(asked));
             Ok(None)
         }
-        Err(end) => Err(end),
+        Err(end) => {
+            drop(asked);
+            Err(end)
+        }
     }
 }
 
@@ -144,9 +150,13 @@ fn asked(
     ensures end { IfErr result (IsEnd meter.new) }
     ensures counted { CountsConflicts meter.old meter.new }
 {
+    if *done >= MOST_POSITIONS {
+        drop(solver.take());
+        return Ok(None);
+    }
     match solver.take() {
-        Some(taken) if *done < MOST_POSITIONS => asked_of(alloc, part, taken, solver, done, meter),
-        _ => Ok(None),
+        Some(taken) => asked_of(alloc, part, taken, solver, done, meter),
+        None => Ok(None),
     }
 }
 
