@@ -113,8 +113,13 @@ fn listing(alloc: Global, _circuit: &Circuit, asked: Asked, model: Model) -> Res
     ensures { (number : ℕ) → TellsStep _circuit.now (version_step _circuit.now asked.k asked.property number (Some (WordLine.Version Version.Two))) result }
 {
     let t = model.circuit();
-    let begun = states_refuted(alloc, t, asked.property, last_latch(t))?;
-    Ok(State::Listing(asked, model, begun))
+    match states_refuted(alloc, t, asked.property, last_latch(t)) {
+        Ok(begun) => Ok(State::Listing(asked, model, begun)),
+        Err(error) => {
+            drop(model);
+            Err(JudgeEnd::from(error))
+        }
+    }
 }
 
 /// Behind the line that says what follows: a run, or a certificate.

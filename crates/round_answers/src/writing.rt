@@ -74,10 +74,24 @@ fn fewer_text(
     ensures good { IfOk result (λ text. k ≤ MAX_ROUNDS → AreFull (monitor_circuit c.now j k) entries.now refutation.now → IsGoodAbout c.now text.items j k false) }
 {
     let model = monitor_of(alloc, c, j, k)?;
-    let t = model.circuit();
-    let _within_limits = t.max();
-    let answer = printed(alloc, t, j, entries, refutation)?;
+    let _within_limits = model.circuit().max();
+    let answer = printed_over(alloc, model, j, entries, refutation)?;
     with_first_line(alloc, k, answer.as_slice())
+}
+
+// The answer over the circuit of this model.
+fn printed_over(
+    alloc: Global,
+    model: Model,
+    j: u32,
+    entries: &[Entry],
+    refutation: &Refutation,
+) -> Result<Vec<u8>, AllocError>
+    ensures { IfOk result (λ text. text.items ≡ certificate_text j (certificate_of model.circuit entries.now refutation.now)) }
+{
+    let text = printed(alloc, model.circuit(), j, entries, refutation);
+    drop(model);
+    text
 }
 
 fn monitor_of(alloc: Global, c: &Circuit, j: u32, k: u32) -> Result<Model, AllocError>

@@ -10,14 +10,13 @@ use Rattle.round_answers.proofs.writing.fewer_text.Goals as goal
 pub returns-clause-text : goal.returns-clause-text
 returns-clause-text c =
     let t : Circuit = monitor_circuit c.args.c.now c.args.j c.args.k in
-    let same : c.circuit-t.result.now ≡ t = c.circuit-t.ensures.circuit ∙ c.in_ok-model.ensures in
     let is : c.as_slice.result.now ≡ certificate_text c.args.j (certificate_of t c.args.entries.now c.args.refutation.now) =
-    c.as_slice.ensures.value ∙ c.in_ok-answer.ensures ∙ ap (λ (u : Circuit). certificate_text c.args.j (certificate_of u c.args.entries.now c.args.refutation.now)) same in
+    c.as_slice.ensures.value ∙ c.in_ok-answer.ensures ∙ ap (λ (u : Circuit). certificate_text c.args.j (certificate_of u c.args.entries.now c.args.refutation.now)) c.in_ok-model.ensures in
     replaced_if c.with_first_line.result (λ text. text.items) c.args.k c.args.j (certificate_of t c.args.entries.now c.args.refutation.now) c.as_slice.result.now is c.with_first_line.ensures.text
 
 pub returns-clause-good : goal.returns-clause-good
 returns-clause-good c =
-    let same : c.circuit-t.result.now ≡ monitor_circuit c.args.c.now c.args.j c.args.k = c.circuit-t.ensures.circuit ∙ c.in_ok-model.ensures in
+    let same : c.circuit.result.now ≡ monitor_circuit c.args.c.now c.args.j c.args.k = c.circuit.ensures.circuit ∙ c.in_ok-model.ensures in
     fewer_if c.with_first_line.result (λ text. text.items) c.args.c.now c.args.j c.args.k c.args.entries.now c.args.refutation.now
     (subst IsChecked same c.max-within_limits.ensures.checked) (subst IsWithinLimits same c.max-within_limits.ensures.limits) (omega arith) c.requires.some c.requires.able
     (returns-clause-text c) c.with_first_line.ensures.within
