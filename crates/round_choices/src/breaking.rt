@@ -110,5 +110,7 @@ pub fn breaking_state(
     ensures counted { CountsConflicts meter.old meter.new }
 {
     let mut solver = solver_of(alloc, c, j, view)?;
-    state_found(alloc, c, &mut solver, clauses, meter)
+    let found = state_found(alloc, c, &mut solver, clauses, meter);
+    drop(solver);
+    found
 }
