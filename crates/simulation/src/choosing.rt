@@ -13,6 +13,7 @@ use cone::cone_of;
 use edge::Meter;
 use items::Items;
 use std::alloc::{AllocError, Global};
+use std::mem;
 
 /// How many batches there are.
 const MOST_BATCHES: u32 = 4;
@@ -264,9 +265,9 @@ fn choose_for(alloc: Global, task: &Task<'_>, seed: u32) -> Result<Chosen, Alloc
     };
     try_batches(alloc, task, &mut supply, &mut chosen)?;
     if chosen.lasso.is_some() {
-        chosen.runs = Vec::new(alloc);
+        drop(mem::replace(&mut chosen.runs, Vec::new(alloc)));
     }
-    chosen.states.words = supply.states;
+    drop(mem::replace(&mut chosen.states.words, supply.states));
     Ok(chosen)
 }
 
