@@ -125,5 +125,7 @@ pub(crate) fn proofs_of(
     entry: &Listed,
 ) -> Result<Items<Proof>, ProvingEnd> {
     let mut solver = solver_of(alloc, c, view, entry)?;
-    proofs_by(alloc, c, &mut solver, entry.set.as_slice())
+    let proofs = proofs_by(alloc, c, &mut solver, entry.set.as_slice());
+    drop(solver);
+    proofs
 }
