@@ -8,6 +8,7 @@ use edge::Meter;
 use items::Items;
 use simulation::repeated_lasso;
 use std::alloc::{AllocError, Global};
+use std::mem;
 use std::test::*;
 
 const NO_LIMIT: u64 = 4_294_967_295;
@@ -132,8 +133,10 @@ fn circuit_of(alloc: Global, row: &Row) -> Result<Circuit, ModelEnd> {
         fairness: &[],
     };
     let mut parts = parts_of(alloc, &model)?;
-    parts.latches = latches;
-    checked(alloc, &parts)
+    drop(mem::replace(&mut parts.latches, latches));
+    let c = checked(alloc, &parts);
+    drop(parts);
+    c
 }
 
 // The latches at the first position.
@@ -170,13 +173,16 @@ fn positions_of(found: &Option<Lasso>) -> Option<u64> {
 fn found_of(alloc: Global, c: &Circuit, body: &[bool]) -> Result<Option<u64>, AllocError> {
     let meter = Meter::new(NO_LIMIT, NO_LIMIT);
     let stimulus = stimulus_of(alloc, c, body)?;
-    let found = repeated_lasso(alloc, c, 0, &stimulus, 0, &meter)?;
-    Ok(positions_of(&found))
+    let found = repeated_lasso(alloc, c, 0, &stimulus, 0, &meter);
+    drop(stimulus);
+    Ok(positions_of(&found?))
 }
 
 fn gives(alloc: Global, row: &Row) -> Result<bool, Fail> {
     let c = circuit_of(alloc, row)?;
-    Ok(found_of(alloc, &c, row.body)? == row.positions)
+    let found = found_of(alloc, &c, row.body);
+    drop(c);
+    Ok(found? == row.positions)
 }
 
 #[test]

@@ -430,7 +430,11 @@ fn monitor_goes_along(
     best: &[u64],
 ) -> Result<bool, AllocError> {
     match monitor_of(alloc, c, k) {
-        Some(model) => goes_along(alloc, model.circuit(), run, k as usize, best),
+        Some(model) => {
+            let goes = goes_along(alloc, model.circuit(), run, k as usize, best);
+            drop(model);
+            goes
+        }
         None => Ok(false),
     }
 }
