@@ -44,7 +44,9 @@ fn ring_has(
     requires few { n ≤ 256 }
 {
     let model = ring(alloc, seed, n)?;
-    Ok(has(&model, latches, &[], property, &[]))
+    let has = has(&model, latches, &[], property, &[]);
+    drop(model);
+    Ok(has)
 }
 
 fn scramble_has(
@@ -60,7 +62,9 @@ fn scramble_has(
     requires few { n ≤ 256 }
 {
     let model = scramble(alloc, seed, n)?;
-    Ok(has(&model, latches, gates, property, fairness))
+    let has = has(&model, latches, gates, property, fairness);
+    drop(model);
+    Ok(has)
 }
 
 fn greatest_variable(alloc: Global, seed: u64, n: u64) -> Result<u64, AllocError>
@@ -68,7 +72,9 @@ fn greatest_variable(alloc: Global, seed: u64, n: u64) -> Result<u64, AllocError
     requires few { n ≤ 256 }
 {
     let model = scramble(alloc, seed, n)?;
-    Ok(model.circuit().max())
+    let greatest = model.circuit().max();
+    drop(model);
+    Ok(greatest)
 }
 
 #[test]
