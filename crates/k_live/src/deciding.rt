@@ -51,16 +51,17 @@ pub fn decide(
     ensures untouched { (n : ℕ) → result ≡ Err (ends.TooLarge n) → meter.new ≡ meter.old }
 {
     match monitor(alloc, c, j, k) {
-        Ok(model) => decided(
-            alloc,
-            &Watched {
+        Ok(model) => {
+            let watched = Watched {
                 c,
                 j,
                 k,
                 t: model.circuit(),
-            },
-            meter,
-        ),
+            };
+            let rounds = decided(alloc, &watched, meter);
+            drop(model);
+            rounds
+        }
         Err(TranslateEnd::TooLarge(most)) => Err(RoundsEnd::TooLarge(most)),
         Err(TranslateEnd::NoProperty(_)) => unreachable!(),
         Err(TranslateEnd::Memory) => Err(RoundsEnd::Memory),
