@@ -24,6 +24,7 @@ use fair_semantics::Use;
 use lrat::{Checker, LratEnd};
 use proof_semantics::{Lit, LratFault};
 use std::alloc::{AllocError, Global};
+use std::mem;
 
 // A judge of the refutation, before its first line.
 fn judge_of(
@@ -76,7 +77,7 @@ fn begin_skeletons(
         (skeleton_clauses circuit.now body.old.property (used_entries (entries_of body.old.list) uses.now)))) body.new result }
 {
     let judge = judge_of(alloc, circuit, body.property, body.list.as_slice(), uses)?;
-    body.judge = judge;
+    drop(mem::replace(&mut body.judge, judge));
     next_refuting_line(circuit, body, Proving { count, read: 0 })
 }
 
@@ -94,7 +95,9 @@ fn next_state_line(
     if proving.read != proving.count {
         return Ok(Wanted::StateLine(checker, proving));
     }
-    if !checker.proved_empty() {
+    let finished = checker.proved_empty();
+    drop(checker);
+    if !finished {
         let fault = AnswerFault::Refutation(proving.count, LratFault::Unfinished);
         return Err(AnswerEnd::Refused(fault));
     }
@@ -220,9 +223,13 @@ pub(crate) fn state_step(
             next_state_line(circuit, body, checker, later)
         }
         Err(LratEnd::Fault(fault)) => {
+            drop(checker);
             Err(AnswerEnd::Refused(AnswerFault::Refutation(proving.read, fault)))
         }
-        Err(LratEnd::Memory) => Err(AnswerEnd::Memory),
+        Err(LratEnd::Memory) => {
+            drop(checker);
+            Err(AnswerEnd::Memory)
+        }
     }
 }
 
