@@ -11,11 +11,13 @@ use wall_store::{Finished, Posted};
 // many entries there are then.
 fn two_posts(alloc: Global, limit: u32) -> Result<(Posted, Posted, usize), Fail> {
     let c = Arc::new(alloc, stuck(alloc)?)?;
-    let mut board = board_of_stuck(alloc, &c, limit.min(9))?;
     let one = find(alloc, &c, 0)?;
     let other = find(alloc, &c, 1)?;
+    let mut board = board_of_stuck(alloc, &c, limit.min(9))?;
     let (first, second) = both_post(&mut board, one, other);
-    Ok((first, second, board.entries().len()))
+    let count = board.entries().len();
+    drop(board);
+    Ok((first, second, count))
 }
 
 #[test]
@@ -31,15 +33,16 @@ fn two_lassos(alloc: Global, c: &Arc<Circuit>) -> Result<Option<[bool; 5]>, Allo
     if c.property_count() == 0 {
         return Ok(None);
     }
-    let mut board = board_of(alloc, c)?;
     let (Some(one), Some(other)) = (fair_lasso(alloc, c)?, fair_lasso(alloc, c)?) else {
         return Ok(None);
     };
+    let mut board = board_of(alloc, c)?;
     let opened = board.next_open(0, 0) == Some(0);
     let looked = board.look(0) == 0;
     let won = hand_in(&mut board, one) == Finished::Won;
     let closed = hand_in(&mut board, other) == Finished::Closed;
     let none_open = board.next_open(0, 0) == None && board.outcome(0).is_some();
+    drop(board);
     Ok(Some([opened, looked, won, closed, none_open]))
 }
 

@@ -3,6 +3,7 @@
 ghost use Rattle.std.specs.Prelude.{◌≡◌, ℕ, ◌<◌, ◌≤◌, ◌∷◌, [], true, false, length, OnOk, IfOk, IfSome};
 ghost use Rattle.std.specs.Arc.{arc_value};
 ghost use Rattle.aig_semantics.specs.Examples.{stuck};
+ghost use Rattle.circuit.specs.Sections.{circuit_of};
 ghost use Rattle.aig_semantics.specs.Stimuli.{IsFairLassoOf};
 ghost use Rattle.fair_semantics.specs.Examples.{latch_entry, one_situation};
 ghost use Rattle.entry.specs.Entries.{said};
@@ -23,9 +24,8 @@ use std::alloc::{AllocError, Global};
 use std::sync::Arc;
 use wall_store::{Board, Finished, Outcome, Posted, sound_lists_grow};
 
-/// The circuit whose latch stays at 0; its property is that the latch is 1.
-pub fn stuck(alloc: Global) -> Result<Circuit, ModelEnd>
-    ensures { IfOk result (λ c. c ≡ stuck) }
+fn stuck_parts(alloc: Global) -> Result<Parts, AllocError>
+    ensures { IfOk result (λ parts. circuit_of parts ≡ stuck) }
 {
     let mut justice = Items::new(alloc);
     justice.push(Items::from_slice(alloc, &[2])?)?;
@@ -34,21 +34,38 @@ pub fn stuck(alloc: Global) -> Result<Circuit, ModelEnd>
         next: 2,
         reset: Reset::Zero,
     };
-    let parts = Parts {
+    let latches = Items::from_slice(alloc, &[latch])?;
+    Ok(Parts {
         max: 1,
         inputs: Items::new(alloc),
-        latches: Items::from_slice(alloc, &[latch])?,
+        latches,
         gates: Items::new(alloc),
         outputs: Items::new(alloc),
         bad: Items::new(alloc),
         constraints: Items::new(alloc),
         justice,
         fairness: Items::new(alloc),
-    };
+    })
+}
+
+/// The circuit of these parts.
+pub fn circuit_of(alloc: Global, parts: &Parts) -> Result<Circuit, ModelEnd>
+    ensures { IfOk result (λ c. c ≡ circuit_of parts.now) }
+{
     if !parts.is_in_range() {
         return Err(ModelEnd::Memory);
     }
-    check_circuit(alloc, &parts)
+    check_circuit(alloc, parts)
+}
+
+/// The circuit whose latch stays at 0; its property is that the latch is 1.
+pub fn stuck(alloc: Global) -> Result<Circuit, ModelEnd>
+    ensures { IfOk result (λ c. c ≡ stuck) }
+{
+    let parts = stuck_parts(alloc)?;
+    let c = circuit_of(alloc, &parts);
+    drop(parts);
+    c
 }
 
 // The skeleton in which the latch is 1.

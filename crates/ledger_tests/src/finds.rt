@@ -3,6 +3,7 @@
 ghost use Rattle.std.specs.Prelude.{◌≡◌, ◌≤◌, ◌<◌, [], ◌∷◌, true, false, Bool, map, length, All, IfOk, IfSome, OnOk};
 ghost use Rattle.std.specs.Arc.{arc_value};
 ghost use Rattle.aig_semantics.specs.Circuits.{Circuit};
+ghost use Rattle.circuit.specs.Sections.{circuit_of};
 ghost use Rattle.entry.specs.declared.origins.Origin.TheVariants.{Given};
 ghost use Rattle.entry.specs.Entries.{said};
 ghost use Rattle.entry.specs.Proved.{IsProved, IsGoodRefutation};
@@ -12,8 +13,9 @@ ghost use Rattle.wall_store.specs.Boards.{IsSound, IsSoundList, Allow, most_entr
 ghost use Rattle.wall_store.specs.Scanning.{NoneWithin};
 ghost use Rattle.ledger_tests.specs.Crews.{model, with_justice, keeps_0, at_0, raised, target, IsFindOf};
 
+use crate::boards::circuit_of;
 use aig_semantics::{Latch, Position, Reset};
-use circuit::{Circuit, ModelEnd, Parts, check_circuit};
+use circuit::{Circuit, ModelEnd, Parts};
 use cnf::{Clause, Lit};
 use cnf_unroll::ClauseSet;
 use entry::{
@@ -48,8 +50,8 @@ fn latch(var: u64, next: u64) -> Latch
     }
 }
 
-fn circuit_with(alloc: Global, justice: Items<Items<u64>>) -> Result<Circuit, ModelEnd>
-    ensures { IfOk result (λ c. c ≡ with_justice justice) }
+fn parts_with(alloc: Global, justice: Items<Items<u64>>) -> Result<Parts, AllocError>
+    ensures { IfOk result (λ parts. circuit_of parts ≡ with_justice justice) }
 {
     let latches = [
         latch(1, 2),
@@ -59,7 +61,7 @@ fn circuit_with(alloc: Global, justice: Items<Items<u64>>) -> Result<Circuit, Mo
         latch(5, 10),
         latch(6, 12),
     ];
-    let parts = Parts {
+    Ok(Parts {
         max: 6,
         inputs: Items::new(alloc),
         latches: Items::from_slice(alloc, &latches)?,
@@ -69,11 +71,16 @@ fn circuit_with(alloc: Global, justice: Items<Items<u64>>) -> Result<Circuit, Mo
         constraints: Items::new(alloc),
         justice,
         fairness: Items::new(alloc),
-    };
-    if !parts.is_in_range() {
-        return Err(ModelEnd::Memory);
-    }
-    check_circuit(alloc, &parts)
+    })
+}
+
+fn circuit_with(alloc: Global, justice: Items<Items<u64>>) -> Result<Circuit, ModelEnd>
+    ensures { IfOk result (λ c. c ≡ with_justice justice) }
+{
+    let parts = parts_with(alloc, justice)?;
+    let c = circuit_of(alloc, &parts);
+    drop(parts);
+    c
 }
 
 /// The circuit of six latches that stay at 0, with one property or two, each that the first latch is 1.
