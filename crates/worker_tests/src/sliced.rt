@@ -18,25 +18,40 @@ fn has_lasso(alloc: Global, c: &Circuit) -> Result<bool, AllocError> {
     has_fair_lasso(alloc, c, 0, &steps)
 }
 
+// What was found of a circuit, and how many of its latches are left out of a part, if the same is found of the part.
+fn compared(
+    alloc: Global,
+    found: bool,
+    c: &Circuit,
+    part: &Circuit,
+) -> Result<Option<(bool, usize)>, AllocError> {
+    let same = has_lasso(alloc, part)? == found;
+    let left = c.latches().len().saturating_sub(part.latches().len());
+    Ok(if same { Some((found, left)) } else { None })
+}
+
 // Whether the model has a fair lasso of its first property, and how many latches are left out of the slice, if the slice has
 // one exactly then.
 fn verdict_on(alloc: Global, model: &Model) -> Result<Option<(bool, usize)>, AllocError> {
     let c = model.circuit();
     let found = has_lasso(alloc, c)?;
-    let Ok(part) = slice(alloc, model, 0) else {
-        return Ok(None);
-    };
-    let same = has_lasso(alloc, part.circuit())? == found;
-    let left = c
-        .latches()
-        .len()
-        .saturating_sub(part.circuit().latches().len());
-    Ok(if same { Some((found, left)) } else { None })
+    match slice(alloc, model, 0) {
+        Ok(part) => {
+            let verdict = compared(alloc, found, c, part.circuit());
+            drop(part);
+            verdict
+        }
+        Err(_) => Ok(None),
+    }
 }
 
 fn verdict_of(alloc: Global, text: &[u8]) -> Result<Option<(bool, usize)>, AllocError> {
     match read(alloc, text) {
-        Ok(model) => verdict_on(alloc, &model),
+        Ok(model) => {
+            let verdict = verdict_on(alloc, &model);
+            drop(model);
+            verdict
+        }
         Err(_) => Ok(None),
     }
 }

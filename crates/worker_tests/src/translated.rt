@@ -100,12 +100,22 @@ fn has_bad_run(alloc: Global, model: &Model) -> Result<bool, AllocError> {
 // Whether the property has a fair lasso, if its translation has a bad run exactly then.
 fn verdict_on(alloc: Global, c: &Circuit) -> Result<Option<bool>, AllocError> {
     let steps = steps_of(alloc, c, 0)?;
-    let has_lasso = has_fair_lasso(alloc, c, 0, &steps)?;
-    let Ok(model) = translate(alloc, c, 0) else {
-        return Ok(None);
-    };
-    let same = has_bad_run(alloc, &model)? == has_lasso;
-    Ok(if same { Some(has_lasso) } else { None })
+    let has_lasso = has_fair_lasso(alloc, c, 0, &steps);
+    drop(steps);
+    compared(alloc, c, has_lasso?)
+}
+
+// What was found of the property, if the translation has a bad run exactly where that is a fair lasso.
+fn compared(alloc: Global, c: &Circuit, has_lasso: bool) -> Result<Option<bool>, AllocError> {
+    match translate(alloc, c, 0) {
+        Ok(model) => {
+            let has_bad = has_bad_run(alloc, &model);
+            drop(model);
+            let same = has_bad? == has_lasso;
+            Ok(if same { Some(has_lasso) } else { None })
+        }
+        Err(_) => Ok(None),
+    }
 }
 
 /// The model of a text. One call; no clause of it is wanted here.
@@ -116,7 +126,11 @@ pub(crate) fn read(alloc: Global, text: &[u8]) -> Result<Model, ModelEnd> {
 fn verdict_of(alloc: Global, number: u64) -> Result<Option<bool>, AllocError> {
     let text = model_text(alloc, number)?;
     match read(alloc, &text) {
-        Ok(model) => verdict_on(alloc, model.circuit()),
+        Ok(model) => {
+            let verdict = verdict_on(alloc, model.circuit());
+            drop(model);
+            verdict
+        }
         Err(_) => Ok(None),
     }
 }
