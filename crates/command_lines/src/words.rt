@@ -2,7 +2,7 @@
 
 ghost use Rattle.std.specs.Prelude.{◌≡◌, ◌≤◌, ℕ, Some, codes, option_map, IfOk, IfSome, IfNone, false};
 ghost use Rattle.clap.specs.Simple.{App, app_of, new_app, with_rule, with_subcommand};
-ghost use Rattle.clap.specs.Walk.{rows_of, rule_of, first_of};
+ghost use Rattle.clap.specs.Walk.{Rule, rows_of, rule_of, first_of};
 ghost use Rattle.clap.specs.Matches.{found_of};
 ghost use Rattle.clap.specs.declared.builder.command.Command.TheViews.{out-Command as fields_of};
 ghost use Rattle.command_lines.specs.Words.{flag, flag_in, number_option, text_option, wanted, wanted_number, IsNumberIn, IsNumberGiven, IsNumberOr};
@@ -53,6 +53,20 @@ pub(crate) fn text_option<'a>(alloc: Global, name: &'a str) -> Arg<'a>
     ensures local { result.global ≡ false }
 {
     Arg::new(alloc, name).long(name)
+}
+
+/// A command with one more argument, where it was made and takes it.
+pub(crate) fn with_argument<'a>(
+    made: Result<Command<'a>, AllocError>,
+    argument: Arg<'a>,
+) -> Result<Command<'a>, AllocError>
+    requires { argument.global ≡ false }
+    ensures shape { (app : App) (rule : Rule) → rule_of argument.entry ≡ rule → IfOk made.entry (λ command. app_of command ≡ app)
+        → IfOk result (λ more. app_of more ≡ with_rule app rule) }
+    ensures local { IfOk made.entry (λ command. (fields_of command).has_globals ≡ false)
+        → IfOk result (λ more. (fields_of more).has_globals ≡ false) }
+{
+    made?.arg(argument)
 }
 
 /// A command of this name that wants the names of a model and of an answer.

@@ -9,7 +9,7 @@ ghost use Rattle.command_lines.specs.Commands.{Asked as AskedFor, meant, Means};
 ghost use Rattle.command_lines.specs.Shortest.{shortest_command};
 
 use crate::commands::{Asked, DEFAULTS};
-use crate::words::{attached, number_option, number_or, required, value_of};
+use crate::words::{attached, number_option, number_or, required, value_of, with_argument};
 use clap::{ArgMatches, Command};
 use std::alloc::{AllocError, Global};
 
@@ -28,11 +28,10 @@ fn shortest_command<'a>(alloc: Global) -> Result<Command<'a>, AllocError>
     ensures shape { IfOk result (λ command. app_of command ≡ shortest_command) }
     ensures local { IfOk result (λ command. (fields_of command).has_globals ≡ false) }
 {
-    Command::new(alloc, "shortest")
-        .arg(required(alloc, "MODEL"))?
-        .arg(number_option(alloc, "property", 0, 4_294_967_295))?
-        .arg(number_option(alloc, "conflicts", 0, 4_294_967_295))?
-        .arg(number_option(alloc, "depth", 0, 65_536))
+    let command = Command::new(alloc, "shortest").arg(required(alloc, "MODEL"));
+    let command = with_argument(command, number_option(alloc, "property", 0, 4_294_967_295));
+    let command = with_argument(command, number_option(alloc, "conflicts", 0, 4_294_967_295));
+    with_argument(command, number_option(alloc, "depth", 0, 65_536))
 }
 
 /// The program with this command.

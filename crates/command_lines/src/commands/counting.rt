@@ -11,6 +11,7 @@ ghost use Rattle.command_lines.specs.Rounds.{rounds_command};
 use crate::commands::{Asked, DEFAULTS};
 use crate::words::{
     attached, number_of, number_option, number_or, required, required_number, value_of,
+    with_argument,
 };
 use clap::{ArgMatches, Command};
 use std::alloc::{AllocError, Global};
@@ -32,12 +33,11 @@ fn rounds_command<'a>(alloc: Global) -> Result<Command<'a>, AllocError>
     ensures shape { IfOk result (λ command. app_of command ≡ rounds_command) }
     ensures local { IfOk result (λ command. (fields_of command).has_globals ≡ false) }
 {
-    Command::new(alloc, "rounds")
-        .arg(required(alloc, "MODEL"))?
-        .arg(required_number(alloc, "K", 1, 64))?
-        .arg(number_option(alloc, "property", 0, 4_294_967_295))?
-        .arg(number_option(alloc, "conflicts", 0, 4_294_967_295))?
-        .arg(number_option(alloc, "steps", 0, 4_294_967_295))
+    let command = Command::new(alloc, "rounds").arg(required(alloc, "MODEL"));
+    let command = with_argument(command, required_number(alloc, "K", 1, 64));
+    let command = with_argument(command, number_option(alloc, "property", 0, 4_294_967_295));
+    let command = with_argument(command, number_option(alloc, "conflicts", 0, 4_294_967_295));
+    with_argument(command, number_option(alloc, "steps", 0, 4_294_967_295))
 }
 
 /// The program with this command.

@@ -10,7 +10,9 @@ ghost use Rattle.command_lines.specs.Commands.{Asked as AskedFor, meant, Means};
 ghost use Rattle.command_lines.specs.Export.{export_command, IsItemGiven};
 
 use crate::commands::Asked;
-use crate::words::{attached, flag, flag_of, number_of, required, required_number, value_of};
+use crate::words::{
+    attached, flag, flag_of, number_of, required, required_number, value_of, with_argument,
+};
 use clap::{ArgMatches, Command};
 use std::alloc::{AllocError, Global};
 
@@ -29,12 +31,11 @@ fn export_command<'a>(alloc: Global) -> Result<Command<'a>, AllocError>
     ensures shape { IfOk result (λ command. app_of command ≡ export_command) }
     ensures local { IfOk result (λ command. (fields_of command).has_globals ≡ false) }
 {
-    Command::new(alloc, "export")
-        .arg(required(alloc, "MODEL"))?
-        .arg(required(alloc, "ANSWER"))?
-        .arg(required_number(alloc, "ENTRY", 0, 4_294_967_295))?
-        .arg(required_number(alloc, "CLAUSE", 0, 4_294_967_295))?
-        .arg(flag(alloc, "lrat"))
+    let command = Command::new(alloc, "export").arg(required(alloc, "MODEL"));
+    let command = with_argument(command, required(alloc, "ANSWER"));
+    let command = with_argument(command, required_number(alloc, "ENTRY", 0, 4_294_967_295));
+    let command = with_argument(command, required_number(alloc, "CLAUSE", 0, 4_294_967_295));
+    with_argument(command, flag(alloc, "lrat"))
 }
 
 /// The program with this command.

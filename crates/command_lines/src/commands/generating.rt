@@ -11,7 +11,9 @@ ghost use Rattle.command_lines.specs.Commands.{Asked as AskedFor, meant, Means};
 ghost use Rattle.command_lines.specs.Gen.{gen_command, name_of_kind, MeansGen};
 
 use crate::commands::Asked;
-use crate::words::{attached, flag, flag_of, number_of, required, required_number, value_of};
+use crate::words::{
+    attached, flag, flag_of, number_of, required, required_number, value_of, with_argument,
+};
 use clap::{ArgMatches, Command};
 use std::alloc::{AllocError, Global};
 
@@ -41,11 +43,10 @@ fn gen_command<'a>(alloc: Global) -> Result<Command<'a>, AllocError>
     ensures shape { IfOk result (λ command. app_of command ≡ gen_command) }
     ensures local { IfOk result (λ command. (fields_of command).has_globals ≡ false) }
 {
-    Command::new(alloc, "gen")
-        .arg(required(alloc, "KIND"))?
-        .arg(required_number(alloc, "SEED", 0, 4_294_967_295))?
-        .arg(required_number(alloc, "SIZE", 1, 256))?
-        .arg(flag(alloc, "binary"))
+    let command = Command::new(alloc, "gen").arg(required(alloc, "KIND"));
+    let command = with_argument(command, required_number(alloc, "SEED", 0, 4_294_967_295));
+    let command = with_argument(command, required_number(alloc, "SIZE", 1, 256));
+    with_argument(command, flag(alloc, "binary"))
 }
 
 /// The program with this command.

@@ -11,6 +11,7 @@ ghost use Rattle.command_lines.specs.Solve.{solve_command};
 use crate::commands::Asked;
 use crate::words::{
     attached, flag, flag_of, number_option, number_or, required, text_option, value_of,
+    with_argument,
 };
 use clap::{ArgMatches, Command};
 use std::alloc::{AllocError, Global};
@@ -52,17 +53,16 @@ fn solve_command<'a>(alloc: Global) -> Result<Command<'a>, AllocError>
     ensures shape { IfOk result (λ command. app_of command ≡ solve_command) }
     ensures local { IfOk result (λ command. (fields_of command).has_globals ≡ false) }
 {
-    Command::new(alloc, "solve")
-        .arg(required(alloc, "MODEL"))?
-        .arg(number_option(alloc, "property", 0, 4_294_967_295))?
-        .arg(number_option(alloc, "workers", 1, 64))?
-        .arg(number_option(alloc, "conflicts", 0, 4_294_967_295))?
-        .arg(number_option(alloc, "steps", 0, 4_294_967_295))?
-        .arg(number_option(alloc, "skeletons", 0, 65_536))?
-        .arg(number_option(alloc, "lassos", 0, 63))?
-        .arg(number_option(alloc, "depth", 0, 65_536))?
-        .arg(flag(alloc, "all"))?
-        .arg(text_option(alloc, "resume"))
+    let command = Command::new(alloc, "solve").arg(required(alloc, "MODEL"));
+    let command = with_argument(command, number_option(alloc, "property", 0, 4_294_967_295));
+    let command = with_argument(command, number_option(alloc, "workers", 1, 64));
+    let command = with_argument(command, number_option(alloc, "conflicts", 0, 4_294_967_295));
+    let command = with_argument(command, number_option(alloc, "steps", 0, 4_294_967_295));
+    let command = with_argument(command, number_option(alloc, "skeletons", 0, 65_536));
+    let command = with_argument(command, number_option(alloc, "lassos", 0, 63));
+    let command = with_argument(command, number_option(alloc, "depth", 0, 65_536));
+    let command = with_argument(command, flag(alloc, "all"));
+    with_argument(command, text_option(alloc, "resume"))
 }
 
 /// The program with this command.

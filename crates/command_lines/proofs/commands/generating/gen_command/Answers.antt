@@ -1,21 +1,24 @@
-use Rattle.std.proofs.Common.{rules, ap₂, codes, ◌≡◌, ◌∙◌}
+use Rattle.std.proofs.Common.{rules, ap₂, ◌∙◌}
 use Rattle.std.proofs.lemmas.Result.{IfOk-weaker}
-use Rattle.clap.specs.Simple.{app_of, new_app, with_rule}
-use Rattle.command_lines.specs.Words.{wanted}
+use Rattle.clap.specs.Simple.{with_rule}
 use Rattle.command_lines.proofs.Globals.{none_global}
 use Rattle.command_lines.proofs.commands.generating.gen_command.Goals as goal
 
 pub returns-clause-shape : goal.returns-clause-shape
 returns-clause-shape c =
-    let with_1 : app_of c.in_ok-arg.field-0 ≡ with_rule (new_app (codes "gen")) (wanted (codes "KIND")) =
-    c.in_ok-arg.ensures.shape (search rules) ∙ ap₂ with_rule c.new.ensures.app c.required.ensures.rule in
-    let with_2 = c.in_ok-arg-2.ensures.shape (search rules) ∙ ap₂ with_rule with_1 c.required_number.ensures.rule in
-    let with_3 = c.in_ok-arg-3.ensures.shape (search rules) ∙ ap₂ with_rule with_2 c.required_number-2.ensures.rule in
-    IfOk-weaker c.arg-4.result _ _ (λ command h. h.shape (search rules) ∙ ap₂ with_rule with_3 c.flag.ensures.rule) c.arg-4.ensures
+    let made_1 =
+    IfOk-weaker c.arg-command.result _ _ (λ command h. h.shape (search rules) ∙ ap₂ with_rule c.new.ensures.app c.required.ensures.rule) c.arg-command.ensures
+    in
+    let made_2 = c.with_argument-command.ensures.shape _ _ c.required_number.ensures.rule made_1 in
+    let made_3 = c.with_argument-command-2.ensures.shape _ _ c.required_number-2.ensures.rule made_2 in
+    c.with_argument.ensures.shape _ _ c.flag.ensures.rule made_3
 
 pub returns-clause-local : goal.returns-clause-local
 returns-clause-local c =
-    let local_1 = none_global _ c.required.result.global _ c.in_ok-arg.ensures.globals c.new.ensures.local c.required.ensures.local in
-    let local_2 = none_global _ c.required_number.result.global _ c.in_ok-arg-2.ensures.globals local_1 c.required_number.ensures.local in
-    let local_3 = none_global _ c.required_number-2.result.global _ c.in_ok-arg-3.ensures.globals local_2 c.required_number-2.ensures.local in
-    IfOk-weaker c.arg-4.result _ _ (λ command h. none_global _ c.flag.result.global _ h.globals local_3 c.flag.ensures.local) c.arg-4.ensures
+    let local_1 =
+    IfOk-weaker c.arg-command.result _ _ (λ command h. none_global _ c.required.result.global _ h.globals c.new.ensures.local c.required.ensures.local)
+    c.arg-command.ensures
+    in
+    let local_2 = c.with_argument-command.ensures.local local_1 in
+    let local_3 = c.with_argument-command-2.ensures.local local_2 in
+    c.with_argument.ensures.local local_3
