@@ -49,7 +49,11 @@ pub fn find_shortest<H: Shelf>(
     ensures kept { KeepsTexts (H.held shelf.old) (H.held shelf.new) }
 {
     match model_of(alloc, shelf, model) {
-        Ok(found) => bounded(alloc, found.circuit(), request),
+        Ok(found) => {
+            let outcome = bounded(alloc, found.circuit(), request);
+            drop(found);
+            outcome
+        }
         Err(status) => with_text(alloc, status),
     }
 }

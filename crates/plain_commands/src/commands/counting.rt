@@ -43,7 +43,11 @@ pub fn count_rounds<H: Shelf>(
     ensures kept { KeepsTexts (H.held shelf.old) (H.held shelf.new) }
 {
     match model_of(alloc, shelf, model) {
-        Ok(found) => counted(alloc, found.circuit(), request),
+        Ok(found) => {
+            let outcome = counted(alloc, found.circuit(), request);
+            drop(found);
+            outcome
+        }
         Err(status) => with_text(alloc, status),
     }
 }

@@ -55,7 +55,9 @@ pub fn export_item<H: Shelf>(
             printed_answers_hold_the_same(circuit);
             trimmed_answers_are_good(circuit);
             let end = load(alloc, circuit, shelf, answer);
-            exported(alloc, circuit, end, request)
+            let outcome = exported(alloc, circuit, end, request);
+            drop(found);
+            outcome
         }
         Err(status) => with_text(alloc, status),
     }

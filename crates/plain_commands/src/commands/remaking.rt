@@ -59,7 +59,9 @@ pub fn remake<H: Shelf, R: MakesText>(
         Ok(found) => {
             let circuit = found.circuit();
             let end = load(alloc, circuit, shelf, answer);
-            remade(alloc, circuit, end, how)
+            let outcome = remade(alloc, circuit, end, how);
+            drop(found);
+            outcome
         }
         Err(status) => with_text(alloc, status),
     }

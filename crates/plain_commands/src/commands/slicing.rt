@@ -39,7 +39,11 @@ pub fn write_slice<H: Shelf>(
     ensures kept { KeepsTexts (H.held shelf.old) (H.held shelf.new) }
 {
     match model_of(alloc, shelf, model) {
-        Ok(found) => sliced(alloc, &found, property),
+        Ok(found) => {
+            let outcome = sliced(alloc, &found, property);
+            drop(found);
+            outcome
+        }
         Err(status) => with_text(alloc, status),
     }
 }
@@ -50,7 +54,11 @@ fn sliced(alloc: Global, model: &Model, property: u32) -> Result<Outcome, Status
     ensures ended { IfErr result (λ status. status ≡ Status.Memory) }
 {
     match slice(alloc, model, property) {
-        Ok(part) => printed(alloc, model, property, &part),
+        Ok(part) => {
+            let outcome = printed(alloc, model, property, &part);
+            drop(part);
+            outcome
+        }
         Err(SliceEnd::NoProperty(_)) => with_text(alloc, Status::NoProperty(property)),
         Err(SliceEnd::Memory) => Err(Status::Memory),
     }

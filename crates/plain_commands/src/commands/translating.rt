@@ -41,7 +41,11 @@ pub fn safety<H: Shelf>(
     ensures kept { KeepsTexts (H.held shelf.old) (H.held shelf.new) }
 {
     match model_of(alloc, shelf, model) {
-        Ok(found) => translated(alloc, found.circuit(), property),
+        Ok(found) => {
+            let outcome = translated(alloc, found.circuit(), property);
+            drop(found);
+            outcome
+        }
         Err(status) => with_text(alloc, status),
     }
 }
@@ -52,7 +56,11 @@ fn translated(alloc: Global, circuit: &Circuit, property: u32) -> Result<Outcome
     ensures ended { IfErr result (λ status. status ≡ Status.Memory) }
 {
     match translate(alloc, circuit, property) {
-        Ok(model) => printed(alloc, circuit, property, &model),
+        Ok(model) => {
+            let outcome = printed(alloc, circuit, property, &model);
+            drop(model);
+            outcome
+        }
         Err(TranslateEnd::NoProperty(_)) => with_text(alloc, Status::NoProperty(property)),
         Err(TranslateEnd::TooLarge(n)) => with_text(alloc, Status::TooLarge(n)),
         Err(TranslateEnd::Memory) => Err(Status::Memory),
