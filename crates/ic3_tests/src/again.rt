@@ -6,7 +6,7 @@ ghost use Rattle.ic3_semantics.specs.Searching.{IsGoal};
 
 use crate::cases::Arena;
 use crate::drawing::arena_of;
-use crate::drawn_views::parts_of;
+use crate::drawn_views::{Parts, parts_of};
 use crate::searching::NO_LIMIT;
 use crate::stops::Stop;
 use circuit::Circuit;
@@ -148,17 +148,20 @@ fn is_path(reached: &Result<Reached, ReachEnd>, wanted: bool) -> bool {
 }
 
 // Whether one search from the initial states does.
+fn asks_all(alloc: Global, parts: &Parts) -> Result<bool, AllocError> {
+    let mut meter = Meter::new(NO_LIMIT, NO_LIMIT);
+    let mut search = Search::new(alloc, &parts.shared, Start::Initial)?;
+    let arena = arena_of(parts, None);
+    let agrees = agrees_on_all(alloc, &*parts.shared, &mut search, arena, &mut meter);
+    drop(search);
+    agrees
+}
+
 fn asks_drawn(alloc: Global, number: u64) -> Result<bool, Stop> {
     let parts = parts_of(alloc, number)?;
-    let mut search = Search::new(alloc, &parts.shared, Start::Initial)?;
-    let mut meter = Meter::new(NO_LIMIT, NO_LIMIT);
-    Ok(agrees_on_all(
-        alloc,
-        &*parts.shared,
-        &mut search,
-        arena_of(&parts, None),
-        &mut meter,
-    )?)
+    let agrees = asks_all(alloc, &parts);
+    drop(parts);
+    Ok(agrees?)
 }
 
 /// Whether one search from the initial states of the drawn circuit with a number answers for all states, one after the

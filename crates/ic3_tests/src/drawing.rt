@@ -73,13 +73,19 @@ fn from_of(number: u64, count: u64) -> Option<u64> {
 }
 
 // Whether the circuit with a number is searched rightly.
-fn agrees_drawn(alloc: Global, number: u64) -> Result<bool, Stop> {
-    let parts = parts_of(alloc, number)?;
-    let arena = arena_of(&parts, from_of(number, parts.space.count));
+fn agrees_on_both(alloc: Global, parts: &Parts, number: u64) -> Result<bool, Stop> {
+    let arena = arena_of(parts, from_of(number, parts.space.count));
     Ok(
         agrees_on_state(alloc, &parts.shared, arena, number)?
             && agrees_on_literal(alloc, &parts.shared, arena, number)?,
     )
+}
+
+fn agrees_drawn(alloc: Global, number: u64) -> Result<bool, Stop> {
+    let parts = parts_of(alloc, number)?;
+    let agrees = agrees_on_both(alloc, &parts, number);
+    drop(parts);
+    agrees
 }
 
 /// Whether searches in the drawn circuit with a number answer as a search of all its states does; a path is replayed, and
@@ -102,8 +108,7 @@ fn is_within(found: &Result<Reached, ReachEnd>, meter: &Meter, limit: u64) -> bo
     }
 }
 
-fn ends_drawn(alloc: Global, limit: u64) -> Result<bool, Stop> {
-    let parts = parts_of(alloc, limit % 5)?;
+fn ends_on(alloc: Global, parts: &Parts, limit: u64) -> Result<bool, Stop> {
     let to = state_of(alloc, &parts.d, 42)?;
     let mut meter = Meter::new(limit, limit);
     good_lists_grow(&*parts.shared);
@@ -116,7 +121,16 @@ fn ends_drawn(alloc: Global, limit: u64) -> Result<bool, Stop> {
         true,
         &mut meter,
     );
-    Ok(is_within(&found, &meter, limit))
+    let within = is_within(&found, &meter, limit);
+    drop(found);
+    Ok(within)
+}
+
+fn ends_drawn(alloc: Global, limit: u64) -> Result<bool, Stop> {
+    let parts = parts_of(alloc, limit % 5)?;
+    let within = ends_on(alloc, &parts, limit);
+    drop(parts);
+    within
 }
 
 /// Whether a search in a drawn circuit under this limit of conflicts, and of steps, ends by an answer or at the limit.

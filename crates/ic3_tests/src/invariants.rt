@@ -85,7 +85,11 @@ fn clauses_on(alloc: Global, c: &Circuit, row: &Row) -> Result<bool, SolveEnd> {
 // Of a model that is not read no clauses come.
 fn clauses_as(alloc: Global, row: &Row) -> Result<bool, SolveEnd> {
     match aiger_ascii::read(alloc, row.0.as_bytes()) {
-        Ok(model) => clauses_on(alloc, model.circuit(), row),
+        Ok(model) => {
+            let found = clauses_on(alloc, model.circuit(), row);
+            drop(model);
+            found
+        }
         Err(_) => Ok(false),
     }
 }
@@ -154,7 +158,11 @@ fn judged_on(alloc: Global, c: &Circuit, row: &Judged) -> Result<bool, SolveEnd>
 // Of a model that is not read nothing is judged.
 fn judged_as(alloc: Global, row: &Judged) -> Result<bool, SolveEnd> {
     match aiger_ascii::read(alloc, row.0.as_bytes()) {
-        Ok(model) => judged_on(alloc, model.circuit(), row),
+        Ok(model) => {
+            let found = judged_on(alloc, model.circuit(), row);
+            drop(model);
+            found
+        }
         Err(_) => Ok(false),
     }
 }

@@ -31,7 +31,23 @@ fn literals_of(alloc: Global, codes: &[u64]) -> Result<Vec<Lit>, AllocError> {
     Ok(literals)
 }
 
-// A step into the cube from a level, under one lemma.
+// A step into the cube from a level, under the lemma, which the solver gets.
+fn predecessor_under(
+    alloc: Global,
+    steps: &mut Steps<'_>,
+    lemma: (u64, &Clause),
+    level: u64,
+    cube: &Cube,
+) -> Result<Found, SolveEnd>
+    requires lemma { IsOver (length steps.old.question.circuit.latches) lemma.1.now }
+    requires cube { IsOver (length steps.old.question.circuit.latches) cube.now }
+{
+    let (at, clause) = lemma;
+    steps.hold(at, clause)?;
+    steps.predecessor(alloc, level, cube, &mut Meter::new(100, 0))
+}
+
+// The same of a new solver.
 fn predecessor_of(
     alloc: Global,
     c: &Circuit,
@@ -44,10 +60,10 @@ fn predecessor_of(
 {
     good_lists_grow(c);
     let start = Start::Initial;
-    let (at, clause) = lemma;
     let mut steps = Steps::new(alloc, c, &[], &start, &[])?;
-    steps.hold(at, clause)?;
-    steps.predecessor(alloc, level, cube, &mut Meter::new(100, 0))
+    let found = predecessor_under(alloc, &mut steps, lemma, level, cube);
+    drop(steps);
+    found
 }
 
 // A circuit; a lemma with its level; the level and the cube of a question; the state of the only step, or nothing.
@@ -112,7 +128,11 @@ fn steps_on(alloc: Global, c: &Circuit, row: &Row) -> Result<bool, SolveEnd> {
 // A model that is not read leads nowhere.
 fn steps_as(alloc: Global, row: &Row) -> Result<bool, SolveEnd> {
     match aiger_ascii::read(alloc, row.0.as_bytes()) {
-        Ok(model) => steps_on(alloc, model.circuit(), row),
+        Ok(model) => {
+            let found = steps_on(alloc, model.circuit(), row);
+            drop(model);
+            found
+        }
         Err(_) => Ok(false),
     }
 }
@@ -137,8 +157,11 @@ fn goal_in(
     if !are_over(c, avoid) {
         return Err(SolveEnd::Memory);
     }
+    let mut meter = Meter::new(100, 0);
     let mut steps = Steps::new(alloc, c, &[], &start, avoid)?;
-    steps.meets_goal(alloc, 0, literal, &mut Meter::new(100, 0))
+    let found = steps.meets_goal(alloc, 0, literal, &mut meter);
+    drop(steps);
+    found
 }
 
 fn cube_of(alloc: Global, codes: &[u64]) -> Result<Cube, AllocError> {
@@ -161,7 +184,11 @@ fn goals_on(alloc: Global, c: &Circuit, row: &GoalRow) -> Result<bool, SolveEnd>
 
 fn goals_as(alloc: Global, row: &GoalRow) -> Result<bool, SolveEnd> {
     match aiger_ascii::read(alloc, COUNTS.as_bytes()) {
-        Ok(model) => goals_on(alloc, model.circuit(), row),
+        Ok(model) => {
+            let found = goals_on(alloc, model.circuit(), row);
+            drop(model);
+            found
+        }
         Err(_) => Ok(false),
     }
 }
@@ -194,13 +221,19 @@ fn latches_on(alloc: Global, c: &Circuit) -> Result<usize, AllocError> {
     good_lists_grow(c);
     let start = Start::Initial;
     let steps = Steps::new(alloc, c, &[], &start, &[])?;
-    Ok(steps.latches())
+    let count = steps.latches();
+    drop(steps);
+    Ok(count)
 }
 
 // Whether a circuit is seen to have so many latches.
 fn latches_as(alloc: Global, text: &str, wanted: usize) -> Result<bool, AllocError> {
     match aiger_ascii::read(alloc, text.as_bytes()) {
-        Ok(model) => Ok(latches_on(alloc, model.circuit())? == wanted),
+        Ok(model) => {
+            let count = latches_on(alloc, model.circuit());
+            drop(model);
+            Ok(count? == wanted)
+        }
         Err(_) => Ok(false),
     }
 }
