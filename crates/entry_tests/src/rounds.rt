@@ -57,14 +57,22 @@ fn shelf_of(alloc: Global, text: &str) -> Result<MemShelf, AllocError> {
     Ok(MemShelf::new(texts, 5, Vec::new(alloc)))
 }
 
+fn judged_by(alloc: Global, model: &Model, text: &str) -> Result<Judged, JudgeEnd> {
+    let Ok(mut shelf) = shelf_of(alloc, text) else {
+        return Err(JudgeEnd::TooLarge(0));
+    };
+    let judged = check_answer(alloc, model.circuit(), &mut shelf, "a");
+    drop(shelf);
+    judged
+}
+
 fn judged(alloc: Global, model: &str, text: &str) -> Result<Judged, JudgeEnd> {
     let Ok(model) = model_of(alloc, model) else {
         return Err(JudgeEnd::TooLarge(0));
     };
-    let Ok(mut shelf) = shelf_of(alloc, text) else {
-        return Err(JudgeEnd::TooLarge(0));
-    };
-    check_answer(alloc, model.circuit(), &mut shelf, "a")
+    let judged = judged_by(alloc, &model, text);
+    drop(model);
+    judged
 }
 
 // Texts that are accepted, and what they show.

@@ -53,14 +53,22 @@ fn plain(end: AnswerEnd) -> JudgeEnd {
     JudgeEnd::Text(round_answers::JudgeEnd::Answer(end))
 }
 
+fn judged_by(alloc: Global, model: &Model, text: &str) -> Result<Judged, JudgeEnd> {
+    let Ok(mut shelf) = shelf_of(alloc, text) else {
+        return Err(plain(AnswerEnd::Memory));
+    };
+    let judged = check_answer(alloc, model.circuit(), &mut shelf, "a");
+    drop(shelf);
+    judged
+}
+
 fn judged(alloc: Global, model: &str, text: &str) -> Result<Judged, JudgeEnd> {
     let Ok(model) = model_of(alloc, model) else {
         return Err(plain(AnswerEnd::Memory));
     };
-    let Ok(mut shelf) = shelf_of(alloc, text) else {
-        return Err(plain(AnswerEnd::Memory));
-    };
-    check_answer(alloc, model.circuit(), &mut shelf, "a")
+    let judged = judged_by(alloc, &model, text);
+    drop(model);
+    judged
 }
 
 const fn sheet(lassos: u32, holds: u32, unknown: u32, entries: u32) -> Judged {
