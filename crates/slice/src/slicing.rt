@@ -48,9 +48,9 @@ fn sliced(alloc: Global, m: &Model, j: u32) -> Result<Model, AllocError>
     let c = m.circuit();
     let _ = c.max();
     let cone = cone_of(alloc, c, j)?;
+    let symbols = symbols_in(alloc, m, j, &cone)?;
     let parts = parts_of(alloc, c, j as usize, &cone)?;
     let kept = kept_of(alloc, parts)?;
-    let symbols = symbols_in(alloc, m, j, &cone)?;
     Ok(named(m, j, &cone, kept, symbols))
 }
 
