@@ -27,7 +27,11 @@ pub(crate) fn check<H: Shelf>(alloc: Global, shelf: &mut H, model: &str, answer:
     ensures kept { KeepsTexts (H.held shelf.old) (H.held shelf.new) }
 {
     match model_of(alloc, shelf, model) {
-        Ok(model) => checked(check_answer(alloc, model.circuit(), shelf, answer)),
+        Ok(model) => {
+            let status = checked(check_answer(alloc, model.circuit(), shelf, answer));
+            drop(model);
+            status
+        }
         Err(status) => status,
     }
 }

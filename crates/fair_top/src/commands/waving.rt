@@ -49,7 +49,11 @@ pub(crate) fn wave<H: Shelf>(
     ensures kept { KeepsTexts (H.held shelf.old) (H.held shelf.new) }
 {
     match model_of(alloc, shelf, model) {
-        Ok(found) => waves_of(alloc, &found, shelf, answer, property),
+        Ok(found) => {
+            let outcome = waves_of(alloc, &found, shelf, answer, property);
+            drop(found);
+            outcome
+        }
         Err(status) => with_text(alloc, status),
     }
 }
