@@ -9,7 +9,6 @@ use Rattle.proof_semantics.specs.declared.literals.Lit.{Lit}
 use Rattle.proof_semantics.specs.Clauses.{literal_value, clause_value, clauses_value, values_of, has_literal, is_part}
 use Rattle.proof_semantics.proofs.LiteralLaws.{clause_value-has}
 use Rattle.ic3_semantics.specs.Stepping.{Stepping, no_lemmas, meets_from, IsOver}
-use Rattle.ic3_semantics.specs.Searching.{Question}
 use Rattle.ic3_semantics.specs.declared.lemmas.Lemma.{Lemma}
 use Rattle.ic3.specs.SteppingInside.{SayTheSame, keeping, IsHeldBy, IsHeldWith, Holds}
 use Rattle.ic3.specs.SteppingStart.{HoldsAll, IsImpliedBehind, IsHeldUpTo}
@@ -184,6 +183,7 @@ held_as st lemmas s by same over = record {
   lemmas = over;
   avoid = by.avoid;
   retires = by.retires;
+  lemmas_held = by.lemmas_held;
 }
 
 pub held_up_to_last : (lemmas : List Lemma) (i : ℕ) (old new : Questions) → length lemmas ≤ i → IsHeldUpTo lemmas i old new

@@ -231,6 +231,20 @@ step_read st s level v by whole h guard =
       avoided = front.1;
     }
 
+-- the state of a model meets the lemmas from the level on
+pub frame_read : (st : Stepping) (s : Questions) (level number : ℕ) (literals assumptions : List Lit) (v : ℕ → Bool) → IsHeldBy st s
+    → clauses_value v s.solver.added ≡ true → AreAssumed s.free level s.levels number literals assumptions → cube_value v assumptions ≡ true
+    → meets_from st.lemmas level (map v s.here) ≡ true
+frame_read st s level number literals assumptions v by h assumed all =
+    let place : List ℕ = state_place st.question.circuit 0 in
+    let parts = and_parts (cube_value v assumed.guards) (cube_value v literals)
+    (sym (list_all-append (literal_value v) assumed.guards literals) ∙ (ap (cube_value v) (sym assumed.all) ∙ all)) in
+    let on = (assumed.on v).0 parts.0 in
+    ap (λ here. meets_from st.lemmas level (map v here)) by.here
+    ∙ (sym (by.same level (map v place))
+    ∙ lemmas_read v place (length st.question.circuit.latches) s.free level s.levels by.kept (state_length st.question.circuit 0) by.levels by.over
+    on.each (by.lemmas_held v h))
+
 -- ---- a step is an assignment
 
 pub record Writes (st : Stepping) (s : Questions) (level number : ℕ) (p : Position) : Type 0 where

@@ -1,11 +1,11 @@
 -- What the solver of a search keeps, from call to call, and what its calls tell.
-use Rattle.std.proofs.Common.{◌≡◌, ℕ, ◌<◌, ◌≤◌, ◌&&◌, ◌||◌, nat_lt, Bool, List, [], ◌∷◌, ◌++◌, map, length, Option, Some, None, Result, Ok, Err, IfOk, refl, sym, ap, subst, ◌∙◌, inl, inr, arith, append-nil, append_assoc}
+use Rattle.std.proofs.Common.{◌≡◌, ℕ, ◌<◌, ◌≤◌, ◌&&◌, ◌||◌, nat_lt, Bool, true, List, [], ◌∷◌, ◌++◌, map, length, Option, Some, None, Result, Ok, Err, IfOk, refl, sym, ap, subst, ◌∙◌, inl, inr, arith, append-nil, append_assoc}
 use Rattle.std.specs.List.{AllByRecursion, list_all}
 use Rattle.std.proofs.lemmas.List.Folds.{list_all-append}
 use Rattle.aig_semantics.specs.declared.traces.Position.{Position}
 use Rattle.aig_semantics.specs.Circuits.{IsChecked}
 use Rattle.proof_semantics.specs.declared.literals.Lit.{Lit}
-use Rattle.proof_semantics.specs.Clauses.{clause_value, values_of}
+use Rattle.proof_semantics.specs.Clauses.{clause_value, clauses_value, values_of}
 use Rattle.edge.specs.declared.solve_end.SolveEnd.{SolveEnd}
 use Rattle.cnf_unroll.specs.Numbers.{state_place, successor_place, clause_at_place, literal_in_block}
 use Rattle.cnf_unroll.specs.Laws.{AreOver}
@@ -58,6 +58,7 @@ begun_held q avoid front s checked law good over here next free grows added =
       over = tt;
       lemmas = tt;
       avoid = over;
+      lemmas_held = λ v h. refl;
       retires =
           subst (λ cs. Retires (base_clauses q ++ cs) (held_clauses (no_lemmas q avoid) s.free) s.free s.asked) (sym added)
           (subst (λ held. Retires (base_clauses q ++ (front ++ avoids)) held s.free s.asked) (sym (append-nil (base_clauses q ++ avoids)))
@@ -91,6 +92,10 @@ grown_held st old new by numbers asked grows = record {
   over = by.over;
   lemmas = by.lemmas;
   avoid = by.avoid;
+  lemmas_held =
+      λ v h.
+      subst (λ f. clauses_value v (map (lemma_clause (state_place st.question.circuit 0) f) by.kept) ≡ true) (sym numbers.free)
+      (by.lemmas_held v (grows.fewer v h));
   retires =
       subst (λ f. Retires (base_clauses st.question ++ new.solver.added) (held_clauses (keeping st by.kept) f) f new.asked) (sym numbers.free)
       (subst (λ n. Retires (base_clauses st.question ++ new.solver.added) (held_clauses (keeping st by.kept) old.free) old.free n) (sym asked)
@@ -98,6 +103,12 @@ grown_held st old new by numbers asked grows = record {
 }
 
 -- ---- after a question
+
+-- what clauses of questions left implies what was there
+keeps_all : (old new : Questions) → Keeps old new → (v : ℕ → Bool) → clauses_value v new.solver.added ≡ true
+    → clauses_value v old.solver.added ≡ true
+keeps_all old new keeps =
+    (keeps.retires [] old.solver.added (record { fewer = λ v h. h; more = λ v h offs. h })).fewer
 
 pub still_held : (st : Stepping) (old new : Questions) → IsHeldBy st old → Keeps old new → IsHeldBy st new
 still_held st old new by keeps = record {
@@ -113,6 +124,10 @@ still_held st old new by keeps = record {
   over = by.over;
   lemmas = by.lemmas;
   avoid = by.avoid;
+  lemmas_held =
+      λ v h.
+      subst (λ f. clauses_value v (map (lemma_clause (state_place st.question.circuit 0) f) by.kept) ≡ true) (sym keeps.numbers.free)
+      (by.lemmas_held v (keeps_all old new keeps v h));
   retires =
       keeps.retires (base_clauses st.question) (held_clauses (keeping st by.kept) new.free)
       (subst (λ f. Retires (base_clauses st.question ++ old.solver.added) (held_clauses (keeping st by.kept) f) old.free old.asked) (sym keeps.numbers.free)
@@ -195,6 +210,13 @@ more_held st old new level clause by over h =
       over = all_push (λ x. IsOver (length st.question.circuit.latches) x.clause) by.kept lemma by.over over;
       lemmas = all_push (λ x. IsOver (length st.question.circuit.latches) x.clause) st.lemmas lemma by.lemmas over;
       avoid = by.avoid;
+      lemmas_held =
+          λ v all.
+          let parts = both v old.solver.added (held ∷ []) (subst (λ cs. clauses_value v cs ≡ true) added all) in
+          subst (λ f. clauses_value v (map (lemma_clause (state_place st.question.circuit 0) f) (by.kept ++ lemma ∷ [])) ≡ true) (sym h.free)
+          (subst (λ cs. clauses_value v cs ≡ true) (sym (map_push (state_place st.question.circuit 0) old.free by.kept lemma))
+          (together v (map (lemma_clause (state_place st.question.circuit 0) old.free) by.kept) (held ∷ [])
+          (by.lemmas_held v parts.0) parts.1));
       retires =
           subst (λ n. Retires (base_clauses st.question ++ new.solver.added) (held_clauses (with_lemma few level clause) new.free) new.free n) (sym h.asked)
           (subst (λ f. Retires (base_clauses st.question ++ new.solver.added) (held_clauses (with_lemma few level clause) f) f old.asked) (sym h.free) more);

@@ -1,23 +1,25 @@
 -- Scaffolding of inner functions. What the solver of a search keeps.
-use Rattle.std.specs.Prelude.{◌≡◌, ◌↔◌, ℕ, ◌+◌, ◌<◌, ◌≤◌, ◌⊎◌, Bool, true, false, List, [], ◌∷◌, ◌++◌, length, map, Option, Some, None}
-use Rattle.std.specs.List.{All, AllByRecursion}
+use Rattle.std.specs.Prelude.{◌≡◌, ◌↔◌, ℕ, ◌+◌, ◌<◌, ◌≤◌, ◌⊎◌, Bool, true, false, List, [], ◌∷◌, ◌++◌, length, map, drop, Option, Some, None}
+use Rattle.std.specs.List.{All, AllByRecursion, list_all}
 use Rattle.aig_semantics.specs.declared.traces.Position.{Position}
 use Rattle.aig_semantics.specs.Circuits.{Circuit, IsChecked}
-use Rattle.aig_semantics.specs.Literals.{variable_of, is_negated}
+use Rattle.aig_semantics.specs.Literals.{variable_of, is_negated, literal_in}
+use Rattle.aig_semantics.specs.Runs.{valuation_at, literal_at, successor}
 use Rattle.aig_semantics.specs.Valuations.{valuation, IsValuation}
 use Rattle.proof_semantics.specs.declared.literals.Lit.{Lit}
-use Rattle.proof_semantics.specs.Clauses.{literal_value, clauses_value, cube_value, values_of}
+use Rattle.proof_semantics.specs.Clauses.{clauses_value, cube_value, values_of}
 use Rattle.cdcl.specs.Solving.{IsModel, HasNoModel}
 use Rattle.cdcl.specs.Asking.{IsCore, assigned}
 use Rattle.cdcl.specs.declared.asking.Asked.{Asked}
 use Rattle.cdcl.specs.declared.asking.Asked.TheVariants.{Sat, Unsat}
 use Rattle.cnf_unroll.specs.Situations.{situation_in}
 use Rattle.cnf_unroll.specs.Numbers.{state_place, successor_place, clause_at_place, literal_in_block}
+use Rattle.cnf_unroll.specs.Blocks.{step_clauses}
 use Rattle.cnf_unroll.specs.Laws.{AreOver}
 use Rattle.entry.specs.Laws.{IsGoodList}
 use Rattle.ic3_semantics.specs.Stepping.{Stepping, meets_from, IsOver}
 use Rattle.ic3_questions.specs.ReadVariables.{is_read}
-use Rattle.ic3_questions.specs.SteppingClauses.{base_clauses, first_guard, held_clauses, guarded, denied_at, level_guard, question_guard, Retires, AreBelow, AreAssumed, part_at}
+use Rattle.ic3_questions.specs.SteppingClauses.{base_clauses, first_guard, held_clauses, guarded, denied_at, level_guard, question_guard, lemma_clause, Retires, AreBelow, AreAssumed, part_at}
 use Rattle.ic3_semantics.specs.declared.found.Found.{Found}
 use Rattle.ic3_semantics.specs.declared.found.Found.TheVariants.{Step, Missing}
 use Rattle.ic3_semantics.specs.declared.lemmas.Lemma.{Lemma}
@@ -38,7 +40,8 @@ abbrev pub keeping : Stepping → List Lemma → Stepping
 keeping st lemmas = record { question = st.question; avoid = st.avoid; lemmas = lemmas }
 
 -- The numbers are those of this solver of a search, and so are the clauses, together with those of the base, of which the
--- solver has a part. Of the lemmas it has the clauses of those that are kept, which say what all say.
+-- solver has a part. Of the lemmas it has the clauses of those that are kept, which say what all say; these its clauses imply
+-- without the base.
 pub record IsHeldBy (st : Stepping) (s : Questions) : Type 0 where
   pub kept : List Lemma
   pub same : SayTheSame kept st.lemmas
@@ -53,6 +56,8 @@ pub record IsHeldBy (st : Stepping) (s : Questions) : Type 0 where
   pub lemmas : AllByRecursion (λ lemma. IsOver (length st.question.circuit.latches) lemma.clause) st.lemmas
   pub avoid : AreOver (length st.question.circuit.latches) st.avoid
   pub retires : Retires (base_clauses st.question ++ s.solver.added) (held_clauses (keeping st kept) s.free) s.free s.asked
+  pub lemmas_held : (v : ℕ → Bool) → clauses_value v s.solver.added ≡ true
+      → clauses_value v (map (lemma_clause (state_place st.question.circuit 0) s.free) kept) ≡ true
 
 -- These are all clauses of the base, and those of the solver.
 pub record IsHeldWith (st : Stepping) (base : List (List Lit)) (s : Questions) : Type 0 where
@@ -155,41 +160,46 @@ TellsLiteral s c level literal found =
 
 -- ---- what is tried
 
--- The position of an assignment of the base; its state meets the lemmas from this level on and is not in the cube, which
--- its successor is in.
-pub record TriedInto (base : List (List Lit)) (c : Circuit) (lemmas : List Lemma) (level : ℕ) (cube : List Lit) (p : Position) :
-    Type 0 where
-  pub value : ℕ → Bool
-  pub holds : clauses_value value base ≡ true
-  pub is : p ≡ (situation_in c 0 value).position
-  pub frame : meets_from lemmas level p.latches ≡ true
-  pub outside : cube_value (values_of p.latches) cube ≡ false
-  pub inside : cube_value (values_of (map value (successor_place c 0))) cube ≡ true
+-- false, and then these values, and others
+abbrev pub Completes : List Bool → List Bool → Type 0
+Completes values out = (rest : List Bool) × (out ≡ false ∷ values ++ rest)
 
--- what is told of a question for a step, where it was told by a trial
-abbrev pub TellsTried : Questions → List (List Lit) → Circuit → List Lemma → ℕ → List Lit → Option Found → Type 0
-TellsTried s base c lemmas level cube None = Unit {0}
-TellsTried s base c lemmas level cube (Some (Step p)) = TriedInto base c lemmas level cube p
-TellsTried s base c lemmas level cube (Some (Missing part)) =
+-- Where the variables and the latches' next values are these, the constraints are true; and an assignment that has them makes
+-- the clauses behind those of the block true.
+pub record IsTold (base : List (List Lit)) (c : Circuit) (values after : List Bool) : Type 0 where
+  pub out : List Bool
+  pub completes : Completes values out
+  pub next : map (values_of out) (successor_place c 0) ≡ after
+  pub constraints : list_all (literal_in values) c.constraints ≡ true
+  pub entries : clauses_value (values_of out) (drop (length (step_clauses c)) base) ≡ true
+
+-- The position is not in the cube, which its successor is in; constraints and the clauses of entries are tried.
+pub record TriedInto (base : List (List Lit)) (c : Circuit) (cube : List Lit) (p : Position) : Type 0 where
+  pub told : IsTold base c (valuation_at c p) (successor c p)
+  pub outside : cube_value (values_of p.latches) cube ≡ false
+  pub inside : cube_value (values_of (successor c p)) cube ≡ true
+
+-- what is told of a question for a step, where it was told by a trial: a step whose position is that of a model
+abbrev pub TellsTried : Questions → List (List Lit) → Circuit → ℕ → List Lit → Option Found → Type 0
+TellsTried s base c level cube None = Unit {0}
+TellsTried s base c level cube (Some (Step p)) =
+    (v : ℕ → Bool) × ModelInto s level cube v × (p ≡ (situation_in c 0 v).position) × TriedInto base c cube p
+TellsTried s base c level cube (Some (Missing part)) =
     (core : List Lit) × CoreInto s level cube core × (part ≡ part_at s.next core cube)
 
--- The position of an assignment of the base, which makes the literal true; its state meets the lemmas from this level on,
--- and is in none of the cubes.
-pub record TriedGoal (base : List (List Lit)) (c : Circuit) (lemmas : List Lemma) (avoid : List (List Lit)) (level literal : ℕ)
-    (p : Position) : Type 0 where
-  pub value : ℕ → Bool
-  pub holds : clauses_value value base ≡ true
-  pub is : p ≡ (situation_in c 0 value).position
-  pub frame : meets_from lemmas level p.latches ≡ true
-  pub met : literal_value value (literal_in_block 0 literal) ≡ true
+-- The literal is true at the position, whose state is in none of the cubes; the rest as above.
+pub record TriedGoal (base : List (List Lit)) (c : Circuit) (avoid : List (List Lit)) (literal : ℕ) (p : Position) : Type 0 where
+  pub told : IsTold base c (valuation_at c p) (successor c p)
+  pub met : literal_at c p literal ≡ true
   pub avoids : All (λ cube. cube_value (values_of p.latches) cube ≡ false) avoid
 
 -- the same of a question for a goal
-abbrev pub TellsTriedGoal : Questions → List (List Lit) → Circuit → List Lemma → List (List Lit) → ℕ → ℕ → Option (Option Position)
-    → Type 0
-TellsTriedGoal s base c lemmas avoid level literal None = Unit {0}
-TellsTriedGoal s base c lemmas avoid level literal (Some (Some p)) = TriedGoal base c lemmas avoid level literal p
-TellsTriedGoal s base c lemmas avoid level literal (Some None) = NoModelGoal s level (literal_in_block 0 literal ∷ [])
+abbrev pub TellsTriedGoal : Questions → List (List Lit) → Circuit → List (List Lit) → ℕ → ℕ → Option (Option Position) → Type 0
+TellsTriedGoal s base c avoid level literal None = Unit {0}
+TellsTriedGoal s base c avoid level literal (Some (Some p)) =
+    (v : ℕ → Bool) × ModelGoal s level (literal_in_block 0 literal ∷ []) v × (p ≡ (situation_in c 0 v).position)
+    × TriedGoal base c avoid literal p
+TellsTriedGoal s base c avoid level literal (Some None) = NoModelGoal s level (literal_in_block 0 literal ∷ [])
 
 -- ---- lemmas
 

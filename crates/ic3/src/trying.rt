@@ -1,66 +1,85 @@
-//! Questions to a solver that has the clauses of a cone: that there is no step stands, a step is tried on all clauses of the
-//! base. The main calls are `try_predecessor` and `try_goal`.
-ghost use Rattle.std.specs.Prelude.{◌≡◌, ◌+◌, not, map, length, IfOk, IfErr, IfSome};
+//! Questions to a solver that has the clauses of a cone: that there is no step stands, a step is tried. The circuit's own
+//! values are those of its gates and next states, so of the base the constraints and the clauses of the entries are tried
+//! alone; that its state meets the lemmas is told by the solver, which has a clause for each. The main calls are
+//! `try_predecessor` and `try_goal`.
+ghost use Rattle.std.specs.Prelude.{◌≡◌, ◌+◌, not, true, false, drop, map, length, IfOk, IfErr, IfSome};
 ghost use Rattle.std.specs.List.{list_all};
-ghost use Rattle.proof_semantics.specs.Clauses.{cube_value, values_of};
+ghost use Rattle.aig_semantics.specs.Literals.{literal_in};
+ghost use Rattle.aig_semantics.specs.Runs.{IsPosition, valuation_at};
+ghost use Rattle.proof_semantics.specs.Clauses.{clauses_value, cube_value, values_of};
 ghost use Rattle.edge.specs.Ends.{CountsConflicts, IsEnd};
+ghost use Rattle.cdcl.specs.Asking.{assigned};
 ghost use Rattle.cnf_unroll.specs.Numbers.{state_place, successor_place};
+ghost use Rattle.cnf_unroll.specs.Blocks.{step_clauses};
 ghost use Rattle.cnf_unroll.specs.Situations.{situation_in};
-ghost use Rattle.ic3_semantics.specs.Stepping.{meets_from};
-ghost use Rattle.ic3.specs.SteppingInside.{Keeps, TriedInto, TellsTried, TriedGoal, TellsTriedGoal};
+ghost use Rattle.ic3.specs.SteppingInside.{Keeps, Completes, IsTold, TriedInto, TellsTried, TriedGoal, TellsTriedGoal};
 
 use crate::stepping_questions::{Questions, ask_goal, ask_into, part_at, position_of, retire};
-use cdcl::{Asked, Solver};
-use circuit::{Circuit, Position, eval_into, literal_value};
-use cnf::{Cube, Db, eval, holds};
+use cdcl::Asked;
+use circuit::{Circuit, Position, eval_into, literal_value, next_into};
+use cnf::{Clause, Cube, Db, holds};
 use edge::{Meter, SolveEnd};
 use ic3_loops::holds_in;
-use ic3_questions::{input_place, literal_in_block};
-use ic3_semantics::{Found, Lemma};
+use ic3_questions::literal_in_block;
+use ic3_semantics::Found;
 use items::Items;
 use std::alloc::{AllocError, Global};
 
-// The circuit's values at the position that the solver's values give.
-fn valuation(
-    alloc: Global,
-    c: &Circuit,
-    here: &[u64],
-    solver: &Solver,
-) -> Result<Vec<bool>, AllocError>
-    requires { here.now ≡ state_place c.now 0 }
-    ensures { IfOk result (λ values. length values.items ≡ c.now.max + 1) }
+// The circuit's values at a position.
+fn valuation(alloc: Global, c: &Circuit, p: &Position) -> Result<Items<bool>, AllocError>
+    requires { IsPosition c.now p.now }
+    ensures values { IfOk result (λ values. values ≡ valuation_at c.now p.now) }
+    ensures size { IfOk result (λ values. length values ≡ c.now.max + 1) }
 {
-    let p = position_of(alloc, c, here, solver)?;
     let mut values = vec![in alloc; false; c.max() as usize + 1]?;
     eval_into(c, p.latches.as_slice(), p.inputs.as_slice(), &mut values);
-    Ok(values)
+    Ok(Items::from_vec(values))
 }
 
-// For each variable the next value of its latch.
-fn next_values(alloc: Global, c: &Circuit, values: &[bool]) -> Result<Vec<bool>, AllocError> {
-    let mut next = vec![in alloc; false; c.max() as usize + 1]?;
+// The latches' next values, where the variables have these.
+fn next_state(alloc: Global, c: &Circuit, values: &[bool]) -> Result<Items<bool>, AllocError>
+    ensures { IfOk result (λ state. state ≡ map (λ latch. literal_in values.now latch.next) c.now.latches) }
+{
+    let mut state = vec![in alloc; false; c.latches().len()]?;
+    next_into(c, values, &mut state);
+    Ok(Items::from_vec(state))
+}
+
+// Values for the numbers behind those of variables: next values of latches, and what the solver tells of the others. They
+// are tried, so no contract rests on them.
+fn behind(
+    alloc: Global,
+    c: &Circuit,
+    s: &Questions,
+    values: &[bool],
+) -> Result<Vec<bool>, AllocError> {
+    let mut out = vec![in alloc; false; c.max() as usize + 1]?;
     for latch in c.latches() {
-        if let Some(value) = next.get_mut(latch.var as usize) {
+        if let Some(value) = out.get_mut(latch.var as usize) {
             *value = literal_value(values, latch.next);
         }
     }
-    Ok(next)
-}
-
-// A value for each number below the first guard: those of the block as the circuit has them, the others as the solver
-// tells them. It is tried, so no contract rests on it.
-fn completed(alloc: Global, c: &Circuit, s: &Questions) -> Result<Vec<bool>, AllocError>
-    requires { s.now.here ≡ state_place c.now 0 }
-{
-    let values = valuation(alloc, c, s.here.as_slice(), &s.solver)?;
-    let next = next_values(alloc, c, &values)?;
-    let mut out = Vec::new(alloc);
-    out.push(false)?;
-    out.extend_from_slice(&values)?;
-    out.extend_from_slice(&next)?;
-    for number in out.len() as u64..s.free {
+    let first = (values.len() as u64).saturating_mul(2).saturating_add(1);
+    for number in first..s.free {
         out.push(s.solver.value(number))?;
     }
+    Ok(out)
+}
+
+// A value for each number below the first guard, those of the variables first.
+fn completed(
+    alloc: Global,
+    c: &Circuit,
+    s: &Questions,
+    values: &[bool],
+) -> Result<Vec<bool>, AllocError>
+    ensures { IfOk result (λ out. Completes values.now out.items) }
+{
+    let rest = behind(alloc, c, s, values)?;
+    let mut out = Vec::new(alloc);
+    out.push(false)?;
+    out.extend_from_slice(values)?;
+    out.extend_from_slice(&rest)?;
     Ok(out)
 }
 
@@ -80,27 +99,78 @@ fn values_in(alloc: Global, values: &[bool], place: &[u64]) -> Result<Items<bool
     Ok(out)
 }
 
-// The position that values give to the block.
-fn position_in(
-    alloc: Global,
-    c: &Circuit,
-    here: &[u64],
-    values: &[bool],
-) -> Result<Position, AllocError>
-    requires { here.now ≡ state_place c.now 0 }
-    ensures { IfOk result (λ p. p ≡ (situation_in c.now 0 (values_of values.now)).position) }
+// How many clauses of the base are those of the block.
+fn block_len(c: &Circuit) -> usize
+    ensures { result ≡ length (step_clauses c.now) }
 {
-    let latches = values_in(alloc, values, here)?;
-    let inputs = values_in(alloc, values, input_place(alloc, c)?.as_slice())?;
-    Ok(Position { latches, inputs })
+    let _limits = c.max();
+    1 + 3 * c.gates().len() + c.constraints().len() + 2 * c.latches().len()
 }
 
-fn meets_from(lemmas: &[Lemma], level: u64, state: &[bool]) -> bool
-    ensures { result ≡ meets_from lemmas.now level state.now }
+fn all_hold(clauses: &[Clause], values: &[bool]) -> bool
+    ensures { result ≡ clauses_value (values_of values.now) clauses.now }
 {
-    lemmas
+    clauses.iter().all(|clause| holds(clause, values))
+}
+
+// Whether the clauses from a place on hold.
+fn hold_from(base: &Db, place: usize, values: &[bool]) -> bool
+    ensures { result ≡ true → clauses_value (values_of values.now) (drop place base.now.clauses) ≡ true }
+{
+    let clauses = base.as_slice();
+    if clauses.len() < place {
+        return false;
+    }
+    all_hold(&clauses[place..], values)
+}
+
+fn are_true(values: &[bool], literals: &[u64]) -> bool
+    ensures { result ≡ list_all (literal_in values.now) literals.now }
+{
+    literals
         .iter()
-        .all(|lemma| lemma.level < level || holds(&lemma.clause, state))
+        .all(|literal| literal_value(values, *literal))
+}
+
+fn are_same(values: &[bool], others: &[bool]) -> bool
+    ensures { result ≡ true → values.now ≡ others.now }
+{
+    values == others
+}
+
+// Whether an assignment tells these next values of latches, and makes the clauses of entries true; and the constraints are
+// true.
+fn stands(
+    c: &Circuit,
+    base: &Db,
+    values: &[bool],
+    next: &[bool],
+    told: &[bool],
+    all: &[bool],
+) -> bool
+    ensures next { result ≡ true → told.now ≡ next.now }
+    ensures constraints { result ≡ true → list_all (literal_in values.now) c.now.constraints ≡ true }
+    ensures entries { result ≡ true
+        → clauses_value (values_of all.now) (drop (length (step_clauses c.now)) base.now.clauses) ≡ true }
+{
+    are_same(told, next) && are_true(values, c.constraints()) && hold_from(base, block_len(c), all)
+}
+
+// Whether constraints are true, and the clauses of entries hold, where the variables and the latches' next values are these.
+fn is_told(
+    alloc: Global,
+    c: &Circuit,
+    s: &Questions,
+    base: &Db,
+    values: &[bool],
+    next: &[bool],
+) -> Result<bool, AllocError>
+    requires { s.now.next ≡ successor_place c.now 0 }
+    ensures { IfOk result (λ told. told ≡ true → IsTold base.now.clauses c.now values.now next.now) }
+{
+    let all = completed(alloc, c, s, values)?;
+    let told = values_in(alloc, &all, s.next.as_slice())?;
+    Ok(stands(c, base, values, next, told.as_slice(), &all))
 }
 
 fn avoids(avoid: &[Cube], state: &[bool]) -> bool
@@ -115,19 +185,18 @@ fn step_in(
     c: &Circuit,
     s: &Questions,
     base: &Db,
-    lemmas: &[Lemma],
-    level: u64,
     cube: &Cube,
 ) -> Result<Option<Position>, AllocError>
     requires here { s.now.here ≡ state_place c.now 0 }
     requires next { s.now.next ≡ successor_place c.now 0 }
-    ensures { IfOk result (λ found. IfSome found (TriedInto base.now.clauses c.now lemmas.now level cube.now)) }
+    ensures tried { IfOk result (λ found. IfSome found (TriedInto base.now.clauses c.now cube.now)) }
+    ensures told { IfOk result (λ found. IfSome found (λ p.
+        p ≡ (situation_in c.now 0 (assigned s.now.solver.values)).position)) }
 {
-    let values = completed(alloc, c, s)?;
-    let p = position_in(alloc, c, s.here.as_slice(), &values)?;
-    let next = values_in(alloc, &values, s.next.as_slice())?;
-    if eval(base, &values)
-        && meets_from(lemmas, level, p.latches.as_slice())
+    let p = position_of(alloc, c, s.here.as_slice(), &s.solver)?;
+    let values = valuation(alloc, c, &p)?;
+    let next = next_state(alloc, c, values.as_slice())?;
+    if is_told(alloc, c, s, base, values.as_slice(), next.as_slice())?
         && !holds_in(cube, p.latches.as_slice())
         && holds_in(cube, next.as_slice())
     {
@@ -138,24 +207,26 @@ fn step_in(
 }
 
 // The position of the solver's values, where it meets the literal as goal, in none of the cubes.
+#[tactic(auto, using(crate::proofs::TriedLaws::told_at))]
 fn goal_in(
     alloc: Global,
     c: &Circuit,
     s: &Questions,
     base: &Db,
-    lemmas: &[Lemma],
-    level: u64,
     avoid: &[Cube],
     literal: u64,
 ) -> Result<Option<Position>, AllocError>
-    requires { s.now.here ≡ state_place c.now 0 }
-    ensures { IfOk result (λ found. IfSome found (TriedGoal base.now.clauses c.now lemmas.now avoid.now level literal)) }
+    requires here { s.now.here ≡ state_place c.now 0 }
+    requires next { s.now.next ≡ successor_place c.now 0 }
+    ensures tried { IfOk result (λ found. IfSome found (TriedGoal base.now.clauses c.now avoid.now literal)) }
+    ensures told { IfOk result (λ found. IfSome found (λ p.
+        p ≡ (situation_in c.now 0 (assigned s.now.solver.values)).position)) }
 {
-    let values = completed(alloc, c, s)?;
-    let p = position_in(alloc, c, s.here.as_slice(), &values)?;
-    if eval(base, &values)
-        && meets_from(lemmas, level, p.latches.as_slice())
-        && literal_in_block(literal).holds(&values)
+    let p = position_of(alloc, c, s.here.as_slice(), &s.solver)?;
+    let values = valuation(alloc, c, &p)?;
+    let next = next_state(alloc, c, values.as_slice())?;
+    if is_told(alloc, c, s, base, values.as_slice(), next.as_slice())?
+        && literal_value(values.as_slice(), literal)
         && avoids(avoid, p.latches.as_slice())
     {
         Ok(Some(p))
@@ -170,20 +241,19 @@ fn found_in(
     c: &Circuit,
     s: &mut Questions,
     base: &Db,
-    lemmas: &[Lemma],
     level: u64,
     cube: &Cube,
     meter: &mut Meter,
 ) -> Result<Option<Found>, SolveEnd>
     requires here { s.old.here ≡ state_place c.now 0 }
     requires next { s.old.next ≡ successor_place c.now 0 }
-    ensures found { IfOk result (TellsTried s.old base.now.clauses c.now lemmas.now level cube.now) }
+    ensures found { IfOk result (TellsTried s.old base.now.clauses c.now level cube.now) }
     ensures kept { Keeps s.old s.new }
     ensures end { IfErr result (IsEnd meter.new) }
     ensures counted { CountsConflicts meter.old meter.new }
 {
     match ask_into(alloc, s, level, cube.as_slice(), meter)? {
-        Asked::Sat => match step_in(alloc, c, s, base, lemmas, level, cube)? {
+        Asked::Sat => match step_in(alloc, c, s, base, cube)? {
             Some(p) => Ok(Some(Found::Step(p))),
             None => Ok(None),
         },
@@ -203,19 +273,18 @@ pub(crate) fn try_predecessor(
     c: &Circuit,
     s: &mut Questions,
     base: &Db,
-    lemmas: &[Lemma],
     level: u64,
     cube: &Cube,
     meter: &mut Meter,
 ) -> Result<Option<Found>, SolveEnd>
     requires here { s.old.here ≡ state_place c.now 0 }
     requires next { s.old.next ≡ successor_place c.now 0 }
-    ensures found { IfOk result (TellsTried s.old base.now.clauses c.now lemmas.now level cube.now) }
+    ensures found { IfOk result (TellsTried s.old base.now.clauses c.now level cube.now) }
     ensures kept { Keeps s.old s.new }
     ensures end { IfErr result (IsEnd meter.new) }
     ensures counted { CountsConflicts meter.old meter.new }
 {
-    let found = found_in(alloc, c, s, base, lemmas, level, cube, meter)?;
+    let found = found_in(alloc, c, s, base, level, cube, meter)?;
     retire(alloc, s)?;
     Ok(found)
 }
@@ -227,20 +296,20 @@ pub(crate) fn try_goal(
     c: &Circuit,
     s: &mut Questions,
     base: &Db,
-    lemmas: &[Lemma],
     level: u64,
     avoid: &[Cube],
     literal: u64,
     meter: &mut Meter,
 ) -> Result<Option<Option<Position>>, SolveEnd>
-    requires { s.old.here ≡ state_place c.now 0 }
-    ensures found { IfOk result (TellsTriedGoal s.old base.now.clauses c.now lemmas.now avoid.now level literal) }
+    requires here { s.old.here ≡ state_place c.now 0 }
+    requires next { s.old.next ≡ successor_place c.now 0 }
+    ensures found { IfOk result (TellsTriedGoal s.old base.now.clauses c.now avoid.now level literal) }
     ensures kept { Keeps s.old s.new }
     ensures end { IfErr result (IsEnd meter.new) }
     ensures counted { CountsConflicts meter.old meter.new }
 {
     match ask_goal(alloc, s, level, &[literal_in_block(literal)], meter)? {
-        Asked::Sat => match goal_in(alloc, c, s, base, lemmas, level, avoid, literal)? {
+        Asked::Sat => match goal_in(alloc, c, s, base, avoid, literal)? {
             Some(p) => Ok(Some(Some(p))),
             None => Ok(None),
         },

@@ -1,7 +1,7 @@
 use Rattle.std.proofs.Common.{refl, sym, subst, IfOk, IfSome, ◌∙◌}
 use Rattle.entry.specs.CheckedEntries.{viewed}
 use Rattle.ic3_semantics.specs.Stepping.{Stepping, IsGoalFound}
-use Rattle.ic3.specs.SteppingInside.{IsHeldWith, TellsTriedGoal}
+use Rattle.ic3.specs.SteppingInside.{IsHeldWith}
 use Rattle.ic3.specs.declared.stepping_questions.Questions.{Questions}
 use Rattle.ic3.proofs.Holding.{after_growth, after_question}
 use Rattle.ic3.proofs.TriedLaws.{tells_tried_goal}
@@ -23,8 +23,7 @@ returns-clause-found c =
     subst (λ (x : Stepping). IfOk c.try_goal.result (λ found. IfSome found (IsGoalFound x c.args.level c.args.literal))) c.self.view_is
     (tells_tried_goal st c.self.inside.base.clauses middle c.args.level c.args.literal c.try_goal.result held
     (sym c.is_read.ensures ∙ c.if-not-is_read.false)
-    (subst (λ lemmas. IfOk c.try_goal.result (TellsTriedGoal middle c.self.inside.base.clauses c.self.inside.c.now lemmas c.self.inside.avoid.now c.args.level c.args.literal))
-    c.deref.ensures.value c.try_goal.ensures.found))
+    c.try_goal.ensures.found)
 
 pub invariant_of-self : goal.invariant_of-self
 invariant_of-self c =

@@ -1,7 +1,7 @@
 use Rattle.std.proofs.Common.{refl, sym, subst, length, IfOk, IfSome}
 use Rattle.entry.specs.CheckedEntries.{viewed}
 use Rattle.ic3_semantics.specs.Stepping.{Stepping, IsOver, IsFound}
-use Rattle.ic3.specs.SteppingInside.{IsHeldWith, TellsTried}
+use Rattle.ic3.specs.SteppingInside.{IsHeldWith}
 use Rattle.ic3.specs.declared.stepping_questions.Questions.{Questions}
 use Rattle.ic3.proofs.Holding.{after_growth, after_question}
 use Rattle.ic3.proofs.TriedLaws.{tells_tried}
@@ -23,8 +23,7 @@ returns-clause-found c =
     subst (λ (x : Stepping). IfOk c.try_predecessor.result (λ found. IfSome found (IsFound x c.args.level c.args.cube.now))) c.self.view_is
     (tells_tried st c.self.inside.base.clauses middle c.args.level c.args.cube.now c.try_predecessor.result held
     (subst (λ (x : Stepping). IsOver (length x.question.circuit.latches) c.args.cube.now) (sym c.self.view_is) c.requires)
-    (subst (λ lemmas. IfOk c.try_predecessor.result (TellsTried middle c.self.inside.base.clauses c.self.inside.c.now lemmas c.args.level c.args.cube.now))
-    c.deref.ensures.value c.try_predecessor.ensures.found))
+    c.try_predecessor.ensures.found)
 
 pub invariant_of-self : goal.invariant_of-self
 invariant_of-self c =
