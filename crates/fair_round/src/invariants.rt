@@ -18,6 +18,7 @@ use crate::ways::Bar;
 use circuit::Circuit;
 use cnf::Clause;
 use edge::Meter;
+use entry::{Checked, Origin};
 use fair_semantics::{Kind, Skeleton};
 use ic3::Goal;
 use ic3_closing::{ClosedSet, separates};
@@ -25,14 +26,52 @@ use invariant_clauses::inductive_clauses;
 use items::Items;
 use round_choices::{breaking_state, is_at_limit};
 use simulation::DrawnStates;
-use std::alloc::Global;
+use std::alloc::{AllocError, Global};
+use std::sync::Arc;
 
-/// Clauses that the states of runs suggest as invariants. A worker in three has none, nor one whose count is at its limit.
-pub(crate) fn suggested(
+/// What invariants come of: the states of drawn runs; then the clauses that these suggest, and behind how many entries they
+/// were made an entry.
+#[derive(Drop)]
+pub(crate) enum Hints {
+    States(DrawnStates),
+    Clauses(Items<Clause>, usize),
+}
+
+// Clauses that the states of runs suggest.
+fn inductive(
     alloc: Global,
     c: &Circuit,
-    worker: u32,
     states: &DrawnStates,
+    meter: &mut Meter,
+) -> Result<Items<Clause>, Stop>
+    ensures stop { IfErr result (IsStop meter.new) }
+    ensures counted { CountsConflicts meter.old meter.new }
+{
+    match inductive_clauses(alloc, c, &states.latches, &states.words, meter) {
+        Ok(clauses) => Ok(clauses),
+        Err(end) => Err(solver_stop(end, meter)),
+    }
+}
+
+// Whether the worker has found one of the entries behind the first ones.
+fn has_appended(view: &[Arc<Checked>], before: usize, worker: u32) -> bool {
+    for (k, entry) in view.iter().enumerate() {
+        if let Origin::Worker(work) = entry.origin() {
+            if k >= before && work.author == worker {
+                return true;
+            }
+        }
+    }
+    false
+}
+
+/// Clauses to be tried as invariants: those that the states suggest, and again while no entry of the worker stands behind
+/// those that they were handed in behind. A worker in three has none, nor one whose count is at its limit.
+pub(crate) fn suggested(
+    alloc: Global,
+    scope: &Scope<'_>,
+    worker: u32,
+    hints: Hints,
     meter: &mut Meter,
 ) -> Result<Items<Clause>, Stop>
     ensures stop { IfErr result (IsStop meter.new) }
@@ -41,10 +80,23 @@ pub(crate) fn suggested(
     if worker % 3 == 1 || is_at_limit(meter) {
         return Ok(Items::new(alloc));
     }
-    match inductive_clauses(alloc, c, &states.latches, &states.words, meter) {
-        Ok(clauses) => Ok(clauses),
-        Err(end) => Err(solver_stop(end, meter)),
+    match hints {
+        Hints::States(states) => inductive(alloc, scope.circuit, &states, meter),
+        Hints::Clauses(clauses, before) => {
+            if has_appended(scope.view, before, worker) {
+                return Ok(Items::new(alloc));
+            }
+            Ok(clauses)
+        }
     }
+}
+
+fn copies(alloc: Global, clauses: &[Clause]) -> Result<Items<Clause>, AllocError> {
+    let mut copies = Items::new(alloc);
+    for clause in clauses {
+        copies.push(clause.clone()?)?;
+    }
+    Ok(copies)
 }
 
 // The first state of a skeleton that breaks a clause, if one is found.
@@ -150,7 +202,8 @@ fn excluding(
 }
 
 /// In the round behind simulation: an entry of invariants that the states of its runs suggest, and a skeleton that it
-/// excludes. None where there are none, or where no skeleton is found that they exclude.
+/// excludes. None where there are none, or where no skeleton is found that they exclude. Where the entry was not appended,
+/// the next round looks for another skeleton that they exclude.
 pub(crate) fn by_invariants(
     alloc: Global,
     scope: &Scope<'_>,
@@ -165,12 +218,15 @@ pub(crate) fn by_invariants(
     ensures counted { CountsConflicts meter.old meter.new }
     ensures same { rounds.new ≡ rounds.old }
 {
-    let clauses = rounds.take_invariants(alloc, scope.circuit, meter)?;
+    let clauses = rounds.take_invariants(alloc, scope, meter)?;
     if clauses.is_empty() {
         return Ok(None);
     }
     match state_asked(alloc, scope, clauses.as_slice(), meter)? {
-        Some(state) => excluding(alloc, scope, rounds, state.as_slice(), clauses, meter),
+        Some(state) => {
+            rounds.put_invariants(copies(alloc, clauses.as_slice())?, scope.view.len());
+            excluding(alloc, scope, rounds, state.as_slice(), clauses, meter)
+        }
         None => Ok(None),
     }
 }

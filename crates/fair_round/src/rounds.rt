@@ -14,7 +14,7 @@ ghost use Rattle.fair_round.specs.Pools.{IsBegun, IsBegunIn, IsReachedRun, IsRun
 ghost use Rattle.fair_round.specs.Stems.{IsFit};
 
 use crate::bounded::{Bounded, deepened};
-use crate::invariants::suggested;
+use crate::invariants::{Hints, suggested};
 use crate::pool::{Begun, Run, keep, keep_all, pooled, tried};
 use crate::scope::Scope;
 use crate::stopping::{Stop, solver_stop};
@@ -29,7 +29,7 @@ use items::Items;
 use round_choices::{
     Costs, NO_PAUSE, Pauses, add_cost, asks_literal, first_costs, is_at_limit, looks,
 };
-use simulation::{DrawnStates, simulate};
+use simulation::simulate;
 use skeleton::{Found, Query, ValueAt, never_stays};
 use std::alloc::{AllocError, Global};
 use std::marker::Model;
@@ -37,8 +37,8 @@ use std::sync::Arc;
 
 /// What a worker keeps from round to round: its query, the entries that it has seen, runs whose states were reached, cubes
 /// of states in which no skeleton begins, the search from the initial states, what each of two kinds of rounds has cost, its
-/// number, whether simulation is done, and the states that it drew up to the search for invariants, of which latches walls
-/// are looked for and when, and the bounded search. Contracts see of it what they see of a query.
+/// number, whether simulation is done, what invariants come of, of which latches walls are looked for and when, and the
+/// bounded search. Contracts see of it what they see of a query.
 #[derive(Drop)]
 pub struct Rounds {
     circuit: Arc<Circuit>,
@@ -50,7 +50,7 @@ pub struct Rounds {
     costs: Costs,
     worker: u32,
     has_simulated: bool,
-    states: Option<DrawnStates>,
+    hints: Option<Hints>,
     wanted: Vec<bool>,
     pauses: Pauses,
     bounded: Bounded,
@@ -113,7 +113,7 @@ fn simulated(
     worker: u32,
     meter: &Meter,
     runs: &mut Vec<Run>,
-    states: &mut Option<DrawnStates>,
+    hints: &mut Option<Hints>,
 ) -> Result<Option<Lasso>, Stop>
     requires { All (IsRun c.now) runs.old.items }
     ensures lasso { IfOk result (λ found. IfSome found (IsFairLassoOf c.now j)) }
@@ -122,7 +122,7 @@ fn simulated(
 {
     let found = simulate(alloc, c, j, worker, meter)?;
     keep_all(c, runs, found.runs)?;
-    *states = Some(found.states);
+    *hints = Some(Hints::States(found.states));
     Ok(found.lasso)
 }
 
@@ -173,7 +173,7 @@ impl Rounds {
             costs: first_costs(worker),
             worker,
             has_simulated: false,
-            states: None,
+            hints: None,
             wanted,
             pauses: NO_PAUSE,
             bounded: Bounded::unused(),
@@ -303,7 +303,7 @@ impl Rounds {
             self.worker,
             meter,
             &mut self.runs,
-            &mut self.states,
+            &mut self.hints,
         )
     }
 
@@ -327,21 +327,28 @@ impl Rounds {
         deepened(alloc, c, j, &mut self.bounded, meter)
     }
 
-    /// Once behind simulation: clauses that the states of its runs suggest as invariants, if any.
+    /// Behind simulation: clauses that the states of its runs suggest as invariants, if any; and those that were kept.
     pub(crate) fn take_invariants(
         &mut self,
         alloc: Global,
-        c: &Circuit,
+        scope: &Scope<'_>,
         meter: &mut Meter,
     ) -> Result<Items<Clause>, Stop>
         ensures stop { IfErr result (IsStop meter.new) }
         ensures counted { CountsConflicts meter.old meter.new }
         ensures same { self.new ≡ self.old }
     {
-        match self.states.take() {
-            Some(states) => suggested(alloc, c, self.worker, &states, meter),
+        match self.hints.take() {
+            Some(hints) => suggested(alloc, scope, self.worker, hints, meter),
             None => Ok(Items::new(alloc)),
         }
+    }
+
+    /// Keeps clauses that are made an entry behind so many.
+    pub(crate) fn put_invariants(&mut self, clauses: Items<Clause>, before: usize)
+        ensures { self.new ≡ self.old }
+    {
+        self.hints = Some(Hints::Clauses(clauses, before));
     }
 
     /// A skeleton that the entries allow and that begins in the state, if there is one.
