@@ -5,6 +5,7 @@ pub mod PrefixLaws
 pub mod ListLaws
 pub mod GuardLaws
 pub mod StoreLaws
+pub mod FixedLaws
 pub mod VisitLaws
 pub mod LoopLaws
 pub mod SoundLaws

@@ -11,11 +11,11 @@ use Rattle.proof_semantics.specs.Clauses.{bool_eq, lit_eq, negation}
 use Rattle.proof_semantics.specs.declared.literals.Lit.{Lit}
 use Rattle.proof_semantics.proofs.LiteralLaws.{lit_eq-true, bool_eq-same, not-not}
 use Rattle.cdcl_trail.specs.Trails.{Step, step, literals_of, step_of, once}
-use Rattle.cdcl_trail.specs.Propagation.{is_value, is_true, is_false, is_falsified, IsForced, AreForced, Propagates, IsConflict}
+use Rattle.cdcl_trail.specs.Propagation.{is_value, is_true, is_false, is_fixed, is_falsified, IsForced, AreForced, Propagates, IsConflict}
 use Rattle.cdcl_trail.specs.Measure.{unsatisfied}
 use Rattle.cdcl_trail.specs.Guards.{IsDone, AreDone, AreGuarded, AreSure, IsFront, KeepsGuards}
 use Rattle.cdcl_trail.specs.Lists.{IsIn, list_for}
-use Rattle.cdcl_trail.specs.Storing.{held, IsStored, IsRewatched, IsPairAt}
+use Rattle.cdcl_trail.specs.Storing.{held, IsStored, IsRewatched, IsPairAt, Covers}
 use Rattle.cdcl_trail.specs.Visiting.{IsVisited, IsVisiting, IsSettling, AreSettling, IsSettled}
 use Rattle.cdcl_trail.specs.declared.pairs.Pair.{Pair}
 use Rattle.cdcl_trail.specs.declared.watching.Watching.{Watching}
@@ -23,6 +23,7 @@ use Rattle.cdcl_trail.proofs.TrailLaws.{either, not-true}
 use Rattle.cdcl_trail.proofs.PassLaws.{propagates_none, propagates_more, propagates_one, forced_at, held_at, unit_counts, numbered_at}
 use Rattle.cdcl_trail.proofs.PrefixLaws.{true_more}
 use Rattle.cdcl_trail.proofs.ListLaws.{get_in_append}
+use Rattle.cdcl_trail.proofs.FixedLaws.{fixed_true}
 use Rattle.cdcl_trail.proofs.GuardLaws.{front_same, keeps_same, keeps_more, guarded_more, guarded_next, sure_more}
 
 pub get_past : {A : Type 0} (xs : List A) (i : ℕ) → slice_get xs i ≡ None → length xs ≤ i
@@ -63,8 +64,9 @@ done_front a b l pair f d = (
 
 -- Looks at the clauses of a list.
 
-pub visiting_start : (w : Watching) (steps : List Step) (a : Lit) → IsStored w → IsVisiting w steps w steps a 0
-visiting_start w steps a stored = record {
+pub visiting_start : (w : Watching) (steps : List Step) (a : Lit) → IsStored w → Covers (is_fixed steps) w → IsVisiting w steps w steps a 0
+visiting_start w steps a stored covers = record {
+  covers = covers;
   rewatched = rewatched_same w stored;
   steps = propagates_none (held w) steps;
   keeps = keeps_same steps w.pairs.items;
@@ -106,6 +108,7 @@ visiting_stands w u x s t r a place number entry v n says =
       rewatched = g.rewatched;
       steps = g.steps;
       keeps = g.keeps;
+      covers = n.covers;
       done = λ j m pair under e at. elim (below_next j place under) [
         | inl less ↦ g.done j m pair less e at
         | inr same ↦
@@ -120,7 +123,7 @@ pub visiting_left : (w u x : Watching) (s t r : List Step) (a : Lit) (place numb
 visiting_left w u x s t r a place number entry v n shorter =
     let g = goes w u x s t r a place v n in
     let within = slice_get_within (list_for u.lists a) place number entry in
-    record { rewatched = g.rewatched; steps = g.steps; keeps = g.keeps; done = g.done; within = omega (arith, within, shorter) }
+    record { rewatched = g.rewatched; steps = g.steps; keeps = g.keeps; covers = n.covers; done = g.done; within = omega (arith, within, shorter) }
 
 done_in : (w u : Watching) (s t : List Step) (a b : Lit) (place n : ℕ) (pair : Pair) → IsVisiting w s u t a place → slice_get (list_for u.lists a) place ≡ None
     → IsPairAt u n pair → lit_eq b a ≡ true → IsIn (list_for u.lists b) n → IsDone t a pair
@@ -132,9 +135,15 @@ done_in w u s t a b place n pair v end at same inside =
 
 pub visiting_end : (w u : Watching) (s t : List Step) (a : Lit) (place : ℕ) → IsVisiting w s u t a place → slice_get (list_for u.lists a) place ≡ None → AreDone t a u.pairs.items
 visiting_end w u s t a place v end n pair at =
-    let covered = v.rewatched.stored.covered n pair at in (
-      λ e. (done_in w u s t a pair.first place n pair v end at e covered.0).0 e,
-      λ e. (done_in w u s t a pair.second place n pair v end at e covered.1).1 e,
+    let here = v.covers n pair at in (
+      λ e. elim here.0 [
+        | inl inside ↦ (done_in w u s t a pair.first place n pair v end at e inside).0 e
+        | inr fixed ↦ fixed_true t pair.second fixed
+      ],
+      λ e. elim here.1 [
+        | inl inside ↦ (done_in w u s t a pair.second place n pair v end at e inside).1 e
+        | inr fixed ↦ fixed_true t pair.first fixed
+      ],
     )
 
 -- Steps one after the other.
@@ -172,8 +181,10 @@ negation_false steps n a all e =
     (ap (λ p. is_value (option_map (λ (s : Step). s.literal.positive) p) (not (not found.0.literal.positive))) (step_at steps n found.0 all found.1)
     ∙ ap (bool_eq found.0.literal.positive) (not-not found.0.literal.positive) ∙ bool_eq-same found.0.literal.positive)
 
-pub settling_start : (w : Watching) (steps : List Step) (n : ℕ) → IsStored w → n ≤ length steps → AreGuarded n steps w.pairs.items → IsSettling w steps w steps n
-settling_start w steps n stored within guarded = record {
+pub settling_start : (w : Watching) (steps : List Step) (n : ℕ) → IsStored w → Covers (is_fixed steps) w → n ≤ length steps → AreGuarded n steps w.pairs.items
+    → IsSettling w steps w steps n
+settling_start w steps n stored covers within guarded = record {
+  covers = covers;
   rewatched = rewatched_same w stored;
   steps = propagates_none (held w) steps;
   keeps = keeps_same steps w.pairs.items;
@@ -192,9 +203,10 @@ pub front_length : (a b : List Step) → IsFront a b → length a ≤ length b
 front_length a b f = omega (arith, ap length f.1, length_app a f.0)
 
 -- where the looks for a step ended early
-pub settling_stopped : (w u x : Watching) (s t r : List Step) (n : ℕ) → IsSettling w s u t n → IsRewatched u x → Propagates (held u) t r → KeepsGuards t u.pairs.items x.pairs.items
-    → IsSettling w s x r n
-settling_stopped w u x s t r n v rewatched steps keeps = record {
+pub settling_stopped : (w u x : Watching) (s t r : List Step) (n : ℕ) → IsSettling w s u t n → IsRewatched u x → Covers (is_fixed r) x → Propagates (held u) t r
+    → KeepsGuards t u.pairs.items x.pairs.items → IsSettling w s x r n
+settling_stopped w u x s t r n v rewatched covers steps keeps = record {
+  covers = covers;
   rewatched = rewatched_then w u x v.rewatched rewatched;
   steps = propagates_more (held w) s t r v.steps (propagates_held w u t r v.rewatched steps);
   keeps = keeps_more s t w.pairs.items u.pairs.items x.pairs.items (front_of (held w) s t v.steps) v.keeps keeps;
@@ -208,10 +220,10 @@ next_is n = omega arith
 get_front : (a b : List Step) (n : ℕ) (x : Step) → IsFront a b → slice_get a n ≡ Some x → slice_get b n ≡ Some x
 get_front a b n x f e = ap (λ xs. slice_get xs n) f.1 ∙ get_in_append a f.0 n x e
 
-pub settling_next : (w u x : Watching) (s t r : List Step) (n : ℕ) (a : Lit) → IsSettling w s u t n → IsRewatched u x → Propagates (held u) t r → KeepsGuards t u.pairs.items x.pairs.items
-    → slice_get (literals_of t) n ≡ Some a → AreDone r (negation a) x.pairs.items → IsSettling w s x r (n + 1)
-settling_next w u x s t r n a v rewatched steps keeps at done =
-    let stopped = settling_stopped w u x s t r n v rewatched steps keeps in
+pub settling_next : (w u x : Watching) (s t r : List Step) (n : ℕ) (a : Lit) → IsSettling w s u t n → IsRewatched u x → Covers (is_fixed r) x → Propagates (held u) t r
+    → KeepsGuards t u.pairs.items x.pairs.items → slice_get (literals_of t) n ≡ Some a → AreDone r (negation a) x.pairs.items → IsSettling w s x r (n + 1)
+settling_next w u x s t r n a v rewatched covers steps keeps at done =
+    let stopped = settling_stopped w u x s t r n v rewatched covers steps keeps in
     let found = step_in t n a at in
     let front = front_of (held u) t r steps in
     let there : slice_get r n ≡ Some found.0 = get_front t r n found.0 front found.1 in
@@ -220,6 +232,7 @@ settling_next w u x s t r n a v rewatched steps keeps at done =
       rewatched = stopped.rewatched;
       steps = stopped.steps;
       keeps = stopped.keeps;
+      covers = covers;
       within = omega (arith, within);
       guarded = subst (λ k. AreGuarded k r x.pairs.items) (next_is n)
           (guarded_next n r x.pairs.items found.0 there stopped.guarded (subst (λ (b : Lit). AreDone r (negation b) x.pairs.items) (sym found.2) done));

@@ -19,7 +19,7 @@ use Rattle.cdcl_trail.specs.Renaming.{Meets, named_steps, named_clause, named_cl
 use Rattle.cdcl_trail.specs.TrailOf.{Named}
 use Rattle.cdcl_trail.specs.Places.{told_by}
 use Rattle.cdcl_trail.proofs.TrailLaws.{nothing_some}
-use Rattle.cdcl_trail.proofs.SoundLaws.{cut_front}
+use Rattle.cdcl_trail.proofs.FixedLaws.{cut_front}
 use Rattle.cdcl_trail.proofs.CountLaws.{few}
 use Rattle.cdcl_trail.proofs.RenameLaws.{all_both, mapped_some, numbered_named, numbered_below, cut_named, literals_named, reason_named, level_of_named, once_named, complete_named, conflict_named, propagated_below, propagates_named, pair_named, unnamed, clause_stays}
 use Rattle.cdcl_trail.proofs.BorderLaws.{steps_below_more, clauses_below_more, all_below_more, pairs_stay, longer, meets, meets_none, meets_then, state_met, steps_met, clauses_met, no_value_of, value_by_number, pairs_below, watched_well_named, named_is, assumed_named, all_front, shown_front, taken_named, literals_below, place_named, no_place_named}

@@ -7,9 +7,9 @@ use Rattle.std.proofs.lemmas.Bool.{false≢true, cond-true, cond-false, leb-true
 use Rattle.std.proofs.lemmas.Option.{none-some, slice_get_within}
 use Rattle.proof_semantics.specs.declared.literals.Lit.{Lit}
 use Rattle.cdcl_trail.specs.Trails.{Step, assumed, opened_by, level, up_to_level}
-use Rattle.cdcl_trail.specs.Propagation.{Propagates}
+use Rattle.cdcl_trail.specs.Propagation.{is_true, is_fixed, Propagates}
 use Rattle.cdcl_trail.specs.Guards.{AreSure, IsFront, KeepsGuards}
-use Rattle.cdcl_trail.specs.Storing.{held, IsRewatched}
+use Rattle.cdcl_trail.specs.Storing.{held, IsRewatched, Covers}
 use Rattle.cdcl_trail.specs.TracksOf.{HasReached, Sound}
 use Rattle.cdcl_trail.specs.declared.tracks.Reached.{Reached}
 use Rattle.cdcl_trail.specs.declared.watching.Watching.{Watching}
@@ -18,6 +18,8 @@ use Rattle.cdcl_trail.proofs.PassLaws.{propagates_level}
 use Rattle.cdcl_trail.proofs.PrefixLaws.{cut_at_level}
 use Rattle.cdcl_trail.proofs.ListLaws.{get_push}
 use Rattle.cdcl_trail.proofs.GuardLaws.{guarded_more, sure_more}
+use Rattle.cdcl_trail.proofs.StoreLaws.{covered_grow}
+use Rattle.cdcl_trail.proofs.FixedLaws.{cut_front, covers_front}
 use Rattle.cdcl_trail.proofs.LoopLaws.{held_same, front_length, get_past}
 
 -- Levels.
@@ -45,19 +47,6 @@ cut_twice n m (x ∷ xs) fits =
       | inr over ↦
           ap (up_to_level n) (cond-false (leb (opened_by x.reason) m) (x ∷ up_to_level (m - opened_by x.reason) xs) [] over)
           ∙ sym (cond-false (leb (opened_by x.reason) n) (x ∷ up_to_level (n - opened_by x.reason) xs) [] (leb-over (opened_by x.reason) m n over fits))
-    ]
-
-pub cut_front : (n : ℕ) (xs : List Step) → IsFront (up_to_level n xs) xs
-cut_front n [] = ([], refl)
-cut_front n (x ∷ xs) =
-    elim (either (leb (opened_by x.reason) n)) [
-      | inl fits ↦
-          let later = cut_front (n - opened_by x.reason) xs in (
-            later.0,
-            ap (λ ys. x ∷ ys) later.1
-                ∙ ap (λ ys. ys ++ later.0) (sym (cond-true (leb (opened_by x.reason) n) (x ∷ up_to_level (n - opened_by x.reason) xs) [] fits)),
-          )
-      | inr over ↦ (x ∷ xs, ap (λ ys. ys ++ x ∷ xs) (sym (cond-false (leb (opened_by x.reason) n) (x ∷ up_to_level (n - opened_by x.reason) xs) [] over)))
     ]
 
 get_take : {A : Type 0} (xs : List A) (m n : ℕ) (x : A) → slice_get (take m xs) n ≡ Some x → (n < m) × (slice_get xs n ≡ Some x)
@@ -91,6 +80,7 @@ sound_saved steps w r saved later e s = subst (λ xs. Sound steps w r xs) (sym e
 sound_assumed-at : (steps : List Step) (a : Lit) (w : Watching) (r : Reached) (saved : List Reached) → Sound steps w r saved → Sound (steps ++ assumed a ∷ []) w r (saved ++ r ∷ [])
 sound_assumed-at steps a w r saved s = record {
   stored = s.stored;
+  covers = covers_front steps (steps ++ assumed a ∷ []) w (assumed a ∷ [], refl) s.covers;
   present = reached_more r steps (assumed a ∷ []) w s.present;
   depth = let pushed = level_push steps (assumed a) in omega (arith, length_end saved r, s.depth, pushed);
   levels = λ n q e. elim (get_push saved r n q e) [
@@ -122,6 +112,9 @@ pub sound_back : (steps later : List Step) (w : Watching) (r q : Reached) (saved
     → level later ≡ target → q ≡ unwrap_or (slice_get saved target) r → fewer ≡ take target saved → Sound steps w r saved → Sound later w q fewer
 sound_back steps later w r q saved fewer target fits is deep at cut s = record {
   stored = s.stored;
+  covers =
+      covered_grow (is_fixed steps) (is_fixed later) w.lists w.pairs.items
+      (λ a e. ap (λ xs. is_fixed xs a) is ∙ ap (λ xs. is_true xs a) (cut_twice 0 target steps (omega arith)) ∙ e) s.covers;
   present = subst (λ xs. HasReached q xs w) (sym is) (subst (λ (p : Reached). HasReached p (up_to_level target steps) w) (sym at) (back_present steps w r saved target (slice_get saved target) refl s));
   depth = ap length cut ∙ length_take saved target (omega (arith, fits, s.depth)) ∙ sym deep;
   levels = λ n p e.
@@ -146,9 +139,10 @@ reached_rewatched q front steps w u f same keeps h = record {
 }
 
 pub sound_settled : (steps later : List Step) (clauses : List (List Lit)) (w u : Watching) (r q : Reached) (saved : List Reached) → Propagates clauses steps later → IsRewatched w u
-    → KeepsGuards steps w.pairs.items u.pairs.items → HasReached q later u → Sound steps w r saved → Sound later u q saved
-sound_settled steps later clauses w u r q saved p same keeps present s = record {
+    → Covers (is_fixed later) u → KeepsGuards steps w.pairs.items u.pairs.items → HasReached q later u → Sound steps w r saved → Sound later u q saved
+sound_settled steps later clauses w u r q saved p same covers keeps present s = record {
   stored = same.stored;
+  covers = covers;
   present = present;
   depth = s.depth ∙ sym (propagates_level clauses steps later p);
   levels = λ n earlier e.

@@ -1,5 +1,5 @@
 -- Laws of what is kept of the clauses.
-use Rattle.std.proofs.Common.{◌≡◌, ℕ, suc, ◌<◌, false, List, [], ◌∷◌, ◌++◌, length, map, Option, Some, None, refl, ap, sym, subst, ◌∙◌, ◌⊎◌, inl, inr, arith}
+use Rattle.std.proofs.Common.{◌≡◌, ℕ, suc, ◌<◌, Bool, true, false, List, [], ◌∷◌, ◌++◌, length, map, Option, Some, None, refl, ap, sym, subst, ◌∙◌, ◌⊎◌, inl, inr, arith}
 use Rattle.std.specs.Prelude.{slice_get, Result, Ok, Err}
 use Rattle.std.specs.Option.{IfSome, IfNone}
 use Rattle.std.specs.Result.{OnOk, OnErr}
@@ -13,29 +13,38 @@ use Rattle.clause_arena.specs.Lending.{IsRefOf, lent, StaysLent}
 use Rattle.clause_arena.specs.declared.Ref.{Ref}
 use Rattle.cdcl_trail.specs.Guards.{IsPairOf, IsSingle}
 use Rattle.cdcl_trail.specs.Lists.{IsIn, IsWithout, list_for}
-use Rattle.cdcl_trail.specs.Storing.{Stores, KeepsLists, AreListed, IsOther, has_more_singles}
+use Rattle.cdcl_trail.specs.Storing.{Stores, IsCovered, AreCovered, KeepsLists, AreListed, IsOther, has_more_singles}
 use Rattle.cdcl_trail.specs.declared.lists.Lists.{Lists}
 use Rattle.cdcl_trail.specs.declared.pairs.Pair.{Pair}
 use Rattle.cdcl_trail.proofs.TrailLaws.{either}
 use Rattle.cdcl_trail.proofs.ListLaws.{get_in_append, get_last, get_push, get_set, get_set_other, in_push, in_more, place_either, length_last}
 
-pub stores_lists : (arena : List Lit) (places : List Ref) (pairs : List (Option Pair)) (singles : List ℕ) (lists later : Lists) → KeepsLists lists later
-    → Stores arena places pairs singles lists → Stores arena places pairs singles later
-stores_lists arena places pairs singles lists later keeps s = record {
-  beside = s.beside;
-  refs = s.refs;
-  paired = s.paired;
-  single = s.single;
-  covered = λ n pair e. let here = s.covered n pair e in (keeps pair.first n here.0, keeps pair.second n here.1);
-  listed = s.listed;
-  unpaired = s.unpaired;
-}
-
 -- the same under other names
-pub stores_same : (a b : List Lit) (p q : List Ref) (r t : List (Option Pair)) (m n : List ℕ) (lists : Lists) → b ≡ a → q ≡ p → t ≡ r → n ≡ m
-    → Stores a p r m lists → Stores b q t n lists
-stores_same a b p q r t m n lists e f g h s =
-    subst (λ x. Stores x q t n lists) (sym e) (subst (λ x. Stores a x t n lists) (sym f) (subst (λ x. Stores a p x n lists) (sym g) (subst (λ x. Stores a p r x lists) (sym h) s)))
+pub stores_same : (a b : List Lit) (p q : List Ref) (r t : List (Option Pair)) (m n : List ℕ) → b ≡ a → q ≡ p → t ≡ r → n ≡ m
+    → Stores a p r m → Stores b q t n
+stores_same a b p q r t m n e f g h s =
+    subst (λ x. Stores x q t n) (sym e) (subst (λ x. Stores a x t n) (sym f) (subst (λ x. Stores a p x n) (sym g) (subst (λ x. Stores a p r x) (sym h) s)))
+
+-- What is covered.
+
+covered_more : (fixed : Lit → Bool) (lists more : Lists) (n : ℕ) (a b : Lit) → KeepsLists lists more → IsCovered fixed lists n a b → IsCovered fixed more n a b
+covered_more fixed lists more n a b keeps (inl e) = inl (keeps a n e)
+covered_more fixed lists more n a b keeps (inr e) = inr e
+
+pub covered_lists : (fixed : Lit → Bool) (pairs later : List (Option Pair)) (lists more : Lists) → KeepsLists lists more → later ≡ pairs → AreCovered fixed lists pairs → AreCovered fixed more later
+covered_lists fixed pairs later lists more keeps is all n pair e =
+    let here = all n pair (ap (λ xs. slice_get xs n) (sym is) ∙ e) in
+    (covered_more fixed lists more n pair.first pair.second keeps here.0, covered_more fixed lists more n pair.second pair.first keeps here.1)
+
+covered_grown : (f g : Lit → Bool) (lists : Lists) (n : ℕ) (a b : Lit) → ((c : Lit) → f c ≡ true → g c ≡ true) → IsCovered f lists n a b → IsCovered g lists n a b
+covered_grown f g lists n a b each (inl e) = inl e
+covered_grown f g lists n a b each (inr e) = inr (each b e)
+
+-- more literals are fixed
+pub covered_grow : (f g : Lit → Bool) (lists : Lists) (pairs : List (Option Pair)) → ((c : Lit) → f c ≡ true → g c ≡ true) → AreCovered f lists pairs → AreCovered g lists pairs
+covered_grow f g lists pairs each all n pair e =
+    let here = all n pair e in
+    (covered_grown f g lists n pair.first pair.second each here.0, covered_grown f g lists n pair.second pair.first each here.1)
 
 -- A clause more.
 
@@ -117,11 +126,10 @@ unpaired_push pairs singles number None j n last each e =
     ]
 unpaired_push pairs singles number (Some pair) j n last each e = get_in_append pairs (Some pair ∷ []) n None (each j n e)
 
-pub stores_push : (arena later : List Lit) (places : List Ref) (place : Ref) (pairs : List (Option Pair)) (found : Option Pair) (singles : List ℕ) (lists more : Lists) (clause : List Lit)
-    → Stores arena places pairs singles lists → StaysLent arena later → IsRefOf later place → lent later place ≡ clause → KeepsLists lists more
-    → AreListed more (length places) found → Fits clause found
-    → Stores later (places ++ place ∷ []) (pairs ++ found ∷ []) (has_more_singles singles (length places) found) more
-stores_push arena later places place pairs found singles lists more clause s stays is_ref is keeps listed fits =
+pub stores_push : (arena later : List Lit) (places : List Ref) (place : Ref) (pairs : List (Option Pair)) (found : Option Pair) (singles : List ℕ) (clause : List Lit)
+    → Stores arena places pairs singles → StaysLent arena later → IsRefOf later place → lent later place ≡ clause → Fits clause found
+    → Stores later (places ++ place ∷ []) (pairs ++ found ∷ []) (has_more_singles singles (length places) found)
+stores_push arena later places place pairs found singles clause s stays is_ref is fits =
     let clauses = map (lent arena) places in
     let grown : map (lent later) (places ++ place ∷ []) ≡ clauses ++ clause ∷ [] = held_push arena later places place clause s.refs stays is in
     let long : length pairs ≡ length clauses = s.beside ∙ sym (length_map (lent arena) places) in
@@ -138,16 +146,22 @@ stores_push arena later places place pairs found singles lists more clause s sta
             | inl before ↦ s.single n c before.0 before.1
             | inr last ↦ subst (λ x. IsSingle x) (sym last.1) (fits.none (sym last.0))
           ];
-      covered = λ n pair e. elim (get_push pairs found n (Some pair) e) [
-        | inl before ↦ let here = s.covered n pair before in (keeps pair.first n here.0, keeps pair.second n here.1)
-        | inr last ↦ subst (λ k. IsIn (list_for more pair.first) k × IsIn (list_for more pair.second) k) (sym (last.0 ∙ s.beside)) (listed_at more (length places) found pair listed last.1)
-      ];
       listed = λ n e. elim (get_push pairs found n None e) [
         | inl before ↦ singles_more singles (length places) found n (s.listed n before)
         | inr last ↦ subst (λ k. IsIn (has_more_singles singles (length places) found) k) (sym (last.0 ∙ s.beside)) (singles_last singles (length places) found last.1)
       ];
       unpaired = λ j n e. unpaired_push pairs singles (length places) found j n (sym s.beside) s.unpaired e;
     }
+
+pub covered_push : (fixed : Lit → Bool) (pairs : List (Option Pair)) (found : Option Pair) (lists more : Lists) (number : ℕ) → number ≡ length pairs → KeepsLists lists more
+    → AreListed more number found → AreCovered fixed lists pairs → AreCovered fixed more (pairs ++ found ∷ [])
+covered_push fixed pairs found lists more number at keeps listed all n pair e =
+    elim (get_push pairs found n (Some pair) e) [
+      | inl before ↦ covered_lists fixed pairs pairs lists more keeps refl all n pair before
+      | inr last ↦
+          let here = subst (λ k. IsIn (list_for more pair.first) k × IsIn (list_for more pair.second) k) (at ∙ sym last.0) (listed_at more number found pair listed last.1) in
+          (inl here.0, inl here.1)
+    ]
 
 -- A clause watched elsewhere.
 
@@ -195,10 +209,18 @@ lit_apart a b e =
       | inr apart ↦ apart
     ]
 
-other_listed : (lists : Lists) (n : ℕ) (before : Pair) (l b : Lit) → IsOther before l b → IsIn (list_for lists before.first) n × IsIn (list_for lists before.second) n
-    → IsIn (list_for lists b) n
-other_listed lists n before l b (inl e) both = subst (λ (c : Lit). IsIn (list_for lists c) n) e.1 both.1
-other_listed lists n before l b (inr e) both = subst (λ (c : Lit). IsIn (list_for lists c) n) e.1 both.0
+other_covered : (fixed : Lit → Bool) (lists : Lists) (n : ℕ) (before : Pair) (l b : Lit) → IsOther before l b → fixed l ≡ false
+    → IsCovered fixed lists n before.first before.second × IsCovered fixed lists n before.second before.first → IsIn (list_for lists b) n
+other_covered fixed lists n before l b (inl e) unfixed both =
+    elim both.1 [
+      | inl here ↦ subst (λ (c : Lit). IsIn (list_for lists c) n) e.1 here
+      | inr other ↦ absurd (false≢true (sym unfixed ∙ ap fixed (sym e.0) ∙ other))
+    ]
+other_covered fixed lists n before l b (inr e) unfixed both =
+    elim both.0 [
+      | inl here ↦ subst (λ (c : Lit). IsIn (list_for lists c) n) e.1 here
+      | inr other ↦ absurd (false≢true (sym unfixed ∙ ap fixed (sym e.0) ∙ other))
+    ]
 
 -- what a move does
 pub record Moves (lists more final : Lists) (l a : Lit) (place number : ℕ) : Type 0 where
@@ -209,32 +231,38 @@ pub record Moves (lists more final : Lists) (l a : Lit) (place number : ℕ) : T
   pub without : IsWithout (list_for more l) place (list_for final l)
   pub others : (b : Lit) → lit_eq b l ≡ false → list_for final b ≡ list_for more b
 
-moved_here : (lists more final : Lists) (l : Lit) (place number : ℕ) (pair before : Pair) → Moves lists more final l pair.first place number
-    → IsOther before l pair.second → lit_eq pair.first l ≡ false → lit_eq pair.second l ≡ false
-    → IsIn (list_for lists before.first) number × IsIn (list_for lists before.second) number
-    → IsIn (list_for final pair.first) number × IsIn (list_for final pair.second) number
-moved_here lists more final l place number pair before m other apart apart_too both = (
-  subst (λ xs. IsIn xs number) (sym (m.others pair.first apart ∙ m.added)) (in_push (list_for lists pair.first) number),
-  subst (λ xs. IsIn xs number) (sym (m.others pair.second apart_too))
-      (m.keeps pair.second number (other_listed lists number before l pair.second other both)),
+moved_here : (fixed : Lit → Bool) (lists more final : Lists) (l : Lit) (place number : ℕ) (pair before : Pair) → Moves lists more final l pair.first place number
+    → IsOther before l pair.second → lit_eq pair.first l ≡ false → lit_eq pair.second l ≡ false → fixed l ≡ false
+    → IsCovered fixed lists number before.first before.second × IsCovered fixed lists number before.second before.first
+    → IsCovered fixed final number pair.first pair.second × IsCovered fixed final number pair.second pair.first
+moved_here fixed lists more final l place number pair before m other apart apart_too unfixed both = (
+  inl (subst (λ xs. IsIn xs number) (sym (m.others pair.first apart ∙ m.added)) (in_push (list_for lists pair.first) number)),
+  inl
+      (subst (λ xs. IsIn xs number) (sym (m.others pair.second apart_too))
+      (m.keeps pair.second number (other_covered fixed lists number before l pair.second other unfixed both))),
 )
 
-moved_there : (lists more final : Lists) (l : Lit) (place number n : ℕ) (pair p : Pair) → Moves lists more final l pair.first place number
-    → lit_eq pair.first l ≡ false → (number ≡ n → ⊥) → IsIn (list_for lists p.first) n × IsIn (list_for lists p.second) n
-    → IsIn (list_for final p.first) n × IsIn (list_for final p.second) n
-moved_there lists more final l place number n pair p m apart differs both =
+-- an entry for another clause stays where one is taken from a list
+covered_without : (fixed : Lit → Bool) (more final : Lists) (l a b : Lit) (place number n : ℕ) → slice_get (list_for more l) place ≡ Some number → (number ≡ n → ⊥)
+    → IsWithout (list_for more l) place (list_for final l) → ((b : Lit) → lit_eq b l ≡ false → list_for final b ≡ list_for more b)
+    → IsCovered fixed more n a b → IsCovered fixed final n a b
+covered_without fixed more final l a b place number n entry differs without others (inl e) = inl (stays_without more final l a place number n entry differs without others e)
+covered_without fixed more final l a b place number n entry differs without others (inr e) = inr e
+
+moved_there : (fixed : Lit → Bool) (lists more final : Lists) (l : Lit) (place number n : ℕ) (pair p : Pair) → Moves lists more final l pair.first place number
+    → lit_eq pair.first l ≡ false → (number ≡ n → ⊥) → IsCovered fixed lists n p.first p.second × IsCovered fixed lists n p.second p.first
+    → IsCovered fixed final n p.first p.second × IsCovered fixed final n p.second p.first
+moved_there fixed lists more final l place number n pair p m apart differs both =
     let entry : slice_get (list_for more l) place ≡ Some number =
     ap (λ xs. slice_get xs place) (m.alone l (lit_apart pair.first l apart)) ∙ m.entry in (
-      stays_without more final l p.first place number n entry differs m.without m.others (m.keeps p.first n both.0),
-      stays_without more final l p.second place number n entry differs m.without m.others (m.keeps p.second n both.1),
+      covered_without fixed more final l p.first p.second place number n entry differs m.without m.others (covered_more fixed lists more n p.first p.second m.keeps both.0),
+      covered_without fixed more final l p.second p.first place number n entry differs m.without m.others (covered_more fixed lists more n p.second p.first m.keeps both.1),
     )
 
-pub stores_moved : (arena : List Lit) (places : List Ref) (pairs : List (Option Pair)) (singles : List ℕ) (lists more final : Lists) (l : Lit) (place number : ℕ) (pair before : Pair)
-    → Stores arena places pairs singles lists → Moves lists more final l pair.first place number
-    → ((clause : List Lit) → slice_get (map (lent arena) places) number ≡ Some clause → IsPairOf clause pair)
-    → slice_get pairs number ≡ Some (Some before) → IsOther before l pair.second → lit_eq pair.first l ≡ false → lit_eq pair.second l ≡ false
-    → Stores arena places (set pairs number (Some pair)) singles final
-stores_moved arena places pairs singles lists more final l place number pair before s m of was other apart apart_too =
+pub stores_moved : (arena : List Lit) (places : List Ref) (pairs : List (Option Pair)) (singles : List ℕ) (number : ℕ) (pair before : Pair)
+    → Stores arena places pairs singles → ((clause : List Lit) → slice_get (map (lent arena) places) number ≡ Some clause → IsPairOf clause pair)
+    → slice_get pairs number ≡ Some (Some before) → Stores arena places (set pairs number (Some pair)) singles
+stores_moved arena places pairs singles number pair before s of was =
     let now : slice_get (set pairs number (Some pair)) number ≡ Some (Some pair) = get_set pairs number (Some pair) (Some before) was in
     record {
       beside = length-set pairs number (Some pair) ∙ s.beside;
@@ -249,15 +277,6 @@ stores_moved arena places pairs singles lists more final l place number pair bef
         | inl same ↦ absurd (none-some pair (same_Some None (Some pair) (sym (sym now ∙ ap (slice_get (set pairs number (Some pair))) same ∙ e))))
         | inr differs ↦ s.single n c (sym (get_set_other pairs number n (Some pair) differs) ∙ e) f
       ];
-      covered = λ n p e. elim (place_either number n) [
-        | inl same ↦
-            let is : pair ≡ p = same_Some pair p (same_Some (Some pair) (Some p) (sym now ∙ ap (slice_get (set pairs number (Some pair))) same ∙ e)) in
-            subst (λ (x : Pair). IsIn (list_for final x.first) n × IsIn (list_for final x.second) n) is
-            (subst (λ k. IsIn (list_for final pair.first) k × IsIn (list_for final pair.second) k) same
-            (moved_here lists more final l place number pair before m other apart apart_too (s.covered number before was)))
-        | inr differs ↦
-            moved_there lists more final l place number n pair p m apart differs (s.covered n p (sym (get_set_other pairs number n (Some pair) differs) ∙ e))
-      ];
       listed = λ n e. elim (place_either number n) [
         | inl same ↦ absurd (none-some pair (same_Some None (Some pair) (sym (sym now ∙ ap (slice_get (set pairs number (Some pair))) same ∙ e))))
         | inr differs ↦ s.listed n (sym (get_set_other pairs number n (Some pair) differs) ∙ e)
@@ -267,6 +286,61 @@ stores_moved arena places pairs singles lists more final l place number pair bef
         | inr differs ↦ get_set_other pairs number n (Some pair) differs ∙ s.unpaired j n e
       ];
     }
+
+pub covered_moved : (fixed : Lit → Bool) (pairs : List (Option Pair)) (lists more final : Lists) (l : Lit) (place number : ℕ) (pair before : Pair)
+    → Moves lists more final l pair.first place number → slice_get pairs number ≡ Some (Some before) → IsOther before l pair.second
+    → lit_eq pair.first l ≡ false → lit_eq pair.second l ≡ false → fixed l ≡ false → AreCovered fixed lists pairs
+    → AreCovered fixed final (set pairs number (Some pair))
+covered_moved fixed pairs lists more final l place number pair before m was other apart apart_too unfixed all n p e =
+    elim (place_either number n) [
+      | inl same ↦
+          let now : slice_get (set pairs number (Some pair)) number ≡ Some (Some pair) = get_set pairs number (Some pair) (Some before) was in
+          let is : pair ≡ p = same_Some pair p (same_Some (Some pair) (Some p) (sym now ∙ ap (slice_get (set pairs number (Some pair))) same ∙ e)) in
+          subst (λ (x : Pair). IsCovered fixed final n x.first x.second × IsCovered fixed final n x.second x.first) is
+          (subst (λ k. IsCovered fixed final k pair.first pair.second × IsCovered fixed final k pair.second pair.first) same
+          (moved_here fixed lists more final l place number pair before m other apart apart_too unfixed (all number before was)))
+      | inr differs ↦
+          moved_there fixed lists more final l place number n pair p m apart differs (all n p (sym (get_set_other pairs number n (Some pair) differs) ∙ e))
+    ]
+
+-- An entry that goes.
+
+-- another literal's entries stay
+covered_apart : (fixed : Lit → Bool) (lists final : Lists) (l a b : Lit) (n : ℕ) → lit_eq a l ≡ false → ((b : Lit) → lit_eq b l ≡ false → list_for final b ≡ list_for lists b)
+    → IsCovered fixed lists n a b → IsCovered fixed final n a b
+covered_apart fixed lists final l a b n apart others (inl e) = inl (subst (λ xs. IsIn xs n) (sym (others a apart)) e)
+covered_apart fixed lists final l a b n apart others (inr e) = inr e
+
+covered_beside : (fixed : Lit → Bool) (lists final : Lists) (l b : Lit) (n : ℕ) (pair : Pair) → IsOther pair l b → fixed b ≡ true → lit_eq b l ≡ false
+    → ((b : Lit) → lit_eq b l ≡ false → list_for final b ≡ list_for lists b)
+    → IsCovered fixed lists n pair.first pair.second × IsCovered fixed lists n pair.second pair.first
+    → IsCovered fixed final n pair.first pair.second × IsCovered fixed final n pair.second pair.first
+covered_beside fixed lists final l b n pair (inl e) holds apart others both = (
+  inr (ap fixed e.1 ∙ holds),
+  covered_apart fixed lists final l pair.second pair.first n (ap (λ (x : Lit). lit_eq x l) e.1 ∙ apart) others both.1,
+)
+covered_beside fixed lists final l b n pair (inr e) holds apart others both = (
+  covered_apart fixed lists final l pair.first pair.second n (ap (λ (x : Lit). lit_eq x l) e.1 ∙ apart) others both.0,
+  inr (ap fixed e.1 ∙ holds),
+)
+
+pub covered_unlisted : (fixed : Lit → Bool) (pairs : List (Option Pair)) (lists final : Lists) (l b : Lit) (place number : ℕ) (pair : Pair)
+    → slice_get (list_for lists l) place ≡ Some number → slice_get pairs number ≡ Some (Some pair) → IsOther pair l b → fixed b ≡ true → lit_eq b l ≡ false
+    → IsWithout (list_for lists l) place (list_for final l) → ((b : Lit) → lit_eq b l ≡ false → list_for final b ≡ list_for lists b)
+    → AreCovered fixed lists pairs → AreCovered fixed final pairs
+covered_unlisted fixed pairs lists final l b place number pair entry was other holds apart without others all n p e =
+    elim (place_either number n) [
+      | inl same ↦
+          let is : pair ≡ p = same_Some pair p (same_Some (Some pair) (Some p) (sym was ∙ ap (slice_get pairs) same ∙ e)) in
+          subst (λ (x : Pair). IsCovered fixed final n x.first x.second × IsCovered fixed final n x.second x.first) is
+          (subst (λ k. IsCovered fixed final k pair.first pair.second × IsCovered fixed final k pair.second pair.first) same
+          (covered_beside fixed lists final l b number pair other holds apart others (all number pair was)))
+      | inr differs ↦
+          let both = all n p e in (
+            covered_without fixed lists final l p.first p.second place number n entry differs without others both.0,
+            covered_without fixed lists final l p.second p.first place number n entry differs without others both.1,
+          )
+    ]
 
 -- the two lists of a pair have the clause
 pub add_ok : {T E : Type 0} (r : Result T E) (lists between more : Lists) (pair : Pair) (n : ℕ) → list_for between pair.first ≡ list_for lists pair.first ++ n ∷ []

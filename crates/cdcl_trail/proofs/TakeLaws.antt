@@ -10,10 +10,10 @@ use Rattle.std.proofs.lemmas.Option.{none-some, same_Some, slice_get_within}
 use Rattle.clause_arena.specs.Lending.{lent}
 use Rattle.proof_semantics.specs.declared.literals.Lit.{Lit}
 use Rattle.cdcl_trail.specs.Trails.{Step, up_to_level}
-use Rattle.cdcl_trail.specs.Propagation.{is_falsified, is_unit, is_complete, Propagates, IsConflict}
+use Rattle.cdcl_trail.specs.Propagation.{is_fixed, is_falsified, is_unit, is_complete, Propagates, IsConflict}
 use Rattle.cdcl_trail.specs.Guards.{IsGuarded, AreGuarded, AreSure, IsFront, KeepsGuards}
 use Rattle.cdcl_trail.specs.Looking.{IsOpenTo}
-use Rattle.cdcl_trail.specs.Storing.{held, IsStored, IsAsBefore, IsRewatched, IsPairAt, has_more_singles}
+use Rattle.cdcl_trail.specs.Storing.{held, IsStored, IsAsBefore, IsRewatched, IsPairAt, has_more_singles, Covers, KeepsCover}
 use Rattle.cdcl_trail.specs.TracksOf.{HasReached, Sound, AreLowered, IsLowered, IsTaking, IsLowering}
 use Rattle.cdcl_trail.specs.Renaming.{ArePaired}
 use Rattle.cdcl_trail.specs.Watched.{Extends, AreWatchedWell, HasTwo, IsWatchedAt}
@@ -22,7 +22,8 @@ use Rattle.cdcl_trail.specs.declared.tracks.Reached.{Reached}
 use Rattle.cdcl_trail.specs.declared.watching.Watching.{Watching}
 use Rattle.cdcl_trail.proofs.ListLaws.{get_push, below_push, get_set, get_set_other, place_either, length_last}
 use Rattle.cdcl_trail.proofs.GuardLaws.{guarded_fewer, guarded_late, front_same, pair_settles, true_settles, keeps_same, take_whole}
-use Rattle.cdcl_trail.proofs.SoundLaws.{cut_front, sound_settled, sure_rewatched}
+use Rattle.cdcl_trail.proofs.FixedLaws.{cut_front, covers_front}
+use Rattle.cdcl_trail.proofs.SoundLaws.{sound_settled, sure_rewatched}
 use Rattle.cdcl_trail.proofs.PassLaws.{answered_some, held_at}
 use Rattle.cdcl_trail.proofs.LoopLaws.{held_same, rewatched_same, guarded_front, sure_front, front_length, below_next, get_past}
 
@@ -127,12 +128,13 @@ reached_taken p q front steps w u clause found bound number f is pairs singles l
       subst (λ xs. p.singles ≤ length xs) (sym singles) (more_singles p.singles w.singles.items number found (omega (arith, same, h.counted)));
 }
 
-pub sound_taken : (steps : List Step) (w u : Watching) (r p : Reached) (saved lowered : List Reached) (clause : List Lit) (found : Option Pair) (bound number : ℕ) → IsStored u
+pub sound_taken : (steps : List Step) (w u : Watching) (r p : Reached) (saved lowered : List Reached) (clause : List Lit) (found : Option Pair) (bound number : ℕ) → IsStored u → KeepsCover w u
     → held u ≡ held w ++ clause ∷ [] → u.pairs.items ≡ w.pairs.items ++ found ∷ [] → u.singles.items ≡ has_more_singles w.singles.items number found
     → IfSome found (IsOpenTo bound steps) → p.steps ≤ r.steps → p.steps ≤ bound → p.singles ≡ r.singles → AreLowered saved bound lowered → Sound steps w r saved
     → Sound steps u p lowered
-sound_taken steps w u r p saved lowered clause found bound number stored is pairs singles late fewer under same low s = record {
+sound_taken steps w u r p saved lowered clause found bound number stored cover is pairs singles late fewer under same low s = record {
   stored = stored;
+  covers = cover (is_fixed steps) s.covers;
   present = reached_taken p r steps steps w u clause found bound number (front_same steps) is pairs singles late s.stored fewer under same s.present;
   depth = low.as_many ∙ s.depth;
   levels = λ n q e.
@@ -210,9 +212,10 @@ reached_before q steps w u same h = record {
   counted = subst (λ xs. q.singles ≤ length xs) (sym same.singles) h.counted;
 }
 
-pub sound_before : (steps : List Step) (w u : Watching) (r : Reached) (saved : List Reached) → IsStored u → IsAsBefore w u → Sound steps w r saved → Sound steps u r saved
-sound_before steps w u r saved stored same s = record {
+pub sound_before : (steps : List Step) (w u : Watching) (r : Reached) (saved : List Reached) → IsStored u → KeepsCover w u → IsAsBefore w u → Sound steps w r saved → Sound steps u r saved
+sound_before steps w u r saved stored cover same s = record {
   stored = stored;
+  covers = cover (is_fixed steps) s.covers;
   present = reached_before r steps w u same s.present;
   depth = s.depth;
   levels = λ n q e. reached_before q (up_to_level n steps) w u same (s.levels n q e);
@@ -225,7 +228,7 @@ pub sound_singles : (s m : List Step) (w : Watching) (r : Reached) (n : ℕ) (sa
     → Sound s w r saved → Sound m w (record { steps = r.steps; singles = n }) saved
 sound_singles s m w r n saved p sure counted sound =
     let front : IsFront s m = (p.added, p.behind) in
-    sound_settled s m (held w) w w r (record { steps = r.steps; singles = n }) saved p (rewatched_same w sound.stored) (keeps_same s w.pairs.items)
+    sound_settled s m (held w) w w r (record { steps = r.steps; singles = n }) saved p (rewatched_same w sound.stored) (covers_front s m w front sound.covers) (keeps_same s w.pairs.items)
     (record {
       guarded = guarded_front r.steps s m w.pairs.items front sound.present.within sound.present.guarded;
       sure = sure sound.present.sure;
@@ -233,10 +236,10 @@ sound_singles s m w r n saved p sure counted sound =
       counted = counted sound.present.counted;
     }) sound
 
-pub sound_walk : (m l : List Step) (w u : Watching) (r : Reached) (k : ℕ) (saved : List Reached) → Propagates (held w) m l → IsRewatched w u → KeepsGuards m w.pairs.items u.pairs.items
-    → k ≤ length l → AreGuarded k l u.pairs.items → Sound m w r saved → Sound l u (record { steps = k; singles = r.singles }) saved
-sound_walk m l w u r k saved p same keeps within guarded sound =
-    sound_settled m l (held w) w u r (record { steps = k; singles = r.singles }) saved p same keeps
+pub sound_walk : (m l : List Step) (w u : Watching) (r : Reached) (k : ℕ) (saved : List Reached) → Propagates (held w) m l → IsRewatched w u → Covers (is_fixed l) u
+    → KeepsGuards m w.pairs.items u.pairs.items → k ≤ length l → AreGuarded k l u.pairs.items → Sound m w r saved → Sound l u (record { steps = k; singles = r.singles }) saved
+sound_walk m l w u r k saved p same covers keeps within guarded sound =
+    sound_settled m l (held w) w u r (record { steps = k; singles = r.singles }) saved p same covers keeps
     (record {
       guarded = guarded;
       sure = sure_rewatched r.singles l w u same (sure_front r.singles m l w.singles.items (held w) (p.added, p.behind) sound.present.sure);

@@ -10,22 +10,27 @@ use Rattle.std.proofs.lemmas.Option.{none-some, same_Some}
 use Rattle.proof_semantics.specs.Clauses.{lit_eq, has_literal}
 use Rattle.proof_semantics.specs.declared.literals.Lit.{Lit}
 use Rattle.proof_semantics.proofs.LiteralLaws.{lit_eq-true, lit_eq-same, bool_eq-same}
-use Rattle.cdcl_trail.specs.Trails.{Step, step, value_of}
-use Rattle.cdcl_trail.specs.Propagation.{is_value, is_true, is_false, is_falsified, is_unit_for}
+use Rattle.cdcl_trail.specs.Trails.{Step, step, forced, value_of}
+use Rattle.cdcl_trail.specs.Propagation.{is_value, is_true, is_false, is_fixed, is_falsified, is_unit_for}
 use Rattle.cdcl_trail.specs.Guards.{IsPairOf, IsSingle, IsGuarded, IsDone, IsFront, KeepsGuards}
 use Rattle.cdcl_trail.specs.Lists.{list_for}
 use Rattle.cdcl_trail.specs.Looking.{IsReplacement}
-use Rattle.cdcl_trail.specs.Storing.{held, IsRewatched, IsPairAt, IsOther}
-use Rattle.cdcl_trail.specs.Visiting.{IsVisited}
+use Rattle.cdcl_trail.specs.Looking.{StandsBeside}
+use Rattle.cdcl_trail.specs.Storing.{held, IsStored, IsRewatched, IsPairAt, IsOther, Covers, AreCovered}
+use Rattle.cdcl_trail.specs.Visiting.{IsVisited, IsUnlisted, IsWatchedBeside, SkipSays, VisitSays}
+use Rattle.cdcl_trail.specs.declared.propagation.Visited.{Visited}
+use Rattle.cdcl_trail.specs.declared.propagation.Visited.TheVariants.{Stands, Left, Conflict}
 use Rattle.cdcl_trail.specs.declared.pairs.Pair.{Pair}
 use Rattle.cdcl_trail.specs.declared.watching.Watching.{Watching}
 use Rattle.cdcl_trail.proofs.TrailLaws.{either, or_neither}
 use Rattle.cdcl_trail.proofs.ScanLaws.{all_has}
-use Rattle.cdcl_trail.proofs.PassLaws.{step_comes, no_step, propagates_none}
+use Rattle.cdcl_trail.proofs.PassLaws.{step_comes, no_step, propagates_none, propagates_one, forced_at}
 use Rattle.cdcl_trail.proofs.PrefixLaws.{all_from}
 use Rattle.cdcl_trail.proofs.ListLaws.{get_set, get_set_other, place_either}
 use Rattle.cdcl_trail.proofs.GuardLaws.{guarded_moved, guarded_swap, keeps_same}
-use Rattle.cdcl_trail.proofs.StoreLaws.{lit_apart}
+use Rattle.cdcl_trail.proofs.ScanLaws.{one_value}
+use Rattle.cdcl_trail.proofs.StoreLaws.{lit_apart, stores_same, covered_unlisted}
+use Rattle.cdcl_trail.proofs.FixedLaws.{covers_front}
 
 pub has_other : (clause : List Lit) (pair : Pair) (a b : Lit) → IsPairOf clause pair → IsOther pair a b → has_literal clause b ≡ true
 has_other clause pair a b of (inl e) = subst (λ (x : Lit). has_literal clause x ≡ true) e.1 of.second
@@ -140,12 +145,13 @@ keeps_moved steps pairs number before after a was gone unfalse other n front f a
 done_apart : (steps : List Step) (a : Lit) (pair : Pair) → lit_eq pair.first a ≡ false → lit_eq pair.second a ≡ false → IsDone steps a pair
 done_apart steps a pair first second = (λ e. absurd (false≢true (sym first ∙ e)), λ e. absurd (false≢true (sym second ∙ e)))
 
-pub visited_moved : (w u : Watching) (steps : List Step) (a : Lit) (place number : ℕ) (before after : Pair) → IsRewatched w u → u.pairs.items ≡ set w.pairs.items number (Some after)
+pub visited_moved : (w u : Watching) (steps : List Step) (a : Lit) (place number : ℕ) (before after : Pair) → IsRewatched w u → Covers (is_fixed steps) u → u.pairs.items ≡ set w.pairs.items number (Some after)
     → ((j : ℕ) → j < place → slice_get (list_for u.lists a) j ≡ slice_get (list_for w.lists a) j) → IsPairAt w number before
     → is_false steps a ≡ true → is_false steps after.first ≡ false → IsOther before a after.second → lit_eq after.second a ≡ false
     → IsVisited w steps u steps a place
-visited_moved w u steps a place number before after rewatched is below was gone unfalse other apart = record {
+visited_moved w u steps a place number before after rewatched covers is below was gone unfalse other apart = record {
   rewatched = rewatched;
+  covers = covers;
   steps = propagates_none (held w) steps;
   keeps = subst (λ xs. KeepsGuards steps w.pairs.items xs) (sym is) (keeps_moved steps w.pairs.items number before after a was gone unfalse other);
   below = below;
@@ -159,30 +165,97 @@ visited_moved w u steps a place number before after rewatched is below was gone 
   ];
 }
 
-pub visited_kept : (w u : Watching) (steps : List Step) (a : Lit) (place : ℕ) → IsRewatched w u → u.pairs.items ≡ w.pairs.items
+pub visited_kept : (w u : Watching) (steps : List Step) (a : Lit) (place : ℕ) → IsRewatched w u → Covers (is_fixed steps) u → u.pairs.items ≡ w.pairs.items
     → ((j : ℕ) → j < place → slice_get (list_for u.lists a) j ≡ slice_get (list_for w.lists a) j) → IsVisited w steps u steps a place
-visited_kept w u steps a place rewatched is below = record {
+visited_kept w u steps a place rewatched covers is below = record {
   rewatched = rewatched;
+  covers = covers;
   steps = propagates_none (held w) steps;
   keeps = subst (λ xs. KeepsGuards steps w.pairs.items xs) (sym is) (keeps_same steps w.pairs.items);
   below = below;
   done = λ n pair e. inl (ap (λ xs. slice_get xs n) (sym is) ∙ e);
 }
 
+-- nothing came
+pub visited_same : (w : Watching) (steps later : List Step) (a : Lit) (place : ℕ) → IsStored w → later ≡ steps → Covers (is_fixed steps) w → IsVisited w steps w later a place
+visited_same w steps later a place stored same covers =
+    subst (λ xs. IsVisited w steps w xs a place) (sym same)
+    (visited_kept w w steps a place (record { arena = refl; places = refl; singles = refl; stored = stored }) covers refl (λ j under. refl))
+
+-- the other literal came
+pub visited_forced : (w : Watching) (steps later : List Step) (a b : Lit) (place number : ℕ) (clause : List Lit) → IsStored w → slice_get (held w) number ≡ Some clause
+    → is_unit_for steps clause b ≡ true → later ≡ steps ++ forced b (number + 1) ∷ [] → Covers (is_fixed steps) w → IsVisited w steps w later a place
+visited_forced w steps later a b place number clause stored is unit came covers =
+    subst (λ xs. IsVisited w steps w xs a place) (sym came) (record {
+      rewatched = record { arena = refl; places = refl; singles = refl; stored = stored };
+      steps = propagates_one (held w) steps (forced b (number + 1)) (forced_at (held w) number steps clause b is unit);
+      keeps = keeps_same steps w.pairs.items;
+      covers = covers_front steps (steps ++ forced b (number + 1) ∷ []) w (forced b (number + 1) ∷ [], refl) covers;
+      below = λ j under. refl;
+      done = λ n pair e. inl e;
+    })
+
+-- A clause with a true literal.
+
+pub beside_told : (w : Watching) (n : ℕ) (a : Lit) (pair : Pair) (o : Option Lit) → IsPairAt w n pair → StandsBeside pair a o → IsWatchedBeside w n a o
+beside_told w n a pair None at e = λ p there.
+    let is : pair ≡ p = same_Some pair p (same_Some (Some pair) (Some p) (sym at ∙ there)) in
+    subst (λ (x : Pair). (lit_eq x.first a ≡ false) × (lit_eq x.second a ≡ false)) is e
+beside_told w n a pair (Some b) at e = (pair, at, e)
+
+-- a true literal is another one than a false one
+true_apart : (steps : List Step) (a b : Lit) → is_true steps b ≡ true → is_false steps a ≡ true → lit_eq b a ≡ false
+true_apart steps a b holds gone =
+    elim (either (lit_eq b a)) [
+      | inl same ↦ absurd (one_value (value_of steps a.var) a.positive (ap (is_true steps) (sym (lit_eq-true b a same)) ∙ holds) gone)
+      | inr apart ↦ apart
+    ]
+
+unlisted_rewatched : (w u : Watching) (a : Lit) (place : ℕ) → IsStored w → IsUnlisted w u a place → IsRewatched w u
+unlisted_rewatched w u a place stored g = record {
+  arena = g.arena;
+  places = g.places;
+  singles = g.singles;
+  stored =
+      stores_same w.arena u.arena w.places.items u.places.items w.pairs.items u.pairs.items w.singles.items u.singles.items
+      g.arena (ap (λ v. v.items) g.places) (ap (λ v. v.items) g.pairs) (ap (λ v. v.items) g.singles) stored;
+}
+
+pub visited_skipped : (w u : Watching) (steps : List Step) (a b : Lit) (place number : ℕ) (pair : Pair) (r : Visited) → IsStored w → Covers (is_fixed steps) w
+    → slice_get (list_for w.lists a) place ≡ Some number → IsPairAt w number pair → IsOther pair a b → is_false steps a ≡ true → is_true steps b ≡ true
+    → SkipSays w u steps a b place r → IsVisited w steps u steps a place
+visited_skipped w u steps a b place number pair Stands stored covers entry at other gone holds same =
+    subst (λ x. IsVisited w steps x steps a place) (sym same) (visited_same w steps steps a place stored refl covers)
+visited_skipped w u steps a b place number pair Left stored covers entry at other gone holds says =
+    visited_kept w u steps a place (unlisted_rewatched w u a place stored says.0)
+    (subst (λ xs. AreCovered (is_fixed steps) u.lists xs) (sym (ap (λ v. v.items) says.0.pairs))
+    (covered_unlisted (is_fixed steps) w.pairs.items w.lists u.lists a b place number pair entry at other says.1 (true_apart steps a b holds gone) says.0.without says.0.others covers))
+    (ap (λ v. v.items) says.0.pairs) says.0.without.below
+visited_skipped w u steps a b place number pair (Conflict n) stored covers entry at other gone holds none = absurd none
+
 -- the literal that came is true
 pub true_comes : (steps : List Step) (a : Lit) (r : Option ℕ) → value_of steps a.var ≡ None → is_true (steps ++ step a r ∷ []) a ≡ true
 true_comes steps a r fresh =
     ap (λ p. is_value (option_map (λ (s : Step). s.literal.positive) p) a.positive) (step_comes steps (step a r) (no_step _ fresh)) ∙ bool_eq-same a.positive
 
+-- where the other literal is true
+done_other : (steps : List Step) (pair : Pair) (a b : Lit) → lit_eq b a ≡ false → IsOther pair a b → is_true steps b ≡ true → IsDone steps a pair
+done_other steps pair a b apart (inl e) holds = (λ f. ap (is_true steps) e.1 ∙ holds, λ f. absurd (false≢true (sym apart ∙ ap (λ (x : Lit). lit_eq x a) (sym e.1) ∙ f)))
+done_other steps pair a b apart (inr e) holds = (λ f. absurd (false≢true (sym apart ∙ ap (λ (x : Lit). lit_eq x a) (sym e.1) ∙ f)), λ f. ap (is_true steps) e.1 ∙ holds)
+
+pub says_skipped : (w u : Watching) (steps : List Step) (a b : Lit) (place number : ℕ) (pair : Pair) (r : Visited) → IsPairAt w number pair → IsOther pair a b
+    → is_false steps a ≡ true → is_true steps b ≡ true → SkipSays w u steps a b place r → VisitSays w u steps a number r
+says_skipped w u steps a b place number pair Stands at other gone holds same = (
+  ap (λ (x : Watching). x.lists) same,
+  λ p e.
+      let is : pair ≡ p = same_Some pair p (same_Some (Some pair) (Some p) (sym at ∙ ap (λ (x : Watching). slice_get x.pairs.items number) (sym same) ∙ e)) in
+      subst (λ (x : Pair). IsDone steps a x) is (done_other steps pair a b (true_apart steps a b holds gone) other holds),
+)
+says_skipped w u steps a b place number pair Left at other gone holds says = says.0.without.shorter
+says_skipped w u steps a b place number pair (Conflict n) at other gone holds none = absurd none
+
 pub done_true : (steps : List Step) (clause : List Lit) (pair : Pair) (a b : Lit) → IsPairOf clause pair → IsOther pair a b → is_true steps b ≡ true → IsDone steps a pair
-done_true steps clause pair a b of (inl e) holds = (
-  λ f. ap (is_true steps) e.1 ∙ holds,
-  λ f. absurd (false≢true (sym (other_apart clause pair a b of (inl e)) ∙ ap (λ (x : Lit). lit_eq x a) (sym e.1) ∙ f)),
-)
-done_true steps clause pair a b of (inr e) holds = (
-  λ f. absurd (false≢true (sym (other_apart clause pair a b of (inr e)) ∙ ap (λ (x : Lit). lit_eq x a) (sym e.1) ∙ f)),
-  λ f. ap (is_true steps) e.1 ∙ holds,
-)
+done_true steps clause pair a b of other holds = done_other steps pair a b (other_apart clause pair a b of other) other holds
 
 -- Clauses without two different literals.
 

@@ -4,7 +4,7 @@ use Rattle.std.specs.List.{list_any, list_all}
 use Rattle.proof_semantics.specs.Clauses.{bool_eq, lit_eq, has_literal}
 use Rattle.proof_semantics.specs.declared.literals.Lit.{Lit}
 use Rattle.cnf.specs.Clauses.{clause_numbered}
-use Rattle.cdcl_trail.specs.Trails.{Step, value_of}
+use Rattle.cdcl_trail.specs.Trails.{Step, value_of, up_to_level}
 
 -- there is a value, and it is this one
 abbrev pub is_value : Option Bool → Bool → Bool
@@ -16,6 +16,10 @@ is_true steps a = is_value (value_of steps a.var) a.positive
 
 abbrev pub is_false : List Step → Lit → Bool
 is_false steps a = is_value (value_of steps a.var) (not a.positive)
+
+-- The literal is true on level 0, from which no step is taken back.
+abbrev pub is_fixed : List Step → Lit → Bool
+is_fixed steps a = is_true (up_to_level 0 steps) a
 
 -- every literal of the clause is false
 abbrev pub is_falsified : List Step → List Lit → Bool

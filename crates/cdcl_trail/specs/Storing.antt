@@ -1,5 +1,5 @@
 -- Scaffolding of inner functions. What is kept of the clauses that were taken over.
-use Rattle.std.specs.Prelude.{◌≡◌, ◌⊎◌, ℕ, List, [], ◌∷◌, ◌++◌, map, Option, Some, None, length, slice_get}
+use Rattle.std.specs.Prelude.{◌≡◌, ◌⊎◌, ℕ, Bool, true, List, [], ◌∷◌, ◌++◌, map, Option, Some, None, length, slice_get}
 use Rattle.proof_semantics.specs.declared.literals.Lit.{Lit}
 use Rattle.clause_arena.specs.Lending.{IsRefOf, lent}
 use Rattle.clause_arena.specs.declared.Ref.{Ref}
@@ -14,21 +14,37 @@ abbrev pub held : Watching → List (List Lit)
 held w = map (lent w.arena) w.places.items
 
 -- Each clause has a place in the arena and two different literals that are watched, or no two and stands in the list
--- of such clauses; a watched literal's list has the clause.
-pub record Stores (arena : List Lit) (places : List Ref) (pairs : List (Option Pair)) (singles : List ℕ) (lists : Lists) : Type 0 where
+-- of such clauses.
+pub record Stores (arena : List Lit) (places : List Ref) (pairs : List (Option Pair)) (singles : List ℕ) : Type 0 where
   pub beside : length pairs ≡ length places
   pub refs : (n : ℕ) (place : Ref) → slice_get places n ≡ Some place → IsRefOf arena place
   pub paired : (n : ℕ) (pair : Pair) (clause : List Lit) → slice_get pairs n ≡ Some (Some pair)
       → slice_get (map (lent arena) places) n ≡ Some clause → IsPairOf clause pair
   pub single : (n : ℕ) (clause : List Lit) → slice_get pairs n ≡ Some None
       → slice_get (map (lent arena) places) n ≡ Some clause → IsSingle clause
-  pub covered : (n : ℕ) (pair : Pair) → slice_get pairs n ≡ Some (Some pair)
-      → IsIn (list_for lists pair.first) n × IsIn (list_for lists pair.second) n
   pub listed : (n : ℕ) → slice_get pairs n ≡ Some None → IsIn singles n
   pub unpaired : (j n : ℕ) → slice_get singles j ≡ Some n → slice_get pairs n ≡ Some None
 
 abbrev pub IsStored : Watching → Type 0
-IsStored w = Stores w.arena w.places.items w.pairs.items w.singles.items w.lists
+IsStored w = Stores w.arena w.places.items w.pairs.items w.singles.items
+
+-- the list of a clause's watched literal has it, unless the other one is fixed
+abbrev pub IsCovered : (Lit → Bool) → Lists → ℕ → Lit → Lit → Type 0
+IsCovered fixed lists n a other = IsIn (list_for lists a) n ⊎ (fixed other ≡ true)
+
+-- each clause with two watched literals
+abbrev pub AreCovered : (Lit → Bool) → Lists → List (Option Pair) → Type 0
+AreCovered fixed lists pairs =
+    (n : ℕ) (pair : Pair) → slice_get pairs n ≡ Some (Some pair)
+    → IsCovered fixed lists n pair.first pair.second × IsCovered fixed lists n pair.second pair.first
+
+-- Each watched literal's list has the clause, unless the other watched literal is fixed.
+abbrev pub Covers : (Lit → Bool) → Watching → Type 0
+Covers fixed w = AreCovered fixed w.lists w.pairs.items
+
+-- what is covered stays so, whichever literals are fixed
+abbrev pub KeepsCover : Watching → Watching → Type 0
+KeepsCover earlier later = (fixed : Lit → Bool) → Covers fixed earlier → Covers fixed later
 
 -- what the lists have stays in them
 abbrev pub KeepsLists : Lists → Lists → Type 0

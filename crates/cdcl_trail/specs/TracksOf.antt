@@ -3,7 +3,8 @@ use Rattle.std.specs.Prelude.{◌≡◌, ℕ, ◌<◌, ◌≤◌, List, length, 
 use Rattle.proof_semantics.specs.declared.literals.Lit.{Lit}
 use Rattle.cdcl_trail.specs.Trails.{Step, level, up_to_level}
 use Rattle.cdcl_trail.specs.Guards.{AreGuarded, AreSure}
-use Rattle.cdcl_trail.specs.Storing.{held, IsStored}
+use Rattle.cdcl_trail.specs.Propagation.{is_fixed}
+use Rattle.cdcl_trail.specs.Storing.{held, IsStored, Covers}
 use Rattle.cdcl_trail.specs.Watched.{Extends, TrailState}
 use Rattle.cdcl_trail.specs.declared.tracks.Reached.{Reached}
 use Rattle.cdcl_trail.specs.declared.tracks.Tracks.TheInside.{Inside}
@@ -22,6 +23,7 @@ pub record HasReached (reached : Reached) (steps : List Step) (w : Watching) : T
 -- For the present, and for each open level below the last, propagation over its steps has come as far as it is told.
 pub record Sound (steps : List Step) (w : Watching) (reached : Reached) (saved : List Reached) : Type 0 where
   pub stored : IsStored w
+  pub covers : Covers (is_fixed steps) w
   pub present : HasReached reached steps w
   pub depth : length saved ≡ level steps
   pub levels : (n : ℕ) (earlier : Reached) → slice_get saved n ≡ Some earlier → HasReached earlier (up_to_level n steps) w

@@ -1,4 +1,4 @@
-//! For each literal, the clauses that watch it. The main type is `Lists`.
+//! For each literal, clauses that watch it. The main type is `Lists`.
 ghost use Rattle.std.specs.Prelude.{◌≡◌, ◌<◌, ℕ, [], ◌∷◌, ◌++◌, OnOk, OnErr, length, slice_get, false};
 ghost use Rattle.proof_semantics.specs.Clauses.{lit_eq};
 ghost use Rattle.proof_semantics.specs.declared.literals.Lit.{Lit};
@@ -10,8 +10,7 @@ use std::alloc::{AllocError, Global};
 /// The places of clauses in lists are at most this one, so that each is one of four bytes.
 const LAST: usize = u32::MAX as usize;
 
-/// For each literal, the places of the clauses that watch it. Its list stands at the place of its
-/// code.
+/// For each literal, the places of clauses that watch it. Its list stands at the place of its code.
 #[derive(Drop)]
 pub struct Lists {
     rows: Vec<Vec<u32>>,

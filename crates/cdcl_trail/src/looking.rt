@@ -4,7 +4,7 @@ ghost use Rattle.std.specs.Prelude.{◌≡◌, IfNone, IfSome, true, false, ◌|
 ghost use Rattle.std.specs.List.{list_all};
 ghost use Rattle.proof_semantics.specs.Clauses.{lit_eq, has_literal};
 ghost use Rattle.cdcl_trail.specs.Guards.{IsPairOf};
-ghost use Rattle.cdcl_trail.specs.Propagation.{is_false, is_true};
+ghost use Rattle.cdcl_trail.specs.Propagation.{is_false, is_true, is_fixed};
 ghost use Rattle.cdcl_trail.specs.Looking.{LookSays, IsReplacement};
 
 use crate::assignment::Assignment;
@@ -117,4 +117,12 @@ pub(crate) fn is_true(assignment: &Assignment, literal: Packed) -> bool
     ensures { result ≡ is_true assignment.now.steps literal }
 {
     assignment.has_value(literal.number(), literal.is_positive())
+}
+
+/// Whether a literal that is true is so on level 0, from which nothing is taken back.
+pub(crate) fn is_fixed(assignment: &Assignment, literal: Packed) -> bool
+    requires { is_true assignment.now.steps literal ≡ true }
+    ensures { result ≡ is_fixed assignment.now.steps literal }
+{
+    assignment.level_of(literal.number()) == 0
 }

@@ -1,15 +1,16 @@
 //! Unit propagation by watched literals. The main calls are `settle_singles` and `settle_steps`,
-//! which leave the forced literals in the assignment.
+//! which leave the forced literals in the assignment. A clause that is true on level 0 leaves the
+//! list in which it is met.
 ghost use Rattle.std.specs.Prelude.{◌≡◌, ◌≤◌, ◌<◌, ◌+◌, IfOk, IfSome, None, Some, IsTrue, true, length, slice_get};
 ghost use Rattle.cdcl_trail.specs.Guards.{IsSingle, AreGuarded, AreSure, AreDone, KeepsGuards};
 ghost use Rattle.cdcl_trail.specs.Lists.{list_for};
-ghost use Rattle.cdcl_trail.specs.Propagation.{is_false, IsConflict, Propagates};
-ghost use Rattle.cdcl_trail.specs.Storing.{held, IsStored, IsRewatched};
+ghost use Rattle.cdcl_trail.specs.Propagation.{is_false, is_true, is_fixed, IsConflict, Propagates};
+ghost use Rattle.cdcl_trail.specs.Storing.{held, IsStored, IsRewatched, Covers};
 ghost use Rattle.cdcl_trail.specs.Trails.{literals_of, once};
-ghost use Rattle.cdcl_trail.specs.Visiting.{IsVisited, VisitSays, IsSettled, SingleSays};
+ghost use Rattle.cdcl_trail.specs.Visiting.{IsVisited, VisitSays, IsWatchedBeside, SkipSays, IsSettled, SingleSays};
 
 use crate::assignment::Assignment;
-use crate::looking::{Finding, is_false, is_true, look};
+use crate::looking::{Finding, is_false, is_fixed, is_true, look};
 use crate::pairs::{Pair, beside};
 use crate::watching::Watching;
 use packed_literals::Packed;
@@ -62,9 +63,11 @@ pub(crate) fn settle_steps(
     count: &mut usize,
 ) -> Result<Option<u64>, AllocError>
     requires stored { IsStored watching.old }
+    requires covers { Covers (is_fixed assignment.old.steps) watching.old }
     requires within { count.old ≤ length assignment.old.steps }
     requires guarded { AreGuarded count.old assignment.old.steps watching.old.pairs.items }
     ensures rewatched { IsRewatched watching.old watching.new }
+    ensures covers { Covers (is_fixed assignment.new.steps) watching.new }
     ensures steps { Propagates (held watching.old) assignment.old.steps assignment.new.steps }
     ensures keeps { KeepsGuards assignment.old.steps watching.old.pairs.items watching.new.pairs.items }
     ensures within { count.new ≤ length assignment.new.steps }
@@ -91,8 +94,10 @@ fn visit_all(
     falsified: Packed,
 ) -> Result<Option<u64>, AllocError>
     requires stored { IsStored watching.old }
+    requires covers { Covers (is_fixed assignment.old.steps) watching.old }
     requires falsified { is_false assignment.old.steps falsified ≡ true }
     ensures rewatched { IsRewatched watching.old watching.new }
+    ensures covers { Covers (is_fixed assignment.new.steps) watching.new }
     ensures steps { Propagates (held watching.old) assignment.old.steps assignment.new.steps }
     ensures keeps { KeepsGuards assignment.old.steps watching.old.pairs.items watching.new.pairs.items }
     ensures none { IfOk result (λ found. found ≡ None → AreDone assignment.new.steps falsified watching.new.pairs.items) }
@@ -120,19 +125,17 @@ fn visit(
     number: usize,
 ) -> Result<Visited, AllocError>
     requires stored { IsStored watching.old }
+    requires covers { Covers (is_fixed assignment.old.steps) watching.old }
     requires falsified { is_false assignment.old.steps falsified ≡ true }
     requires entry { slice_get (list_for watching.old.lists falsified) place ≡ Some number }
     ensures visited { IsVisited watching.old assignment.old.steps watching.new assignment.new.steps falsified place }
     ensures says { IfOk result (VisitSays watching.old watching.new assignment.new.steps falsified number) }
 {
-    let Some(pair) = watching.pair(number) else {
-        return Ok(Visited::Stands);
-    };
-    let Some(other) = beside(pair, falsified) else {
+    let Some(other) = watched_beside(watching, number, falsified) else {
         return Ok(Visited::Stands);
     };
     if is_true(assignment, other) {
-        return Ok(Visited::Stands);
+        return Ok(skip(assignment, watching, falsified, other, place));
     }
     let Some(clause) = watching.clause(number) else {
         return Ok(Visited::Stands);
@@ -152,6 +155,36 @@ fn visit(
             Ok(Visited::Left)
         }
     }
+}
+
+// The literal beside the given one at which a clause is watched. `None` where the given one is not.
+fn watched_beside(watching: &Watching, number: usize, literal: Packed) -> Option<Packed>
+    ensures { IsWatchedBeside watching.now number literal result }
+{
+    match watching.pair(number) {
+        None => None,
+        Some(pair) => beside(pair, literal),
+    }
+}
+
+// Skips a clause of whose watched literals the other one is true. Where that one is fixed, the clause
+// leaves the list.
+fn skip(
+    assignment: &Assignment,
+    watching: &mut Watching,
+    falsified: Packed,
+    other: Packed,
+    place: usize,
+) -> Visited
+    requires holds { is_true assignment.now.steps other ≡ true }
+    requires entry { place < length (list_for watching.old.lists falsified) }
+    ensures { SkipSays watching.old watching.new assignment.now.steps falsified other place result }
+{
+    if is_fixed(assignment, other) {
+        watching.lists.remove(falsified, place);
+        return Visited::Left;
+    }
+    Visited::Stands
 }
 
 // Puts the literal of a clause without two different literals on the trail, and tells whether it is

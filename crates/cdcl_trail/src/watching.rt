@@ -1,12 +1,12 @@
 //! The clauses that were taken over, and at which literals each is watched. The main type is
 //! `Watching`.
-ghost use Rattle.std.specs.Prelude.{◌≡◌, ◌+◌, ◌<◌, ℕ, [], ◌∷◌, ◌++◌, OnOk, OnErr, IfSome, IfNone, Some, None, length, slice_get, slice_set, option_copied, false, List, vec_len, vec_capacity};
+ghost use Rattle.std.specs.Prelude.{◌≡◌, ◌+◌, ◌<◌, ℕ, Bool, [], ◌∷◌, ◌++◌, OnOk, OnErr, IfSome, IfNone, Some, None, length, slice_get, slice_set, option_copied, false, List, vec_len, vec_capacity};
 ghost use Rattle.proof_semantics.specs.Clauses.{lit_eq};
 ghost use Rattle.proof_semantics.specs.declared.literals.Lit.{Lit};
 ghost use Rattle.cdcl_trail.specs.declared.pairs.Pair.{Pair};
 ghost use Rattle.cdcl_trail.specs.Guards.{IsPairOf, IsSingle};
 ghost use Rattle.cdcl_trail.specs.Lists.{IsWithout, list_for};
-ghost use Rattle.cdcl_trail.specs.Storing.{held, IsStored, IsRewatched, IsPairAt, IsOther, IsAsBefore, has_more_singles, KeepsLists, AreListed};
+ghost use Rattle.cdcl_trail.specs.Storing.{held, IsStored, IsRewatched, IsPairAt, IsOther, IsAsBefore, has_more_singles, KeepsLists, AreListed, Covers, KeepsCover};
 
 use crate::lists::Lists;
 use crate::pairs::Pair;
@@ -15,7 +15,8 @@ use packed_literals::Packed;
 use std::alloc::{AllocError, Global};
 
 /// The clauses that were taken over: where their literals stand in the arena, at which two literals
-/// each is watched, which have no two, and which watch each literal.
+/// each is watched, which have no two, and in whose lists each stands: in those of its watched
+/// literals, but for one that it left since the other one is true on level 0.
 #[derive(Drop)]
 pub struct Watching {
     pub alloc: Global,
@@ -74,6 +75,7 @@ impl Watching {
         requires some { IfSome pair (IsPairOf clause.now) }
         requires none { IfNone pair (IsSingle clause.now) }
         ensures stored { IsStored self.new }
+        ensures cover { KeepsCover self.old self.new }
         ensures held { OnOk result (held self.new ≡ held self.old ++ clause.now ∷ []) }
         ensures pairs { OnOk result (self.new.pairs.items ≡ self.old.pairs.items ++ pair ∷ []) }
         ensures singles { OnOk result (self.new.singles.items ≡ has_more_singles self.old.singles.items (length self.old.places.items) pair) }
@@ -118,6 +120,7 @@ impl Watching {
         requires apart { lit_eq pair.first falsified ≡ false }
         requires apart_too { lit_eq pair.second falsified ≡ false }
         ensures rewatched { IsRewatched self.old self.new }
+        ensures cover { (fixed : Lit → Bool) → fixed falsified ≡ false → Covers fixed self.old → Covers fixed self.new }
         ensures pairs { OnOk result (self.new.pairs.items ≡ slice_set self.old.pairs.items number (Some pair)) }
         ensures list { OnOk result (IsWithout (list_for self.old.lists falsified) place (list_for self.new.lists falsified)) }
         ensures below { (j : ℕ) → j < place → slice_get (list_for self.new.lists falsified) j ≡ slice_get (list_for self.old.lists falsified) j }

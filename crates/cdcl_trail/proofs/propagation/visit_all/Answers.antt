@@ -8,7 +8,7 @@ use Rattle.cdcl_trail.proofs.LoopLaws.{visiting_start, visiting_stands, visiting
 use Rattle.cdcl_trail.proofs.propagation.visit_all.Goals as goal
 
 pub entries-init : goal.entries-init
-entries-init c = visiting_start c.args.watching.now c.args.assignment.now.steps c.args.falsified c.requires.stored
+entries-init c = visiting_start c.args.watching.now c.args.assignment.now.steps c.args.falsified c.requires.stored c.requires.covers
 
 pub returns-in_default-clause-none : goal.returns-in_default-clause-none
 returns-in_default-clause-none c = λ _.

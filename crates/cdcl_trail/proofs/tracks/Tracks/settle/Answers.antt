@@ -30,6 +30,13 @@ settle_steps-requires-clause-guarded c =
     let mid = sound_singles t.assignment.steps c.settle_singles.new.assignment.steps t.watching t.reached c.settle_singles.new.count t.saved.items e.steps e.sure e.counted c.self.invariant in
     mid.present.guarded
 
+pub settle_steps-requires-clause-covers : goal.settle_steps-requires-clause-covers
+settle_steps-requires-clause-covers c =
+    let t = c.self.inside in
+    let e = c.settle_singles.ensures in
+    let mid = sound_singles t.assignment.steps c.settle_singles.new.assignment.steps t.watching t.reached c.settle_singles.new.count t.saved.items e.steps e.sure e.counted c.self.invariant in
+    mid.covers
+
 pub settle_steps-requires-clause-within : goal.settle_steps-requires-clause-within
 settle_steps-requires-clause-within c =
     let t = c.self.inside in
@@ -51,7 +58,7 @@ invariant_of-self-2 c =
     let f = c.settle_steps.ensures in
     let r : Reached = record { steps = t.reached.steps; singles = c.settle_singles.new.count } in
     let walked = sound_walk c.settle_singles.new.assignment.steps c.settle_steps.new.assignment.steps t.watching c.settle_steps.new.watching r c.settle_steps.new.count t.saved.items
-    f.steps f.rewatched f.keeps f.within f.guarded mid in
+    f.steps f.rewatched f.covers f.keeps f.within f.guarded mid in
     walked
 
 pub returns-clause-complete : goal.returns-clause-complete
@@ -62,7 +69,7 @@ returns-clause-complete c =
     let f = c.settle_steps.ensures in
     let r : Reached = record { steps = t.reached.steps; singles = c.settle_singles.new.count } in
     let walked = sound_walk c.settle_singles.new.assignment.steps c.settle_steps.new.assignment.steps t.watching c.settle_steps.new.watching r c.settle_steps.new.count t.saved.items
-    f.steps f.rewatched f.keeps f.within f.guarded mid in
+    f.steps f.rewatched f.covers f.keeps f.within f.guarded mid in
     let q : Reached = record { steps = c.settle_steps.new.count; singles = c.settle_singles.new.count } in
     complete_told c.settle_steps.result c.settle_steps.new.assignment.steps c.settle_steps.new.watching q t.saved.items walked
     (subst (λ v. length v.items ≤ c.settle_singles.new.count) (sym f.rewatched.singles) (c.in_ok-conflict.ensures.none c.in_default.is)) f.none
@@ -76,7 +83,7 @@ returns-clause-watched c =
     let f = c.settle_steps.ensures in
     let r : Reached = record { steps = t.reached.steps; singles = c.settle_singles.new.count } in
     let walked = sound_walk c.settle_singles.new.assignment.steps c.settle_steps.new.assignment.steps t.watching c.settle_steps.new.watching r c.settle_steps.new.count t.saved.items
-    f.steps f.rewatched f.keeps f.within f.guarded mid in
+    f.steps f.rewatched f.covers f.keeps f.within f.guarded mid in
     let q : Reached = record { steps = c.settle_steps.new.count; singles = c.settle_singles.new.count } in
     watched_told c.settle_steps.result c.settle_steps.new.assignment.steps c.settle_steps.new.watching q t.saved.items walked f.none
 
