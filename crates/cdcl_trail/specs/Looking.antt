@@ -1,5 +1,5 @@
 -- Scaffolding of inner functions. What has to be done with a clause of which a watched literal became false.
-use Rattle.std.specs.Prelude.{◌≡◌, ◌⊎◌, ℕ, true, false, List, take, drop, Option, None, Some}
+use Rattle.std.specs.Prelude.{◌≡◌, ◌⊎◌, ◌||◌, ℕ, true, false, List, take, drop, Option, None, Some}
 use Rattle.std.specs.List.{list_all}
 use Rattle.proof_semantics.specs.Clauses.{lit_eq, has_literal}
 use Rattle.proof_semantics.specs.declared.literals.Lit.{Lit}
@@ -19,6 +19,11 @@ pub record IsReplacement (steps : List Step) (clause : List Lit) (other a : Lit)
   pub inside : has_literal clause a ≡ true
   pub unfalsified : is_false steps a ≡ false
   pub apart : lit_eq other a ≡ false
+
+-- where there is none, each literal but the other one is false
+abbrev pub ReplacementSays : List Step → List Lit → Lit → Option Lit → Type 0
+ReplacementSays steps clause other None = list_all (λ b. lit_eq other b || is_false steps b) clause ≡ true
+ReplacementSays steps clause other (Some a) = IsReplacement steps clause other a
 
 abbrev pub LookSays : List Step → List Lit → Lit → Finding → Type 0
 LookSays steps clause other (Moves a) = IsReplacement steps clause other a

@@ -13,7 +13,7 @@ use packed_literals::Packed;
 use std::alloc::{AllocError, Global};
 use std::marker::Model;
 
-/// The places of literals are at most this one, so that each is one of four bytes.
+/// The last place that a literal may have: it is kept in four bytes.
 const LAST: usize = u32::MAX as usize;
 
 /// The literals that are true, with their reasons and levels. Contracts see the steps.
@@ -141,8 +141,8 @@ impl Assignment {
         }
     }
 
-    // Puts a literal at the end, with its reason. The error is want of memory, or a place past
-    // 2^32 - 1, and changes nothing.
+    // Puts a literal at the end, with its reason. The error is want of memory, and changes nothing. No
+    // place past 2^32 - 1 comes, since each literal has another number of four bytes.
     pub(crate) fn put(&mut self, literal: Packed, reason: Option<u64>) -> Result<(), AllocError>
         requires { value_of self.old.steps literal.var ≡ None }
         ensures ok { OnOk result (self.new.steps ≡ self.old.steps ++ step literal reason ∷ []) }

@@ -1,10 +1,10 @@
-//! What is told of numbers: places, or values. The main type is `Dense`.
+//! What is told of variables, by their numbers. The main type is `Dense`.
 ghost use Rattle.std.specs.Prelude.{◌≡◌, ◌<◌, ℕ, OnOk, None, Some, length, if◌then◌else◌, ◌==◌};
 ghost use Rattle.cdcl_trail.specs.DenseOf.{thing_at, told, HasRoom};
 
 use std::alloc::{AllocError, Global};
 
-/// What is told of numbers that are met one behind the other, in a list by the numbers.
+/// What is told of variables, by their numbers, which have no gaps, in a list.
 #[derive(Drop)]
 pub struct Dense<T> {
     things: Vec<Option<T>>,

@@ -8,7 +8,7 @@
 //! | `Trail::propagate` | takes over the clauses that are new, and adds what the clauses force, or tells a false one |
 //! | `Trail::back_to` | leaves the literals of a level and of those below it |
 //! | `Trail::watched` | the two watched literals of a clause |
-//! | `Table::new`, `insert`, `remove`, `get` | a value under each variable that was told one |
+//! | `Table::new`, `insert`, `remove`, `get` | of `packed_literals`, for the crates above: a value under each variable that was told one |
 //! | `Trail::value`, `level`, `level_of`, `reason` | the value of a variable; the level; the level and the reason of a variable |
 //! | `Trail::literals`, `Trail::reasons` | the literals in the order in which they came; beside each the clause that forced it |
 //! | `Trail::places`, `Places::get` | where the literal of each variable stands among them |

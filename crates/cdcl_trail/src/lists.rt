@@ -7,7 +7,7 @@ ghost use Rattle.cdcl_trail.specs.Lists.{IsWithout, list_at, list_for};
 use packed_literals::Packed;
 use std::alloc::{AllocError, Global};
 
-/// The places of clauses in lists are at most this one, so that each is one of four bytes.
+/// The last place that a clause may have: it is kept in four bytes.
 const LAST: usize = u32::MAX as usize;
 
 /// For each literal, the places of clauses that watch it. Its list stands at the place of its code.

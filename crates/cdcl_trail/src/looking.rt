@@ -1,16 +1,15 @@
 //! What has to be done with a clause of which a watched literal became false. The main call is
 //! `look`.
-ghost use Rattle.std.specs.Prelude.{◌≡◌, IfNone, IfSome, true, false, ◌||◌};
-ghost use Rattle.std.specs.List.{list_all};
-ghost use Rattle.proof_semantics.specs.Clauses.{lit_eq, has_literal};
+ghost use Rattle.std.specs.Prelude.{◌≡◌, true, false, ◌||◌};
+ghost use Rattle.proof_semantics.specs.Clauses.{lit_eq};
 ghost use Rattle.cdcl_trail.specs.Guards.{IsPairOf};
 ghost use Rattle.cdcl_trail.specs.Propagation.{is_false, is_true, is_fixed};
-ghost use Rattle.cdcl_trail.specs.Looking.{LookSays, IsReplacement};
+ghost use Rattle.cdcl_trail.specs.Looking.{LookSays, ReplacementSays};
 
 use crate::assignment::Assignment;
 use packed_literals::Packed;
 
-/// A clause of more literals is looked at from its last literal on.
+/// A clause of more literals is read from its end.
 const LONG: usize = 32;
 
 /// A further literal can be watched in place of the false one; the other watched one is forced; or
@@ -53,8 +52,7 @@ fn further(
 ) -> Option<Packed>
     requires pair { IsPairOf clause.now (record { first = falsified; second = other }) }
     requires falsified { is_false assignment.now.steps falsified ≡ true }
-    ensures none { IfNone result (list_all (λ b. lit_eq other b || is_false assignment.now.steps b) clause.now ≡ true) }
-    ensures some { IfSome result (λ a. IsReplacement assignment.now.steps clause.now other a) }
+    ensures { ReplacementSays assignment.now.steps clause.now other result }
 {
     if clause.len() == 2 {
         return None;
@@ -67,8 +65,7 @@ fn further(
 
 // The first literal but `other` that is not false.
 fn first_replacement(assignment: &Assignment, clause: &[Packed], other: Packed) -> Option<Packed>
-    ensures none { IfNone result (list_all (λ b. lit_eq other b || is_false assignment.now.steps b) clause.now ≡ true) }
-    ensures some { IfSome result (λ a. IsReplacement assignment.now.steps clause.now other a) }
+    ensures { ReplacementSays assignment.now.steps clause.now other result }
 {
     for literal in clause {
         if other.is(*literal) {
@@ -84,8 +81,7 @@ fn first_replacement(assignment: &Assignment, clause: &[Packed], other: Packed) 
 
 // The last such literal: a learned clause has those in front that became false first.
 fn last_replacement(assignment: &Assignment, clause: &[Packed], other: Packed) -> Option<Packed>
-    ensures none { IfNone result (list_all (λ b. lit_eq other b || is_false assignment.now.steps b) clause.now ≡ true) }
-    ensures some { IfSome result (λ a. IsReplacement assignment.now.steps clause.now other a) }
+    ensures { ReplacementSays assignment.now.steps clause.now other result }
 {
     let mut place = clause.len();
     'places: while place > 0 {

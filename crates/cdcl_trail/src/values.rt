@@ -5,9 +5,9 @@ ghost use Rattle.cdcl_trail.specs.ValuesOf.{value_in, value_at, value_told, HasV
 
 use std::alloc::{AllocError, Global};
 
-/// A value in one byte, or none.
+/// A byte that stands for a value, or for none.
 #[derive(Clone, Copy)]
-pub enum Mark {
+pub enum Byte {
     Nothing,
     False,
     True,
@@ -16,7 +16,7 @@ pub enum Mark {
 /// The values of variables, in a list by their numbers.
 #[derive(Drop)]
 pub struct Values {
-    marks: Vec<Mark>,
+    bytes: Vec<Byte>,
 }
 
 impl Values {
@@ -25,7 +25,7 @@ impl Values {
         ensures { (n : ℕ) → value_told result n ≡ None }
     {
         Values {
-            marks: Vec::new(alloc),
+            bytes: Vec::new(alloc),
         }
     }
 
@@ -33,14 +33,14 @@ impl Values {
     pub fn get(&self, number: u32) -> Option<bool>
         ensures { result ≡ value_told self.now number }
     {
-        value_in(self.marks.as_slice().get(number as usize).copied())
+        value_in(self.bytes.as_slice().get(number as usize).copied())
     }
 
     /// Whether the variable with a number has this value. Takes no memory.
     pub fn is(&self, number: u32, value: bool) -> bool
         ensures { result ≡ is_value (value_told self.now number) value }
     {
-        stands_for(self.marks.as_slice().get(number as usize).copied(), value)
+        stands_for(self.bytes.as_slice().get(number as usize).copied(), value)
     }
 
     /// Makes room for the value of the variable with a number. The error is want of memory.
@@ -49,10 +49,10 @@ impl Values {
         ensures room { OnOk result (HasValueRoom self.new number) }
     {
         let place = number as usize;
-        if place < self.marks.len() {
+        if place < self.bytes.len() {
             return Ok(());
         }
-        lengthen(&mut self.marks, place)
+        lengthen(&mut self.bytes, place)
     }
 
     /// Gives a variable a value. The condition is that there is room for it. Takes no memory.
@@ -60,73 +60,73 @@ impl Values {
         requires { HasValueRoom self.old number }
         ensures { (n : ℕ) → value_told self.new n ≡ (if number == n then Some value else value_told self.old n) }
     {
-        write(&mut self.marks, number as usize, value);
+        write(&mut self.bytes, number as usize, value);
     }
 
     /// Takes the value of a variable away. Takes no memory.
     pub fn forget(&mut self, number: u32)
         ensures { (n : ℕ) → value_told self.new n ≡ (if number == n then None else value_told self.old n) }
     {
-        clear(&mut self.marks, number as usize);
+        clear(&mut self.bytes, number as usize);
     }
 }
 
-// The value that a mark stands for.
-fn value_in(mark: Option<Mark>) -> Option<bool>
-    ensures { result ≡ value_in mark }
+// The value that a byte stands for.
+fn value_in(byte: Option<Byte>) -> Option<bool>
+    ensures { result ≡ value_in byte }
 {
-    match mark {
+    match byte {
         None => None,
-        Some(Mark::Nothing) => None,
-        Some(Mark::False) => Some(false),
-        Some(Mark::True) => Some(true),
+        Some(Byte::Nothing) => None,
+        Some(Byte::False) => Some(false),
+        Some(Byte::True) => Some(true),
     }
 }
 
-// Whether a mark stands for a value.
-fn stands_for(mark: Option<Mark>, value: bool) -> bool
-    ensures { result ≡ is_value (value_in mark) value }
+// Whether a byte stands for a value.
+fn stands_for(byte: Option<Byte>, value: bool) -> bool
+    ensures { result ≡ is_value (value_in byte) value }
 {
-    match mark {
+    match byte {
         None => false,
-        Some(Mark::Nothing) => false,
-        Some(Mark::False) => !value,
-        Some(Mark::True) => value,
+        Some(Byte::Nothing) => false,
+        Some(Byte::False) => !value,
+        Some(Byte::True) => value,
     }
 }
 
-// The mark of a value.
-fn mark_of(value: bool) -> Mark
+// The byte of a value.
+fn byte_of(value: bool) -> Byte
     ensures { value_in (Some result) ≡ Some value }
 {
-    if value { Mark::True } else { Mark::False }
+    if value { Byte::True } else { Byte::False }
 }
 
 // Puts no value behind, until there is a place.
-fn lengthen(marks: &mut Vec<Mark>, place: usize) -> Result<(), AllocError>
-    ensures same { (n : ℕ) → value_at marks.new.items n ≡ value_at marks.old.items n }
-    ensures room { OnOk result (place < length marks.new.items) }
+fn lengthen(bytes: &mut Vec<Byte>, place: usize) -> Result<(), AllocError>
+    ensures same { (n : ℕ) → value_at bytes.new.items n ≡ value_at bytes.old.items n }
+    ensures room { OnOk result (place < length bytes.new.items) }
 {
     let length = place.saturating_add(1);
-    if marks.len() < length {
-        marks.resize(length, Mark::Nothing)?;
+    if bytes.len() < length {
+        bytes.resize(length, Byte::Nothing)?;
     }
     Ok(())
 }
 
 // Puts a value at a place.
-fn write(marks: &mut Vec<Mark>, place: usize, value: bool)
-    requires { place < length marks.old.items }
-    ensures { (n : ℕ) → value_at marks.new.items n ≡ (if place == n then Some value else value_at marks.old.items n) }
+fn write(bytes: &mut Vec<Byte>, place: usize, value: bool)
+    requires { place < length bytes.old.items }
+    ensures { (n : ℕ) → value_at bytes.new.items n ≡ (if place == n then Some value else value_at bytes.old.items n) }
 {
-    marks[place] = mark_of(value);
+    bytes[place] = byte_of(value);
 }
 
 // Takes the value at a place away.
-fn clear(marks: &mut Vec<Mark>, place: usize)
-    ensures { (n : ℕ) → value_at marks.new.items n ≡ (if place == n then None else value_at marks.old.items n) }
+fn clear(bytes: &mut Vec<Byte>, place: usize)
+    ensures { (n : ℕ) → value_at bytes.new.items n ≡ (if place == n then None else value_at bytes.old.items n) }
 {
-    if place < marks.len() {
-        marks[place] = Mark::Nothing;
+    if place < bytes.len() {
+        bytes[place] = Byte::Nothing;
     }
 }

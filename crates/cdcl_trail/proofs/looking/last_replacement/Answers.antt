@@ -18,8 +18,8 @@ places-preserved c =
           c.places.invariant.behind;
     }
 
-pub returns-then-not-is_passed-clause-some : goal.returns-then-not-is_passed-clause-some
-returns-then-not-is_passed-clause-some c =
+pub returns-then-not-is_passed : goal.returns-then-not-is_passed
+returns-then-not-is_passed c =
     let below : c.places.place - 1 < length c.args.clause.now = omega (arith, c.places-test.true, c.places.invariant.within) in
     replaces c.args.assignment.now.steps c.args.clause.now c.args.other c.index-clause-place.result
     (ap (has_literal c.args.clause.now) c.index-clause-place.is ∙ has_at c.args.clause.now (c.places.place - 1) c.index-clause-place.result below)
