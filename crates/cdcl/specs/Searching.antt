@@ -88,6 +88,11 @@ pub record AssumesAll (assumptions : List Lit) (start steps : List Step) : Type 
 abbrev pub IsRefusedAt : List Lit → List Step → Lit → Type 0
 IsRefusedAt assumptions steps a = (has_literal assumptions a ≡ true) × (is_false steps a ≡ true)
 
+-- the steps have no variable but those of the clauses and of the assumptions
+abbrev pub HasNoOther : List (List Lit) → List Lit → List Step → Type 0
+HasNoOther clauses assumptions steps =
+    (vars : List ℕ) → are_over vars clauses ≡ true → is_over vars assumptions ≡ true → is_over vars (literals_of steps) ≡ true
+
 -- All that is assumed is among the assumptions, and these are true.
 pub record IsOpened (assumptions : List Lit) (steps : List Step) : Type 0 where
   pub only : (a : Lit) → is_assumed steps a ≡ true → has_literal assumptions a ≡ true
@@ -103,7 +108,7 @@ pub record IsDeciding (clauses : List (List Lit)) (assumptions : List Lit) (base
   pub begun : steps ≡ opened ++ rest
   pub reasoned : IsReasonedTrail clauses steps
   pub below : (k : ℕ) → base ≤ k → k < level steps → is_complete clauses (up_to_level k steps) ≡ true
-  pub over : (vars : List ℕ) → are_over vars clauses ≡ true → is_over vars assumptions ≡ true → is_over vars (literals_of steps) ≡ true
+  pub over : HasNoOther clauses assumptions steps
 
 -- A level to go back to with a learned clause: the base, or one above it and below the last on which a literal of the
 -- clause got its value.

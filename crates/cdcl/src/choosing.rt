@@ -1,9 +1,9 @@
 //! The choice of the next literal to assume. The main call is `choose`.
-ghost use Rattle.std.specs.Prelude.{◌≡◌, ℕ, List, IfNone, IfSome, IsTrue, true, false, is_some, slice_get, option_copied};
+ghost use Rattle.std.specs.Prelude.{◌≡◌, IfNone, IfSome, IsTrue, true, false, is_some, slice_get, option_copied};
 ghost use Rattle.std.specs.List.{list_any, list_all};
 ghost use Rattle.cdcl_trail.specs.Propagation.{is_complete, is_true, is_falsified};
 ghost use Rattle.cdcl_trail.specs.Trails.{value_of, literals_of};
-ghost use Rattle.cdcl.specs.Searching.{IsUndecided, IsOpenIn, has_variable, is_satisfied, is_over, are_over};
+ghost use Rattle.cdcl.specs.Searching.{IsUndecided, IsOpenIn, HasNoOther, has_variable, is_satisfied, is_over};
 
 use crate::log::Log;
 use crate::order::{Candidate, Order};
@@ -20,7 +20,7 @@ pub(crate) fn choose(
     assumptions: &[Lit],
 ) -> Option<Lit>
     requires complete { is_complete log.now.clauses trail.now.steps ≡ true }
-    requires over { (vars : List ℕ) → are_over vars log.now.clauses ≡ true → is_over vars assumptions.now ≡ true → is_over vars (literals_of trail.now.steps) ≡ true }
+    requires over { HasNoOther log.now.clauses assumptions.now trail.now.steps }
     ensures none { IfNone result (is_satisfied log.now.clauses trail.now.steps ≡ true) }
     ensures open { IfSome result (λ a. IsUndecided log.now.clauses trail.now.steps a) }
 {
@@ -34,7 +34,7 @@ pub(crate) fn choose(
 // is looked at; and where all of the trail are among them, as many values are enough.
 fn is_full(trail: &Trail, log: &Log, assumptions: &[Lit]) -> bool
     requires complete { is_complete log.now.clauses trail.now.steps ≡ true }
-    requires over { (vars : List ℕ) → are_over vars log.now.clauses ≡ true → is_over vars assumptions.now ≡ true → is_over vars (literals_of trail.now.steps) ≡ true }
+    requires over { HasNoOther log.now.clauses assumptions.now trail.now.steps }
     ensures { IsTrue result → is_satisfied log.now.clauses trail.now.steps ≡ true }
 {
     let variables = log.variables();
@@ -63,27 +63,17 @@ fn have_values(trail: &Trail, variables: &[Var]) -> bool
     variables.iter().all(|var| trail.value(*var).is_some())
 }
 
-// The same choice, by the order and the clauses.
+// The most active variable without a value that the order has, or else one of the first clause that
+// has no true literal.
 fn choose_open(order: &mut Order, trail: &Trail, clauses: &[Clause]) -> Option<Lit>
     requires { is_complete clauses.now trail.now.steps ≡ true }
     ensures none { IfNone result (is_satisfied clauses.now trail.now.steps ≡ true) }
     ensures open { IfSome result (λ a. IsUndecided clauses.now trail.now.steps a) }
 {
-    match most_active(order, trail, clauses) {
-        Some(literal) => Some(literal),
-        None => first_open(trail, clauses),
+    match order.take(trail) {
+        Some(candidate) if is_open(trail, clauses, candidate) => Some(candidate.literal),
+        _ => first_open(trail, clauses),
     }
-}
-
-// The most active variable without a value that the order has.
-fn most_active(order: &mut Order, trail: &Trail, clauses: &[Clause]) -> Option<Lit>
-    ensures { IfSome result (λ a. IsUndecided clauses.now trail.now.steps a) }
-{
-    let candidate = order.take(trail)?;
-    if is_open(trail, clauses, candidate) {
-        return Some(candidate.literal);
-    }
-    None
 }
 
 // Whether a variable has no value, and stands in the clause that is told.

@@ -73,8 +73,8 @@ impl Order {
         }
     }
 
-    /// Meets the variables of the clauses that are new, and lets them be decided. Forgets those that
-    /// have a value, for no search takes it back.
+    /// Meets the variables of the clauses that are new, and lets them be decided. Where the list is put
+    /// in order anew, those that have a value go: no search takes it back.
     pub(crate) fn begin(&mut self, log: &Log, trail: &Trail) -> Result<(), AllocError> {
         let clauses = log.clauses().as_slice();
         for place in self.met..clauses.len() {
@@ -116,7 +116,7 @@ impl Order {
         self.insert(var, number)
     }
 
-    /// Takes the most active variable without a value. Takes no memory.
+    /// The most active variable without a value; one of the heap leaves it. Takes no memory.
     pub(crate) fn take(&mut self, trail: &Trail) -> Option<Candidate> {
         self.heap.drop_valued(trail);
         let number = match self.heap.first() {

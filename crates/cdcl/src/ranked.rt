@@ -9,12 +9,12 @@ use std::alloc::{AllocError, Global};
 /// The place of a variable that is not in the list, and the number of one that was taken out.
 const NOWHERE: usize = usize::MAX;
 
-/// The list is put in order anew where a heap has this part of its variables.
+/// The list is put in order anew where a heap has more than a sixteenth of as many variables.
 const PART: usize = 16;
 
-/// Variables, the one that is decided first at the front; beside each whether it is to be looked at;
-/// and the place of each, by its number. Each that is not looked at, or stands before the place
-/// `next`, has a value, or was taken out.
+/// Variables, the one that is decided first at the front; beside each whether it waits to be decided;
+/// and the place of each, by its number. Each that does not wait, or stands before the place `next`,
+/// has a value, or was taken out.
 #[derive(Drop)]
 pub(crate) struct Ranked {
     list: Vec<Entry>,
@@ -58,19 +58,19 @@ impl Ranked {
         None
     }
 
-    // Whether the variable at a place is to be looked at.
+    // Whether the variable at a place waits.
     fn waits(&self, place: usize) -> bool {
         self.waits.as_slice().get(place).copied().unwrap_or(false)
     }
 
-    // Writes whether the variable at a place is to be looked at.
+    // Writes whether the variable at a place waits.
     fn set_waiting(&mut self, place: usize, waits: bool) {
         if let Some(kept) = self.waits.get_mut(place) {
             *kept = waits;
         }
     }
 
-    /// Looks at a variable again, where it is in the list, and tells whether it is. Takes no memory.
+    /// Lets a variable wait again, where it is in the list, and tells whether it is. Takes no memory.
     pub(crate) fn keep(&mut self, number: usize) -> bool {
         let Some(place) = self.places.as_slice().get(number).copied() else {
             return false;
@@ -137,7 +137,7 @@ impl Ranked {
         Ok(())
     }
 
-    // Writes the places of all, and that each is to be looked at.
+    // Writes the places of all, and that each waits.
     fn find_places(&mut self) {
         for waits in self.waits.iter_mut() {
             *waits = true;
