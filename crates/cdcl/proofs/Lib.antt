@@ -15,6 +15,7 @@ pub mod ConditionLaws
 pub mod AnswerLaws
 pub mod RetiringLaws
 pub mod AscendingLaws
+pub mod OppositeLaws
 pub mod UnitLaws
 pub mod CountingLaws
 pub mod AddingLaws

@@ -13,6 +13,7 @@ ghost use Rattle.edge.specs.Ends.{IsEnd};
 ghost use Rattle.cdcl.specs.Solving.{IsAnswer};
 
 use crate::asking::Asked;
+use crate::conditions::{are_sized, opposite};
 use crate::finding::Found;
 use crate::log::Log;
 use crate::order::Order;
@@ -50,7 +51,9 @@ pub(crate) fn search_answer(
     Ok(answer_of(alloc, log, trail, assumptions, &found)?)
 }
 
-/// Searches, and leaves the values on the trail or writes the core.
+/// Searches, and leaves the values on the trail or writes the core. Where two assumptions are
+/// opposites they are the core, and nothing is searched; where a variable is 0, or is from 2^63 on,
+/// the error is that of memory.
 pub(crate) fn search_asked(
     alloc: Global,
     log: &mut Log,
@@ -61,16 +64,22 @@ pub(crate) fn search_asked(
 ) -> Result<Asked, SolveEnd>
     requires log { IsLog log.old }
     requires trail { IsHeld log.old.clauses trail.old }
-    requires apart { has_opposites assumptions.now ≡ false }
-    requires sizes { AreSized assumptions.now }
     ensures log { IsLog log.new }
     ensures trail { IsHeld log.new.clauses trail.new }
     ensures answer { IfOk result (IsAsked (added_of log.old) assumptions.now (literals_of trail.new.steps)) }
+    ensures sizes { IfOk result (λ asked. AreSized assumptions.now) }
     ensures end { IfErr result (IsEnd meter.new) }
     ensures searched { IsSearched assumptions.now log.old log.new meter.old meter.new }
     ensures rest { IsRested assumptions.now log.old log.new }
     ensures limited { IfErr result (IsLimitedAtRest assumptions.now log.old) }
 {
+    if !are_sized(assumptions) {
+        return Err(SolveEnd::Memory);
+    }
+    if let Some(literal) = opposite(assumptions) {
+        let core = Vec::from_slice(alloc, &[literal, literal.negation()])?;
+        return Ok(Asked::Unsat(core));
+    }
     let found = search(alloc, log, order, trail, assumptions, meter)?;
     Ok(asked_of(alloc, &found)?)
 }

@@ -8,10 +8,10 @@
 //! | `Solver::add_sized`, `Solver::add_all` | the same of any clause, or list, which is tested; what cannot be held is want of memory |
 //! | `Solver::count_added` | how many clauses were added |
 //! | `Solver::solve` | a model, or a core of the assumptions with a proof |
-//! | `Solver::ask` | the same question without values or a proof |
+//! | `Solver::ask` | the same question of any assumptions, without values or a proof |
 //! | `Solver::refute` | the same of literals that are clauses of the list which a proof refutes |
 //! | `Solver::value` | the value of a variable in the model that `ask` or `refute` found |
-//! | `are_sized`, `has_opposites` | the tests of what these calls ask for |
+//! | `are_sized`, `has_opposites` | the tests of what `solve` and `refute` ask for |
 //! | `retired_clauses_change_nothing` | does nothing: the law of clauses that a question brings and retires |
 //! | `threads_hand_on_solvers` | does nothing: it has a proof only where a solver may be handed to another thread |
 #![tactic(auto)]

@@ -1,13 +1,12 @@
 //! The proof that clauses, and unit clauses behind them, have no model. The main call is
 //! `search_refuted`.
-ghost use Rattle.std.specs.Prelude.{◌≡◌, ◌<◌, ◌^◌, ◌++◌, [], IfOk, IfErr, IfSome, IfNone, None, length, map, false, true};
+ghost use Rattle.std.specs.Prelude.{◌≡◌, ◌<◌, ◌^◌, ◌++◌, [], IfOk, IfErr, None, length, map, false, true};
 ghost use Rattle.proof_semantics.specs.Clauses.{negation, has_literal, has_opposites};
 ghost use Rattle.proof_semantics.specs.Lines.{AreSized};
 ghost use Rattle.cdcl_trail.specs.Trails.{literals_of};
 ghost use Rattle.proof_semantics.specs.Propagation.{hints_fault};
 ghost use Rattle.proof_semantics.specs.Proofs.{Refutes};
 ghost use Rattle.cnf.specs.Clauses.{clause_numbered};
-ghost use Rattle.cdcl.specs.Ascending.{is_ascending};
 ghost use Rattle.cdcl.specs.Resting.{IsLimitedAtRest, IsRested};
 ghost use Rattle.cdcl.specs.LoggedClauses.{IsLog, added_of};
 ghost use Rattle.cdcl.specs.Finding.{MayRefuse, IsRefutedFrom, Refuses};
@@ -19,6 +18,7 @@ ghost use Rattle.cdcl.specs.UnitClauses.{unit_clauses};
 ghost use Rattle.cdcl.specs.WithUnits.{unit_number};
 
 use crate::asking::Refuted;
+use crate::conditions::opposite;
 use crate::finding::Found;
 use crate::log::Log;
 use crate::order::Order;
@@ -27,7 +27,7 @@ use crate::searching::search;
 use crate::writing::{MOST_CLAUSES, proof_of};
 use cdcl_learn::Learned;
 use cdcl_trail::Trail;
-use cnf::{Lit, Proof, has_literal};
+use cnf::{Lit, Proof};
 use edge::{Meter, SolveEnd};
 use std::alloc::{AllocError, Global};
 
@@ -162,36 +162,4 @@ fn unit_number(first: usize, units: &[Lit], literal: Lit) -> u64
         }
     }
     (first + units.len() + 1) as u64
-}
-
-// Whether the variables ascend, as those of a clause over latches in their order mostly do: then no literal is the
-// negation of another, and one pass tells it.
-fn is_ascending(literals: &[Lit]) -> bool
-    ensures { result ≡ is_ascending 0 literals.now }
-{
-    let mut last = 0;
-    for literal in literals {
-        if literal.var <= last {
-            return false;
-        }
-        last = literal.var;
-    }
-    true
-}
-
-// A literal whose negation is one of the list too.
-fn opposite(literals: &[Lit]) -> Option<Lit>
-    ensures one { IfSome result (λ a. has_literal literals.now a ≡ true) }
-    ensures other { IfSome result (λ a. has_literal literals.now (negation a) ≡ true) }
-    ensures none { IfNone result (has_opposites literals.now ≡ false) }
-{
-    if is_ascending(literals) {
-        return None;
-    }
-    for literal in literals {
-        if has_literal(literals, literal.negation()) {
-            return Some(*literal);
-        }
-    }
-    None
 }

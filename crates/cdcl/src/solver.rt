@@ -167,17 +167,17 @@ impl Solver {
         )
     }
 
-    /// The same question, without a proof; where there is a model, `value` tells it until the next
-    /// question.
+    /// The same question of any assumptions, without a proof; where there is a model, `value` tells it
+    /// until the next question. Opposites are refused without a search; and where a variable is 0, or
+    /// is from 2^63 on, the error is that of memory.
     pub fn ask(
         &mut self,
         alloc: Global,
         assumptions: &[Lit],
         meter: &mut Meter,
     ) -> Result<Asked, SolveEnd>
-        requires apart { has_opposites assumptions.now ≡ false }
-        requires sizes { AreSized assumptions.now }
         ensures answer { IfOk result (IsAsked self.old.added assumptions.now self.new.values) }
+        ensures sizes { IfOk result (λ asked. AreSized assumptions.now) }
         ensures end { IfErr result (IsEnd meter.new) }
         ensures added { self.new.added ≡ self.old.added }
         ensures learned { Learns self.old.added self.old.learned self.new.learned }
