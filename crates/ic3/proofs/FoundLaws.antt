@@ -76,7 +76,7 @@ part_more (b ∷ part) whole a h =
     let parts = and_parts (has_literal whole b) (is_part part whole) h in
     and_from _ _ (or_behind (lit_eq b a) (has_literal whole b) parts.0) (part_more part whole a parts.1)
 
-pub part_same : (literals : List Lit) → is_part literals literals ≡ true
+part_same : (literals : List Lit) → is_part literals literals ≡ true
 part_same [] = refl
 part_same (a ∷ literals) =
     and_from _ _ (ap (λ x. x || has_literal literals a) (lit_eq-same a)) (part_more literals literals a (part_same literals))

@@ -1,9 +1,7 @@
 pub mod Guards
 pub mod FoundLaws
-pub mod Asking
 pub mod GoalLaws
 pub mod Holding
-pub mod Apart
 pub mod Separating
 pub mod GoingOn
 pub mod Growing

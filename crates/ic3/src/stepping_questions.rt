@@ -1,16 +1,16 @@
 //! The clauses of the solver of a search, and its questions. The main type is `Questions`.
 ghost use Rattle.std.specs.Prelude.{◌≡◌, ◌==◌, ◌↔◌, ℕ, Bool, true, ◌+◌, ◌++◌, [], map, IfOk, IfErr, OnOk, OnErr};
-ghost use Rattle.proof_semantics.specs.Clauses.{cube_value, has_literal, has_opposites};
+ghost use Rattle.proof_semantics.specs.Clauses.{cube_value, has_literal};
 ghost use Rattle.edge.specs.Ends.{CountsConflicts, IsEnd};
-ghost use Rattle.cdcl.specs.Asking.{IsAsked, assigned};
+ghost use Rattle.cdcl.specs.Asking.{assigned};
 ghost use Rattle.cnf_unroll.specs.Numbers.{clause_at_place, state_place, literal_in_block};
 ghost use Rattle.cnf_unroll.specs.Situations.{situation_in};
-ghost use Rattle.ic3_questions.specs.SteppingClauses.{level_guard, question_guard, IsOn, AreAssumed, part_at, is_apart};
+ghost use Rattle.ic3_questions.specs.SteppingClauses.{level_guard, question_guard, IsOn, AreAssumed, part_at};
 ghost use Rattle.ic3.specs.SteppingInside.{KeepsNumbers, Begins, Rests, Keeps, AnswersInto, TellsInto};
 ghost use Rattle.ic3.specs.SteppingInside.{AnswersGoal, TellsGoal, TellsLiteral, Holds};
 ghost use Rattle.ic3_questions.specs.ReadVariables.{is_read};
 
-use cdcl::{Asked, Solver, are_sized, has_opposites};
+use cdcl::{Asked, Solver};
 use circuit::{Circuit, Position};
 use cnf::{Cube, Lit, has_literal};
 use edge::{Meter, SolveEnd};
@@ -96,54 +96,6 @@ fn push_at(out: &mut Vec<Lit>, place: &[u64], cube: &[Lit]) -> Result<(), AllocE
         out.push(literal_at(place, *literal))?;
     }
     Ok(())
-}
-
-/// Whether the literals are positive from the first guard on, and ascend below it.
-fn is_apart(free: u64, literals: &[Lit]) -> bool
-    ensures { result ≡ is_apart free 0 literals.now }
-{
-    let mut last = 0;
-    for literal in literals {
-        if literal.var < free {
-            if literal.var <= last {
-                return false;
-            }
-            last = literal.var;
-        } else if !literal.positive {
-            return false;
-        }
-    }
-    true
-}
-
-/// Whether some literal is the negation of another. What `is_apart` passes, as guards and a cube in the order of the
-/// latches, takes one pass.
-fn has_opposites_behind(free: u64, literals: &[Lit]) -> bool
-    ensures { result ≡ has_opposites literals.now }
-{
-    !is_apart(free, literals) && has_opposites(literals)
-}
-
-/// Asks the solver. Of assumptions that are opposites it needs not be asked; numbers from 2^63 on are want of memory.
-pub(crate) fn ask(
-    solver: &mut Solver,
-    alloc: Global,
-    free: u64,
-    assumptions: &[Lit],
-    meter: &mut Meter,
-) -> Result<Asked, SolveEnd>
-    ensures answer { IfOk result (IsAsked solver.old.added assumptions.now solver.new.values) }
-    ensures added { solver.new.added ≡ solver.old.added }
-    ensures end { IfErr result (IsEnd meter.new) }
-    ensures counted { CountsConflicts meter.old meter.new }
-{
-    if !are_sized(assumptions) {
-        return Err(SolveEnd::Memory);
-    }
-    if has_opposites_behind(free, assumptions) {
-        return Ok(Asked::Unsat(Vec::from_slice(alloc, assumptions)?));
-    }
-    solver.ask(alloc, assumptions, meter)
 }
 
 fn values_at(alloc: Global, solver: &Solver, place: &[u64]) -> Result<Items<bool>, AllocError>
@@ -237,7 +189,7 @@ pub(crate) fn ask_into(
     let number = begin(alloc, s, cube)?;
     let assumptions = assume(alloc, s, level, number, s.next.as_slice(), cube)?;
     s.count = s.count.saturating_add(1);
-    ask(&mut s.solver, alloc, s.free, assumptions.as_slice(), meter)
+    s.solver.ask(alloc, assumptions.as_slice(), meter)
 }
 
 /// The guard of the last question is false for good, so that its clause is true and is not looked at again.
@@ -332,7 +284,7 @@ pub(crate) fn ask_goal(
 {
     let assumptions = assume_true(alloc, s, level, literals)?;
     s.count = s.count.saturating_add(1);
-    ask(&mut s.solver, alloc, s.free, assumptions.as_slice(), meter)
+    s.solver.ask(alloc, assumptions.as_slice(), meter)
 }
 
 /// A position from a level at which these literals are true; `None` where there is none.

@@ -1,6 +1,6 @@
 -- Scaffolding of inner functions. The clauses of the solver of a search, and the numbers that guard them: from the next
 -- free number of its block on, every other one is of a level, and those between are of questions.
-use Rattle.std.specs.Prelude.{◌≡◌, ℕ, ◌+◌, ◌*◌, ◌<◌, ◌≤◌, ◌↔◌, Bool, true, false, List, [], ◌∷◌, ◌++◌, map, ◌&&◌, nat_lt, if◌then◌else◌}
+use Rattle.std.specs.Prelude.{◌≡◌, ℕ, ◌+◌, ◌*◌, ◌<◌, ◌≤◌, ◌↔◌, Bool, true, false, List, [], ◌∷◌, ◌++◌, map}
 use Rattle.std.specs.List.{AllByRecursion, filter}
 use Rattle.proof_semantics.specs.declared.literals.Lit.{Lit}
 use Rattle.proof_semantics.specs.Clauses.{negation, clauses_value, cube_value, has_literal}
@@ -100,11 +100,3 @@ pub record AreAssumed (free level levels number : ℕ) (literals assumptions : L
 -- the literals of a cube whose literals at a place are among these
 abbrev pub part_at : List ℕ → List Lit → List Lit → List Lit
 part_at place core cube = filter (λ l. has_literal core (literal_at_place place l)) cube
-
--- Positive literals of variables from the first guard on, and others below it that ascend from above a variable: none
--- of such literals is the negation of another.
-abbrev pub is_apart : ℕ → ℕ → List Lit → Bool
-is_apart free last [] = true
-is_apart free last (l ∷ literals) =
-    if nat_lt l.var free then nat_lt last l.var && is_apart free l.var literals
-    else l.positive && is_apart free last literals
