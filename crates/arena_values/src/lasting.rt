@@ -2,7 +2,7 @@
 ghost use Rattle.std.specs.Prelude.{IfErr};
 ghost use Rattle.edge.specs.Ends.{CountsConflicts, IsEnd};
 
-use cdcl::{Asked, Solver, are_sized, has_opposites};
+use cdcl::{Asked, Solver};
 use circuit::{Circuit, Latch};
 use cnf::Lit;
 use cnf_unroll::{ClauseSet, shared};
@@ -110,22 +110,6 @@ fn mark_left(c: &Circuit, arena: &mut Arena) {
     }
 }
 
-// What the solver answers. What it cannot be asked is want of memory.
-fn asked(
-    alloc: Global,
-    solver: &mut Solver,
-    literals: &[Lit],
-    meter: &mut Meter,
-) -> Result<Asked, SolveEnd>
-    ensures end { IfErr result (IsEnd meter.new) }
-    ensures counted { CountsConflicts meter.old meter.new }
-{
-    if has_opposites(literals) || !are_sized(literals) {
-        return Err(SolveEnd::Memory);
-    }
-    solver.ask(alloc, literals, meter)
-}
-
 // Asks whether a step leaves the value of a latch.
 fn ask_value(
     alloc: Global,
@@ -140,7 +124,7 @@ fn ask_value(
     ensures counted { CountsConflicts meter.old meter.new }
 {
     let literals = leaving(latch, behind(c), value);
-    match asked(alloc, &mut arena.solver, &literals, meter)? {
+    match arena.solver.ask(alloc, &literals, meter)? {
         Asked::Sat => mark_left(c, arena),
         Asked::Unsat(_) => arena.lasting.push(Lit {
             var: i as u64,

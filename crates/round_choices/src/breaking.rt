@@ -3,7 +3,7 @@
 ghost use Rattle.std.specs.Prelude.{◌<◌, ◌^◌, length, IfErr};
 ghost use Rattle.edge.specs.Ends.{CountsConflicts, IsEnd};
 
-use cdcl::{Asked, Solver, are_sized, has_opposites};
+use cdcl::{Asked, Solver};
 use circuit::Circuit;
 use cnf::{Clause, Lit};
 use cnf_unroll::unrolled_skeleton;
@@ -64,9 +64,6 @@ fn is_found(
     ensures end { IfErr result (IsEnd meter.new) }
     ensures counted { CountsConflicts meter.old meter.new }
 {
-    if has_opposites(literals) || !are_sized(literals) {
-        return Ok(false);
-    }
     match solver.ask(alloc, literals, meter)? {
         Asked::Sat => Ok(true),
         Asked::Unsat(_) => Ok(false),
