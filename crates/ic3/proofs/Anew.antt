@@ -10,7 +10,7 @@ use Rattle.proof_semantics.specs.Clauses.{literal_value, clause_value, clauses_v
 use Rattle.proof_semantics.proofs.LiteralLaws.{clause_value-has}
 use Rattle.ic3_semantics.specs.Stepping.{Stepping, no_lemmas, meets_from, IsOver}
 use Rattle.ic3_semantics.specs.declared.lemmas.Lemma.{Lemma}
-use Rattle.ic3.specs.SteppingInside.{SayTheSame, keeping, IsHeldBy, IsHeldWith, Holds}
+use Rattle.ic3.specs.SteppingInside.{MeetAlike, keeping, IsHeldBy, IsHeldWith, Holds}
 use Rattle.ic3.specs.SteppingStart.{HoldsAll, IsImpliedBehind, IsHeldUpTo}
 use Rattle.ic3.specs.declared.stepping_questions.Questions.{Questions}
 use Rattle.ic3.proofs.Holding.{more_held, after_growth}
@@ -167,7 +167,7 @@ over_both n [] back h over = over
 over_both n (lemma ∷ front) back h over = (h.0, over_both n front back h.1 over)
 
 -- other lemmas that say the same
-held_as : (st : Stepping) (lemmas : List Lemma) (s : Questions) → IsHeldBy st s → SayTheSame st.lemmas lemmas
+held_as : (st : Stepping) (lemmas : List Lemma) (s : Questions) → IsHeldBy st s → MeetAlike st.lemmas lemmas
     → AllByRecursion (λ lemma. IsOver (length st.question.circuit.latches) lemma.clause) lemmas → IsHeldBy (keeping st lemmas) s
 held_as st lemmas s by same over = record {
   kept = by.kept;

@@ -13,7 +13,7 @@ use Rattle.entry.specs.Laws.{IsGoodList}
 use Rattle.ic3_semantics.specs.Searching.{Question}
 use Rattle.ic3_semantics.specs.Stepping.{Stepping, no_lemmas, with_lemma, IsOver, IsPredecessor, IsMissing, IsFound, MeetsFrom, IsGoalFound}
 use Rattle.ic3_questions.specs.SteppingClauses.{base_clauses, first_guard, level_guard, guarded, avoid_clause, lemma_clause, held_clauses, Retires, AreBelow}
-use Rattle.ic3.specs.SteppingInside.{HasOneValuation, SayTheSame, keeping, IsHeldBy, IsHeldWith, KeepsNumbers, Keeps, Grows, IsWhole, Holds, MayHold, TellsInto, TellsGoal, TellsLiteral}
+use Rattle.ic3.specs.SteppingInside.{HasOneValuation, MeetAlike, keeping, IsHeldBy, IsHeldWith, KeepsNumbers, Keeps, Grows, IsWhole, Holds, MayHold, TellsInto, TellsGoal, TellsLiteral}
 use Rattle.ic3_semantics.specs.declared.lemmas.Lemma.{Lemma}
 use Rattle.ic3_semantics.specs.declared.found.Found.{Found}
 use Rattle.ic3_semantics.specs.declared.found.Found.TheVariants.{Step, Missing}
@@ -174,7 +174,7 @@ held_more st free level clause =
     ap (λ xs. front ++ xs) (map_push place free st.lemmas lemma)
     ∙ sym (append_assoc front (map (lemma_clause (state_place st.question.circuit 0) free) st.lemmas) (lemma_clause place free lemma ∷ []))
 
-same_more : (these those : List Lemma) (lemma : Lemma) → SayTheSame these those → SayTheSame (these ++ lemma ∷ []) (those ++ lemma ∷ [])
+same_more : (these those : List Lemma) (lemma : Lemma) → MeetAlike these those → MeetAlike (these ++ lemma ∷ []) (those ++ lemma ∷ [])
 same_more these those lemma same = λ level state.
     let f : Lemma → Bool = λ x. nat_lt x.level level || clause_value (values_of state) x.clause in
     list_all-append f these (lemma ∷ [])

@@ -32,8 +32,8 @@ HasOneValuation c =
     → (IsValuation c latches inputs values ↔ (values ≡ valuation c latches inputs))
 
 -- a state meets these lemmas from a level on exactly where it meets those
-abbrev pub SayTheSame : List Lemma → List Lemma → Type 0
-SayTheSame these those = (level : ℕ) (state : List Bool) → meets_from these level state ≡ meets_from those level state
+abbrev pub MeetAlike : List Lemma → List Lemma → Type 0
+MeetAlike these those = (level : ℕ) (state : List Bool) → meets_from these level state ≡ meets_from those level state
 
 -- other lemmas in the place of all
 abbrev pub keeping : Stepping → List Lemma → Stepping
@@ -44,7 +44,7 @@ keeping st lemmas = record { question = st.question; avoid = st.avoid; lemmas = 
 -- without the base.
 pub record IsHeldBy (st : Stepping) (s : Questions) : Type 0 where
   pub kept : List Lemma
-  pub same : SayTheSame kept st.lemmas
+  pub same : MeetAlike kept st.lemmas
   pub checked : IsChecked st.question.circuit
   pub law : HasOneValuation st.question.circuit
   pub good : IsGoodList st.question.circuit st.question.view

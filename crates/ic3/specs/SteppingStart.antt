@@ -7,7 +7,7 @@ use Rattle.proof_semantics.specs.declared.literals.Lit.{Lit}
 use Rattle.ic3_semantics.specs.Stepping.{Stepping, meets_from, IsOver}
 use Rattle.ic3_semantics.specs.declared.lemmas.Lemma.{Lemma}
 use Rattle.ic3_semantics.specs.declared.questions.Start.{Start}
-use Rattle.ic3.specs.SteppingInside.{Grows, SayTheSame, IsHeldBy}
+use Rattle.ic3.specs.SteppingInside.{Grows, MeetAlike, IsHeldBy}
 use Rattle.ic3.specs.declared.stepping_questions.Questions.{Questions}
 
 -- Clauses of the base, and behind them these.
@@ -37,7 +37,7 @@ IsImpliedBehind lemmas place lemma =
 -- Of the lemmas before a place some came; together with those from the place on they say what all say.
 pub record IsHeldUpTo (lemmas : List Lemma) (place : ℕ) (old new : Questions) : Type 0 where
   pub kept : List Lemma
-  pub same : SayTheSame (kept ++ drop place lemmas) lemmas
+  pub same : MeetAlike (kept ++ drop place lemmas) lemmas
   pub among : (n : ℕ) → AllByRecursion (λ lemma. IsOver n lemma.clause) lemmas
       → AllByRecursion (λ lemma. IsOver n lemma.clause) kept
   pub holds : HoldsAll kept old new

@@ -7,7 +7,7 @@ ghost use Rattle.ic3.specs.SteppingStart.{HoldsAll, IsHeldUpTo, stepping_of};
 ghost use Rattle.ic3.specs.declared.stepping_questions.Questions.{Questions};
 
 use crate::cone::Cone;
-use crate::standing_in::{stand_ins, stands_in};
+use crate::implying::{implying_places, is_implied_by};
 use crate::stepping_questions::{Questions, hold_clause};
 use crate::stepping_start::questions_of;
 use circuit::Circuit;
@@ -29,7 +29,7 @@ pub(crate) fn is_old(s: &Questions, cone: &Cone, lemmas: usize) -> bool {
             .saturating_add(lemmas as u64)
 }
 
-// Adds the clause of the lemma at a place, but where the other one stands in for it.
+// Adds the clause of the lemma at a place, but where the other one stands behind it and implies it.
 fn hold_at(
     alloc: Global,
     lemmas: &[Lemma],
@@ -42,7 +42,7 @@ fn hold_at(
         → IsHeldUpTo lemmas.now (place + 1) begun s.new) }
 {
     let lemma = &lemmas[place];
-    if stands_in(lemmas, place, lemma, other) {
+    if is_implied_by(lemmas, place, lemma, other) {
         return Ok(());
     }
     hold_clause(alloc, s, lemma.level, lemma.clause.as_slice())?;
@@ -53,7 +53,7 @@ fn hold_at(
 fn hold_all(alloc: Global, lemmas: &[Lemma], s: &mut Questions) -> Result<(), AllocError>
     ensures { OnOk result (HoldsAll lemmas.now s.old s.new) }
 {
-    let mut others = stand_ins(alloc, lemmas, s.here.len())?;
+    let mut others = implying_places(alloc, lemmas, s.here.len())?;
     for place in 0..lemmas.len() {
         let other = others.pop().unwrap_or(place);
         hold_at(alloc, lemmas, place, other, s)?;

@@ -1,5 +1,5 @@
-//! Which lemmas need no clause in a new solver: those that a later one implies. The main calls are `stand_ins`, which
-//! chooses and has no contract, and `stands_in`, which judges what was chosen.
+//! Which lemmas need no clause in a new solver: those that a later one implies. The main calls are `implying_places`,
+//! which chooses and has no contract, and `is_implied_by`, which judges what was chosen.
 ghost use Rattle.std.specs.Prelude.{◌≡◌, ◌<◌, ◌&&◌, true, nat_le, length};
 ghost use Rattle.proof_semantics.specs.Clauses.{is_part};
 ghost use Rattle.ic3.specs.SteppingStart.{IsImpliedBehind};
@@ -8,7 +8,7 @@ use cnf::{Lit, subset};
 use ic3_semantics::Lemma;
 use std::alloc::{AllocError, Global};
 
-// A lemma that nothing stands in for: its place, and marks of its literals. Clauses whose literals are among those of
+// A lemma that no later one implies: its place, and marks of its literals. Clauses whose literals are among those of
 // another have no other marks.
 #[derive(Drop)]
 struct Kept {
@@ -96,7 +96,11 @@ fn found(lists: &[Vec<Kept>], lemmas: &[Lemma], lemma: &Lemma, marks: u64) -> Op
 }
 
 // What is found for the lemma at a place, which is listed where nothing is.
-fn stand_in(lists: &mut [Vec<Kept>], lemmas: &[Lemma], place: usize) -> Result<usize, AllocError>
+fn implying_place(
+    lists: &mut [Vec<Kept>],
+    lemmas: &[Lemma],
+    place: usize,
+) -> Result<usize, AllocError>
     requires { place < length lemmas.now }
 {
     let lemma = &lemmas[place];
@@ -112,7 +116,7 @@ fn stand_in(lists: &mut [Vec<Kept>], lemmas: &[Lemma], place: usize) -> Result<u
 }
 
 /// For each lemma, the last first, the place of a later one that implies it, or its own. The lemmas are over so many latches.
-pub(crate) fn stand_ins(
+pub(crate) fn implying_places(
     alloc: Global,
     lemmas: &[Lemma],
     latches: usize,
@@ -120,7 +124,7 @@ pub(crate) fn stand_ins(
     let mut lists = no_lists(alloc, latches.saturating_mul(2))?;
     let mut places = Vec::new(alloc);
     for place in (0..lemmas.len()).rev() {
-        places.push(stand_in(&mut lists, lemmas, place)?)?;
+        places.push(implying_place(&mut lists, lemmas, place)?)?;
     }
     Ok(places)
 }
@@ -132,7 +136,7 @@ fn implies(by: &Lemma, lemma: &Lemma) -> bool
 }
 
 /// Whether the other lemma is one behind this place and implies the lemma.
-pub(crate) fn stands_in(lemmas: &[Lemma], place: usize, lemma: &Lemma, other: usize) -> bool
+pub(crate) fn is_implied_by(lemmas: &[Lemma], place: usize, lemma: &Lemma, other: usize) -> bool
     ensures { result ≡ true → IsImpliedBehind lemmas.now place lemma.now }
 {
     if other <= place || lemmas.len() <= other {
