@@ -39,6 +39,10 @@ IsAllowedIn s skeleton = IsAllowed s.circuit.now s.property (entries_of s) skele
 abbrev pub AreAvoided : Scope → List (List Lit) → Type 0
 AreAvoided s cubes = All (BeginsNone s.circuit.now s.property (entries_of s)) cubes
 
--- at most the steps of a search for a path for each situation of a skeleton, and of one more, were counted
+-- at most the steps of a search for a path for each situation of a skeleton were counted
+abbrev pub AsksLoop : Scope → Spendings → Spendings → Type 0
+AsksLoop s old new = Asks (length s.circuit.now.latches) (max 1 (length (fair_literals s.circuit.now s.property))) old new
+
+-- and those of one more
 abbrev pub AsksRound : Scope → Spendings → Spendings → Type 0
 AsksRound s old new = Asks (length s.circuit.now.latches) (max 1 (length (fair_literals s.circuit.now s.property)) + 1) old new

@@ -1,6 +1,6 @@
 //! The search for a lasso through a skeleton. The main call is `seek`.
 
-ghost use Rattle.std.specs.Prelude.{◌≡◌, ◌-◌, ◌<◌, ◌↔◌, [], max, length, slice_index_or, IsTrue, All, IfOk, IfErr, OnOk};
+ghost use Rattle.std.specs.Prelude.{◌≡◌, ◌-◌, ◌<◌, ◌↔◌, [], length, slice_index_or, IsTrue, All, IfOk, IfErr, OnOk};
 ghost use Rattle.aig_semantics.specs.Circuits.{fair_literals};
 ghost use Rattle.aig_semantics.specs.Stimuli.{IsFairLassoOf};
 ghost use Rattle.ic3_semantics.specs.Searching.{CountsUpTo};
@@ -8,7 +8,7 @@ ghost use Rattle.fair_semantics.specs.Skeletons.{IsSituation, IsSkeleton};
 ghost use Rattle.ic3.specs.Searches.{steps_left};
 ghost use Rattle.lasso_join.specs.Fitting.{IsStemTo, Fit};
 ghost use Rattle.fair_round.specs.Spending.{IsStop, Asks};
-ghost use Rattle.fair_round.specs.Scopes.{IsScope, IsAllowedIn, AsksRound, asking_of_scope, entries_of};
+ghost use Rattle.fair_round.specs.Scopes.{IsScope, IsAllowedIn, AsksLoop, AsksRound, asking_of_scope, entries_of};
 ghost use Rattle.fair_round.specs.Walks.{AreWalked, IsSoughtIn, skeleton_of, states};
 ghost use Rattle.fair_round.specs.Pools.{IsBegun, IsReachedRun, IsBeginning};
 ghost use Rattle.fair_round.specs.Stems.{IsFit};
@@ -291,8 +291,7 @@ fn seek_from(
     requires begun { IsBegun scope.now.circuit.now scope.now.property (entries_of scope.now) begun }
     ensures sought { IfOk result (IsSoughtIn scope.now) }
     ensures stop { IfErr result (IsStop meter.new) }
-    ensures counted { Asks (length scope.now.circuit.now.latches)
-        (max 1 (length (fair_literals scope.now.circuit.now scope.now.property))) meter.old meter.new }
+    ensures counted { AsksLoop scope.now meter.old meter.new }
     ensures same { rounds.new ≡ rounds.old }
 {
     let Begun { way, skeleton } = begun;
