@@ -6,11 +6,11 @@ ghost use Rattle.aig_semantics.specs.Stimuli.{IsFairLassoOf};
 ghost use Rattle.ic3_semantics.specs.Searching.{CountsUpTo};
 ghost use Rattle.fair_semantics.specs.Skeletons.{IsSituation, IsSkeleton};
 ghost use Rattle.ic3.specs.Searches.{steps_left};
-ghost use Rattle.lasso_join.specs.Fitting.{IsStemTo, Fit};
+ghost use Rattle.lasso_join.specs.Fitting.{LeadsTo, IsStemTo, Fit};
 ghost use Rattle.fair_round.specs.Spending.{IsStop, Asks};
 ghost use Rattle.fair_round.specs.Scopes.{IsScope, IsAllowedIn, AsksLoop, AsksRound, asking_of_scope, entries_of};
-ghost use Rattle.fair_round.specs.Walks.{AreWalked, IsSoughtIn, skeleton_of, states};
-ghost use Rattle.fair_round.specs.Pools.{IsBegun, IsReachedRun, IsBeginning};
+ghost use Rattle.fair_round.specs.Walks.{AreWalked, IsSoughtIn, skeleton_of, states, successors};
+ghost use Rattle.fair_round.specs.Pools.{IsBegun, IsBeginning};
 ghost use Rattle.fair_round.specs.Stems.{IsFit};
 
 use crate::invariants::by_invariants;
@@ -64,6 +64,37 @@ fn lasso_of(
     shortest_prefix(alloc, c, j, whole)
 }
 
+// The lasso of a walk, with the way that closes its loop.
+fn joined(
+    alloc: Global,
+    scope: &Scope<'_>,
+    stem: Items<Position>,
+    situations: Vec<Situation>,
+    pieces: Items<Items<Position>>,
+    last: Items<Position>,
+) -> Result<Lasso, AllocError>
+    requires allowed { IsAllowedIn scope.now (skeleton_of situations.items) }
+    requires stem { IsStemTo scope.now.circuit.now (slice_index_or (states situations.items) 0 []) stem }
+    requires walked { AreWalked scope.now.circuit.now situations.items (length situations.items - 1) pieces }
+    requires closing { LeadsTo scope.now.circuit.now (slice_index_or (successors situations.items) (length situations.items - 1) [])
+        (slice_index_or (states situations.items) 0 []) last }
+    ensures { IfOk result (IsFairLassoOf scope.now.circuit.now scope.now.property) }
+{
+    let mut pieces = pieces;
+    pieces.push(last)?;
+    let skeleton = Skeleton {
+        situations: Items::from_vec(situations),
+    };
+    lasso_of(
+        alloc,
+        scope.circuit,
+        scope.property,
+        stem.as_slice(),
+        &skeleton,
+        pieces.as_slice(),
+    )
+}
+
 // The barred skeleton.
 fn barred(bar: Bar, situations: Vec<Situation>) -> Sought
     ensures { result ≡ Sought.Barred bar (skeleton_of situations.items) }
@@ -76,19 +107,21 @@ fn barred(bar: Bar, situations: Vec<Situation>) -> Sought
     )
 }
 
-// The run along the pieces: from an initial state to the situation behind the last of them, with its position.
-fn run_along(
+// Keeps the run along the pieces: from an initial state to the situation behind the last of them, with its position.
+fn keep_run(
     alloc: Global,
-    _c: &Circuit,
+    c: &Circuit,
+    rounds: &mut Rounds,
     way: Items<Position>,
     situations: &[Situation],
     pieces: &[Items<Position>],
-) -> Result<Items<Position>, AllocError>
-    requires way { IsStemTo _c.now (slice_index_or (states situations.now) 0 []) way }
-    requires situations { All (IsSituation _c.now) situations.now }
+) -> Result<(), AllocError>
+    requires circuit { rounds.old.circuit ≡ c.now }
+    requires way { IsStemTo c.now (slice_index_or (states situations.now) 0 []) way }
+    requires situations { All (IsSituation c.now) situations.now }
     requires some { length pieces.now < length situations.now }
-    requires walked { AreWalked _c.now situations.now (length pieces.now) pieces.now }
-    ensures { IfOk result (IsReachedRun _c.now) }
+    requires walked { AreWalked c.now situations.now (length pieces.now) pieces.now }
+    ensures { rounds.new ≡ rounds.old }
 {
     let mut run = way.into_vec();
     for (k, piece) in pieces.iter().enumerate() {
@@ -96,7 +129,7 @@ fn run_along(
         append(alloc, &mut run, piece.as_slice())?;
     }
     append_one(alloc, &mut run, &situations[pieces.len()].position)?;
-    Ok(Items::from_vec(run))
+    rounds.keep(c, Items::from_vec(run))
 }
 
 // A skeleton whose first state is reached, and the way there: where the pool has none, one that the search for stems gives; or
@@ -299,14 +332,14 @@ fn seek_from(
     match walk(alloc, scope, &mut situations, meter)? {
         Walked::Pieces(pieces) => close_loop(alloc, scope, rounds, way, situations, pieces, meter),
         Walked::Barred(bar, pieces) => {
-            let run = run_along(
+            keep_run(
                 alloc,
                 scope.circuit,
+                rounds,
                 way,
                 situations.as_slice(),
                 pieces.as_slice(),
             )?;
-            rounds.keep(scope.circuit, run)?;
             Ok(barred(bar, situations))
         }
     }
@@ -332,21 +365,20 @@ fn close_loop(
     ensures counted { Asks (length scope.now.circuit.now.latches) 1 meter.old meter.new }
     ensures same { rounds.new ≡ rounds.old }
 {
-    let c = scope.circuit;
-    let mut pieces = pieces;
     match closing(alloc, scope, situations.as_slice(), meter)? {
         Way::Open(last) => {
-            pieces.push(last)?;
-            let skeleton = Skeleton {
-                situations: Items::from_vec(situations),
-            };
-            let stem = begun.as_slice();
-            let lasso = lasso_of(alloc, c, scope.property, stem, &skeleton, pieces.as_slice())?;
+            let lasso = joined(alloc, scope, begun, situations, pieces, last)?;
             Ok(Sought::Lasso(lasso))
         }
         Way::Barred(bar) => {
-            let run = run_along(alloc, c, begun, situations.as_slice(), pieces.as_slice())?;
-            rounds.keep(c, run)?;
+            keep_run(
+                alloc,
+                scope.circuit,
+                rounds,
+                begun,
+                situations.as_slice(),
+                pieces.as_slice(),
+            )?;
             Ok(barred(bar, situations))
         }
     }
