@@ -33,7 +33,7 @@ pub(crate) const NAMED: &str =
 /// A model and an answer, and the line that must be written.
 type Row = (&'static str, &'static str, &'static str);
 
-const ROWS: [Row; 29] = [
+const ENTRIES: [Row; 9] = [
     (STUCK, REACH, "accepted certificate j0 entries 1\n"),
     // By clause 2 the latch becomes 0 where it is 1.
     (
@@ -68,6 +68,13 @@ const ROWS: [Row; 29] = [
         "0\nj0\nversion 1\nrefute 0 0\n\nend\n",
         "refused refutation line 0 unfinished\n",
     ),
+];
+
+fn entries() -> &'static [Row] {
+    &ENTRIES
+}
+
+const FORMS: [Row; 11] = [
     // An entry without clauses, and one with a clause of no literal.
     (
         NEVER,
@@ -122,6 +129,13 @@ const ROWS: [Row; 29] = [
         "0\nj0\nversion 2\nwall 0 0\n\nwall 0 1\n0-\nwall 0 2\n0 1-\nwall 0 2\n1 2\nrefute 0 1\n\n5 0 1 4 0\nend\n",
         "refused entry 3 use 1\n",
     ),
+];
+
+fn forms() -> &'static [Row] {
+    &FORMS
+}
+
+const ENDS: [Row; 9] = [
     // Counts that are not those of the lines, and numbers that are too great.
     (
         RISES,
@@ -167,6 +181,10 @@ const ROWS: [Row; 29] = [
     (NEVER, "c\nu\n0", "refused shape line 4\n"),
 ];
 
+fn ends() -> &'static [Row] {
+    &ENDS
+}
+
 /// The proof line of a refutation, and what must be written.
 type ProofLine = (&'static str, &'static str);
 
@@ -184,77 +202,75 @@ const PROOF_LINES: [ProofLine; 8] = [
     ("5 -7 0 1 4 0", "refused refutation line 1 unfinished\n"),
 ];
 
-// A certificate for a latch that rises, with all features.
-const BASE: [&str; 62] = [
-    "0",
-    "j0",
-    "version 2",
-    "wall 3 0",
-    "",
-    "2 0",
-    "2 2 0",
-    "3 2 0",
-    "proof 3",
-    "8 4 0 1 3 0",
-    "9 d 4 2 0",
-    "9 0 8 7 0",
-    "proof 3",
-    "9 4 0 1 3 0",
-    "10 d 0",
-    "10 0 9 8 0",
-    "proof 3",
-    "9 -4 0 8 0",
-    "10 d 1 2 3 0",
-    "10 0 7 8 0",
-    "reach 3 0",
-    "",
-    "3 2 0",
-    "2 3 0",
-    "3 3 2 0",
-    "proof 3",
-    "9 4 0 7 0",
-    "10 d 7 0",
-    "10 0 9 8 0",
-    "proof 3",
-    "9 4 0 8 0",
-    "10 d 8 0",
-    "10 0 9 7 0",
-    "proof 3",
-    "10 4 0 7 0",
-    "11 d 7 8 0",
-    "11 0 10 9 0",
-    "wall 0 2",
-    "0+ 1",
-    "wall 3 3",
-    "0- 1 2",
-    "3 0",
-    "3 2 0",
-    "3 3 0",
-    "proof 3",
-    "36 4 0 1 3 0",
-    "37 d 2 28 0",
-    "37 0 36 31 14 16 20 21 0",
-    "proof 3",
-    "37 d 32 0",
-    "39 4 0 35 0",
-    "40 0 39 36 0",
-    "proof 3",
-    "37 4 0 1 3 0",
-    "39 d 35 0",
-    "40 0 37 31 14 16 20 21 0",
-    "refute 3 3",
-    "0 1 3",
-    "60 4 0 1 3 0",
-    "61 d 2 7 0",
-    "61 0 60 4 15 17 21 22 5 0",
-    "end",
-];
+// A certificate for a latch that rises, with all features, without the last line feed.
+const BASE: &str = "0
+j0
+version 2
+wall 3 0
+
+2 0
+2 2 0
+3 2 0
+proof 3
+8 4 0 1 3 0
+9 d 4 2 0
+9 0 8 7 0
+proof 3
+9 4 0 1 3 0
+10 d 0
+10 0 9 8 0
+proof 3
+9 -4 0 8 0
+10 d 1 2 3 0
+10 0 7 8 0
+reach 3 0
+
+3 2 0
+2 3 0
+3 3 2 0
+proof 3
+9 4 0 7 0
+10 d 7 0
+10 0 9 8 0
+proof 3
+9 4 0 8 0
+10 d 8 0
+10 0 9 7 0
+proof 3
+10 4 0 7 0
+11 d 7 8 0
+11 0 10 9 0
+wall 0 2
+0+ 1
+wall 3 3
+0- 1 2
+3 0
+3 2 0
+3 3 0
+proof 3
+36 4 0 1 3 0
+37 d 2 28 0
+37 0 36 31 14 16 20 21 0
+proof 3
+37 d 32 0
+39 4 0 35 0
+40 0 39 36 0
+proof 3
+37 4 0 1 3 0
+39 d 35 0
+40 0 37 31 14 16 20 21 0
+refute 3 3
+0 1 3
+60 4 0 1 3 0
+61 d 2 7 0
+61 0 60 4 15 17 21 22 5 0
+end";
 
 /// The number of a line, counted from 1, what stands in its place, and what must be written.
 type Edit = (usize, &'static str, &'static str);
 
 // Each kind of fault is there in an entry and in the refutation.
-const EDITS: [Edit; 26] = [
+const OF_LINES: [Edit; 13] = [
     (62, "end", "accepted certificate j0 entries 4\n"),
     (39, "0- 1", "accepted certificate j0 entries 4\n"),
     (4, "wall 03 0", "refused shape line 4\n"),
@@ -272,6 +288,13 @@ const EDITS: [Edit; 26] = [
     (58, "0 1 2+", "refused refutation use 2\n"),
     (25, "3 3 4 0", "refused entry 1 literal 4\n"),
     (25, "2 0", "refused entry 1 base 2\n"),
+];
+
+fn of_lines() -> &'static [Edit] {
+    &OF_LINES
+}
+
+const OF_PROOFS: [Edit; 13] = [
     (
         9,
         "proof 4",
@@ -331,6 +354,10 @@ const EDITS: [Edit; 26] = [
     ),
 ];
 
+fn of_proofs() -> &'static [Edit] {
+    &OF_PROOFS
+}
+
 /// The number of lines behind which the certificate is cut off, and what must be written.
 type Cut = (usize, &'static str);
 
@@ -361,20 +388,8 @@ const MANY: [Many; 3] = [
     (65_537, "", "refused too long\n"),
 ];
 
-fn rows() -> &'static [Row] {
-    &ROWS
-}
-
 fn proof_lines() -> &'static [ProofLine] {
     &PROOF_LINES
-}
-
-fn base() -> &'static [&'static str] {
-    &BASE
-}
-
-fn edits() -> &'static [Edit] {
-    &EDITS
 }
 
 fn cuts() -> &'static [Cut] {
@@ -393,7 +408,6 @@ fn says<R: Threads + Wait + Sync>(
     answer: &str,
     line: &str,
 ) -> Result<bool, AllocError> {
-    let words = ["fairlive", "check", "m", "a"];
     let number = if line.as_bytes().starts_with(b"accepted") {
         0
     } else {
@@ -402,7 +416,7 @@ fn says<R: Threads + Wait + Sync>(
     ends_so(
         rt,
         alloc,
-        &words,
+        "fairlive check m a",
         model.as_bytes(),
         answer,
         line.as_bytes(),
@@ -419,7 +433,7 @@ fn push_line(text: &mut String, line: &str) -> Result<(), AllocError> {
 /// The certificate with this line in the place of the one with this number, counted from 1.
 fn edited(alloc: Global, number: usize, other: &str) -> Result<String, AllocError> {
     let mut text = String::new(alloc);
-    for (k, line) in base().iter().enumerate() {
+    for (k, line) in BASE.split('\n').enumerate() {
         push_line(&mut text, if k + 1 == number { other } else { line })?;
     }
     Ok(text)
@@ -428,7 +442,7 @@ fn edited(alloc: Global, number: usize, other: &str) -> Result<String, AllocErro
 /// The first so many lines of the certificate.
 fn front(alloc: Global, count: usize) -> Result<String, AllocError> {
     let mut text = String::new(alloc);
-    for (k, line) in base().iter().enumerate() {
+    for (k, line) in BASE.split('\n').enumerate() {
         if k < count {
             push_line(&mut text, line)?;
         }
@@ -505,9 +519,13 @@ fn many_says<R: Threads + Wait + Sync>(
     says(rt, alloc, NEVER, &answer, line)
 }
 
-/// The place of the first row that is not answered so, from 0.
-fn wrong_row<R: Threads + Wait + Sync>(rt: &R, alloc: Global) -> Result<Option<usize>, AllocError> {
-    for (k, (model, answer, line)) in rows().iter().enumerate() {
+/// The place of the first of these rows that is not answered so, from 0.
+fn wrong_row<R: Threads + Wait + Sync>(
+    rt: &R,
+    alloc: Global,
+    rows: &[Row],
+) -> Result<Option<usize>, AllocError> {
+    for (k, (model, answer, line)) in rows.iter().enumerate() {
         if !says(rt, alloc, model, answer, line)? {
             return Ok(Some(k));
         }
@@ -527,22 +545,43 @@ fn is_refused_by_wave<R: Threads + Wait + Sync>(
     } else {
         line
     };
-    let words = ["fairlive", "wave", "m", "a"];
     let (model, wanted) = (model.as_bytes(), wanted.as_bytes());
-    ends_by(rt, alloc, &words, model, answer, wanted, 1, 1000)
+    ends_by(
+        rt,
+        alloc,
+        "fairlive wave m a",
+        model,
+        answer,
+        wanted,
+        1,
+        1000,
+    )
 }
 
-/// The place of the first row that `wave` does not refuse so, from 0.
-pub(crate) fn says_of_waves<R: Threads + Wait + Sync>(
+/// The place of the first of these rows that `wave` does not refuse so, from 0.
+fn other_of_waves<R: Threads + Wait + Sync>(
     rt: &R,
     alloc: Global,
+    rows: &[Row],
 ) -> Result<Option<usize>, AllocError> {
-    for (k, row) in rows().iter().enumerate() {
+    for (k, row) in rows.iter().enumerate() {
         if !is_refused_by_wave(rt, alloc, row)? {
             return Ok(Some(k));
         }
     }
     Ok(None)
+}
+
+/// The first row of each table that `wave` does not refuse so.
+pub(crate) fn says_of_waves<R: Threads + Wait + Sync>(
+    rt: &R,
+    alloc: Global,
+) -> Result<[Option<usize>; 3], AllocError> {
+    Ok([
+        other_of_waves(rt, alloc, entries())?,
+        other_of_waves(rt, alloc, forms())?,
+        other_of_waves(rt, alloc, ends())?,
+    ])
 }
 
 /// The place of the first line of a refutation that is not answered so, from 0.
@@ -558,12 +597,13 @@ fn wrong_proof_line<R: Threads + Wait + Sync>(
     Ok(None)
 }
 
-/// The place of the first edit that is not answered so, from 0.
+/// The place of the first of these edits that is not answered so, from 0.
 fn wrong_edit<R: Threads + Wait + Sync>(
     rt: &R,
     alloc: Global,
+    edits: &[Edit],
 ) -> Result<Option<usize>, AllocError> {
-    for (k, (number, other, line)) in edits().iter().enumerate() {
+    for (k, (number, other, line)) in edits.iter().enumerate() {
         if !edited_says(rt, alloc, *number, other, line)? {
             return Ok(Some(k));
         }
@@ -596,7 +636,9 @@ fn wrong_many<R: Threads + Wait + Sync>(
 
 #[test]
 fn certificates(rt: HostRuntime) -> Result<(), Fail> {
-    assert_eq!(rt; wrong_row(&rt, rt.alloc())?, None);
+    assert_eq!(rt; wrong_row(&rt, rt.alloc(), entries())?, None);
+    assert_eq!(rt; wrong_row(&rt, rt.alloc(), forms())?, None);
+    assert_eq!(rt; wrong_row(&rt, rt.alloc(), ends())?, None);
     Ok(())
 }
 
@@ -608,7 +650,8 @@ fn lines_of_a_refutation(rt: HostRuntime) -> Result<(), Fail> {
 
 #[test]
 fn edited_certificates(rt: HostRuntime) -> Result<(), Fail> {
-    assert_eq!(rt; wrong_edit(&rt, rt.alloc())?, None);
+    assert_eq!(rt; wrong_edit(&rt, rt.alloc(), of_lines())?, None);
+    assert_eq!(rt; wrong_edit(&rt, rt.alloc(), of_proofs())?, None);
     Ok(())
 }
 

@@ -1,6 +1,6 @@
 //! Runs of `rounds` and of `check` over texts about rounds, in memory: by rows worked out by hand.
 
-use crate::runs::{Outcome, ends_so, run_words};
+use crate::runs::{Outcome, Row, first_wrong, run_words};
 use crate::solving::is_printed_accepted;
 use crate::tests::{COUNTER, CYCLE, STUCK, TOGGLE};
 use std::alloc::{AllocError, Global};
@@ -8,16 +8,7 @@ use std::sync::Wait;
 use std::test::Fail;
 use std::thread::Threads;
 
-/// Words, MODEL and ANSWER, the text that must be written, and the number that the program must end with.
-type Row = (
-    &'static [&'static str],
-    &'static str,
-    &'static str,
-    &'static str,
-    u8,
-);
-
-const CHECK: &[&str] = &["fairlive", "check", "m", "a"];
+const CHECK: &str = "fairlive check m a";
 
 const FEWER: &str =
     "rounds 1\nj0\nversion 2\nreach 3 0\n\n3 0\n5 0\n7 0\nproof 1\n21 0 17 11 20 0\nproof 1\n21 0 20 13 5 6 0\nproof 1\n21 0 20 15 18 17 4 19 10 0\nrefute 1 1\n0\n5 0 3 4 0\nend\n";
@@ -31,7 +22,8 @@ pub(crate) const PARITY: &str =
 
 pub(crate) const REACHED: &str = "rounds 2\nj0\nrun\n0\n\n\n\n\n.\n";
 
-const ROWS: [Row; 23] = [
+// Texts that are checked.
+const CHECKED: [Row; 13] = [
     (CHECK, STUCK, FEWER, "accepted rounds 1 j0 fewer\n", 0),
     (CHECK, TOGGLE, REACHED, "accepted rounds 2 j0 reached\n", 0),
     (
@@ -87,59 +79,61 @@ const ROWS: [Row; 23] = [
         1,
     ),
     (CHECK, LARGE, "rounds 1\nj0\n", "too large 16777218\n", 9),
+];
+
+fn checked() -> &'static [Row] {
+    &CHECKED
+}
+
+// Other commands.
+const OTHERS: [Row; 10] = [
+    ("fairlive rounds m 1", LARGE, "", "too large 16777218\n", 9),
     (
-        &["fairlive", "rounds", "m", "1"],
-        LARGE,
-        "",
-        "too large 16777218\n",
-        9,
-    ),
-    (
-        &["fairlive", "rounds", "m", "1", "--property", "1"],
+        "fairlive rounds m 1 --property 1",
         STUCK,
         "",
         "no property 1\n",
         8,
     ),
     (
-        &["fairlive", "rounds", "m", "64"],
+        "fairlive rounds m 64",
         CYCLE,
         "",
         "model refused cycle 2\n",
         3,
     ),
-    (&["fairlive", "rounds", "x", "1"], STUCK, "", "", 4),
-    (&["fairlive", "rounds", "m", "2"], TOGGLE, "", REACHED, 0),
+    ("fairlive rounds x 1", STUCK, "", "", 4),
+    ("fairlive rounds m 2", TOGGLE, "", REACHED, 0),
     (
-        &["fairlive", "wave", "m", "a"],
+        "fairlive wave m a",
         TOGGLE,
         REACHED,
         "refused unknown status\n",
         1,
     ),
     (
-        &["fairlive", "convert", "m", "a"],
+        "fairlive convert m a",
         TOGGLE,
         REACHED,
         "refused unknown status\n",
         1,
     ),
     (
-        &["fairlive", "trim", "m", "a"],
+        "fairlive trim m a",
         TOGGLE,
         REACHED,
         "refused unknown status\n",
         1,
     ),
     (
-        &["fairlive", "rounds", "m", "1", "--steps", "0"],
+        "fairlive rounds m 1 --steps 0",
         STUCK,
         "",
         "2\nj0\nc entries 0 of 65536\nc worker 0 conflicts 0 of 1000000 steps 0 of 0\n.\n",
         2,
     ),
     (
-        &["fairlive", "rounds", "m", "1", "--conflicts", "0"],
+        "fairlive rounds m 1 --conflicts 0",
         PARITY,
         "",
         "2\nj0\nc entries 0 of 65536\nc worker 0 conflicts 0 of 0 steps 0 of 100000\n.\n",
@@ -147,50 +141,30 @@ const ROWS: [Row; 23] = [
     ),
 ];
 
-fn rows() -> &'static [Row] {
-    &ROWS
-}
-
-/// The place of the first row that is not answered so, from 0.
-fn wrong_row<R: Threads + Wait + Sync>(rt: &R, alloc: Global) -> Result<Option<usize>, AllocError> {
-    for (k, (words, model, answer, text, number)) in rows().iter().enumerate() {
-        let (model, text) = (model.as_bytes(), text.as_bytes());
-        if !ends_so(rt, alloc, words, model, answer, text, *number)? {
-            return Ok(Some(k));
-        }
-    }
-    Ok(None)
+fn others() -> &'static [Row] {
+    &OTHERS
 }
 
 #[test]
 fn texts_about_rounds(rt: HostRuntime) -> Result<(), Fail> {
-    assert_eq!(rt; wrong_row(&rt, rt.alloc())?, None);
+    assert_eq!(rt; first_wrong(&rt, rt.alloc(), checked())?, None);
+    assert_eq!(rt; first_wrong(&rt, rt.alloc(), others())?, None);
     Ok(())
 }
 
-/// A model, how many rounds are asked for, and how the text begins.
+/// A model, words that ask for rounds, and how the text begins.
 type Printed = (&'static str, &'static str, &'static str);
 
 const PRINTED: [Printed; 5] = [
-    (STUCK, "1", "rounds 1\nj0\nversion 2\n"),
-    (STUCK, "64", "rounds 64\nj0\nversion 2\n"),
-    (TOGGLE, "1", "rounds 1\nj0\nrun\n0\n"),
-    (TOGGLE, "64", "rounds 64\nj0\nrun\n0\n"),
-    (COUNTER, "2", "rounds 2\nj0\nrun\n00\n"),
+    (STUCK, "fairlive rounds m 1", "rounds 1\nj0\nversion 2\n"),
+    (STUCK, "fairlive rounds m 64", "rounds 64\nj0\nversion 2\n"),
+    (TOGGLE, "fairlive rounds m 1", "rounds 1\nj0\nrun\n0\n"),
+    (TOGGLE, "fairlive rounds m 64", "rounds 64\nj0\nrun\n0\n"),
+    (COUNTER, "fairlive rounds m 2", "rounds 2\nj0\nrun\n00\n"),
 ];
 
 fn printed_rows() -> &'static [Printed] {
     &PRINTED
-}
-
-fn counted<R: Threads + Wait + Sync>(
-    rt: &R,
-    alloc: Global,
-    model: &[u8],
-    k: &str,
-) -> Result<Outcome, AllocError> {
-    let words = ["fairlive", "rounds", "m", k];
-    run_words(rt, alloc, &words, model, "", 1000, &[], &[])
 }
 
 // Whether a run printed a text that begins so, and `check` accepts it.
@@ -211,7 +185,7 @@ fn is_counted<R: Threads + Wait + Sync>(
     alloc: Global,
     row: &Printed,
 ) -> Result<bool, AllocError> {
-    let ran = counted(rt, alloc, row.0.as_bytes(), row.1)?;
+    let ran = run_words(rt, alloc, row.1, row.0.as_bytes(), "", 1000, &[], &[])?;
     let is_so = is_right(rt, alloc, row, &ran);
     drop(ran);
     is_so

@@ -9,22 +9,58 @@ use std::test::Fail;
 use std::thread::Threads;
 use text_grammar::push_number;
 
-/// A seed and a size, with the verdict.
-type Row = (&'static str, &'static str, &'static str);
+/// Words, and how the summary begins.
+type Row = (&'static str, &'static str);
 
 const MODELS: [Row; 12] = [
-    ("1", "4", "0"),
-    ("0", "1", "0"),
-    ("3", "1", "1"),
-    ("4", "2", "1"),
-    ("7", "3", "1"),
-    ("0", "4", "1"),
-    ("2", "4", "1"),
-    ("4", "4", "0"),
-    ("10", "5", "0"),
-    ("3", "6", "1"),
-    ("0", "8", "0"),
-    ("2", "8", "1"),
+    (
+        "fairlive demo 1 4",
+        "demo scramble 1 4\nverdict 0\nentries ",
+    ),
+    (
+        "fairlive demo 0 1",
+        "demo scramble 0 1\nverdict 0\nentries ",
+    ),
+    (
+        "fairlive demo 3 1",
+        "demo scramble 3 1\nverdict 1\nentries ",
+    ),
+    (
+        "fairlive demo 4 2",
+        "demo scramble 4 2\nverdict 1\nentries ",
+    ),
+    (
+        "fairlive demo 7 3",
+        "demo scramble 7 3\nverdict 1\nentries ",
+    ),
+    (
+        "fairlive demo 0 4",
+        "demo scramble 0 4\nverdict 1\nentries ",
+    ),
+    (
+        "fairlive demo 2 4",
+        "demo scramble 2 4\nverdict 1\nentries ",
+    ),
+    (
+        "fairlive demo 4 4",
+        "demo scramble 4 4\nverdict 0\nentries ",
+    ),
+    (
+        "fairlive demo 10 5",
+        "demo scramble 10 5\nverdict 0\nentries ",
+    ),
+    (
+        "fairlive demo 3 6",
+        "demo scramble 3 6\nverdict 1\nentries ",
+    ),
+    (
+        "fairlive demo 0 8",
+        "demo scramble 0 8\nverdict 0\nentries ",
+    ),
+    (
+        "fairlive demo 2 8",
+        "demo scramble 2 8\nverdict 1\nentries ",
+    ),
 ];
 
 fn models() -> &'static [Row] {
@@ -42,29 +78,6 @@ fn entry_count(status: &Status) -> Option<u64> {
     }
 }
 
-fn push_all(text: &mut Vec<u8>, parts: &[&[u8]]) -> Result<(), AllocError> {
-    for part in parts {
-        text.extend_from_slice(part)?;
-    }
-    Ok(())
-}
-
-fn push_front(text: &mut Vec<u8>, row: &Row) -> Result<(), AllocError> {
-    let (seed, size, verdict) = row;
-    push_all(
-        text,
-        &[
-            b"demo scramble ",
-            seed.as_bytes(),
-            b" ",
-            size.as_bytes(),
-            b"\nverdict ",
-            verdict.as_bytes(),
-            b"\nentries ",
-        ],
-    )
-}
-
 fn push_count(text: &mut Vec<u8>, count: u64) -> Result<(), AllocError> {
     push_number(text, count)
 }
@@ -72,7 +85,7 @@ fn push_count(text: &mut Vec<u8>, count: u64) -> Result<(), AllocError> {
 // The summary of a model with so many entries.
 fn summary(alloc: Global, row: &Row, entries: u64) -> Result<Vec<u8>, AllocError> {
     let mut text = Vec::new(alloc);
-    push_front(&mut text, row)?;
+    text.extend_from_slice(row.1.as_bytes())?;
     push_count(&mut text, entries)?;
     text.extend_from_slice(b"\ncheck accepted\n")?;
     Ok(text)
@@ -102,8 +115,7 @@ fn run_summed<R: Threads + Wait + Sync>(
     most: u64,
     reads: &[u64],
 ) -> Result<Option<u64>, AllocError> {
-    let words = ["fairlive", "demo", row.0, row.1];
-    let ran = run_words(rt, alloc, &words, b"", "", most, reads, &[])?;
+    let ran = run_words(rt, alloc, row.0, b"", "", most, reads, &[])?;
     let entries = summed_up(alloc, &ran, row);
     drop(ran);
     entries
@@ -140,22 +152,22 @@ fn summaries_of_demo(rt: HostRuntime) -> Result<(), Fail> {
     Ok(())
 }
 
-const NO_REQUESTS: [&[&str]; 12] = [
-    &["fairlive", "demo"],
-    &["fairlive", "demo", "1"],
-    &["fairlive", "demo", "1", "4", "4"],
-    &["fairlive", "demo", "1", "0"],
-    &["fairlive", "demo", "1", "257"],
-    &["fairlive", "demo", "-1", "4"],
-    &["fairlive", "demo", "4294967296", "4"],
-    &["fairlive", "demo", "x", "4"],
-    &["fairlive", "demo", "", "4"],
-    &["fairlive", "demo", "1", "4", "--binary"],
-    &["fairlive", "demo", "1", "4", "--workers", "2"],
-    &["fairlive", "demo", "1", "4", "--help"],
+const NO_REQUESTS: [&str; 12] = [
+    "fairlive demo",
+    "fairlive demo 1",
+    "fairlive demo 1 4 4",
+    "fairlive demo 1 0",
+    "fairlive demo 1 257",
+    "fairlive demo -1 4",
+    "fairlive demo 4294967296 4",
+    "fairlive demo x 4",
+    "fairlive demo  4",
+    "fairlive demo 1 4 --binary",
+    "fairlive demo 1 4 --workers 2",
+    "fairlive demo 1 4 --help",
 ];
 
-fn no_requests() -> &'static [&'static [&'static str]] {
+fn no_requests() -> &'static [&'static str] {
     &NO_REQUESTS
 }
 

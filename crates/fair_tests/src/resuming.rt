@@ -11,18 +11,12 @@ use std::sync::Wait;
 use std::test::Fail;
 use std::thread::Threads;
 
-/// A model, the options, an answer, the number that the run must end with, and its text, or of a verdict how that begins.
-type Row = (
-    &'static str,
-    &'static [&'static str],
-    &'static str,
-    u8,
-    &'static str,
-);
+/// A model, words, an answer, the number that the run must end with, and its text, or of a verdict how that begins.
+type Row = (&'static str, &'static str, &'static str, u8, &'static str);
 
-const ONE: &[&str] = &["--skeletons", "0", "--resume", "a"];
+const ONE: &str = "fairlive solve m --skeletons 0 --resume a";
 
-const RESUMED: &[&str] = &["--resume", "a"];
+const RESUMED: &str = "fairlive solve m --resume a";
 
 const CERTIFICATE: &str = "0\nj0\nversion 2\n";
 
@@ -38,10 +32,11 @@ const OF_THE_OTHER: &str =
 const OF_THE_FIRST: &str =
     "0\nj0\nversion 2\nwall 1 0\n\n2 0\nproof 1\n8 0 1 3 7 0\nrefute 1 1\n0\n13 0 1 3 6 11 12 7 0\nend\n";
 
-const ROWS: [Row; 23] = [
+// Entries that are taken, and texts that give none.
+const TEXTS: [Row; 11] = [
     (
         RISES,
-        &["--skeletons", "0"],
+        "fairlive solve m --skeletons 0",
         WALL,
         2,
         "2\nj0\nc entries 0 of 0\n",
@@ -81,44 +76,42 @@ const ROWS: [Row; 23] = [
         1,
         "refused entry 0 clause 0 proof line 0 not unit 3\n",
     ),
+];
+
+fn texts() -> &'static [Row] {
+    &TEXTS
+}
+
+const OTHERS: [Row; 12] = [
     // What comes before the answer.
     (
         TOGGLE,
-        &["--property", "1", "--resume", "a"],
+        "fairlive solve m --property 1 --resume a",
         "1",
         8,
         "no property 1\n",
     ),
     (CYCLE, RESUMED, "1", 3, "model refused cycle 2\n"),
-    (RISES, &["--resume", "b"], WALL, 4, ""),
+    (RISES, "fairlive solve m --resume b", WALL, 4, ""),
     // A certificate of another property, and entries that do not help.
     (TWICE, ONE, OF_THE_OTHER, 0, CERTIFICATE),
     (
         APART,
-        &["--property", "1", "--steps", "0", "--resume", "a"],
+        "fairlive solve m --property 1 --steps 0 --resume a",
         OF_THE_FIRST,
         2,
         "2\nj1\nc entries 1 of 10001\nc worker 0 conflicts 0 of 1000000 steps 0 of 0\n.\n",
     ),
     (
         APART,
-        &[
-            "--property",
-            "1",
-            "--steps",
-            "0",
-            "--skeletons",
-            "65536",
-            "--resume",
-            "a",
-        ],
+        "fairlive solve m --property 1 --steps 0 --skeletons 65536 --resume a",
         OF_THE_FIRST,
         2,
         "2\nj1\nc entries 1 of 65536\nc worker 0 conflicts 0 of 1000000 steps 0 of 0\n.\n",
     ),
     (
         APART,
-        &["--property", "1", "--resume", "a"],
+        "fairlive solve m --property 1 --resume a",
         OF_THE_FIRST,
         0,
         "0\nj1\nversion 2\nwall 1 0\n\n2 0\nproof 1\n8 0 1 3 7 0\n",
@@ -132,27 +125,14 @@ const ROWS: [Row; 23] = [
     ),
     (
         APART,
-        &["--workers", "3", "--property", "1", "--resume=a"],
+        "fairlive solve m --workers 3 --property 1 --resume=a",
         OF_THE_FIRST,
         0,
         "0\nj1\nversion 2\nwall 1 0\n\n2 0\nproof 1\n8 0 1 3 7 0\n",
     ),
     (
         APART,
-        &[
-            "--workers",
-            "2",
-            "--lassos",
-            "1",
-            "--depth",
-            "3",
-            "--property",
-            "1",
-            "--steps",
-            "0",
-            "--resume",
-            "a",
-        ],
+        "fairlive solve m --workers 2 --lassos 1 --depth 3 --property 1 --steps 0 --resume a",
         OF_THE_FIRST,
         2,
         "2\nj1\nc entries 1 of 10001\nc worker 0 conflicts 0 of 1000000 steps 0 of 0\nc worker 1 conflicts 0 of 1000000 depth 3 of 3\n.\n",
@@ -167,16 +147,8 @@ const ROWS: [Row; 23] = [
     (STUCK, RESUMED, "0\nj1\n", 1, "refused property 1\n"),
 ];
 
-fn rows() -> &'static [Row] {
-    &ROWS
-}
-
-// The words of `solve m` with these behind it.
-fn words_with<'a>(alloc: Global, options: &[&'a str]) -> Result<Vec<&'a str>, AllocError> {
-    let mut words = Vec::new(alloc);
-    words.extend_from_slice(&["fairlive", "solve", "m"])?;
-    words.extend_from_slice(options)?;
-    Ok(words)
+fn others() -> &'static [Row] {
+    &OTHERS
 }
 
 // Whether a run ended as its row says, and a verdict that it printed is accepted.
@@ -204,9 +176,10 @@ fn is_resumed_so<R: Threads + Wait + Sync>(
     alloc: Global,
     row: &Row,
 ) -> Result<bool, AllocError> {
-    let words = words_with(alloc, row.1)?;
-    let ran = run_words(rt, alloc, &words, row.0.as_bytes(), row.2, 3, &[], &[])?;
-    is_right(rt, alloc, row, &ran)
+    let ran = run_words(rt, alloc, row.1, row.0.as_bytes(), row.2, 3, &[], &[])?;
+    let is_so = is_right(rt, alloc, row, &ran);
+    drop(ran);
+    is_so
 }
 
 // The same of a run on one thread.
@@ -215,14 +188,19 @@ fn is_resumed_alone<R: Threads + Wait + Sync>(
     alloc: Global,
     row: &Row,
 ) -> Result<bool, AllocError> {
-    let words = words_with(alloc, row.1)?;
-    let ran = run_words_alone(alloc, &words, row.0.as_bytes(), row.2)?;
-    is_right(rt, alloc, row, &ran)
+    let ran = run_words_alone(alloc, row.1, row.0.as_bytes(), row.2)?;
+    let is_so = is_right(rt, alloc, row, &ran);
+    drop(ran);
+    is_so
 }
 
-// The place of the first row that is not answered so, by threads or by one thread, from 0.
-fn wrong_row<R: Threads + Wait + Sync>(rt: &R, alloc: Global) -> Result<Option<usize>, AllocError> {
-    for (k, row) in rows().iter().enumerate() {
+// The place of the first of these rows that is not answered so, by threads or by one thread, from 0.
+fn wrong_row<R: Threads + Wait + Sync>(
+    rt: &R,
+    alloc: Global,
+    rows: &[Row],
+) -> Result<Option<usize>, AllocError> {
+    for (k, row) in rows.iter().enumerate() {
         if !is_resumed_so(rt, alloc, row)? {
             return Ok(Some(k));
         }
@@ -233,16 +211,17 @@ fn wrong_row<R: Threads + Wait + Sync>(rt: &R, alloc: Global) -> Result<Option<u
     Ok(None)
 }
 
-const NONE: [&[&str]; 3] = [
-    &["fairlive", "solve", "m", "--resume"],
-    &["fairlive", "solve", "m", "--resume", "a", "--resume", "a"],
-    &["fairlive", "solve", "m", "a"],
+const NONE: [&str; 3] = [
+    "fairlive solve m --resume",
+    "fairlive solve m --resume a --resume a",
+    "fairlive solve m a",
 ];
 
 /// A search goes on from the entries of a certificate; a text that gives none is refused.
 #[test]
 fn resumes(rt: HostRuntime) -> Result<(), Fail> {
-    assert_eq!(rt; wrong_row(&rt, rt.alloc())?, None);
+    assert_eq!(rt; wrong_row(&rt, rt.alloc(), texts())?, None);
+    assert_eq!(rt; wrong_row(&rt, rt.alloc(), others())?, None);
     assert_eq!(rt; first_taken(&rt, rt.alloc(), &NONE, RISES, WALL)?, None);
     Ok(())
 }

@@ -23,10 +23,18 @@ fn push_word(alloc: Global, list: &mut Vec<String>, word: &str) -> Result<(), Al
     Ok(())
 }
 
-fn owned_words(alloc: Global, words: &[&str]) -> Result<Vec<String>, AllocError> {
+fn push_words(alloc: Global, list: &mut Vec<String>, words: &str) -> Result<(), AllocError> {
+    for word in words.split(' ') {
+        push_word(alloc, list, word)?;
+    }
+    Ok(())
+}
+
+// The words of a line, with a space between each two; an empty line has none.
+fn owned_words(alloc: Global, words: &str) -> Result<Vec<String>, AllocError> {
     let mut list = Vec::new(alloc);
-    for word in words {
-        push_word(alloc, &mut list, word)?;
+    if !words.is_empty() {
+        push_words(alloc, &mut list, words)?;
     }
     Ok(list)
 }
@@ -119,12 +127,12 @@ fn run_list<R: Threads + Wait + Sync>(
     run_over(rt, alloc, list, &mut shelf, most, writes)
 }
 
-/// Runs these words over a shelf that holds the model as `m` and the answer as `a`, with at most `most` bytes a call, and
-/// with these calls failing.
+/// Runs these words, with a space between each two, over a shelf that holds the model as `m` and the answer as `a`, with at
+/// most `most` bytes a call, and with these calls failing.
 pub(crate) fn run_words<R: Threads + Wait + Sync>(
     rt: &R,
     alloc: Global,
-    words: &[&str],
+    words: &str,
     model: &[u8],
     answer: &str,
     most: u64,
@@ -138,7 +146,7 @@ pub(crate) fn run_words<R: Threads + Wait + Sync>(
 /// The same on one thread, with no call failing.
 pub(crate) fn run_words_alone(
     alloc: Global,
-    words: &[&str],
+    words: &str,
     model: &[u8],
     answer: &str,
 ) -> Result<Outcome, AllocError> {
@@ -176,7 +184,7 @@ pub(crate) fn is_end(ran: &Outcome, text: &[u8], number: u8) -> bool {
 pub(crate) fn ends_by<R: Threads + Wait + Sync>(
     rt: &R,
     alloc: Global,
-    words: &[&str],
+    words: &str,
     model: &[u8],
     answer: &str,
     text: &[u8],
@@ -194,7 +202,7 @@ pub(crate) fn ends_by<R: Threads + Wait + Sync>(
 pub(crate) fn ends_so<R: Threads + Wait + Sync>(
     rt: &R,
     alloc: Global,
-    words: &[&str],
+    words: &str,
     model: &[u8],
     answer: &str,
     text: &[u8],
@@ -206,17 +214,35 @@ pub(crate) fn ends_so<R: Threads + Wait + Sync>(
     ends_by(rt, alloc, words, model, answer, text, number, 1)
 }
 
-/// The place of the first of these lists of words that is not refused by the usage text, from 0.
+/// The place of the first of these lines of words that is not refused by the usage text, from 0.
 pub(crate) fn first_taken<R: Threads + Wait + Sync>(
     rt: &R,
     alloc: Global,
-    lists: &[&[&str]],
+    lines: &[&str],
     model: &str,
     answer: &str,
 ) -> Result<Option<usize>, AllocError> {
     let model = model.as_bytes();
-    for (k, words) in lists.iter().enumerate() {
+    for (k, words) in lines.iter().enumerate() {
         if !ends_so(rt, alloc, words, model, answer, USAGE.as_bytes(), 64)? {
+            return Ok(Some(k));
+        }
+    }
+    Ok(None)
+}
+
+/// Words, a model and an answer, the text that must be written, and the number that the program must end with.
+pub(crate) type Row = (&'static str, &'static str, &'static str, &'static str, u8);
+
+/// The place of the first of these rows that is not answered so, from 0.
+pub(crate) fn first_wrong<R: Threads + Wait + Sync>(
+    rt: &R,
+    alloc: Global,
+    rows: &[Row],
+) -> Result<Option<usize>, AllocError> {
+    for (k, (words, model, answer, text, number)) in rows.iter().enumerate() {
+        let (model, text) = (model.as_bytes(), text.as_bytes());
+        if !ends_so(rt, alloc, words, model, answer, text, *number)? {
             return Ok(Some(k));
         }
     }

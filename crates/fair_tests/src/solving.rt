@@ -51,16 +51,19 @@ const CERTIFICATE: &str = "0\nj0\nversion 2\n";
 
 const ROUND: &str = "1\nj0\n00\n\n\n\n\n.\n";
 
-// What limits that serve say.
-const ENOUGH: &[&str] = &["--conflicts", "1000", "--steps", "1000"];
+const SOLVE: &str = "fairlive solve m";
 
-/// A model, the words behind `solve m`, the number with which the run ends, and what is written: all of it, or of a
-/// certificate and of a report how it begins.
-type Row = (&'static [u8], &'static [&'static str], u8, &'static str);
+// Under limits that serve.
+const ENOUGH: &str = "fairlive solve m --conflicts 1000 --steps 1000";
 
-const ROWS: [Row; 51] = [
+/// A model, words, the number with which the run ends, and what is written: all of it, or of a certificate and of a report how
+/// it begins.
+type Row = (&'static [u8], &'static str, u8, &'static str);
+
+// Under limits that serve.
+const WITHIN: [Row; 11] = [
     (TOGGLE, ENOUGH, 0, TWICE),
-    (TOGGLE, &[], 0, TWICE),
+    (TOGGLE, SOLVE, 0, TWICE),
     (STUCK, ENOUGH, 0, CERTIFICATE),
     (RISES, ENOUGH, 0, CERTIFICATE),
     (FREE, ENOUGH, 0, "1\nj0\n1\n\n.\n"),
@@ -70,126 +73,132 @@ const ROWS: [Row; 51] = [
     (BINARY_TOGGLE, ENOUGH, 0, TWICE),
     (BINARY_STUCK, ENOUGH, 0, CERTIFICATE),
     (NO_LITERAL, ENOUGH, 0, TWICE),
-    (STUCK, &[], 0, CERTIFICATE),
-    (RISES, &[], 0, CERTIFICATE),
-    (FREE, &[], 0, "1\nj0\n1\n\n.\n"),
-    (FREE_AT_0, &[], 0, CERTIFICATE),
-    (COUNTER, &[], 0, ROUND),
-    (NO_LATCH, &[], 0, "1\nj0\n\n1\n.\n"),
-    (BINARY_TOGGLE, &[], 0, TWICE),
-    (BINARY_STUCK, &[], 0, CERTIFICATE),
-    (NO_LITERAL, &[], 0, TWICE),
-    (RING_2, &[], 0, "1\nj0\n10\n\n\n.\n"),
-    (RING_4, &[], 0, "1\nj0\n1000\n\n\n\n\n.\n"),
-    (COUNTER, &["--workers", "4"], 0, ROUND),
-    (RING_4, &["--workers", "4"], 0, "1\nj0\n1000\n\n\n\n\n.\n"),
-    (STUCK, &["--workers", "64"], 0, CERTIFICATE),
-    (STUCK, &["--workers", "3"], 0, CERTIFICATE),
-    (NEVER, &["--conflicts", "0"], 0, CERTIFICATE),
-    (TOGGLE, &["--skeletons", "0"], 0, TWICE),
-    (NEVER, &["--skeletons", "0"], 0, CERTIFICATE),
-    (STUCK, &["--skeletons", "1"], 0, CERTIFICATE),
+];
+
+fn within() -> &'static [Row] {
+    &WITHIN
+}
+
+// Without limits.
+const PLAIN: [Row; 11] = [
+    (STUCK, SOLVE, 0, CERTIFICATE),
+    (RISES, SOLVE, 0, CERTIFICATE),
+    (FREE, SOLVE, 0, "1\nj0\n1\n\n.\n"),
+    (FREE_AT_0, SOLVE, 0, CERTIFICATE),
+    (COUNTER, SOLVE, 0, ROUND),
+    (NO_LATCH, SOLVE, 0, "1\nj0\n\n1\n.\n"),
+    (BINARY_TOGGLE, SOLVE, 0, TWICE),
+    (BINARY_STUCK, SOLVE, 0, CERTIFICATE),
+    (NO_LITERAL, SOLVE, 0, TWICE),
+    (RING_2, SOLVE, 0, "1\nj0\n10\n\n\n.\n"),
+    (RING_4, SOLVE, 0, "1\nj0\n1000\n\n\n\n\n.\n"),
+];
+
+fn plain() -> &'static [Row] {
+    &PLAIN
+}
+
+// By several workers, and with few conflicts or entries.
+const FEW: [Row; 8] = [
+    (COUNTER, "fairlive solve m --workers 4", 0, ROUND),
+    (
+        RING_4,
+        "fairlive solve m --workers 4",
+        0,
+        "1\nj0\n1000\n\n\n\n\n.\n",
+    ),
+    (STUCK, "fairlive solve m --workers 64", 0, CERTIFICATE),
+    (STUCK, "fairlive solve m --workers 3", 0, CERTIFICATE),
+    (NEVER, "fairlive solve m --conflicts 0", 0, CERTIFICATE),
+    (TOGGLE, "fairlive solve m --skeletons 0", 0, TWICE),
+    (NEVER, "fairlive solve m --skeletons 0", 0, CERTIFICATE),
+    (STUCK, "fairlive solve m --skeletons 1", 0, CERTIFICATE),
+];
+
+fn few() -> &'static [Row] {
+    &FEW
+}
+
+// With limits that are spent, and with lasso workers.
+const SPENT: [Row; 8] = [
     (
         STUCK,
-        &["--skeletons", "0"],
+        "fairlive solve m --skeletons 0",
         2,
         "2\nj0\nc entries 0 of 0\nc worker 0 conflicts ",
     ),
     (
         STUCK,
-        &["--steps", "0"],
+        "fairlive solve m --steps 0",
         2,
         "2\nj0\nc entries 0 of 10000\nc worker 0 conflicts 0 of 1000000 steps 0 of 0\n.\n",
     ),
     (
         EXCLUSIVE,
-        &["--conflicts", "0"],
+        "fairlive solve m --conflicts 0",
         2,
         "2\nj0\nc entries 0 of 10000\nc worker 0 conflicts 0 of 0 steps 0 of 100000\n.\n",
     ),
     (
         EXCLUSIVE,
-        &["--conflicts", "0", "--workers", "2"],
+        "fairlive solve m --conflicts 0 --workers 2",
         2,
         "2\nj0\nc entries 0 of 10000\nc worker 0 conflicts 0 of 0 steps 0 of 100000\nc worker 1 conflicts 0 of 0 steps 0 of 100000\n.\n",
     ),
-    (COUNTER, &["--workers", "2", "--lassos", "1"], 0, ROUND),
+    (COUNTER, "fairlive solve m --workers 2 --lassos 1", 0, ROUND),
     (
         STUCK,
-        &["--workers", "2", "--lassos", "1", "--depth", "0"],
+        "fairlive solve m --workers 2 --lassos 1 --depth 0",
         0,
         CERTIFICATE,
     ),
     (
         EXCLUSIVE,
-        &[
-            "--conflicts",
-            "0",
-            "--workers",
-            "2",
-            "--lassos",
-            "1",
-            "--depth",
-            "3",
-        ],
+        "fairlive solve m --conflicts 0 --workers 2 --lassos 1 --depth 3",
         2,
         "2\nj0\nc entries 0 of 10000\nc worker 0 conflicts 0 of 0 steps 0 of 100000\nc worker 1 conflicts 0 of 0 depth 0 of 3\n.\n",
     ),
     (
         STUCK,
-        &[
-            "--steps",
-            "0",
-            "--workers",
-            "2",
-            "--lassos",
-            "63",
-            "--depth",
-            "2",
-        ],
+        "fairlive solve m --steps 0 --workers 2 --lassos 63 --depth 2",
         2,
         "2\nj0\nc entries 0 of 10000\nc worker 0 conflicts 0 of 1000000 steps 0 of 0\nc worker 1 conflicts ",
     ),
-    (COUNTER, &["--lassos", "64"], 64, USAGE),
-    (COUNTER, &["--lassos", "one"], 64, USAGE),
-    (COUNTER, &["--depth", "65537"], 64, USAGE),
-    (TOGGLE, &["--property", "1"], 8, "no property 1\n"),
-    (b"aag 1048576 0 0 0 0\n", &[], 8, "no property 0\n"),
-    (b"aag 1048577 0 0 0 0\n", &[], 8, "no property 0\n"),
-    (b"aag 16777217 0 0 0 0\n", &[], 3, "model refused limit 0\n"),
-    (b"", &[], 3, "model refused truncated 0\n"),
-    (CYCLE, &[], 3, "model refused cycle 2\n"),
-    (COUNTER, &["--workers", "0"], 64, USAGE),
-    (COUNTER, &["--workers", "65"], 64, USAGE),
-    (COUNTER, &["--skeletons", "65537"], 64, USAGE),
-    (COUNTER, &["--property", ""], 64, USAGE),
 ];
 
-fn rows() -> &'static [Row] {
-    &ROWS
+fn spent() -> &'static [Row] {
+    &SPENT
 }
 
-// The words of `solve m` with these behind it.
-fn words_with<'a>(alloc: Global, options: &[&'a str]) -> Result<Vec<&'a str>, AllocError> {
-    let mut words = Vec::new(alloc);
-    words.extend_from_slice(&["fairlive", "solve", "m"])?;
-    words.extend_from_slice(options)?;
-    Ok(words)
-}
+// What is refused.
+const REFUSED: [Row; 13] = [
+    (COUNTER, "fairlive solve m --lassos 64", 64, USAGE),
+    (COUNTER, "fairlive solve m --lassos one", 64, USAGE),
+    (COUNTER, "fairlive solve m --depth 65537", 64, USAGE),
+    (
+        TOGGLE,
+        "fairlive solve m --property 1",
+        8,
+        "no property 1\n",
+    ),
+    (b"aag 1048576 0 0 0 0\n", SOLVE, 8, "no property 0\n"),
+    (b"aag 1048577 0 0 0 0\n", SOLVE, 8, "no property 0\n"),
+    (
+        b"aag 16777217 0 0 0 0\n",
+        SOLVE,
+        3,
+        "model refused limit 0\n",
+    ),
+    (b"", SOLVE, 3, "model refused truncated 0\n"),
+    (CYCLE, SOLVE, 3, "model refused cycle 2\n"),
+    (COUNTER, "fairlive solve m --workers 0", 64, USAGE),
+    (COUNTER, "fairlive solve m --workers 65", 64, USAGE),
+    (COUNTER, "fairlive solve m --skeletons 65537", 64, USAGE),
+    (COUNTER, "fairlive solve m --property ", 64, USAGE),
+];
 
-fn solved<R: Threads + Wait + Sync>(
-    rt: &R,
-    alloc: Global,
-    model: &[u8],
-    options: &[&str],
-) -> Result<Outcome, AllocError> {
-    let words = words_with(alloc, options)?;
-    run_words(rt, alloc, &words, model, "", 1000, &[], &[])
-}
-
-fn solved_alone(alloc: Global, model: &[u8], options: &[&str]) -> Result<Outcome, AllocError> {
-    let words = words_with(alloc, options)?;
-    run_words_alone(alloc, &words, model, "")
+fn refused() -> &'static [Row] {
+    &REFUSED
 }
 
 /// Whether `check` accepts this answer.
@@ -199,8 +208,16 @@ pub(crate) fn is_accepted<R: Threads + Wait + Sync>(
     model: &[u8],
     answer: &str,
 ) -> Result<bool, AllocError> {
-    let words = ["fairlive", "check", "m", "a"];
-    let ran = run_words(rt, alloc, &words, model, answer, 1000, &[], &[])?;
+    let ran = run_words(
+        rt,
+        alloc,
+        "fairlive check m a",
+        model,
+        answer,
+        1000,
+        &[],
+        &[],
+    )?;
     let is_so = ran.status.number() == 0 && ran.text.as_slice().starts_with(b"accepted ");
     drop(ran);
     Ok(is_so)
@@ -250,7 +267,7 @@ fn is_solved_so<R: Threads + Wait + Sync>(
     alloc: Global,
     row: &Row,
 ) -> Result<bool, AllocError> {
-    let ran = solved(rt, alloc, row.0, row.1)?;
+    let ran = run_words(rt, alloc, row.1, row.0, "", 1000, &[], &[])?;
     let is_so = is_right(rt, alloc, row, &ran);
     drop(ran);
     is_so
@@ -262,15 +279,19 @@ fn is_solved_alone<R: Threads + Wait + Sync>(
     alloc: Global,
     row: &Row,
 ) -> Result<bool, AllocError> {
-    let ran = solved_alone(alloc, row.0, row.1)?;
+    let ran = run_words_alone(alloc, row.1, row.0, "")?;
     let is_so = is_right(rt, alloc, row, &ran);
     drop(ran);
     is_so
 }
 
-// The place of the first row that is not answered so, by threads or by one thread, from 0.
-fn wrong_row<R: Threads + Wait + Sync>(rt: &R, alloc: Global) -> Result<Option<usize>, AllocError> {
-    for (k, row) in rows().iter().enumerate() {
+// The place of the first of these rows that is not answered so, by threads or by one thread, from 0.
+fn wrong_row<R: Threads + Wait + Sync>(
+    rt: &R,
+    alloc: Global,
+    rows: &[Row],
+) -> Result<Option<usize>, AllocError> {
+    for (k, row) in rows.iter().enumerate() {
         if !is_solved_so(rt, alloc, row)? {
             return Ok(Some(k));
         }
@@ -281,9 +302,23 @@ fn wrong_row<R: Threads + Wait + Sync>(rt: &R, alloc: Global) -> Result<Option<u
     Ok(None)
 }
 
+// The first wrong row of each table.
+fn wrong_rows<R: Threads + Wait + Sync>(
+    rt: &R,
+    alloc: Global,
+) -> Result<[Option<usize>; 5], AllocError> {
+    Ok([
+        wrong_row(rt, alloc, within())?,
+        wrong_row(rt, alloc, plain())?,
+        wrong_row(rt, alloc, few())?,
+        wrong_row(rt, alloc, spent())?,
+        wrong_row(rt, alloc, refused())?,
+    ])
+}
+
 /// The rows, on threads and on one thread, each printed verdict with its check.
 #[test]
 fn answers_of_solve(rt: HostRuntime) -> Result<(), Fail> {
-    assert_eq!(rt; wrong_row(&rt, rt.alloc())?, None);
+    assert_eq!(rt; wrong_rows(&rt, rt.alloc())?, [None; 5]);
     Ok(())
 }

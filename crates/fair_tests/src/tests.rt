@@ -2,7 +2,7 @@
 
 use crate::certificates::{RISES, WALL};
 use crate::dumps::model_of;
-use crate::runs::{Outcome, ends_so, first_taken, is_end, run_words, shelf_of};
+use crate::runs::{self, Outcome, ends_so, first_taken, first_wrong, is_end, run_words, shelf_of};
 use aig_semantics::Lasso;
 use certificate::{Accepted, AnswerEnd, AnswerFault, check_answer, check_with_lasso};
 use circuit::Circuit;
@@ -15,7 +15,7 @@ use std::test::Fail;
 use std::thread::Threads;
 use stimulus::ReplayFault;
 
-const CHECK: [&str; 4] = ["fairlive", "check", "m", "a"];
+const CHECK: &str = "fairlive check m a";
 
 // The latch begins with 0 and changes at each step; the property is that it is 1.
 pub(crate) const TOGGLE: &str = "aag 1 0 1 0 0 0 0 1 0\n2 3\n1\n2\n";
@@ -52,7 +52,7 @@ pub(crate) const TWO_FROM_0: &str = "accepted lasso j0 positions 2 loop 0\n";
 /// A model and an answer, the text that `check` must write, and the number that it must end with.
 pub(crate) type Row = (&'static str, &'static str, &'static str, u8);
 
-const ROWS: [Row; 53] = [
+const ACCEPTED: [Row; 8] = [
     (TOGGLE, TWO_POSITIONS, TWO_FROM_0, 0),
     (TOGGLE, "1\nj0\nc hello\nx\n\n\n\n.\n", TWO_FROM_0, 0),
     (
@@ -81,6 +81,14 @@ const ROWS: [Row; 53] = [
         "accepted lasso j0 positions 4 loop 0\n",
         0,
     ),
+];
+
+pub(crate) fn accepted() -> &'static [Row] {
+    &ACCEPTED
+}
+
+// Of a line that is not of the form.
+const FIRST_LINES: [Row; 10] = [
     (TOGGLE, "", "refused shape line 1\n", 1),
     (TOGGLE, "3\nj0\n", "refused shape line 1\n", 1),
     (TOGGLE, "1 \nj0\n0\n\n\n.\n", "refused shape line 1\n", 1),
@@ -96,6 +104,13 @@ const ROWS: [Row; 53] = [
         "refused shape line 2\n",
         1,
     ),
+];
+
+pub(crate) fn first_lines() -> &'static [Row] {
+    &FIRST_LINES
+}
+
+const LATER_LINES: [Row; 9] = [
     (TOGGLE, "1\nc\n\nj0\n", "refused shape line 3\n", 1),
     (TOGGLE, "1\nj0\n", "refused shape line 3\n", 1),
     (TOGGLE, "1\nj0\n.\n", "refused shape line 3\n", 1),
@@ -110,6 +125,14 @@ const ROWS: [Row; 53] = [
     ),
     (TOGGLE, "1\nj0\n0\n\n\n..\n", "refused shape line 6\n", 1),
     (TOGGLE, "1\nj0\n0\n\n\n", "refused shape line 6\n", 1),
+];
+
+pub(crate) fn later_lines() -> &'static [Row] {
+    &LATER_LINES
+}
+
+// Of the property, the status and the end.
+const ENDS: [Row; 9] = [
     (TOGGLE, "1\nj1\n0\n\n\n.\n", "refused property 1\n", 1),
     (TOGGLE, "c\n1\nu\nj1\nzz\n", "refused property 1\n", 1),
     (
@@ -139,6 +162,14 @@ const ROWS: [Row; 53] = [
         "refused trailing line 9\n",
         1,
     ),
+];
+
+pub(crate) fn ends() -> &'static [Row] {
+    &ENDS
+}
+
+// Of the replay.
+const REPLAYS: [Row; 10] = [
     (TOGGLE, "1\nj0\n00\n\n\n.\n", "refused width item 0\n", 1),
     (TOGGLE, "1\nj0\n1\n0\n\n.\n", "refused width item 1\n", 1),
     (TOGGLE, "1\nj0\n0\n\n\n0\n.\n", "refused width item 3\n", 1),
@@ -164,6 +195,14 @@ const ROWS: [Row; 53] = [
     (STUCK, "1\nj0\n0\n\n.\n", "refused no fair loop\n", 1),
     (TOGGLE, "1\nj0\n0\n.\n", "refused no fair loop\n", 1),
     (ON_STEM, TWO_POSITIONS, "refused no fair loop\n", 1),
+];
+
+pub(crate) fn replays() -> &'static [Row] {
+    &REPLAYS
+}
+
+// Of the model.
+const MODELS: [Row; 7] = [
     ("", TWO_POSITIONS, "model refused truncated 0\n", 3),
     (CYCLE, TWO_POSITIONS, "model refused cycle 2\n", 3),
     ("aag 16777217 0 0 0 0\n", "", "model refused limit 0\n", 3),
@@ -183,26 +222,44 @@ const ROWS: [Row; 53] = [
     ),
 ];
 
-/// Models and answers.
-pub(crate) fn rows() -> &'static [Row] {
-    &ROWS
+pub(crate) fn models() -> &'static [Row] {
+    &MODELS
 }
 
-/// The place of the first row that is not answered so, from 0.
-fn wrong_row<R: Threads + Wait + Sync>(rt: &R, alloc: Global) -> Result<Option<usize>, AllocError> {
-    for (k, (model, answer, text, number)) in rows().iter().enumerate() {
+/// The place of the first row of a table that is not answered so, from 0.
+fn wrong_row<R: Threads + Wait + Sync>(
+    rt: &R,
+    alloc: Global,
+    rows: &[Row],
+) -> Result<Option<usize>, AllocError> {
+    for (k, (model, answer, text, number)) in rows.iter().enumerate() {
         let (model, text) = (model.as_bytes(), text.as_bytes());
-        if !ends_so(rt, alloc, &CHECK, model, answer, text, *number)? {
+        if !ends_so(rt, alloc, CHECK, model, answer, text, *number)? {
             return Ok(Some(k));
         }
     }
     Ok(None)
 }
 
+/// The first wrong row of each table.
+fn wrong_rows<R: Threads + Wait + Sync>(
+    rt: &R,
+    alloc: Global,
+) -> Result<[Option<usize>; 6], AllocError> {
+    Ok([
+        wrong_row(rt, alloc, accepted())?,
+        wrong_row(rt, alloc, first_lines())?,
+        wrong_row(rt, alloc, later_lines())?,
+        wrong_row(rt, alloc, ends())?,
+        wrong_row(rt, alloc, replays())?,
+        wrong_row(rt, alloc, models())?,
+    ])
+}
+
 /// The rows, at once and at one byte a call.
 #[test]
 fn answers_of_check(rt: HostRuntime) -> Result<(), Fail> {
-    assert_eq!(rt; wrong_row(&rt, rt.alloc())?, None);
+    assert_eq!(rt; wrong_rows(&rt, rt.alloc())?, [None; 6]);
     Ok(())
 }
 
@@ -231,7 +288,7 @@ fn toggled<R: Threads + Wait + Sync>(
     run_words(
         rt,
         alloc,
-        &CHECK,
+        CHECK,
         TOGGLE.as_bytes(),
         answer,
         most,
@@ -296,7 +353,7 @@ fn wrong_binary<R: Threads + Wait + Sync>(
 ) -> Result<Option<usize>, AllocError> {
     for (k, (model, text, number)) in binary_rows().iter().enumerate() {
         let text = text.as_bytes();
-        if !ends_so(rt, alloc, &CHECK, model, "1\nj0\n0\n0\n.\n", text, *number)? {
+        if !ends_so(rt, alloc, CHECK, model, "1\nj0\n0\n0\n.\n", text, *number)? {
             return Ok(Some(k));
         }
     }
@@ -461,35 +518,35 @@ fn first_line_is_judged_as_it_is_read(rt: HostRuntime) -> Result<(), Fail> {
     Ok(())
 }
 
-const NO_COMMANDS: [&[&str]; 25] = [
-    &[],
-    &["fairlive"],
-    &["fairlive", "check"],
-    &["fairlive", "check", "m"],
-    &["fairlive", "check", "m", "a", "a"],
-    &["fairlive", "solve", "m", "a"],
-    &["fairlive", "wave", "m"],
-    &["fairlive", "wave", "m", "a", "a"],
-    &["fairlive", "slice"],
-    &["fairlive", "slice", "m", "a"],
-    &["fairlive", "slice", "m", "--property", "4294967296"],
-    &["fairlive", "safety"],
-    &["fairlive", "safety", "m", "a"],
-    &["fairlive", "safety", "m", "--property", "4294967296"],
-    &["fairlive", "rounds", "m"],
-    &["fairlive", "rounds", "m", "0"],
-    &["fairlive", "rounds", "m", "65"],
-    &["fairlive", "rounds", "m", "1", "--steps", "4294967296"],
-    &["fairlive", "check", "-m", "a"],
-    &["fairlive", "check", "m", "--a"],
-    &["fairlive", "check", "m", "a", "--help"],
-    &["fairlive", "check", "-h"],
-    &["fairlive", "help"],
-    &["fairlive", "--help"],
-    &["fairlive", "--version"],
+const NO_COMMANDS: [&str; 25] = [
+    "",
+    "fairlive",
+    "fairlive check",
+    "fairlive check m",
+    "fairlive check m a a",
+    "fairlive solve m a",
+    "fairlive wave m",
+    "fairlive wave m a a",
+    "fairlive slice",
+    "fairlive slice m a",
+    "fairlive slice m --property 4294967296",
+    "fairlive safety",
+    "fairlive safety m a",
+    "fairlive safety m --property 4294967296",
+    "fairlive rounds m",
+    "fairlive rounds m 0",
+    "fairlive rounds m 65",
+    "fairlive rounds m 1 --steps 4294967296",
+    "fairlive check -m a",
+    "fairlive check m --a",
+    "fairlive check m a --help",
+    "fairlive check -h",
+    "fairlive help",
+    "fairlive --help",
+    "fairlive --version",
 ];
 
-fn no_commands() -> &'static [&'static [&'static str]] {
+fn no_commands() -> &'static [&'static str] {
     &NO_COMMANDS
 }
 
@@ -501,64 +558,51 @@ fn words_that_are_no_command(rt: HostRuntime) -> Result<(), Fail> {
     Ok(())
 }
 
-/// Words, a model, the text that must be written, and the number that the program must end with.
-type WordRow = (&'static [&'static str], &'static str, &'static str, u8);
-
 // Words that are taken by the customs of the command line, and names that the shelf does not hold.
-const WORD_ROWS: [WordRow; 10] = [
+const WORD_ROWS: [runs::Row; 10] = [
     (
-        &["fairlive", "check", "--", "m", "a"],
+        "fairlive check -- m a",
         TOGGLE,
+        TWO_POSITIONS,
         TWO_FROM_0,
         0,
     ),
     (
-        &["fairlive", "check", "m", "--", "a"],
+        "fairlive check m -- a",
         TOGGLE,
+        TWO_POSITIONS,
         TWO_FROM_0,
         0,
     ),
-    (&["fairlive", "check", "m", "-"], TOGGLE, "", 4),
-    (&["fairlive", "check", "x", "a"], TOGGLE, "", 4),
-    (&["fairlive", "check", "m", "x"], TOGGLE, "", 4),
+    ("fairlive check m -", TOGGLE, TWO_POSITIONS, "", 4),
+    ("fairlive check x a", TOGGLE, TWO_POSITIONS, "", 4),
+    ("fairlive check m x", TOGGLE, TWO_POSITIONS, "", 4),
     (
-        &["fairlive", "check", "m", "x"],
+        "fairlive check m x",
         "aag\n",
+        TWO_POSITIONS,
         "model refused header 0\n",
         3,
     ),
-    (&["fairlive", "wave", "x", "a"], TOGGLE, "", 4),
-    (&["fairlive", "wave", "m", "x"], TOGGLE, "", 4),
+    ("fairlive wave x a", TOGGLE, TWO_POSITIONS, "", 4),
+    ("fairlive wave m x", TOGGLE, TWO_POSITIONS, "", 4),
     (
-        &["fairlive", "wave", "m", "x"],
+        "fairlive wave m x",
         "aag\n",
+        TWO_POSITIONS,
         "model refused header 0\n",
         3,
     ),
     // An empty word is a name.
-    (&["fairlive", "check", "m", ""], TOGGLE, "", 4),
+    ("fairlive check m ", TOGGLE, TWO_POSITIONS, "", 4),
 ];
 
-fn word_rows() -> &'static [WordRow] {
+fn word_rows() -> &'static [runs::Row] {
     &WORD_ROWS
-}
-
-/// The place of the first words that are not answered so, from 0.
-fn wrong_words<R: Threads + Wait + Sync>(
-    rt: &R,
-    alloc: Global,
-) -> Result<Option<usize>, AllocError> {
-    for (k, (words, model, text, number)) in word_rows().iter().enumerate() {
-        let (model, text) = (model.as_bytes(), text.as_bytes());
-        if !ends_so(rt, alloc, words, model, TWO_POSITIONS, text, *number)? {
-            return Ok(Some(k));
-        }
-    }
-    Ok(None)
 }
 
 #[test]
 fn words_and_names(rt: HostRuntime) -> Result<(), Fail> {
-    assert_eq!(rt; wrong_words(&rt, rt.alloc())?, None);
+    assert_eq!(rt; first_wrong(&rt, rt.alloc(), word_rows())?, None);
     Ok(())
 }

@@ -1,21 +1,14 @@
 //! Runs of `trim` over texts in memory.
 
 use crate::certificates::{RISES, WALL};
-use crate::runs::{ends_by, ends_so};
-use crate::solving::is_accepted;
-use crate::tests::{CYCLE, STUCK, TOGGLE};
-use std::alloc::{AllocError, Global};
-use std::sync::Wait;
+use crate::converting::{first_unstable, first_wrong};
+use crate::tests::{CYCLE, Row, STUCK, TOGGLE};
 use std::test::Fail;
-use std::thread::Threads;
 
-const WORDS: [&str; 4] = ["fairlive", "trim", "m", "a"];
+const WORDS: &str = "fairlive trim m a";
 
 const ONE_WALL: &str =
     "0\nj0\nversion 2\nwall 1 0\n\n2 0\nproof 1\n6 0 1 3 5 0\nrefute 1 1\n0\n11 0 1 3 4 9 10 5 0\nend\n";
-
-/// A model and an answer, the text that must be written, and the number that the run must end with.
-type Row = (&'static str, &'static str, &'static str, u8);
 
 const ROWS: [Row; 16] = [
     (RISES, WALL, ONE_WALL, 0),
@@ -105,39 +98,10 @@ fn rows() -> &'static [Row] {
     &ROWS
 }
 
-/// The place of the first row that is not answered so, from 0, by reads of three bytes.
-fn wrong_row<R: Threads + Wait + Sync>(rt: &R, alloc: Global) -> Result<Option<usize>, AllocError> {
-    for (k, (model, answer, text, number)) in rows().iter().enumerate() {
-        let (model, text) = (model.as_bytes(), text.as_bytes());
-        if !ends_by(rt, alloc, &WORDS, model, answer, text, *number, 3)? {
-            return Ok(Some(k));
-        }
-    }
-    Ok(None)
-}
-
-/// The place of the first row whose printed text changes when it is trimmed, or is not accepted by `check`.
-fn unstable_row<R: Threads + Wait + Sync>(
-    rt: &R,
-    alloc: Global,
-) -> Result<Option<usize>, AllocError> {
-    for (k, (model, _answer, text, number)) in rows().iter().enumerate() {
-        let model = model.as_bytes();
-        let printed = *number == 0;
-        if printed && !ends_so(rt, alloc, &WORDS, model, text, text.as_bytes(), 0)? {
-            return Ok(Some(k));
-        }
-        if printed && !is_accepted(rt, alloc, model, text)? {
-            return Ok(Some(k));
-        }
-    }
-    Ok(None)
-}
-
 /// What is not needed goes, ids stay; what was printed stays as it is, and `check` accepts it.
 #[test]
 fn trims(rt: HostRuntime) -> Result<(), Fail> {
-    assert_eq!(rt; wrong_row(&rt, rt.alloc())?, None);
-    assert_eq!(rt; unstable_row(&rt, rt.alloc())?, None);
+    assert_eq!(rt; first_wrong(&rt, rt.alloc(), WORDS, rows())?, None);
+    assert_eq!(rt; first_unstable(&rt, rt.alloc(), WORDS, rows())?, None);
     Ok(())
 }

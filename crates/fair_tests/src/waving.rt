@@ -9,13 +9,13 @@ use std::sync::Wait;
 use std::test::Fail;
 use std::thread::Threads;
 
-const WORDS: [&str; 4] = ["fairlive", "wave", "m", "a"];
+const WORDS: &str = "fairlive wave m a";
 
 // Of a stimulus the number of a property plays no part.
-const WITH_NUMBER: [&str; 6] = ["fairlive", "wave", "m", "a", "--property", "9"];
+const WITH_NUMBER: &str = "fairlive wave m a --property 9";
 
 // The lasso of a block of a sheet.
-const BLOCK_1: [&str; 6] = ["fairlive", "wave", "m", "a", "--property", "1"];
+const BLOCK_1: &str = "fairlive wave m a --property 1";
 
 const SHEET: &str = "c a sheet\nall 1\nversion 2\nlasso j0\n0\n\n\n.\nend\n";
 
@@ -27,72 +27,36 @@ const TWICE: &str = "1\nj0\n0\n\n\n.\n";
 const NAMED: &str =
     "aag 4 2 2 1 0 1 1 1 1\n2\n4\n6 1\n8 9 8\n6\n7\n5\n2\n8\n2\n9\ni0 a b\nl0 loop\nl1 i1\no0 a b\nb0 100%\nc0 x\nc0 y\nj0 waits\nf0 \x7f\n";
 
-const NAMES: [&str; 11] = [
-    "a%20b",
-    "i1",
-    "loop",
-    "i1.l1",
-    "a%20b.o0",
-    "100%25",
-    "y",
-    "waits",
-    "waits.j0.1",
-    "%7F",
-    "loop.loop",
-];
+const NAMES: &str = "a%20b i1 loop i1.l1 a%20b.o0 100%25 y waits waits.j0.1 %7F loop.loop";
 
 // The positions of the lasso from place 1 on, and those from place 1 on once more.
-const VALUES: [&str; 5] = [
-    "00010111000",
-    "10101010111",
-    "00111011001",
-    "10101010111",
-    "00111011001",
-];
+const VALUES: &str = "00010111000 10101010111 00111011001 10101010111 00111011001";
 
 // The property of the second number, which is a literal that is never false; then no latch, and a lasso of one position.
 const SECOND: &str = "aag 1 1 0 0 0 0 0 2 0\n2\n1\n1\n2\n1\nj1 always\n";
 
 /// A model, an answer and the digit of its property, the names of its wires in order, and their values at each time.
-type Row = (
-    &'static str,
-    &'static str,
-    u8,
-    &'static [&'static str],
-    &'static [&'static str],
-);
+type Row = (&'static str, &'static str, u8, &'static str, &'static str);
 
 const DUMPS: [Row; 5] = [
-    (NAMED, "1\nj0\n01\n00\n10\n00\n.\n", b'0', &NAMES, &VALUES),
+    (NAMED, "1\nj0\n01\n00\n10\n00\n.\n", b'0', NAMES, VALUES),
     // The stimulus goes on behind its lasso.
     (
         NAMED,
         "1\nj0\n01\n00\n10\n00\n11\n01\n.\n",
         b'0',
-        &NAMES,
-        &VALUES,
+        NAMES,
+        VALUES,
     ),
-    (
-        SECOND,
-        "1\nj0\n\n1\n.\n",
-        b'0',
-        &["i0", "j0.0", "loop"],
-        &["111", "111"],
-    ),
-    (
-        SECOND,
-        "1\nj1\n\n0\n.\n",
-        b'1',
-        &["i0", "always", "loop"],
-        &["011", "011"],
-    ),
+    (SECOND, "1\nj0\n\n1\n.\n", b'0', "i0 j0.0 loop", "111 111"),
+    (SECOND, "1\nj1\n\n0\n.\n", b'1', "i0 always loop", "011 011"),
     // The block of property 1 of a sheet.
     (
         SECOND,
         "all 2\nversion 2\nlasso j0\n\n1\n.\nlasso j1\n\n0\n.\nend\n",
         b'1',
-        &["i0", "always", "loop"],
-        &["011", "011"],
+        "i0 always loop",
+        "011 011",
     ),
 ];
 
@@ -141,8 +105,8 @@ fn push_name(text: &mut Vec<u8>, k: usize, name: &[u8]) -> Result<(), AllocError
     Ok(())
 }
 
-fn push_names(text: &mut Vec<u8>, names: &[&str]) -> Result<(), AllocError> {
-    for (k, name) in names.iter().enumerate() {
+fn push_names(text: &mut Vec<u8>, names: &str) -> Result<(), AllocError> {
+    for (k, name) in names.split(' ').enumerate() {
         push_name(text, k, name.as_bytes())?;
     }
     Ok(())
@@ -175,11 +139,13 @@ fn push_values(text: &mut Vec<u8>, t: usize, digits: &[u8]) -> Result<(), AllocE
 }
 
 // The values at each time, and the end.
-fn push_times(text: &mut Vec<u8>, rows: &[&str]) -> Result<(), AllocError> {
-    for (t, row) in rows.iter().enumerate() {
+fn push_times(text: &mut Vec<u8>, rows: &str) -> Result<(), AllocError> {
+    let mut t: usize = 0;
+    for row in rows.split(' ') {
         push_values(text, t, row.as_bytes())?;
+        t = t.saturating_add(1);
     }
-    push_time(text, rows.len())
+    push_time(text, t)
 }
 
 fn push_front(text: &mut Vec<u8>, property: u8) -> Result<(), AllocError> {
@@ -212,10 +178,10 @@ fn is_printed<R: Threads + Wait + Sync>(
     row: &Row,
 ) -> Result<bool, AllocError> {
     let text = dump_of(alloc, row)?;
-    let words: &[&str] = if row.1.starts_with("all") {
-        &BLOCK_1
+    let words = if row.1.starts_with("all") {
+        BLOCK_1
     } else {
-        &WORDS
+        WORDS
     };
     ends_so(rt, alloc, words, row.0.as_bytes(), row.1, &text, 0)
 }
@@ -264,9 +230,11 @@ fn many_answer(alloc: Global) -> Result<String, AllocError> {
     Ok(text)
 }
 
-// The values of the inputs, and that the property and the loop are there.
-fn many_row(alloc: Global) -> Result<String, AllocError> {
+// The values of the inputs, and that the property and the loop are there; twice.
+fn many_rows(alloc: Global) -> Result<String, AllocError> {
     let mut text = String::new(alloc);
+    push_many_values(&mut text)?;
+    text.push_str("11 ")?;
     push_many_values(&mut text)?;
     text.push_str("11")?;
     Ok(text)
@@ -284,8 +252,8 @@ fn push_many_names(text: &mut Vec<u8>) -> Result<(), AllocError> {
 }
 
 fn push_many_times(alloc: Global, text: &mut Vec<u8>) -> Result<(), AllocError> {
-    let row = many_row(alloc)?;
-    push_times(text, &[row.as_str(), row.as_str()])
+    let rows = many_rows(alloc)?;
+    push_times(text, rows.as_str())
 }
 
 fn many_dump(alloc: Global) -> Result<Vec<u8>, AllocError> {
@@ -304,7 +272,7 @@ fn is_many_dump<R: Threads + Wait + Sync>(
     answer: &str,
 ) -> Result<bool, AllocError> {
     let text = many_dump(alloc)?;
-    ends_so(rt, alloc, &WORDS, model, answer, &text, 0)
+    ends_so(rt, alloc, WORDS, model, answer, &text, 0)
 }
 
 /// Whether the dump of a hundred wires and two is printed so: it has identifiers of two characters.
@@ -318,19 +286,11 @@ fn many_are_printed<R: Threads + Wait + Sync>(rt: &R, alloc: Global) -> Result<b
 /// of a stimulus, whatever property is named.
 fn are_whole<R: Threads + Wait + Sync>(rt: &R, alloc: Global) -> Result<[bool; 5], AllocError> {
     Ok([
-        ends_so(rt, alloc, &WORDS, TOGGLE, TWICE, TOGGLE_DUMP, 0)?,
-        ends_so(
-            rt,
-            alloc,
-            &WORDS,
-            NOTHING,
-            "1\nj0\n\n\n.\n",
-            NOTHING_DUMP,
-            0,
-        )?,
+        ends_so(rt, alloc, WORDS, TOGGLE, TWICE, TOGGLE_DUMP, 0)?,
+        ends_so(rt, alloc, WORDS, NOTHING, "1\nj0\n\n\n.\n", NOTHING_DUMP, 0)?,
         many_are_printed(rt, alloc)?,
-        ends_so(rt, alloc, &WORDS, TOGGLE, SHEET, TOGGLE_DUMP, 0)?,
-        ends_so(rt, alloc, &WITH_NUMBER, TOGGLE, TWICE, TOGGLE_DUMP, 0)?,
+        ends_so(rt, alloc, WORDS, TOGGLE, SHEET, TOGGLE_DUMP, 0)?,
+        ends_so(rt, alloc, WITH_NUMBER, TOGGLE, TWICE, TOGGLE_DUMP, 0)?,
     ])
 }
 
@@ -360,16 +320,20 @@ fn is_answered<R: Threads + Wait + Sync>(
     row: &tests::Row,
 ) -> Result<bool, AllocError> {
     let model = row.0.as_bytes();
-    let ran = run_words(rt, alloc, &WORDS, model, row.1, 1000, &[], &[])?;
+    let ran = run_words(rt, alloc, WORDS, model, row.1, 1000, &[], &[])?;
     let is_so = is_end_of(&ran, row);
     drop(ran);
     Ok(is_so)
 }
 
-/// The place of the first row of `check` that `wave` does not answer by a dump where it is accepted, and else as `check`
-/// does.
-fn wrong_row<R: Threads + Wait + Sync>(rt: &R, alloc: Global) -> Result<Option<usize>, AllocError> {
-    for (k, row) in tests::rows().iter().enumerate() {
+/// The place of the first of these rows of `check` that `wave` does not answer by a dump where it is accepted, and else as
+/// `check` does.
+fn wrong_row<R: Threads + Wait + Sync>(
+    rt: &R,
+    alloc: Global,
+    rows: &[tests::Row],
+) -> Result<Option<usize>, AllocError> {
+    for (k, row) in rows.iter().enumerate() {
         if !is_answered(rt, alloc, row)? {
             return Ok(Some(k));
         }
@@ -377,10 +341,25 @@ fn wrong_row<R: Threads + Wait + Sync>(rt: &R, alloc: Global) -> Result<Option<u
     Ok(None)
 }
 
+/// The first wrong row of each table of `check`.
+fn wrong_rows<R: Threads + Wait + Sync>(
+    rt: &R,
+    alloc: Global,
+) -> Result<[Option<usize>; 6], AllocError> {
+    Ok([
+        wrong_row(rt, alloc, tests::accepted())?,
+        wrong_row(rt, alloc, tests::first_lines())?,
+        wrong_row(rt, alloc, tests::later_lines())?,
+        wrong_row(rt, alloc, tests::ends())?,
+        wrong_row(rt, alloc, tests::replays())?,
+        wrong_row(rt, alloc, tests::models())?,
+    ])
+}
+
 /// Answers are refused as `check` refuses them, and good certificates since they have no run.
 #[test]
 fn refusals_of_wave(rt: HostRuntime) -> Result<(), Fail> {
-    assert_eq!(rt; wrong_row(&rt, rt.alloc())?, None);
-    assert_eq!(rt; says_of_waves(&rt, rt.alloc())?, None);
+    assert_eq!(rt; wrong_rows(&rt, rt.alloc())?, [None; 6]);
+    assert_eq!(rt; says_of_waves(&rt, rt.alloc())?, [None; 3]);
     Ok(())
 }
