@@ -2,7 +2,7 @@
 //! `ends_within`.
 
 use crate::drawing::{model_text, schedule};
-use crate::running::{Numbers, limits, run, run_threaded, with_property};
+use crate::running::{Numbers, limits, run, run_threaded};
 use crate::searching::{Step, has_fair_lasso, leaves_a_skeleton, literal_count, steps_of};
 use certificate::{Accepted, check_answer};
 use circuit::{Circuit, Lasso, ModelEnd, Stimulus};
@@ -37,23 +37,32 @@ pub(crate) struct SearchedCircuit {
 
 fn inputs_of(alloc: Global, lasso: &Lasso) -> Result<Items<Items<bool>>, AllocError> {
     let mut inputs = Items::new(alloc);
-    for values in lasso.inputs.as_slice() {
-        inputs.push(values.try_copy(alloc)?)?;
-    }
+    push_inputs(alloc, lasso, &mut inputs)?;
     Ok(inputs)
 }
 
+fn push_inputs(
+    alloc: Global,
+    lasso: &Lasso,
+    inputs: &mut Items<Items<bool>>,
+) -> Result<(), AllocError> {
+    for values in lasso.inputs.as_slice() {
+        inputs.push(values.try_copy(alloc)?)?;
+    }
+    Ok(())
+}
+
 fn stimulus_of(alloc: Global, lasso: &Lasso) -> Result<Stimulus, AllocError> {
+    let latches = lasso.start.try_copy(alloc)?;
     let inputs = inputs_of(alloc, lasso)?;
-    Ok(Stimulus {
-        latches: lasso.start.try_copy(alloc)?,
-        inputs,
-    })
+    Ok(Stimulus { latches, inputs })
 }
 
 fn lasso_text(alloc: Global, j: u32, lasso: &Lasso) -> Result<Vec<u8>, AllocError> {
     let made = stimulus_of(alloc, lasso)?;
-    stimulus::write(alloc, j, &made)
+    let text = stimulus::write(alloc, j, &made);
+    drop(made);
+    text
 }
 
 fn answer_text(
@@ -84,7 +93,9 @@ fn judged_text(alloc: Global, c: &Circuit, shelf: &mut MemShelf) -> Option<Accep
 // What `check_answer` answers on a text, if it accepts it.
 fn accepted(alloc: Global, c: &Circuit, text: Vec<u8>) -> Result<Option<Accepted>, AllocError> {
     let mut shelf = shelf_of(alloc, text)?;
-    Ok(judged_text(alloc, c, &mut shelf))
+    let answer = judged_text(alloc, c, &mut shelf);
+    drop(shelf);
+    Ok(answer)
 }
 
 // Whether an answer of property `j` that was accepted says what the search of all states says.
@@ -375,12 +386,17 @@ fn end_of_report(
     Ok(if is_right { End::Report } else { End::Wrong })
 }
 
-fn run_by(alloc: Global, c: &Arc<Circuit>, n: &Numbers, turns: &[u32]) -> Result<Report, Ended> {
-    let c = Arc::try_clone(c)?;
-    match with_property(c) {
-        Some(c) => run(alloc, &c, limits(n), turns),
-        None => Err(Ended::Memory),
+/// Workers that search for an outcome of property 0, where there is one, with no entry given.
+pub(crate) fn run_by(
+    alloc: Global,
+    c: &Arc<Circuit>,
+    n: &Numbers,
+    turns: &[u32],
+) -> Result<Report, Ended> {
+    if c.property_count() == 0 {
+        return Err(Ended::Memory);
     }
+    run(alloc, c, limits(n), turns)
 }
 
 fn judged(
@@ -390,8 +406,16 @@ fn judged(
     ended: Result<Report, Ended>,
 ) -> Result<End, AllocError> {
     match ended {
-        Ok(report) => end_of_answer(alloc, searched, n, &report),
-        Err(Ended::Spent(report)) => end_of_report(alloc, searched, n, &report),
+        Ok(report) => {
+            let end = end_of_answer(alloc, searched, n, &report);
+            drop(report);
+            end
+        }
+        Err(Ended::Spent(report)) => {
+            let end = end_of_report(alloc, searched, n, &report);
+            drop(report);
+            end
+        }
         Err(Ended::Memory) => Ok(End::Wrong),
     }
 }
@@ -436,13 +460,33 @@ pub(crate) fn searched(
     alloc: Global,
     circuit: Arc<Circuit>,
 ) -> Result<SearchedCircuit, AllocError> {
-    let steps = steps_of(alloc, &*circuit, 0)?;
-    let has_lasso = has_fair_lasso(alloc, &*circuit, 0, &steps)?;
-    Ok(SearchedCircuit {
-        circuit,
-        steps,
-        has_lasso,
-    })
+    match steps_and_lasso(alloc, &*circuit, 0) {
+        Ok((steps, has_lasso)) => Ok(SearchedCircuit {
+            circuit,
+            steps,
+            has_lasso,
+        }),
+        Err(failed) => {
+            drop(circuit);
+            Err(failed)
+        }
+    }
+}
+
+/// The steps of a circuit, with the marks of property `j`, and whether that has a fair lasso.
+pub(crate) fn steps_and_lasso(
+    alloc: Global,
+    c: &Circuit,
+    j: u32,
+) -> Result<(Vec<Step>, bool), AllocError> {
+    let steps = steps_of(alloc, c, j)?;
+    match has_fair_lasso(alloc, c, j, &steps) {
+        Ok(has_lasso) => Ok((steps, has_lasso)),
+        Err(failed) => {
+            drop(steps);
+            Err(failed)
+        }
+    }
 }
 
 fn is_decided_by(
@@ -476,7 +520,9 @@ fn is_circuit_decided(
     number: u64,
 ) -> Result<bool, AllocError> {
     let searched = searched(alloc, circuit)?;
-    is_decided_by_all(alloc, &searched, number)
+    let is_so = is_decided_by_all(alloc, &searched, number);
+    drop(searched);
+    is_so
 }
 
 /// Whether the drawn model with a number is decided rightly by 1 to 4 workers, by drawn schedules.
@@ -497,11 +543,10 @@ pub(crate) fn run_on_threads<R: Threads + Wait + Sync, G: Gate>(
     n: &Numbers,
     gate: &G,
 ) -> Result<Report, Ended> {
-    let c = Arc::try_clone(c)?;
-    match with_property(c) {
-        Some(c) => run_threaded(rt, alloc, &c, limits(n), gate),
-        None => Err(Ended::Memory),
+    if c.property_count() == 0 {
+        return Err(Ended::Memory);
     }
+    run_threaded(rt, alloc, c, limits(n), gate)
 }
 
 /// Whether workers on threads with these numbers decide the circuit rightly.
@@ -526,18 +571,28 @@ fn unlimited(workers: u32) -> Numbers {
     }
 }
 
+fn is_decided_on_each<R: Threads + Wait + Sync>(
+    rt: &R,
+    alloc: Global,
+    searched: &SearchedCircuit,
+) -> Result<bool, AllocError> {
+    for workers in [1, 2, 4] {
+        if !is_decided_on(rt, alloc, searched, &unlimited(workers))? {
+            return Ok(false);
+        }
+    }
+    Ok(true)
+}
+
 fn is_circuit_decided_on<R: Threads + Wait + Sync>(
     rt: &R,
     alloc: Global,
     circuit: Arc<Circuit>,
 ) -> Result<bool, AllocError> {
     let searched = searched(alloc, circuit)?;
-    for workers in [1, 2, 4] {
-        if !is_decided_on(rt, alloc, &searched, &unlimited(workers))? {
-            return Ok(false);
-        }
-    }
-    Ok(true)
+    let is_so = is_decided_on_each(rt, alloc, &searched);
+    drop(searched);
+    is_so
 }
 
 /// Whether the drawn model with a number is decided rightly by 1, 2 and 4 workers on threads.
@@ -635,7 +690,9 @@ fn circuit_ends_within(
     number: u64,
 ) -> Result<bool, AllocError> {
     let searched = searched(alloc, circuit)?;
-    ends_by_all(alloc, &searched, number)
+    let is_so = ends_by_all(alloc, &searched, number);
+    drop(searched);
+    is_so
 }
 
 /// Whether 1 to 4 workers end rightly on the drawn model with a number, by drawn schedules, with limits of entries, of

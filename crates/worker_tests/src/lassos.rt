@@ -43,7 +43,9 @@ fn is_circuit_decided(
     number: u64,
 ) -> Result<bool, AllocError> {
     let drawn = searched(alloc, circuit)?;
-    is_decided_by_all(alloc, &drawn, number)
+    let is_so = is_decided_by_all(alloc, &drawn, number);
+    drop(drawn);
+    is_so
 }
 
 /// Whether the drawn model with a number is decided rightly by 2 to 4 workers, one of them a lasso worker, or all but one.
@@ -56,18 +58,28 @@ pub(crate) fn is_decided(alloc: Global, number: u64) -> Result<bool, AllocError>
 
 // ---- on threads
 
+fn is_decided_on_each<R: Threads + Wait + Sync>(
+    rt: &R,
+    alloc: Global,
+    drawn: &SearchedCircuit,
+) -> Result<bool, AllocError> {
+    for k in [0, 1, 5] {
+        if !is_decided_on(rt, alloc, drawn, &numbers(k, 100))? {
+            return Ok(false);
+        }
+    }
+    Ok(true)
+}
+
 fn is_circuit_decided_on<R: Threads + Wait + Sync>(
     rt: &R,
     alloc: Global,
     circuit: Arc<Circuit>,
 ) -> Result<bool, AllocError> {
     let drawn = searched(alloc, circuit)?;
-    for k in [0, 1, 5] {
-        if !is_decided_on(rt, alloc, &drawn, &numbers(k, 100))? {
-            return Ok(false);
-        }
-    }
-    Ok(true)
+    let is_so = is_decided_on_each(rt, alloc, &drawn);
+    drop(drawn);
+    is_so
 }
 
 /// The same on threads.
@@ -116,18 +128,24 @@ fn ends_by_kind(
     Ok(false)
 }
 
+fn ends_by_all(alloc: Global, drawn: &SearchedCircuit, number: u64) -> Result<bool, AllocError> {
+    for kind in 0..3 {
+        if !ends_by_kind(alloc, drawn, number, kind)? {
+            return Ok(false);
+        }
+    }
+    Ok(true)
+}
+
 fn circuit_ends_within(
     alloc: Global,
     circuit: Arc<Circuit>,
     number: u64,
 ) -> Result<bool, AllocError> {
     let drawn = searched(alloc, circuit)?;
-    for kind in 0..3 {
-        if !ends_by_kind(alloc, &drawn, number, kind)? {
-            return Ok(false);
-        }
-    }
-    Ok(true)
+    let is_so = ends_by_all(alloc, &drawn, number);
+    drop(drawn);
+    is_so
 }
 
 /// Whether 2 to 4 workers, some of them lasso workers, end rightly on the drawn model with a number with limits of 0, 1, 2,

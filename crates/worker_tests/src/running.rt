@@ -1,6 +1,6 @@
 //! Runs of workers on a model's text.
 
-ghost use Rattle.std.specs.Prelude.{◌≡◌, ◌+◌, ◌<◌, ◌≤◌, length, IfOk, IfSome, OnOk};
+ghost use Rattle.std.specs.Prelude.{◌≡◌, ◌+◌, ◌<◌, ◌≤◌, length, IfOk, OnOk};
 ghost use Rattle.std.specs.Arc.{arc_value};
 ghost use Rattle.fair_workers.specs.Runs.{AreLimits, AreServed};
 ghost use Rattle.worker_tests.specs.Serving.{AreFirst};
@@ -12,16 +12,6 @@ use std::alloc::{AllocError, Global};
 use std::sync::{Arc, Wait};
 use std::thread::Threads;
 use wall_store::sound_lists_grow;
-
-/// The circuit, where it has property 0.
-pub fn with_property(c: Arc<Circuit>) -> Option<Arc<Circuit>>
-    ensures { IfSome result (λ found. 0 < length (arc_value found).justice) }
-{
-    if c.property_count() == 0 {
-        return None;
-    }
-    Some(c)
-}
 
 /// How many workers there are, how many conflicts and steps each of them may count, by how many entries their list may
 /// grow, how many of them are lasso workers, and to what depth these go.

@@ -4,10 +4,10 @@
 use crate::drawing::{schedule, text_with};
 use crate::judging::{
     End, NO_LIMIT, all_spent, all_within, circuit_of, is_board, is_right_of, next_limit,
-    numbers_of, path_steps,
+    numbers_of, path_steps, steps_and_lasso,
 };
 use crate::running::{Numbers, limits, run_several, run_several_threaded, served_of};
-use crate::searching::{Step, has_fair_lasso, leaves_a_skeleton, literal_count, steps_of};
+use crate::searching::{Step, leaves_a_skeleton, literal_count};
 use circuit::Circuit;
 use edge::FreeGate;
 use entry::Origin;
@@ -52,8 +52,7 @@ fn bits_of(number: u64) -> u64 {
 }
 
 fn searched_of(alloc: Global, c: &Circuit, j: u32) -> Result<Searched, AllocError> {
-    let steps = steps_of(alloc, c, j)?;
-    let has_lasso = has_fair_lasso(alloc, c, j, &steps)?;
+    let (steps, has_lasso) = steps_and_lasso(alloc, c, j)?;
     Ok(Searched {
         number: j,
         steps,
@@ -67,21 +66,46 @@ fn all_searched(
     properties: &[u32],
 ) -> Result<Vec<Searched>, AllocError> {
     let mut searched = Vec::new(alloc);
-    for j in properties {
-        searched.push(searched_of(alloc, c, *j)?)?;
-    }
+    push_searched(alloc, c, properties, &mut searched)?;
     Ok(searched)
 }
 
+fn push_searched(
+    alloc: Global,
+    c: &Circuit,
+    properties: &[u32],
+    searched: &mut Vec<Searched>,
+) -> Result<(), AllocError> {
+    for j in properties {
+        searched.push(searched_of(alloc, c, *j)?)?;
+    }
+    Ok(())
+}
+
+// The properties that are served, and what is found of them.
+fn properties_searched(
+    alloc: Global,
+    c: &Circuit,
+    bits: u64,
+) -> Result<(Vec<u32>, Vec<Searched>), AllocError> {
+    let properties = served_of(alloc, c, bits)?;
+    let searched = all_searched(alloc, c, &properties)?;
+    Ok((properties, searched))
+}
+
 fn drawn_of(alloc: Global, circuit: Arc<Circuit>, bits: u64) -> Result<Drawn, AllocError> {
-    let properties = served_of(alloc, &*circuit, bits)?;
-    let searched = all_searched(alloc, &*circuit, &properties)?;
-    Ok(Drawn {
-        circuit,
-        bits,
-        properties,
-        searched,
-    })
+    match properties_searched(alloc, &*circuit, bits) {
+        Ok((properties, searched)) => Ok(Drawn {
+            circuit,
+            bits,
+            properties,
+            searched,
+        }),
+        Err(failed) => {
+            drop(circuit);
+            Err(failed)
+        }
+    }
 }
 
 // The drawn model with a number, which is always read.
@@ -230,8 +254,16 @@ fn judged(
     ended: Result<Report, Ended>,
 ) -> Result<End, AllocError> {
     match ended {
-        Ok(report) => end_of_answer(alloc, drawn, n, &report),
-        Err(Ended::Spent(report)) => end_of_report(alloc, drawn, n, &report),
+        Ok(report) => {
+            let end = end_of_answer(alloc, drawn, n, &report);
+            drop(report);
+            end
+        }
+        Err(Ended::Spent(report)) => {
+            let end = end_of_report(alloc, drawn, n, &report);
+            drop(report);
+            end
+        }
         Err(Ended::Memory) => Ok(End::Wrong),
     }
 }
@@ -287,7 +319,11 @@ fn is_decided_by_all(alloc: Global, drawn: &Drawn, number: u64) -> Result<bool, 
 /// Whether the properties of the drawn model with a number are decided rightly by 1 to 4 workers, by drawn schedules.
 pub(crate) fn all_are_decided(alloc: Global, number: u64) -> Result<bool, AllocError> {
     match drawn_model(alloc, number)? {
-        Some(drawn) => is_decided_by_all(alloc, &drawn, number),
+        Some(drawn) => {
+            let is_so = is_decided_by_all(alloc, &drawn, number);
+            drop(drawn);
+            is_so
+        }
         None => Ok(false),
     }
 }
@@ -323,7 +359,11 @@ pub(crate) fn all_are_decided_on_threads<R: Threads + Wait + Sync>(
     number: u64,
 ) -> Result<bool, AllocError> {
     match drawn_model(alloc, number)? {
-        Some(drawn) => is_decided_on(rt, alloc, &drawn),
+        Some(drawn) => {
+            let is_so = is_decided_on(rt, alloc, &drawn);
+            drop(drawn);
+            is_so
+        }
         None => Ok(false),
     }
 }
@@ -374,7 +414,11 @@ fn ends_by_all(alloc: Global, drawn: &Drawn, number: u64) -> Result<bool, AllocE
 /// of entries, of conflicts and of steps, and of all three: 0, 1, 2, .. until none is spent.
 pub(crate) fn all_end_within(alloc: Global, number: u64) -> Result<bool, AllocError> {
     match drawn_model(alloc, number)? {
-        Some(drawn) => ends_by_all(alloc, &drawn, number),
+        Some(drawn) => {
+            let is_so = ends_by_all(alloc, &drawn, number);
+            drop(drawn);
+            is_so
+        }
         None => Ok(false),
     }
 }

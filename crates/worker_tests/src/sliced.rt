@@ -56,14 +56,20 @@ fn verdict_of(alloc: Global, text: &[u8]) -> Result<Option<(bool, usize)>, Alloc
     }
 }
 
+fn verdict_drawn(alloc: Global, number: u64) -> Result<Option<(bool, usize)>, AllocError> {
+    let text = model_text(alloc, number)?;
+    let verdict = verdict_of(alloc, &text);
+    drop(text);
+    verdict
+}
+
 // How many of the first drawn models have a fair lasso, and how many latches their slices leave out; nothing where one is
 // judged otherwise than its slice.
 fn counts_of(alloc: Global, models: u64) -> Result<Option<(u64, usize)>, AllocError> {
     let mut lassos: u64 = 0;
     let mut left: usize = 0;
     for number in 0..models {
-        let text = model_text(alloc, number)?;
-        let Some((found, latches)) = verdict_of(alloc, &text)? else {
+        let Some((found, latches)) = verdict_drawn(alloc, number)? else {
             return Ok(None);
         };
         lassos = lassos.saturating_add(u64::from(found));

@@ -1,9 +1,11 @@
 //! What workers come to on small models, for several schedules and limits.
 
-use crate::judging::{circuit_of, ends_within, is_decided, is_decided_on_threads, run_on_threads};
+use crate::judging::{
+    circuit_of, ends_within, is_decided, is_decided_on_threads, run_by, run_on_threads,
+};
 use crate::lassos;
 use crate::meeting::Meeting;
-use crate::running::{Numbers, limits, run, with_property};
+use crate::running::Numbers;
 use crate::several::{all_are_decided, all_are_decided_on_threads, all_end_within};
 use circuit::Circuit;
 use entry::{Checked, Origin};
@@ -71,16 +73,17 @@ fn end_of(board: &Board) -> End {
 
 fn answer_of(ended: Result<Report, Ended>) -> Answer {
     match ended {
-        Ok(report) => answer_with(end_of(&report.board), &report.board),
-        Err(Ended::Spent(report)) => answer_with(End::Spent, &report.board),
+        Ok(report) => {
+            let answer = answer_with(end_of(&report.board), &report.board);
+            drop(report);
+            answer
+        }
+        Err(Ended::Spent(report)) => {
+            let answer = answer_with(End::Spent, &report.board);
+            drop(report);
+            answer
+        }
         Err(Ended::Memory) => (End::Memory, 0, None),
-    }
-}
-
-fn answer_by(alloc: Global, c: Arc<Circuit>, n: &Numbers, schedule: &[u32]) -> Answer {
-    match with_property(c) {
-        Some(c) => answer_of(run(alloc, &c, limits(n), schedule)),
-        None => (End::Memory, 0, None),
     }
 }
 
@@ -122,7 +125,11 @@ fn answer(alloc: Global, row: &Row) -> Result<Answer, AllocError> {
         depth: 0,
     };
     match circuit_of(alloc, text.as_bytes())? {
-        Some(c) => Ok(answer_by(alloc, c, &n, schedule)),
+        Some(c) => {
+            let answer = answer_of(run_by(alloc, &c, &n, schedule));
+            drop(c);
+            Ok(answer)
+        }
         None => Ok((End::Memory, 0, None)),
     }
 }
@@ -143,10 +150,33 @@ fn rows(rt: HostRuntime) -> Result<(), Fail> {
     Ok(())
 }
 
-// The number of the first drawn model that is not decided rightly.
-fn first_undecided(alloc: Global) -> Result<Option<u64>, AllocError> {
-    for number in 0..300 {
-        if !is_decided(alloc, number)? {
+// What is asked of a drawn model: whether workers that take turns decide it rightly, or end rightly under limits; and the same
+// with lasso workers, and of several properties.
+#[derive(Clone, Copy)]
+enum Asked {
+    Decided,
+    Within,
+    DecidedWithLassos,
+    WithinWithLassos,
+    AllDecided,
+    AllWithin,
+}
+
+fn is_so(alloc: Global, asked: Asked, number: u64) -> Result<bool, AllocError> {
+    match asked {
+        Asked::Decided => is_decided(alloc, number),
+        Asked::Within => ends_within(alloc, number),
+        Asked::DecidedWithLassos => lassos::is_decided(alloc, number),
+        Asked::WithinWithLassos => lassos::ends_within(alloc, number),
+        Asked::AllDecided => all_are_decided(alloc, number),
+        Asked::AllWithin => all_end_within(alloc, number),
+    }
+}
+
+// The number of the first of so many drawn models of which it is not so.
+fn first_other(alloc: Global, asked: Asked, models: u64) -> Result<Option<u64>, AllocError> {
+    for number in 0..models {
+        if !is_so(alloc, asked, number)? {
             return Ok(Some(number));
         }
     }
@@ -155,24 +185,14 @@ fn first_undecided(alloc: Global) -> Result<Option<u64>, AllocError> {
 
 #[test]
 fn drawn_models_are_decided(rt: HostRuntime) -> Result<(), Fail> {
-    assert_eq!(rt; first_undecided(rt.alloc())?, None);
+    assert_eq!(rt; first_other(rt.alloc(), Asked::Decided, 300)?, None);
     Ok(())
-}
-
-// The number of the first drawn model that does not end rightly under limits.
-fn first_wrong_end(alloc: Global) -> Result<Option<u64>, AllocError> {
-    for number in 0..300 {
-        if !ends_within(alloc, number)? {
-            return Ok(Some(number));
-        }
-    }
-    Ok(None)
 }
 
 /// Limits of 0, 1, 2, .., until none is spent.
 #[test]
 fn drawn_models_under_limits(rt: HostRuntime) -> Result<(), Fail> {
-    assert_eq!(rt; first_wrong_end(rt.alloc())?, None);
+    assert_eq!(rt; first_other(rt.alloc(), Asked::Within, 300)?, None);
     Ok(())
 }
 
@@ -195,7 +215,11 @@ fn met_of<R: Threads + Wait + Sync>(
     };
     let meeting = Meeting::of(u64::from(workers));
     let end = match circuit_of(alloc, text.as_bytes())? {
-        Some(c) => answer_of(run_on_threads(rt, alloc, &c, &n, &meeting)).0,
+        Some(c) => {
+            let answer = answer_of(run_on_threads(rt, alloc, &c, &n, &meeting));
+            drop(c);
+            answer.0
+        }
         None => End::Memory,
     };
     Ok((meeting.met(), end))
@@ -215,13 +239,29 @@ fn many_workers_meet(rt: HostRuntime) -> Result<(), Fail> {
     Ok(())
 }
 
-// The number of the first drawn model that is not decided rightly on threads.
-fn first_undecided_on_threads<R: Threads + Wait + Sync>(
+// The same of workers on threads, which decide a drawn model.
+fn is_so_on_threads<R: Threads + Wait + Sync>(
     rt: &R,
     alloc: Global,
+    asked: Asked,
+    number: u64,
+) -> Result<bool, AllocError> {
+    match asked {
+        Asked::Decided => is_decided_on_threads(rt, alloc, number),
+        Asked::DecidedWithLassos => lassos::is_decided_on_threads(rt, alloc, number),
+        Asked::AllDecided => all_are_decided_on_threads(rt, alloc, number),
+        Asked::Within | Asked::WithinWithLassos | Asked::AllWithin => Ok(false),
+    }
+}
+
+fn first_other_on_threads<R: Threads + Wait + Sync>(
+    rt: &R,
+    alloc: Global,
+    asked: Asked,
+    models: u64,
 ) -> Result<Option<u64>, AllocError> {
-    for number in 0..60 {
-        if !is_decided_on_threads(rt, alloc, number)? {
+    for number in 0..models {
+        if !is_so_on_threads(rt, alloc, asked, number)? {
             return Ok(Some(number));
         }
     }
@@ -230,7 +270,10 @@ fn first_undecided_on_threads<R: Threads + Wait + Sync>(
 
 #[test]
 fn drawn_models_are_decided_on_threads(rt: HostRuntime) -> Result<(), Fail> {
-    assert_eq!(rt; first_undecided_on_threads(&rt, rt.alloc())?, None);
+    assert_eq!(rt;
+        first_other_on_threads(&rt, rt.alloc(), Asked::Decided, 60)?,
+        None
+    );
     Ok(())
 }
 
@@ -279,16 +322,17 @@ fn depth_in(report: &Report) -> Option<u32> {
 
 fn depth_of(ended: Result<Report, Ended>) -> Depth {
     match ended {
-        Ok(report) => (end_of(&report.board), depth_in(&report)),
-        Err(Ended::Spent(report)) => (End::Spent, depth_in(&report)),
+        Ok(report) => {
+            let depth = (end_of(&report.board), depth_in(&report));
+            drop(report);
+            depth
+        }
+        Err(Ended::Spent(report)) => {
+            let depth = (End::Spent, depth_in(&report));
+            drop(report);
+            depth
+        }
         Err(Ended::Memory) => (End::Memory, None),
-    }
-}
-
-fn depth_by(alloc: Global, c: Arc<Circuit>, n: &Numbers, schedule: &[u32]) -> Depth {
-    match with_property(c) {
-        Some(c) => depth_of(run(alloc, &c, limits(n), schedule)),
-        None => (End::Memory, None),
     }
 }
 
@@ -303,7 +347,11 @@ fn depth(alloc: Global, row: &LassoRow) -> Result<Depth, AllocError> {
         depth: *depth,
     };
     match circuit_of(alloc, text.as_bytes())? {
-        Some(c) => Ok(depth_by(alloc, c, &n, schedule)),
+        Some(c) => {
+            let depth = depth_of(run_by(alloc, &c, &n, schedule));
+            drop(c);
+            Ok(depth)
+        }
         None => Ok((End::Memory, None)),
     }
 }
@@ -324,55 +372,28 @@ fn lasso_rows(rt: HostRuntime) -> Result<(), Fail> {
     Ok(())
 }
 
-// The number of the first drawn model that is not decided rightly with lasso workers.
-fn first_undecided_with_lassos(alloc: Global) -> Result<Option<u64>, AllocError> {
-    for number in 0..100 {
-        if !lassos::is_decided(alloc, number)? {
-            return Ok(Some(number));
-        }
-    }
-    Ok(None)
-}
-
 #[test]
 fn lasso_workers_beside_others(rt: HostRuntime) -> Result<(), Fail> {
-    assert_eq!(rt; first_undecided_with_lassos(rt.alloc())?, None);
+    assert_eq!(rt;
+        first_other(rt.alloc(), Asked::DecidedWithLassos, 100)?,
+        None
+    );
     Ok(())
-}
-
-// The number of the first drawn model that does not end rightly with lasso workers under limits.
-fn first_wrong_end_with_lassos(alloc: Global) -> Result<Option<u64>, AllocError> {
-    for number in 0..100 {
-        if !lassos::ends_within(alloc, number)? {
-            return Ok(Some(number));
-        }
-    }
-    Ok(None)
 }
 
 #[test]
 fn lasso_workers_under_limits(rt: HostRuntime) -> Result<(), Fail> {
-    assert_eq!(rt; first_wrong_end_with_lassos(rt.alloc())?, None);
+    assert_eq!(rt;
+        first_other(rt.alloc(), Asked::WithinWithLassos, 100)?,
+        None
+    );
     Ok(())
-}
-
-// The number of the first drawn model that is not decided rightly with lasso workers on threads.
-fn first_undecided_with_lassos_on_threads<R: Threads + Wait + Sync>(
-    rt: &R,
-    alloc: Global,
-) -> Result<Option<u64>, AllocError> {
-    for number in 0..40 {
-        if !lassos::is_decided_on_threads(rt, alloc, number)? {
-            return Ok(Some(number));
-        }
-    }
-    Ok(None)
 }
 
 #[test]
 fn lasso_workers_on_threads(rt: HostRuntime) -> Result<(), Fail> {
     assert_eq!(rt;
-        first_undecided_with_lassos_on_threads(&rt, rt.alloc())?,
+        first_other_on_threads(&rt, rt.alloc(), Asked::DecidedWithLassos, 40)?,
         None
     );
     Ok(())
@@ -380,56 +401,23 @@ fn lasso_workers_on_threads(rt: HostRuntime) -> Result<(), Fail> {
 
 // ---- several properties
 
-// The number of the first drawn model whose properties are not decided rightly.
-fn first_undecided_of_several(alloc: Global) -> Result<Option<u64>, AllocError> {
-    for number in 0..200 {
-        if !all_are_decided(alloc, number)? {
-            return Ok(Some(number));
-        }
-    }
-    Ok(None)
-}
-
 /// Two to five properties, or some or none of them.
 #[test]
 fn several_properties_are_decided(rt: HostRuntime) -> Result<(), Fail> {
-    assert_eq!(rt; first_undecided_of_several(rt.alloc())?, None);
+    assert_eq!(rt; first_other(rt.alloc(), Asked::AllDecided, 200)?, None);
     Ok(())
-}
-
-// The number of the first drawn model whose properties do not end rightly under limits.
-fn first_wrong_end_of_several(alloc: Global) -> Result<Option<u64>, AllocError> {
-    for number in 0..200 {
-        if !all_end_within(alloc, number)? {
-            return Ok(Some(number));
-        }
-    }
-    Ok(None)
 }
 
 #[test]
 fn several_properties_under_limits(rt: HostRuntime) -> Result<(), Fail> {
-    assert_eq!(rt; first_wrong_end_of_several(rt.alloc())?, None);
+    assert_eq!(rt; first_other(rt.alloc(), Asked::AllWithin, 200)?, None);
     Ok(())
-}
-
-// The number of the first drawn model whose properties are not decided rightly on threads.
-fn first_undecided_of_several_on_threads<R: Threads + Wait + Sync>(
-    rt: &R,
-    alloc: Global,
-) -> Result<Option<u64>, AllocError> {
-    for number in 0..60 {
-        if !all_are_decided_on_threads(rt, alloc, number)? {
-            return Ok(Some(number));
-        }
-    }
-    Ok(None)
 }
 
 #[test]
 fn several_properties_are_decided_on_threads(rt: HostRuntime) -> Result<(), Fail> {
     assert_eq!(rt;
-        first_undecided_of_several_on_threads(&rt, rt.alloc())?,
+        first_other_on_threads(&rt, rt.alloc(), Asked::AllDecided, 60)?,
         None
     );
     Ok(())

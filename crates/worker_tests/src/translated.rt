@@ -78,12 +78,24 @@ fn step_from(
 fn reaches(alloc: Global, c: &Circuit, bad: u64) -> Result<bool, AllocError> {
     let states = power(c.latches().len());
     let mut reached = none_reached(alloc, states)?;
-    reach_initial(c, states, &mut reached)?;
+    let found = reaches_by(alloc, c, bad, states, &mut reached);
+    drop(reached);
+    found
+}
+
+fn reaches_by(
+    alloc: Global,
+    c: &Circuit,
+    bad: u64,
+    states: usize,
+    reached: &mut Reached,
+) -> Result<bool, AllocError> {
+    reach_initial(c, states, reached)?;
     for place in 0..states {
         let Some(state) = reached.order.get(place).copied() else {
             return Ok(false);
         };
-        if step_from(alloc, c, bad, state, &mut reached)? {
+        if step_from(alloc, c, bad, state, reached)? {
             return Ok(true);
         }
     }
