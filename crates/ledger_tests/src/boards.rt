@@ -15,6 +15,7 @@ ghost use Rattle.ledger_tests.specs.Boards.{IsFindOf, IsUnseen};
 use aig_semantics::{Lasso, Latch, Position, Reset};
 use circuit::{Circuit, ModelEnd, Parts, check_circuit, is_fair_lasso};
 use cnf::{Clause, Lit};
+use cnf_unroll::ClauseSet;
 use entry::{
     Checked, Entry, EntryEnd, Kind, check_entry, good_lists_grow, proved_entries_are_valid,
 };
@@ -68,20 +69,84 @@ pub fn stuck(alloc: Global) -> Result<Circuit, ModelEnd>
     c
 }
 
+/// The skeleton of one position with this state, and its successor.
+pub fn skeleton_of(
+    alloc: Global,
+    latches: Items<bool>,
+    successor: Items<bool>,
+) -> Result<Skeleton, AllocError>
+    ensures { IfOk result (λ s. s ≡ record {
+      situations = record { position = record { latches = latches; inputs = [] }; successor = successor } ∷ [];
+    }) }
+{
+    let position = Position {
+        latches,
+        inputs: Items::new(alloc),
+    };
+    let situation = Situation {
+        position,
+        successor,
+    };
+    let mut situations = Items::new(alloc);
+    situations.push(situation)?;
+    Ok(Skeleton { situations })
+}
+
 // The skeleton in which the latch is 1.
 fn skeleton(alloc: Global) -> Result<Skeleton, AllocError>
     ensures { IfOk result (λ s. s ≡ one_situation true true) }
 {
-    let position = Position {
-        latches: Items::from_slice(alloc, &[true])?,
-        inputs: Items::new(alloc),
-    };
-    let mut situations = Items::new(alloc);
-    situations.push(Situation {
-        position,
-        successor: Items::from_slice(alloc, &[true])?,
-    })?;
-    Ok(Skeleton { situations })
+    let latches = Items::from_slice(alloc, &[true])?;
+    let successor = Items::from_slice(alloc, &[true])?;
+    skeleton_of(alloc, latches, successor)
+}
+
+// The set of the clause of this literal.
+fn set_of(alloc: Global, literal: Lit) -> Result<ClauseSet, AllocError>
+    ensures { IfOk result (λ set. set ≡ (literal ∷ []) ∷ []) }
+{
+    let clause = Clause::from_slice(alloc, &[literal])?;
+    let mut set = Items::new(alloc);
+    set.push(clause)?;
+    Ok(set)
+}
+
+/// The proof of this line.
+pub fn proof_of(alloc: Global, line: &str) -> Result<Items<Items<u8>>, AllocError> {
+    let line = Items::from_slice(alloc, line.as_bytes())?;
+    let mut proof = Items::new(alloc);
+    proof.push(line)?;
+    Ok(proof)
+}
+
+// One proof, of this line.
+fn proofs_of(alloc: Global, line: &str) -> Result<Items<Items<Items<u8>>>, AllocError>
+    ensures { IfOk result (λ proofs. length proofs ≡ 1) }
+{
+    let proof = proof_of(alloc, line)?;
+    let mut proofs = Items::new(alloc);
+    proofs.push(proof)?;
+    Ok(proofs)
+}
+
+/// The entry that a literal is true in each state that is reached, with a proof of this line.
+pub fn entry_of(alloc: Global, literal: Lit, line: &str) -> Result<Entry, AllocError>
+    ensures said { IfOk result (λ e. said e ≡ record { kind = Kind.Reach; clauses = (literal ∷ []) ∷ []; uses = [] }) }
+    ensures count { IfOk result (λ e. length e.proofs ≡ 1) }
+{
+    let set = set_of(alloc, literal)?;
+    match proofs_of(alloc, line) {
+        Ok(proofs) => Ok(Entry {
+            kind: Kind::Reach,
+            set,
+            uses: Items::new(alloc),
+            proofs,
+        }),
+        Err(failed) => {
+            drop(set);
+            Err(failed)
+        }
+    }
 }
 
 // The entry that the latch is 0 in each state that is reached, with its proof.
@@ -93,18 +158,7 @@ fn at_0(alloc: Global) -> Result<Entry, AllocError>
         var: 0,
         positive: false,
     };
-    let mut set = Items::new(alloc);
-    set.push(Clause::from_slice(alloc, &[literal])?)?;
-    let mut proof = Items::new(alloc);
-    proof.push(Items::from_slice(alloc, "6 0 4 2 5 0".as_bytes())?)?;
-    let mut proofs = Items::new(alloc);
-    proofs.push(proof)?;
-    Ok(Entry {
-        kind: Kind::Reach,
-        set,
-        uses: Items::new(alloc),
-        proofs,
-    })
+    entry_of(alloc, literal, "6 0 4 2 5 0")
 }
 
 fn judge(alloc: Global, c: &Circuit, e: &Entry) -> Result<(), EntryEnd>
@@ -172,13 +226,24 @@ pub fn both_post(board: &mut Board, one: Arc<Checked>, other: Arc<Checked>) -> (
     (first, second)
 }
 
+fn push_two(alloc: Global, inputs: &mut Items<Items<bool>>) -> Result<(), AllocError> {
+    inputs.push(Items::new(alloc))?;
+    inputs.push(Items::new(alloc))?;
+    Ok(())
+}
+
+fn no_inputs_twice(alloc: Global) -> Result<Items<Items<bool>>, AllocError> {
+    let mut inputs = Items::new(alloc);
+    push_two(alloc, &mut inputs)?;
+    Ok(inputs)
+}
+
 // A lasso of two positions that go back to the first: the latch begins with 0.
 fn lasso(alloc: Global) -> Result<Lasso, AllocError> {
-    let mut inputs = Items::new(alloc);
-    inputs.push(Items::new(alloc))?;
-    inputs.push(Items::new(alloc))?;
+    let start = Items::from_slice(alloc, &[false])?;
+    let inputs = no_inputs_twice(alloc)?;
     Ok(Lasso {
-        start: Items::from_slice(alloc, &[false])?,
+        start,
         inputs,
         from: 0,
     })
@@ -189,10 +254,16 @@ pub fn fair_lasso(alloc: Global, c: &Circuit) -> Result<Option<Lasso>, AllocErro
     ensures { IfOk result (λ found. IfSome found (λ l. IsFairLassoOf c.now 0 l)) }
 {
     let lasso = lasso(alloc)?;
-    if is_fair_lasso(alloc, c, 0, &lasso)? {
-        Ok(Some(lasso))
-    } else {
-        Ok(None)
+    match is_fair_lasso(alloc, c, 0, &lasso) {
+        Ok(true) => Ok(Some(lasso)),
+        Ok(false) => {
+            drop(lasso);
+            Ok(None)
+        }
+        Err(failed) => {
+            drop(lasso);
+            Err(failed)
+        }
     }
 }
 
@@ -217,4 +288,23 @@ pub fn hand_in(board: &mut Board, lasso: Lasso) -> Finished
     ensures workers { board.new.workers ≡ board.old.workers }
 {
     board.finish(0, 0, Outcome::Lasso(lasso))
+}
+
+/// Worker 0 hands in that lasso, where it is fair.
+pub fn hand_in_fair(
+    alloc: Global,
+    c: &Circuit,
+    board: &mut Board,
+) -> Result<Option<Finished>, AllocError>
+    requires circuit { board.old.circuit ≡ c.now }
+    requires worker { 0 < board.old.workers }
+    requires served { properties_of board.old.served ≡ 0 ∷ [] }
+    ensures circuit { board.new.circuit ≡ board.old.circuit }
+    ensures served { properties_of board.new.served ≡ 0 ∷ [] }
+    ensures workers { board.new.workers ≡ board.old.workers }
+{
+    match fair_lasso(alloc, c)? {
+        Some(lasso) => Ok(Some(hand_in(board, lasso))),
+        None => Ok(None),
+    }
 }

@@ -1,6 +1,6 @@
 //! A circuit whose latches stay at 0, and what is found of it.
 
-ghost use Rattle.std.specs.Prelude.{◌≡◌, ◌≤◌, ◌<◌, [], ◌∷◌, true, false, Bool, map, length, All, IfOk, IfSome, OnOk};
+ghost use Rattle.std.specs.Prelude.{◌≡◌, ◌≤◌, ◌<◌, [], ◌∷◌, ◌++◌, true, false, Bool, map, length, All, IfOk, IfSome, OnOk};
 ghost use Rattle.std.specs.Arc.{arc_value};
 ghost use Rattle.aig_semantics.specs.Circuits.{Circuit};
 ghost use Rattle.circuit.specs.Sections.{circuit_of};
@@ -13,16 +13,16 @@ ghost use Rattle.wall_store.specs.Boards.{IsSound, IsSoundList, Allow, most_entr
 ghost use Rattle.wall_store.specs.Scanning.{NoneWithin};
 ghost use Rattle.ledger_tests.specs.Crews.{model, with_justice, keeps_0, at_0, raised, target, IsFindOf};
 
-use crate::boards::circuit_of;
-use aig_semantics::{Latch, Position, Reset};
+use crate::boards::{circuit_of, entry_of, proof_of, skeleton_of};
+use aig_semantics::{Latch, Reset};
 use circuit::{Circuit, ModelEnd, Parts};
-use cnf::{Clause, Lit};
+use cnf::Lit;
 use cnf_unroll::ClauseSet;
 use entry::{
     Checked, Entry, EntryEnd, Kind, Listed, Refutation, check_entry, excludes, good_lists_grow,
     proved_entries_are_valid, refutation_fault,
 };
-use fair_semantics::{Side, Situation, Skeleton, Use};
+use fair_semantics::{Side, Skeleton, Use};
 use items::Items;
 use std::alloc::{AllocError, Global};
 use std::sync::Arc;
@@ -33,11 +33,19 @@ fn justice(alloc: Global, two: bool) -> Result<Items<Items<u64>>, AllocError>
     ensures { IfOk result (λ js. js ≡ (model two).justice) }
 {
     let mut justice = Items::new(alloc);
-    justice.push(Items::from_slice(alloc, &[2])?)?;
+    push_property(alloc, &mut justice)?;
     if two {
-        justice.push(Items::from_slice(alloc, &[2])?)?;
+        push_property(alloc, &mut justice)?;
     }
     Ok(justice)
+}
+
+// Puts the property that the first latch is 1 behind those that are there.
+fn push_property(alloc: Global, justice: &mut Items<Items<u64>>) -> Result<(), AllocError>
+    ensures { OnOk result (justice.new ≡ justice.old ++ (2 ∷ []) ∷ []) }
+{
+    let property = Items::from_slice(alloc, &[2])?;
+    justice.push(property)
 }
 
 fn latch(var: u64, next: u64) -> Latch
@@ -98,20 +106,13 @@ fn state(alloc: Global, k: u32) -> Result<Items<bool>, AllocError>
     Items::from_slice(alloc, &[true, k == 1, k == 2, k == 3, k == 4, k == 5])
 }
 
-/// The skeleton in which the first latch is 1, and latch k, counted from 0.
-pub fn skeleton(alloc: Global, k: u32) -> Result<Skeleton, AllocError>
+// The skeleton in which the first latch is 1, and latch k, counted from 0.
+fn skeleton(alloc: Global, k: u32) -> Result<Skeleton, AllocError>
     ensures { IfOk result (λ s. s ≡ target k) }
 {
-    let position = Position {
-        latches: state(alloc, k)?,
-        inputs: Items::new(alloc),
-    };
-    let mut situations = Items::new(alloc);
-    situations.push(Situation {
-        position,
-        successor: state(alloc, k)?,
-    })?;
-    Ok(Skeleton { situations })
+    let latches = state(alloc, k)?;
+    let successor = state(alloc, k)?;
+    skeleton_of(alloc, latches, successor)
 }
 
 // Behind the clauses of a block, two for each latch, stand that of the entry, with the number 14, and the broken one.
@@ -135,18 +136,7 @@ fn at_0(alloc: Global, k: u32) -> Result<Entry, AllocError>
         var: k as u64,
         positive: false,
     };
-    let mut set = Items::new(alloc);
-    set.push(Clause::from_slice(alloc, &[literal])?)?;
-    let mut proof = Items::new(alloc);
-    proof.push(Items::from_slice(alloc, proof_line(k).as_bytes())?)?;
-    let mut proofs = Items::new(alloc);
-    proofs.push(proof)?;
-    Ok(Entry {
-        kind: Kind::Reach,
-        set,
-        uses: Items::new(alloc),
-        proofs,
-    })
+    entry_of(alloc, literal, proof_line(k))
 }
 
 // The entry that says nothing.
@@ -273,8 +263,8 @@ fn none_bars(view: &[Arc<Checked>], skeleton: &Skeleton, scratch: &mut [bool]) -
     true
 }
 
-/// Whether the entries of the view allow the skeleton.
-pub fn allows(alloc: Global, view: &[Arc<Checked>], skeleton: &Skeleton) -> Result<bool, AllocError>
+// Whether the entries of the view allow the skeleton.
+fn allows(alloc: Global, view: &[Arc<Checked>], skeleton: &Skeleton) -> Result<bool, AllocError>
     ensures { IfOk result (λ b. b ≡ true → Allow (map arc_value view.now) skeleton.now) }
 {
     if view.len() > 65_536 {
@@ -282,6 +272,16 @@ pub fn allows(alloc: Global, view: &[Arc<Checked>], skeleton: &Skeleton) -> Resu
     }
     let mut scratch = vec![in alloc; false; view.len()]?;
     Ok(none_bars(view, skeleton, &mut scratch))
+}
+
+/// Whether they allow the skeleton in which the first latch is 1, and latch k, counted from 0.
+pub fn allows_at(alloc: Global, view: &[Arc<Checked>], k: u32) -> Result<bool, AllocError>
+    ensures { IfOk result (λ b. b ≡ true → Allow (map arc_value view.now) (target k)) }
+{
+    let target = skeleton(alloc, k)?;
+    let free = allows(alloc, view, &target);
+    drop(target);
+    free
 }
 
 fn set_again(alloc: Global, set: &ClauseSet) -> Result<ClauseSet, AllocError>
@@ -322,12 +322,9 @@ pub fn refutation(alloc: Global, entry: u32, line: &str) -> Result<Refutation, A
         entry,
         side: Side::Any,
     };
-    let mut proof = Items::new(alloc);
-    proof.push(Items::from_slice(alloc, line.as_bytes())?)?;
-    Ok(Refutation {
-        uses: Items::from_slice(alloc, &[used])?,
-        proof,
-    })
+    let uses = Items::from_slice(alloc, &[used])?;
+    let proof = proof_of(alloc, line)?;
+    Ok(Refutation { uses, proof })
 }
 
 /// This refutation of the property, where it is good over the view.

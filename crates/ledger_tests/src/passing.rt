@@ -5,7 +5,7 @@ ghost use Rattle.std.specs.Arc.{arc_value};
 ghost use Rattle.ledger_tests.specs.Crews.{IsOf, model};
 ghost use Rattle.wall_ledger.specs.Passes.{MayPassPost};
 
-use crate::finds::{allows, find, refuted, skeleton};
+use crate::finds::{allows_at, find, refuted};
 use circuit::Circuit;
 use entry::{Checked, EntryEnd};
 use std::alloc::{AllocError, Global};
@@ -77,15 +77,16 @@ fn post<R: Wait>(
     ensures home { pass.new.home ≡ pass.old.home }
     ensures number { pass.new.number ≡ pass.old.number }
 {
-    let target = skeleton(alloc, k)?;
     let number = pass.number();
     let turn = pass.turns();
-    let free = allows(alloc, pass.view(), &target)?;
+    let free = allows_at(alloc, pass.view(), k)?;
     if !free {
         return Ok(Told::Nothing);
     }
     let found = find(alloc, shared, number, turn, k)?;
-    Ok(hand_in(ledger, rt, pass, &found)?)
+    let told = hand_in(ledger, rt, pass, &found);
+    drop(found);
+    Ok(told?)
 }
 
 fn finish<R: Wait>(
