@@ -91,7 +91,10 @@ fn agrees_on_state(
     let values = state_of(alloc, arena.d, to)?;
     let wanted = arena.has_path(alloc, &Goal::State(values.as_slice()))?;
     let found = ask_state(alloc, c, search, values.as_slice(), meter);
-    Ok(is_path(&found, wanted))
+    let agrees = is_path(&found, wanted);
+    drop(found);
+    drop(values);
+    Ok(agrees)
 }
 
 // The same for a literal.
@@ -115,7 +118,9 @@ fn agrees_on_literal(
     };
     let wanted = arena.has_path(alloc, &goal)?;
     let found = ask_literal(alloc, c, search, literal, meter);
-    Ok(is_path(&found, wanted))
+    let agrees = is_path(&found, wanted);
+    drop(found);
+    Ok(agrees)
 }
 
 // Whether it does so for each state, and for a literal after each.

@@ -56,11 +56,7 @@ fn to_goal(
     requires view { IsGoodList c.now (viewed view.now) }
 {
     match to {
-        To::State(state) => {
-            let values = state_of(alloc, state)?;
-            let goal = Goal::State(values.as_slice());
-            searched(alloc, c, view, start, &goal, true, meter)
-        }
+        To::State(state) => to_state(alloc, c, view, start, state, meter),
         To::Literal(literal) => {
             let goal = Goal::Literal {
                 literal,
@@ -70,6 +66,30 @@ fn to_goal(
         }
         To::LiteralAt(literal, var) => to_literal_at(alloc, c, view, start, (literal, var), meter),
     }
+}
+
+fn to_state(
+    alloc: Global,
+    c: &Circuit,
+    view: &[Arc<Checked>],
+    start: &Start,
+    state: &str,
+    meter: &mut Meter,
+) -> Result<Reached, ReachEnd>
+    requires view { IsGoodList c.now (viewed view.now) }
+{
+    let values = state_of(alloc, state)?;
+    let reached = searched(
+        alloc,
+        c,
+        view,
+        start,
+        &Goal::State(values.as_slice()),
+        true,
+        meter,
+    );
+    drop(values);
+    reached
 }
 
 // To the literal at a position whose state has 0 in a latch.
@@ -92,7 +112,9 @@ fn to_literal_at(
         literal: at.0,
         avoid: &cubes,
     };
-    searched(alloc, c, view, start, &goal, true, meter)
+    let reached = searched(alloc, c, view, start, &goal, true, meter);
+    drop(cubes);
+    reached
 }
 
 /// What a search behind a view answers, from a state, or from the initial states where none is written.
@@ -110,7 +132,9 @@ pub(crate) fn answer_behind(
         return to_goal(alloc, c, view, &Start::Initial, to, meter);
     }
     let start = Start::State(state_of(alloc, from)?);
-    to_goal(alloc, c, view, &start, to, meter)
+    let reached = to_goal(alloc, c, view, &start, to, meter);
+    drop(start);
+    reached
 }
 
 /// The same without entries.

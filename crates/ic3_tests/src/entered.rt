@@ -32,10 +32,36 @@ fn is_entry(
 ) -> Result<bool, Stop>
     requires view { IsGoodList (arc_value shared.now) (viewed view.now) }
 {
-    let goals = arena.goals(alloc, goal)?;
-    if !separates(arena.space, arena.known, &entry, arena.starts(), goals) {
-        return Ok(false);
+    match is_apart(alloc, arena, goal, &entry) {
+        Ok(true) => is_taken_where(alloc, shared, view, arena, entry),
+        other => {
+            drop(entry);
+            other
+        }
     }
+}
+
+// Whether an entry separates as the search is to.
+fn is_apart(
+    alloc: Global,
+    arena: Arena<'_>,
+    goal: &Goal<'_>,
+    entry: &Listed,
+) -> Result<bool, Stop> {
+    let goals = arena.goals(alloc, goal)?;
+    Ok(separates(arena.space, arena.known, entry, arena.starts(), goals))
+}
+
+// Whether an entry is certified and taken where it excludes anything.
+fn is_taken_where(
+    alloc: Global,
+    shared: &Arc<Circuit>,
+    view: &[Arc<Checked>],
+    arena: Arena<'_>,
+    entry: Listed,
+) -> Result<bool, Stop>
+    requires view { IsGoodList (arc_value shared.now) (viewed view.now) }
+{
     match arena.skeleton(alloc, &entry)? {
         Some(skeleton) => is_certified(alloc, shared, view, entry, skeleton),
         None => Ok(true),
@@ -57,7 +83,9 @@ fn is_certified(
     let claim = claim_of(alloc, known.listed(), skeleton)?;
     let mut meter = Meter::new(NO_LIMIT, 0);
     let checked = certified(alloc, shared, view, known, claim, &mut meter)?;
-    is_taken(alloc, &**shared, view, &checked)
+    let is_so = is_taken(alloc, &**shared, view, &checked);
+    drop(checked);
+    is_so
 }
 
 fn is_judged(alloc: Global, c: &Circuit, view: &[Arc<Checked>], e: &Entry) -> bool {
@@ -74,7 +102,9 @@ fn is_taken(
     checked: &Checked,
 ) -> Result<bool, Stop> {
     let e = entry_again(alloc, checked)?;
-    Ok(is_judged(alloc, c, view, &e))
+    let is_so = is_judged(alloc, c, view, &e);
+    drop(e);
+    Ok(is_so)
 }
 
 /// Whether a search answers as it is to: a path is replayed, a closed set tested, certified and taken.
@@ -90,8 +120,9 @@ pub(crate) fn is_answered(
 {
     let start = arena.start(alloc)?;
     let mut meter = Meter::new(NO_LIMIT, NO_LIMIT);
-    let answer = searched(alloc, &**shared, view, &start, goal, least, &mut meter)?;
-    is_right(alloc, shared, view, arena, goal, answer)
+    let answer = searched(alloc, &**shared, view, &start, goal, least, &mut meter);
+    drop(start);
+    is_right(alloc, shared, view, arena, goal, answer?)
 }
 
 // Whether the answer is what a search of all states says.
@@ -191,14 +222,16 @@ fn agrees_on_state(
 {
     let to = state_of(alloc, arena.d, draw(seed, arena.space.count))?;
     let least = draw(seed, 2) == 0;
-    is_answered(
+    let is_so = is_answered(
         alloc,
         shared,
         view,
         arena,
         &Goal::State(to.as_slice()),
         least,
-    )
+    );
+    drop(to);
+    is_so
 }
 
 fn agrees_on_literal(
@@ -216,7 +249,9 @@ fn agrees_on_literal(
         avoid: cubes.as_slice(),
     };
     let least = draw(seed, 2) == 0;
-    is_answered(alloc, shared, view, arena, &goal, least)
+    let is_so = is_answered(alloc, shared, view, arena, &goal, least);
+    drop(cubes);
+    is_so
 }
 
 // Up to two cubes.
@@ -232,7 +267,9 @@ fn cubes_drawn(alloc: Global, d: &Drawn, seed: &mut u64) -> Result<Vec<Cube>, Al
 fn agrees_drawn(alloc: Global, number: u64) -> Result<bool, Stop> {
     let parts = parts_of(alloc, number)?;
     let mut seed = number.saturating_add(1).wrapping_mul(0x2545_f491_4f6c_dd1d);
-    agrees_in(alloc, &parts.shared, &parts.d, &parts.space, &mut seed)
+    let agrees = agrees_in(alloc, &parts.shared, &parts.d, &parts.space, &mut seed);
+    drop(parts);
+    agrees
 }
 
 fn agrees_in(
@@ -243,9 +280,24 @@ fn agrees_in(
     seed: &mut u64,
 ) -> Result<bool, Stop> {
     let view = view_drawn(alloc, shared, d, space, seed)?;
+    let agrees = agrees_behind(alloc, shared, view.as_slice(), d, space, seed);
+    drop(view);
+    agrees
+}
+
+fn agrees_behind(
+    alloc: Global,
+    shared: &Arc<Circuit>,
+    view: &[Arc<Checked>],
+    d: &Drawn,
+    space: &Space,
+    seed: &mut u64,
+) -> Result<bool, Stop>
+    requires view { IsGoodList (arc_value shared.now) (viewed view.now) }
+{
     Ok(
-        agrees_on(alloc, shared, view.as_slice(), d, space, seed)?
-            && agrees_on(alloc, shared, view.as_slice(), d, space, seed)?,
+        agrees_on(alloc, shared, view, d, space, seed)?
+            && agrees_on(alloc, shared, view, d, space, seed)?,
     )
 }
 

@@ -66,9 +66,16 @@ fn codes_of(alloc: Global, clause: &Clause) -> Result<Vec<u64>, AllocError> {
     Ok(codes)
 }
 
+fn has_codes(alloc: Global, clause: &Clause, codes: &[u64]) -> Result<bool, AllocError> {
+    let found = codes_of(alloc, clause)?;
+    let is_so = found.as_slice() == codes;
+    drop(found);
+    Ok(is_so)
+}
+
 fn are_these(alloc: Global, clauses: &[Clause], wanted: &[&[u64]]) -> Result<bool, AllocError> {
     for (clause, codes) in clauses.iter().zip(wanted.iter()) {
-        if codes_of(alloc, clause)?.as_slice() != *codes {
+        if !has_codes(alloc, clause, codes)? {
             return Ok(false);
         }
     }
@@ -79,7 +86,9 @@ fn clauses_on(alloc: Global, c: &Circuit, row: &Row) -> Result<bool, SolveEnd> {
     let places = places_of(alloc, c)?;
     let mut meter = Meter::new(1000, 0);
     let clauses = inductive_clauses(alloc, c, &places, row.1, &mut meter)?;
-    Ok(are_these(alloc, clauses.as_slice(), row.2)?)
+    let are_so = are_these(alloc, clauses.as_slice(), row.2);
+    drop(clauses);
+    Ok(are_so?)
 }
 
 // Of a model that is not read no clauses come.
@@ -135,24 +144,39 @@ fn judged_rows() -> &'static [Judged] {
 
 fn clauses_of(alloc: Global, codes: &[&[u64]]) -> Result<Items<Clause>, AllocError> {
     let mut clauses = Items::new(alloc);
-    for clause in codes {
-        clauses.push(clause_of(alloc, *clause)?)?;
-    }
+    push_clauses(alloc, codes, &mut clauses)?;
     Ok(clauses)
 }
 
-fn judged_on(alloc: Global, c: &Circuit, row: &Judged) -> Result<bool, SolveEnd> {
+fn push_clauses(
+    alloc: Global,
+    codes: &[&[u64]],
+    clauses: &mut Items<Clause>,
+) -> Result<(), AllocError> {
+    for clause in codes {
+        clauses.push(clause_of(alloc, *clause)?)?;
+    }
+    Ok(())
+}
+
+fn judged_by(alloc: Global, c: &Circuit, row: &Judged, set: &ClosedSet) -> Result<bool, SolveEnd> {
     good_lists_grow(c);
-    let clauses = clauses_of(alloc, row.1)?;
-    let uses = Items::new(alloc);
-    let set = ClosedSet { clauses, uses };
     let goal = Goal::State(row.2);
     if !is_goal(c, &goal) {
         return Ok(false);
     }
     let mut meter = Meter::new(1000, 0);
-    let is_separate = separates(alloc, c, &[], &goal, &set, &mut meter)?;
+    let is_separate = separates(alloc, c, &[], &goal, set, &mut meter)?;
     Ok(is_separate == row.3)
+}
+
+fn judged_on(alloc: Global, c: &Circuit, row: &Judged) -> Result<bool, SolveEnd> {
+    let clauses = clauses_of(alloc, row.1)?;
+    let uses = Items::new(alloc);
+    let set = ClosedSet { clauses, uses };
+    let is_so = judged_by(alloc, c, row, &set);
+    drop(set);
+    is_so
 }
 
 // Of a model that is not read nothing is judged.

@@ -72,9 +72,11 @@ fn told_at(
 {
     let mut meter = meter_of(asked.by_steps, limit);
     match searched(alloc, c, view, asked.start, asked.goal, false, &mut meter) {
-        Ok(reached) => Some(
-            is_path(&reached) == asked.has_path && counted(&meter, asked.by_steps) <= limit,
-        ),
+        Ok(reached) => {
+            let is_so = is_path(&reached) == asked.has_path;
+            drop(reached);
+            Some(is_so && counted(&meter, asked.by_steps) <= limit)
+        }
         Err(end) if is_spent(end, asked.by_steps, &meter, limit) => None,
         Err(_) => Some(false),
     }
