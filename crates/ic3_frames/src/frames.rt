@@ -6,8 +6,9 @@ ghost use Rattle.edge.specs.declared.metering.Counted.TheVariants.{Steps};
 ghost use Rattle.ic3_frames.specs.Frames.{own_lemmas, frame_at, put_at, with_lemma, AllDiffer};
 ghost use Rattle.ic3_frames.specs.Lent.{clauses_of};
 
+use crate::activities::Activities;
 use crate::levels::{add_level, allow, copy_at, count, count_at, first_empty, lemma_at, put};
-use cnf::Clause;
+use cnf::{Clause, Lit};
 use edge::{Held, Meter, Spent};
 use indexmap::IndexSet;
 use std::alloc::{AllocError, Global};
@@ -19,6 +20,7 @@ pub struct Frames {
     levels: Vec<IndexSet<Clause>>,
     /// Room for the counts that a meter is shown.
     counts: Vec<u64>,
+    activities: Activities,
 }
 
 impl Model for Frames {
@@ -41,6 +43,7 @@ impl Frames {
         Frames {
             levels: Vec::new(alloc),
             counts: Vec::new(alloc),
+            activities: Activities::new(alloc),
         }
     }
 
@@ -70,6 +73,7 @@ impl Frames {
         ensures above { OnOk result ((k : ℕ) → level < k → frame_at self.new k ≡ frame_at self.old k) }
         ensures err { OnErr result (self.new ≡ self.old) }
     {
+        self.activities.note(self.levels.as_slice(), &lemma)?;
         put(&mut self.levels, level as usize, lemma)
     }
 
@@ -100,6 +104,12 @@ impl Frames {
         ensures { option_copied result ≡ slice_get (own_lemmas self.now level) place }
     {
         lemma_at(&self.levels, level as usize, place as usize)
+    }
+
+    /// In how many lemmas above level 0 the literal stands, or stood when a sixteenth of them had not come; no contract
+    /// speaks of it. Takes no memory.
+    pub fn activity(&self, literal: Lit) -> u64 {
+        self.activities.of(literal)
     }
 
     /// The frame of a level: its lemmas and those of all levels above. Takes no memory.

@@ -10,6 +10,7 @@
 //! | `push_on` | puts a lemma of a level into the next frame too |
 //! | `count` | how many lemmas a level has that the next has not |
 //! | `lemma` | lends a lemma of a level that the next level has not |
+//! | `activity` | in how many lemmas a literal stands, or stood a little before |
 //! | `at` | a frame as a list of clauses, for the meter of a search |
 //! | `equal_pair` | a level whose frame has the same lemmas as the next |
 //! | `count_frame` | counts the step of a frame that is to be opened |
@@ -19,6 +20,7 @@
 //! Levels and places are counted from 0. Each error but that of `count_frame` is want of memory, and changes nothing.
 #![tactic(auto)]
 
+mod activities;
 mod frames;
 mod laws;
 mod levels;

@@ -106,7 +106,7 @@ pub(crate) fn shorten<S: StepSolver>(
     ensures counted { CountsConflicts meter.old meter.new }
     ensures end { IfErr result (IsEnd meter.new) }
 {
-    let order = by_activity(alloc, &cube, steps.latches(), frames)?;
+    let order = by_activity(alloc, &cube, frames)?;
     let mut asker = LevelTest {
         starts,
         level,

@@ -1,6 +1,9 @@
-use Rattle.std.proofs.Common.{false, take, refl, ap, ◌∙◌, arith}
+use Rattle.std.proofs.Common.{◌<◌, [], get_or, false, length, take, refl, ap, sym, subst, ◌∙◌, arith}
+use Rattle.std.proofs.lemmas.List.Elements.{All-nil, All-cons}
 use Rattle.proof_semantics.specs.declared.literals.Lit.{Lit}
 use Rattle.ic3_frames.specs.Frames.{with_lemma}
+use Rattle.ic3_semantics.specs.Searching.{Question}
+use Rattle.ic3_semantics.specs.Stepping.{IsOver}
 use Rattle.ic3_loops.proofs.Begins.{begun-first, begun-more, agree-first}
 use Rattle.ic3_loops.proofs.Ended.{keeps_on}
 use Rattle.ic3_loops.proofs.opening.open_frames.Goals as goal
@@ -25,3 +28,11 @@ loop-i-preserved g c =
       agree = c.in_ok-put_first.ensures.agree;
       question = keeps_on (g.S.StepSolver.seen c.args.steps.now) (g.S.StepSolver.seen c.loop-i.steps) (g.S.StepSolver.seen c.put_first.new.steps) c.loop-i.invariant.question c.in_ok-put_first.ensures.question;
     }
+
+pub put_first-requires-clause-over : goal.put_first-requires-clause-over
+put_first-requires-clause-over g c =
+    let n = length (g.S.StepSolver.seen c.args.steps.now).question.circuit.latches in
+    subst (λ (q : Question). IsOver (length q.circuit.latches) c.in_ok-unit.unit) (sym c.loop-i.invariant.question.question)
+    (subst (IsOver n) (sym (c.in_ok-unit.ensures no_literal))
+    (All-cons (λ l. l.var < n) (get_or c.args.starts.now c.loop-i.i no_literal) []
+    (c.requires.cube.over c.loop-i.i no_literal (omega arith)) (All-nil (λ l. l.var < n))))

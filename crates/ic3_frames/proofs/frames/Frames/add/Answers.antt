@@ -6,8 +6,8 @@ use Rattle.ic3_frames.proofs.Meaning.{with-within, with-above}
 use Rattle.ic3_frames.proofs.Steps.{kept-once, on-ok}
 use Rattle.ic3_frames.proofs.frames.Frames.add.Goals as goal
 
-pub invariant_of-self : goal.invariant_of-self
-invariant_of-self c = record {
+pub invariant_of-self-2 : goal.invariant_of-self-2
+invariant_of-self-2 c = record {
   once =
       kept-once c.put.result (keys_of c.self.inside.levels.items) (keys_of c.put.new.levels.items) c.args.level c.args.lemma c.put.ensures.ok c.put.ensures.err
       c.self.invariant.once;
