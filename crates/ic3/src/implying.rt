@@ -115,16 +115,26 @@ fn implying_place(
     }
 }
 
-/// For each lemma, the last first, the place of a later one that implies it, or its own. The lemmas are over so many latches.
+/// For each lemma the place of a later one that implies it, or its own. The lemmas are over so many latches. For the first
+/// of them `known` has what was found before; those that were implied are so still.
 pub(crate) fn implying_places(
     alloc: Global,
     lemmas: &[Lemma],
     latches: usize,
+    known: &[usize],
 ) -> Result<Vec<usize>, AllocError> {
     let mut lists = no_lists(alloc, latches.saturating_mul(2))?;
-    let mut places = Vec::new(alloc);
+    let mut places = Vec::from_slice(alloc, known)?;
+    for place in known.len()..lemmas.len() {
+        places.push(place)?;
+    }
     for place in (0..lemmas.len()).rev() {
-        places.push(implying_place(&mut lists, lemmas, place)?)?;
+        if places.as_slice().get(place).copied() == Some(place) {
+            let other = implying_place(&mut lists, lemmas, place)?;
+            if let Some(kept) = places.get_mut(place) {
+                *kept = other;
+            }
+        }
     }
     Ok(places)
 }

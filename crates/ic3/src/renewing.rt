@@ -17,16 +17,16 @@ use ic3_semantics::{Lemma, Start};
 use std::alloc::{AllocError, Global};
 use std::sync::Arc;
 
-/// A solver is old where the questions that brought a clause of their own outnumber this, the gates of its cone and its
-/// lemmas together.
+/// A solver is old where the questions that brought a clause of their own outnumber this, the gates of its cone and half
+/// of the clauses of lemmas together.
 const OLD_BEHIND: u64 = 200;
 
 /// Whether the solver is old. No contract rests on it.
-pub(crate) fn is_old(s: &Questions, cone: &Cone, lemmas: usize) -> bool {
+pub(crate) fn is_old(s: &Questions, cone: &Cone) -> bool {
     s.asked
         > OLD_BEHIND
             .saturating_add(cone.gates())
-            .saturating_add(lemmas as u64)
+            .saturating_add(s.held / 2)
 }
 
 // Adds the clause of the lemma at a place, but where the other one stands behind it and implies it.
@@ -49,13 +49,17 @@ fn hold_at(
     Ok(())
 }
 
-// Adds the clauses of lemmas, but of those that a later one implies.
-fn hold_all(alloc: Global, lemmas: &[Lemma], s: &mut Questions) -> Result<(), AllocError>
+// Adds the clauses of lemmas, but of those that a later one implies: `others` has the place of one for each, or its own.
+fn hold_all(
+    alloc: Global,
+    lemmas: &[Lemma],
+    others: &[usize],
+    s: &mut Questions,
+) -> Result<(), AllocError>
     ensures { OnOk result (HoldsAll lemmas.now s.old s.new) }
 {
-    let mut others = implying_places(alloc, lemmas, s.here.len())?;
     for place in 0..lemmas.len() {
-        let other = others.pop().unwrap_or(place);
+        let other = others.get(place).copied().unwrap_or(place);
         hold_at(alloc, lemmas, place, other, s)?;
     }
     Ok(())
@@ -77,7 +81,9 @@ pub(crate) fn renewed(
     ensures { IfOk result (IsHeldWith (stepping_of c.now (viewed view.now) start.now avoid.now lemmas.now) base.now.clauses) }
 {
     let mut made = questions_of(alloc, c, view, start, avoid, base, old.free, cone)?;
-    hold_all(alloc, lemmas, &mut made)?;
+    let others = implying_places(alloc, lemmas, made.here.len(), old.implying.as_slice())?;
+    hold_all(alloc, lemmas, others.as_slice(), &mut made)?;
     made.count = old.count;
+    made.implying = others;
     Ok(made)
 }

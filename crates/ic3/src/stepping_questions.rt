@@ -34,6 +34,11 @@ pub(crate) struct Questions {
     pub(crate) asked: u64,
     /// How many questions were handed to `ask`, or 2^64 - 1 where there were more; no contract speaks of it.
     pub(crate) count: u64,
+    /// How many clauses of lemmas came; no contract speaks of it.
+    pub(crate) held: u64,
+    /// For each lemma whose clause was due when the solver was made anew, the place of a later one that implies it, or
+    /// its own; no contract speaks of it.
+    pub(crate) implying: Vec<usize>,
 }
 
 /// The numbers of levels and questions are below this one.
@@ -347,6 +352,7 @@ pub(crate) fn hold_clause(
     let guard = level_guard(s.free, level)?;
     let held = guarded(alloc, guard, s.here.as_slice(), clause)?;
     s.solver.add_sized(held)?;
+    s.held = s.held.saturating_add(1);
     s.levels = s.levels.max(above);
     Ok(())
 }

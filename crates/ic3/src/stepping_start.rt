@@ -144,5 +144,7 @@ pub(crate) fn questions_of(
         levels: 0,
         asked: 0,
         count: 0,
+        held: 0,
+        implying: Vec::new(alloc),
     })
 }

@@ -170,7 +170,7 @@ impl<'a> Steps<'a> {
     fn renew_where_old(&mut self) -> Result<(), AllocError>
         ensures { self.new ≡ self.old }
     {
-        if is_old(&self.questions, &self.cone, self.lemmas.len()) {
+        if is_old(&self.questions, &self.cone) {
             self.renew()
         } else {
             Ok(())

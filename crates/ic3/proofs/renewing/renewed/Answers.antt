@@ -16,5 +16,7 @@ returns c =
       levels = c.hold_all.new.s.levels;
       asked = c.hold_all.new.s.asked;
       count = c.args.old.now.count;
+      held = c.hold_all.new.s.held;
+      implying = c.in_ok-others.others;
     })
     c.requires c.in_ok-made.ensures c.in_ok-hold_all.ensures refl refl refl refl refl refl

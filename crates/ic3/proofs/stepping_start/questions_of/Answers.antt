@@ -20,6 +20,8 @@ returns c =
       levels = 0;
       asked = 0;
       count = 0;
+      held = 0;
+      implying = c.new.result;
     })
     c.max-greatest.ensures.checked c.one_valuation.ensures c.requires.view c.requires.avoid
     c.in_ok-here.ensures c.in_ok-next.ensures c.requires.free grows
