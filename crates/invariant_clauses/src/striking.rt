@@ -84,22 +84,6 @@ fn strike_broken(solver: &Solver, candidates: &mut Vec<Candidate>) {
     }
 }
 
-// Asks for a step that makes the literals true.
-fn ask(
-    alloc: Global,
-    solver: &mut Solver,
-    literals: &[Lit],
-    meter: &mut Meter,
-) -> Result<Asked, SolveEnd>
-    ensures end { IfErr result (IsEnd meter.new) }
-    ensures counted { CountsConflicts meter.old meter.new }
-{
-    if has_opposites(literals) || !are_sized(literals) {
-        return Err(SolveEnd::Memory);
-    }
-    solver.ask(alloc, literals, meter)
-}
-
 // Asks for a step that breaks the clause with this number, if it is not struck out, and strikes out what it breaks.
 fn strike_one(
     alloc: Global,
@@ -118,7 +102,7 @@ fn strike_one(
         return Ok(());
     }
     striking.questions_left = striking.questions_left.saturating_sub(1);
-    match ask(alloc, solver, candidate.broken.as_slice(), meter)? {
+    match solver.ask(alloc, candidate.broken.as_slice(), meter)? {
         Asked::Unsat(_) => Ok(()),
         Asked::Sat => {
             striking.has_struck = true;
