@@ -1,29 +1,17 @@
 -- States as literals over the numbers of a place, and what a core of them says.
-use Rattle.std.proofs.Common.{◌≡◌, ℕ, zero, suc, ◌+◌, ◌<◌, ◌≤◌, ◌^◌, Bool, true, false, not, ◌&&◌, ◌||◌, List, [], ◌∷◌, ◌++◌, map, length, get_or, refl, sym, ap, subst, ◌∙◌, inl, inr, arith, append_assoc}
-use Rattle.std.specs.List.{All, AllByRecursion, list_any, list_all}
-use Rattle.std.specs.Option.{unwrap_or}
-use Rattle.std.proofs.lemmas.Bool.{and_parts, and_from, cases_Bool, or_cases, or_left, or_right, false≢true, false_from_ne_true}
+use Rattle.std.proofs.Common.{◌≡◌, ℕ, suc, ◌+◌, ◌<◌, ◌≤◌, Bool, true, false, ◌&&◌, List, [], ◌∷◌, ◌++◌, map, length, refl, sym, ap, subst, ◌∙◌, inl, inr, arith, append_assoc}
+use Rattle.std.specs.List.{All, AllByRecursion, list_all}
+use Rattle.std.proofs.lemmas.Bool.{and_parts, and_from, cases_Bool, or_cases, or_left, or_right, false≢true}
 use Rattle.std.proofs.Math.Seq.{get_or-append_seam}
 use Rattle.std.proofs.lemmas.Option.{unwrap_or-slice_get}
-use Rattle.std.proofs.lemmas.List.{length-map, length-append}
-use Rattle.std.proofs.lemmas.List.Elements.{All-from_recursion, recursion_from_All}
-use Rattle.aig_semantics.specs.declared.parts.Latch.{Latch}
-use Rattle.aig_semantics.specs.Circuits.{Circuit, IsChecked, IsWithinLimits}
-use Rattle.aig_semantics.specs.Valuations.{value_beside}
-use Rattle.aig_semantics.proofs.Lists.{AllDiffer, AllDiffer-left, AllDiffer-right, value_beside-at}
+use Rattle.std.proofs.lemmas.List.{length-append}
+use Rattle.std.proofs.lemmas.List.Elements.{All-from_recursion}
 use Rattle.proof_semantics.specs.declared.literals.Lit.{Lit}
-use Rattle.proof_semantics.specs.Clauses.{bool_eq, lit_eq, negation, literal_value, cube_value, values_of, has_literal, is_part, has_opposites}
-use Rattle.proof_semantics.specs.Lines.{IsSize, AreSized}
-use Rattle.proof_semantics.proofs.LiteralLaws.{bool_eq-true, bool_eq-same, lit_eq-true, lit_eq-same, literal_value-negation, cube_value-has}
-use Rattle.cnf_unroll.specs.Numbers.{number, state_place}
-use Rattle.cnf_unroll.proofs.Bounds.{latches_bound}
+use Rattle.proof_semantics.specs.Clauses.{bool_eq, lit_eq, literal_value, cube_value, values_of, has_literal, is_part}
+use Rattle.proof_semantics.proofs.LiteralLaws.{bool_eq-true, bool_eq-same, lit_eq-true, lit_eq-same}
 use Rattle.skeleton.specs.Reading.{state_literals, core_cube}
 
--- ---- an assignment that gives a place the state makes its literals true, and no other does
-
-pub literals_true : (f : ℕ → Bool) (place : List ℕ) → cube_value f (state_literals place (map f place)) ≡ true
-literals_true f [] = refl
-literals_true f (k ∷ place) = and_from _ _ (bool_eq-same (f k)) (literals_true f place)
+-- ---- an assignment that makes the literals true gives the place the state
 
 pub literals_told : (f : ℕ → Bool) (place : List ℕ) (state : List Bool) → length state ≡ length place
     → cube_value f (state_literals place state) ≡ true → map f place ≡ state
@@ -38,92 +26,6 @@ pub literals_length : (place : List ℕ) (state : List Bool) → length state �
 literals_length [] state l = refl
 literals_length (k ∷ place) [] l = absurd (omega arith)
 literals_length (k ∷ place) (b ∷ state) l = ap suc (literals_length place state (omega arith))
-
--- ---- where the numbers of the place differ, there is such an assignment, and so no literal beside its negation
-
-beside : List ℕ → List Bool → ℕ → Bool
-beside place state k = unwrap_or (value_beside place state k) false
-
-beside_from : (place : List ℕ) (state : List Bool) (f : ℕ → Bool) → length place ≡ length state
-    → ((k : ℕ) → k < length place → f (get_or place k 0) ≡ get_or state k false) → map f place ≡ state
-beside_from [] [] f l h = refl
-beside_from [] (b ∷ state) f l h = absurd (omega arith)
-beside_from (p ∷ place) [] f l h = absurd (omega arith)
-beside_from (p ∷ place) (b ∷ state) f l h =
-    ap (λ x. x ∷ map f place) (h 0 (omega arith))
-    ∙ ap (λ xs. b ∷ xs) (beside_from place state f (omega arith) (λ k below. h (suc k) (omega arith)))
-
-gives_state : (place : List ℕ) (state : List Bool) → AllDiffer place → length place ≡ length state → map (beside place state) place ≡ state
-unfolding beside
-gives_state place state differ l =
-    beside_from place state (beside place state) l (λ k below. ap (λ o. unwrap_or o false) (value_beside-at place state k differ l below))
-
-none_opposite : (v : ℕ → Bool) (whole part : List Lit) → cube_value v whole ≡ true → cube_value v part ≡ true
-    → list_any (λ a. has_literal whole (negation a)) part ≡ false
-none_opposite v whole [] all h = refl
-none_opposite v whole (a ∷ part) all h =
-    let parts = and_parts (literal_value v a) (cube_value v part) h in
-    let here : has_literal whole (negation a) ≡ false =
-    false_from_ne_true (has_literal whole (negation a)) (λ has.
-    false≢true (sym (ap not parts.0) ∙ sym (literal_value-negation v a) ∙ cube_value-has v whole (negation a) all has))
-    in
-    ap (λ x. x || list_any (λ b. has_literal whole (negation b)) part) here ∙ none_opposite v whole part all parts.1
-
-pub literals_apart : (place : List ℕ) (state : List Bool) → AllDiffer place → length place ≡ length state
-    → has_opposites (state_literals place state) ≡ false
-literals_apart place state differ l =
-    let f : ℕ → Bool = beside place state in
-    let all : cube_value f (state_literals place state) ≡ true =
-    subst (λ s. cube_value f (state_literals place s) ≡ true) (gives_state place state differ l) (literals_true f place)
-    in
-    none_opposite f (state_literals place state) (state_literals place state) all all
-
--- ---- the literals' variables are numbers of the place
-
-literals_sized : (place : List ℕ) (state : List Bool) → AllByRecursion IsSize place → AreSized (state_literals place state)
-literals_sized [] state sizes a has = absurd (false≢true has)
-literals_sized (k ∷ place) [] sizes a has = absurd (false≢true has)
-literals_sized (k ∷ place) (b ∷ state) sizes a has =
-    elim (or_cases (lit_eq a (record { var = k; positive = b })) (has_literal (state_literals place state) a) has) [
-      | inl same ↦ subst IsSize (sym (ap (λ l. l.var) (lit_eq-true a (record { var = k; positive = b }) same))) sizes.0
-      | inr later ↦ literals_sized place state sizes.1 a later
-    ]
-
--- ---- the state's place of the first block
-
-shifted_at : (latches : List Latch) (k d : ℕ) → k < length latches
-    → get_or (map (λ latch. number 0 latch.var) latches) k d ≡ 1 + get_or (map (λ latch. latch.var) latches) k d
-shifted_at [] k d below = absurd (omega arith)
-shifted_at (latch ∷ latches) zero d below = refl
-shifted_at (latch ∷ latches) (suc k) d below = shifted_at latches k d (omega arith)
-
-shifted_differ : (latches : List Latch) → AllDiffer (map (λ latch. latch.var) latches) → AllDiffer (map (λ latch. number 0 latch.var) latches)
-shifted_differ latches differ i j d lt below same =
-    let l = length-map latches (λ latch. latch.var) in
-    let m = length-map latches (λ latch. number 0 latch.var) in
-    let at_i = shifted_at latches i d (omega (arith, m)) in
-    let at_j = shifted_at latches j d (omega (arith, m)) in
-    differ i j d lt (omega (arith, l, m)) (omega (arith, at_i, at_j, same))
-
-pub place_differs : (c : Circuit) → IsChecked c → AllDiffer (state_place c 0)
-place_differs c checked =
-    let latches = map (λ latch. latch.var) c.latches in
-    shifted_differ c.latches
-    (AllDiffer-right c.inputs latches (AllDiffer-left (c.inputs ++ latches) (map (λ gate. gate.var) c.gates) checked.once))
-
-sized_place : (latches : List Latch) → AllByRecursion (λ latch. latch.var < 2 ^ 32) latches → AllByRecursion IsSize (map (λ latch. number 0 latch.var) latches)
-sized_place [] h = tt
-sized_place (latch ∷ latches) h = ((omega arith, (let r = h.0 in omega arith)), sized_place latches h.1)
-
-pub state_sized : (c : Circuit) (state : List Bool) → IsChecked c → IsWithinLimits c → AreSized (state_literals (state_place c 0) state)
-state_sized c state checked limits =
-    literals_sized (state_place c 0) state
-    (sized_place c.latches (recursion_from_All (λ latch. latch.var < 2 ^ 32) c.latches (latches_bound c checked limits)))
-
-pub state_apart : (c : Circuit) (state : List Bool) → IsChecked c → length state ≡ length c.latches
-    → has_opposites (state_literals (state_place c 0) state) ≡ false
-state_apart c state checked l =
-    literals_apart (state_place c 0) state (place_differs c checked) (length-map c.latches (λ latch. number 0 latch.var) ∙ sym l)
 
 -- ---- the cube of a core
 

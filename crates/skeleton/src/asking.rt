@@ -16,7 +16,7 @@ use crate::finding::{First, Found, ValueAt};
 use crate::lessening::lessened;
 use crate::reading::skeleton_in;
 use crate::states::{core_cube, state_literals};
-use cdcl::{Asked, Refuted, Solver, are_sized, has_opposites};
+use cdcl::{Asked, Refuted, Solver};
 use circuit::{Circuit, one_valuation};
 use cnf::Lit;
 use edge::{Meter, SolveEnd};
@@ -233,9 +233,6 @@ pub(crate) fn find_valued(
     ensures counted { CountsConflicts meter.old meter.new }
 {
     let assumptions = literals_at(alloc, c, values)?;
-    if has_opposites(assumptions.as_slice()) || !are_sized(assumptions.as_slice()) {
-        return Ok(None);
-    }
     let answer = solver.ask(alloc, assumptions.as_slice(), meter)?;
     Ok(valued_of(alloc, c, j, solver, view, assumptions.as_slice(), answer)?)
 }

@@ -1,7 +1,5 @@
 //! States as assumptions, and cores of them as cubes over latch numbers.
-ghost use Rattle.std.specs.Prelude.{◌≡◌, ◌<◌, ◌^◌, false, map, length, All, IfOk};
-ghost use Rattle.proof_semantics.specs.Clauses.{has_opposites};
-ghost use Rattle.proof_semantics.specs.Lines.{AreSized};
+ghost use Rattle.std.specs.Prelude.{◌≡◌, ◌<◌, ◌^◌, map, length, All, IfOk};
 ghost use Rattle.cnf_unroll.specs.Numbers.{number, state_place};
 ghost use Rattle.skeleton.specs.Reading.{state_literals, core_cube};
 
@@ -38,9 +36,7 @@ pub(crate) fn state_literals(
     state: &[bool],
 ) -> Result<Items<Lit>, AllocError>
     requires { length state.now ≡ length c.now.latches }
-    ensures value { IfOk result (λ literals. literals ≡ state_literals (state_place c.now 0) state.now) }
-    ensures apart { IfOk result (λ literals. has_opposites literals ≡ false) }
-    ensures sizes { IfOk result AreSized }
+    ensures { IfOk result (λ literals. literals ≡ state_literals (state_place c.now 0) state.now) }
 {
     let _limits = c.max();
     latch_literals(alloc, c.latches(), state)
