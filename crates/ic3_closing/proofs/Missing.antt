@@ -1,5 +1,5 @@
 -- Where the question for a goal has no model, no position from a state of the clauses meets it.
-use Rattle.std.proofs.Common.{◌≡◌, ℕ, ◌<◌, Bool, true, false, not, ◌&&◌, ◌||◌, nat_eq, List, [], ◌∷◌, ◌++◌, map, length, refl, sym, ap, subst, ◌∙◌}
+use Rattle.std.proofs.Common.{◌≡◌, ℕ, ◌<◌, Bool, true, false, not, List, [], ◌∷◌, ◌++◌, map, length, refl, sym, ap, subst, ◌∙◌}
 use Rattle.std.specs.List.{All}
 use Rattle.std.proofs.lemmas.Bool.{and_from, false_from_ne_true}
 use Rattle.std.proofs.lemmas.List.Elements.{All-head, All-tail, All-append, All-cons}
@@ -7,7 +7,7 @@ use Rattle.aig_semantics.specs.Literals.{variable_of}
 use Rattle.aig_semantics.specs.Circuits.{Circuit, IsChecked}
 use Rattle.aig_semantics.specs.Runs.{successor}
 use Rattle.proof_semantics.specs.declared.literals.Lit.{Lit}
-use Rattle.proof_semantics.specs.Clauses.{bool_eq, negation, literal_value, clause_value, clauses_value, cube_value, values_of, has_opposites}
+use Rattle.proof_semantics.specs.Clauses.{negation, literal_value, clause_value, clauses_value, cube_value, values_of}
 use Rattle.fair_semantics.specs.States.{meets_clauses}
 use Rattle.fair_semantics.specs.Entries.{Entry}
 use Rattle.cdcl.specs.Solving.{HasNoModel}
@@ -27,16 +27,6 @@ use Rattle.ic3_semantics.specs.Stepping.{IsArenaStep}
 use Rattle.ic3_questions.specs.SteppingClauses.{own_uses}
 use Rattle.ic3_questions.proofs.BaseLaws.{base_written}
 use Rattle.ic3_closing.specs.Goals.{goal_set, MissesLiteral}
-
--- ---- one literal is apart
-
-not_itself : (same positive : Bool) → (((same && bool_eq (not positive) positive) || false) || false) ≡ false
-not_itself true true = refl
-not_itself true false = refl
-not_itself false positive = refl
-
-pub one_apart : (l : Lit) → has_opposites (l ∷ []) ≡ false
-one_apart l = not_itself (nat_eq l.var l.var) l.positive
 
 -- ---- the question
 

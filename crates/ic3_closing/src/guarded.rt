@@ -6,11 +6,10 @@
 //!
 //! Parts are numbered: the uses; as many for the sides that they name; the clauses; the cubes that a goal avoids; and
 //! then the questions.
-ghost use Rattle.std.specs.Prelude.{◌≡◌, ◌<◌, length, IfErr};
-ghost use Rattle.std.specs.List.{All, list_all};
+ghost use Rattle.std.specs.Prelude.{◌<◌, length, IfErr};
+ghost use Rattle.std.specs.List.{All};
 ghost use Rattle.edge.specs.Ends.{CountsConflicts, IsEnd};
 
-use crate::asking::ask;
 use crate::goals::goal_set;
 use crate::keeping::is_marked;
 use crate::sets::ClosedSet;
@@ -213,28 +212,6 @@ pub(crate) fn solver_behind_guards(
     guarded_by(alloc, &begun, sides, whole.clauses.len())
 }
 
-fn are_positive(literals: &[Lit]) -> bool
-    ensures { result ≡ list_all (λ l. l.positive) literals.now }
-{
-    literals.iter().all(|literal| literal.positive)
-}
-
-// Asks under guards, which are positive literals.
-fn ask_guarded(
-    alloc: Global,
-    solver: &mut Solver,
-    guards: &[Lit],
-    meter: &mut Meter,
-) -> Result<Asked, SolveEnd>
-    ensures end { IfErr result (IsEnd meter.new) }
-    ensures counted { CountsConflicts meter.old meter.new }
-{
-    if !are_positive(guards) {
-        return Err(SolveEnd::Memory);
-    }
-    ask(alloc, solver, guards, meter)
-}
-
 // Puts the guards of those parts at the end that count and are marked, or that count and are not.
 fn push_guards(
     guards: &mut Vec<Lit>,
@@ -343,7 +320,7 @@ pub(crate) fn mark_core(
             counted.as_slice(),
             marks.as_slice(),
         )?;
-        match ask_guarded(alloc, &mut g.solver, guards.as_slice(), meter)? {
+        match g.solver.ask(alloc, guards.as_slice(), meter)? {
             Asked::Unsat(core) => {
                 mark_guarded(marks.as_mut_slice(), g.first, core.as_slice());
                 return Ok(());

@@ -16,7 +16,7 @@ ghost use Rattle.ic3_closing.specs.Standing.{shared_by, NoneBreaks, Stands};
 use crate::asking::is_refused;
 use crate::goals::misses;
 use crate::sets::ClosedSet;
-use cdcl::{Solver, has_opposites};
+use cdcl::Solver;
 use circuit::Circuit;
 use cnf::Clause;
 use cnf_unroll::{Used, broken, shared};
@@ -134,7 +134,7 @@ fn solver_of(
     Solver::with_clauses(alloc, begun.clauses.into_vec())
 }
 
-// Whether no step breaks the clause. One with a literal beside its negation is not asked for.
+// Whether no step breaks the clause.
 fn is_unbroken(
     alloc: Global,
     c: &Circuit,
@@ -149,9 +149,6 @@ fn is_unbroken(
     ensures counted { CountsConflicts meter.old meter.new }
 {
     let literals = broken(alloc, c, clause)?;
-    if has_opposites(literals.as_slice()) {
-        return Ok(false);
-    }
     is_refused(alloc, solver, literals.as_slice(), meter)
 }
 

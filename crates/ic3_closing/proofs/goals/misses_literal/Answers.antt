@@ -5,11 +5,8 @@ use Rattle.entry.specs.CheckedEntries.{viewed}
 use Rattle.ic3_closing.specs.Goals.{MissesLiteral, goal_set}
 use Rattle.ic3_closing.proofs.Ends.{on_flag}
 use Rattle.ic3_questions.proofs.ReadVariables.{read_from}
-use Rattle.ic3_closing.proofs.Missing.{one_apart, goal_missed}
+use Rattle.ic3_closing.proofs.Missing.{goal_missed}
 use Rattle.ic3_closing.proofs.goals.misses_literal.Goals as goal
-
-pub is_refused-refused-requires : goal.is_refused-refused-requires
-is_refused-refused-requires c = one_apart c.literal_in_block.result
 
 pub returns-clause-misses : goal.returns-clause-misses
 returns-clause-misses c =
