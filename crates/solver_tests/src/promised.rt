@@ -1,6 +1,6 @@
 //! Clauses of public calls, said again as clauses of this crate's own: where such a call comes to say less, the function
 //! here that makes it is not proved.
-ghost use Rattle.std.specs.Prelude.{◌≡◌, ◌-◌, ◌++◌, IfErr, length, false, []};
+ghost use Rattle.std.specs.Prelude.{◌≡◌, ◌-◌, ◌++◌, IfErr, IfOk, length, false, []};
 ghost use Rattle.proof_semantics.specs.Lines.{AreSized};
 ghost use Rattle.cdcl.specs.Counting.{IsNoLimit, IsRefutedAtOnce};
 ghost use Rattle.cdcl.specs.Solving.{Learns, with_conflicts};
@@ -26,15 +26,14 @@ fn solved(solver: &mut Solver, assumptions: &[Lit], meter: &mut Meter) -> Result
     solver.solve(assumptions, meter)
 }
 
-/// So of a question to a solver that is kept.
+/// So of any question to a solver that is kept.
 fn asked(
     solver: &mut Solver,
     alloc: Global,
     assumptions: &[Lit],
     meter: &mut Meter,
 ) -> Result<Asked, SolveEnd>
-    requires apart { has_opposites assumptions.now ≡ false }
-    requires sizes { AreSized assumptions.now }
+    ensures sizes { IfOk result (λ asked. AreSized assumptions.now) }
     ensures learned { Learns solver.old.added solver.old.learned solver.new.learned }
     ensures counted { meter.new ≡ with_conflicts meter.old (length solver.new.learned - length solver.old.learned) }
     ensures uncounted { IsRefutedAtOnce (solver.old.added ++ solver.old.learned) assumptions.now

@@ -112,16 +112,13 @@ impl Session {
         }
     }
 
-    // The same without a proof.
+    // The same without a proof, under any assumptions.
     fn ask_one(
         &mut self,
         assumed: &[i64],
         assumptions: &[Lit],
         meter: &mut Meter,
     ) -> Result<Said, AllocError> {
-        if has_opposites(assumptions) || !are_sized(assumptions) {
-            return Err(AllocError);
-        }
         match self.solver.ask(self.alloc, assumptions, meter) {
             Ok(found) => {
                 let added = self.added.as_slice();

@@ -356,6 +356,21 @@ fn steps() -> &'static [Step] {
     ]
 }
 
+// The same of assumptions that `ask` alone takes: opposites, and variables 0 and 2^63, which no solver holds.
+fn steps_under_any() -> &'static [Step] {
+    &[
+        (&[1, 2, 0], &[1, -1], 0, Said::Unsat, 0),
+        (&[], &[-5, 1, 5], 0, Said::Unsat, 0),
+        (&[], &[1, -2, 4, 2], 0, Said::Unsat, 0),
+        (&[], &[4, 1, -2], 0, Said::Sat, 0),
+        (&[], &[0], NO_LIMIT, Said::Memory, 0),
+        (&[], &[1, -1, 0], NO_LIMIT, Said::Memory, 0),
+        (&[], &[1, i64::MIN], NO_LIMIT, Said::Memory, 0),
+        (&[], &[-2, -1], 0, Said::Unsat, 0),
+        (&[], &[-1], 0, Said::Sat, 0),
+    ]
+}
+
 fn is_step_right(session: &mut Session, step: &Step) -> Result<bool, AllocError> {
     let (added, assumed, limit, wanted, conflicts) = step;
     session.add(added)?;
@@ -364,9 +379,9 @@ fn is_step_right(session: &mut Session, step: &Step) -> Result<bool, AllocError>
 }
 
 // How many steps come before the first wrong one.
-fn right_steps(session: &mut Session) -> Result<u64, AllocError> {
+fn right_steps(session: &mut Session, steps: &[Step]) -> Result<u64, AllocError> {
     let mut count = 0u64;
-    for step in steps() {
+    for step in steps {
         if !is_step_right(session, step)? {
             return Ok(count);
         }
@@ -375,9 +390,9 @@ fn right_steps(session: &mut Session) -> Result<u64, AllocError> {
     Ok(count)
 }
 
-fn right_steps_by(alloc: Global, way: Way) -> Result<u64, AllocError> {
+fn right_steps_by(alloc: Global, way: Way, steps: &[Step]) -> Result<u64, AllocError> {
     let mut session = Session::new(alloc, way, &[])?;
-    let count = right_steps(&mut session);
+    let count = right_steps(&mut session, steps);
     drop(session);
     count
 }
@@ -385,8 +400,18 @@ fn right_steps_by(alloc: Global, way: Way) -> Result<u64, AllocError> {
 #[test]
 fn asked_again(rt: HostRuntime) -> Result<(), Fail> {
     for way in WAYS {
-        assert!(rt; right_steps_by(rt.alloc(), way)? == 9, "{}", way.name());
+        assert!(rt;
+            right_steps_by(rt.alloc(), way, steps())? == 9,
+            "{}",
+            way.name()
+        );
     }
+    Ok(())
+}
+
+#[test]
+fn asked_under_any_assumptions(rt: HostRuntime) -> Result<(), Fail> {
+    assert!(rt; right_steps_by(rt.alloc(), Way::Ask, steps_under_any())? == 9);
     Ok(())
 }
 
