@@ -1,5 +1,5 @@
 -- What the solver's answers say of lassos.
-use Rattle.std.proofs.Common.{◌≡◌, ℕ, suc, ◌+◌, ◌<◌, ◌≤◌, Bool, true, false, not, ◌&&◌, ◌||◌, nat_eq, List, [], ◌∷◌, ◌++◌, length, take, refl, sym, ap, ◌∙◌, subst, inl, inr, Option, Some, None, IfSome, Result, Err, IsOk, arith, add-one}
+use Rattle.std.proofs.Common.{◌≡◌, ℕ, suc, ◌+◌, ◌<◌, ◌≤◌, Bool, true, false, ◌&&◌, ◌||◌, List, [], ◌∷◌, ◌++◌, length, take, refl, sym, ap, ◌∙◌, subst, inl, inr, Option, Some, None, IfSome, Result, Err, IsOk, arith, add-one}
 use Rattle.std.proofs.lemmas.Bool.{cases_lt, false≢true}
 use Rattle.aig_semantics.specs.declared.traces.Position.{Position}
 use Rattle.aig_semantics.specs.declared.traces.Stimulus.{Stimulus}
@@ -8,7 +8,7 @@ use Rattle.aig_semantics.specs.Circuits.{Circuit, fair_literals}
 use Rattle.aig_semantics.specs.Runs.{IsFairLasso}
 use Rattle.aig_semantics.specs.Stimuli.{simulated, HasLasso, StandsFor}
 use Rattle.proof_semantics.specs.declared.literals.Lit.{Lit}
-use Rattle.proof_semantics.specs.Clauses.{bool_eq, literal_value, clauses_value, has_opposites}
+use Rattle.proof_semantics.specs.Clauses.{literal_value, clauses_value}
 use Rattle.cdcl.specs.Solving.{IsModel, HasNoModel}
 use Rattle.cnf_unroll.proofs.Truth.{both, together}
 use Rattle.lasso_clauses.specs.Clauses.{positions_clauses, closing_literal, lasso_clauses}
@@ -20,16 +20,6 @@ use Rattle.unless_memory.specs.Answers.{GivesSome}
 use Rattle.lasso_bmc.specs.declared.ends.Searched.{Searched}
 use Rattle.lasso_bmc.specs.declared.ends.Searched.TheVariants.{Found}
 use Rattle.lasso_bmc.specs.Searching.{HasNoneWithin, IsShortest, IsSearched}
-
--- ---- one literal is apart
-
-not_itself : (same positive : Bool) → (((same && bool_eq (not positive) positive) || false) || false) ≡ false
-not_itself true true = refl
-not_itself true false = refl
-not_itself false positive = refl
-
-pub one_apart : (l : Lit) → has_opposites (l ∷ []) ≡ false
-one_apart l = not_itself (nat_eq l.var l.var) l.positive
 
 -- ---- an assumption is a unit clause
 

@@ -212,7 +212,6 @@ fn told_in_part(
 }
 
 // The question whether position `last` is the last one, with all clauses.
-#[tactic(auto, using(crate::proofs::Telling::one_apart))]
 fn ask_whole(
     alloc: Global,
     c: &Circuit,
@@ -239,7 +238,6 @@ fn ask_whole(
 }
 
 // The question whether position `last` is the last one.
-#[tactic(auto, using(crate::proofs::Telling::one_apart))]
 fn ask(
     alloc: Global,
     c: &Circuit,
