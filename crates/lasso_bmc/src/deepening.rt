@@ -74,8 +74,8 @@ impl Deepening {
     }
 }
 
-// The values that a worker's solver decides variables with first: another search for each, but that the first lasso worker
-// of two workers searches as `search` does.
+// The values that a worker's solver decides variables with first: another search for each number but 0 and 1, so that the
+// lasso worker of two workers searches as `search` does.
 fn first_values(worker: u32) -> FirstValues {
     match worker {
         0 | 1 => FirstValues::AllFalse,
