@@ -3,7 +3,7 @@
 use crate::spending::work_of;
 use edge::Meter;
 
-/// How much all positions may weigh.
+/// How much all positions of one question may weigh.
 const MOST_WEIGHT: u64 = 500_000;
 
 /// What a latch weighs at a position, where a gate weighs 1: the state is compared with that of each position.

@@ -18,8 +18,8 @@ pub fn lies_in(cubes: &[Cube], state: &[bool]) -> bool {
     cubes.iter().any(|cube| holds(cube.as_slice(), state))
 }
 
-fn bit(values: &[bool], i: usize) -> bool {
-    values.get(i).copied().unwrap_or(false)
+fn bit(values: &[bool], latch: usize) -> bool {
+    values.get(latch).copied().unwrap_or(false)
 }
 
 /// A place of a skeleton: the state of a situation, counted from 0, or its successor.
@@ -29,18 +29,18 @@ pub struct Place {
     pub after: bool,
 }
 
-/// The first place of a skeleton where latch `i`, counted from 0, has this value.
-pub fn place_with(situations: &[Situation], i: usize, value: bool) -> Option<Place> {
-    for (k, situation) in situations.iter().enumerate() {
-        if bit(situation.position.latches.as_slice(), i) == value {
+/// The first place of a skeleton where the latch, counted from 0, has this value.
+pub fn place_with(situations: &[Situation], latch: usize, value: bool) -> Option<Place> {
+    for (number, situation) in situations.iter().enumerate() {
+        if bit(situation.position.latches.as_slice(), latch) == value {
             return Some(Place {
-                situation: k,
+                situation: number,
                 after: false,
             });
         }
-        if bit(situation.successor.as_slice(), i) == value {
+        if bit(situation.successor.as_slice(), latch) == value {
             return Some(Place {
-                situation: k,
+                situation: number,
                 after: true,
             });
         }

@@ -48,8 +48,8 @@ pub struct Pauses {
 /// The next round looks for such walls.
 pub const NO_PAUSE: Pauses = Pauses { passed: 0, most: 0 };
 
-/// Whether this round looks for walls of one latch. Behind it more rounds pass than before it: twice as many and one more, at
-/// most 15.
+/// Whether this round looks for walls of one latch. Behind it more rounds pass than before it: twice as many and one more, up
+/// to the most.
 pub fn looks(pauses: &mut Pauses) -> bool {
     if pauses.passed < pauses.most {
         pauses.passed += 1;
