@@ -19,7 +19,7 @@ use std::alloc::{AllocError, Global};
 /// first asks.
 #[derive(Drop)]
 pub(crate) struct LassoSearch {
-    pub(crate) seed: u32,
+    pub(crate) worker: u32,
     pub(crate) depth: u32,
     pub(crate) done: u32,
     pub(crate) solver: Option<Deepening>,
@@ -46,7 +46,7 @@ fn simulated(
     alloc: Global,
     c: &Circuit,
     j: u32,
-    seed: u32,
+    worker: u32,
     meter: &Meter,
 ) -> Result<Option<Lasso>, AllocError>
     ensures { IfOk result (λ found. IfSome found (IsFairLassoOf c.now j)) }
@@ -54,7 +54,7 @@ fn simulated(
     if is_at_limit(meter) {
         return Ok(None);
     }
-    let found = simulate(alloc, c, j, seed, meter)?;
+    let found = simulate(alloc, c, j, worker, meter)?;
     Ok(found.lasso)
 }
 
@@ -65,14 +65,14 @@ fn taken(
     _c: &Circuit,
     _j: u32,
     _done: u32,
-    seed: u32,
+    worker: u32,
 ) -> Result<Deepening, AllocError>
     requires { HasSolver _c.now _j _done solver.old }
     ensures { IfOk result (IsUpTo _c.now _j _done) }
 {
     match solver.take() {
         Some(solver) => Ok(solver),
-        None => Deepening::new(alloc, seed),
+        None => Deepening::new(alloc, worker),
     }
 }
 
@@ -119,7 +119,7 @@ fn deepened(
     ensures end { IfErr result (IsEnd meter.new) }
     ensures counted { CountsConflicts meter.old meter.new }
 {
-    let mut solver = taken(alloc, &mut search.solver, c, j, search.done, search.seed)?;
+    let mut solver = taken(alloc, &mut search.solver, c, j, search.done, search.worker)?;
     let answer = deepen(alloc, c, j, &mut solver, meter);
     drop(search.solver.replace(solver));
     told(search, answer, c, j, meter)
@@ -154,7 +154,7 @@ pub(crate) fn seek(
     ensures behind { IfOk result (UnlessFound (IsBehind c.now j after search.new)) }
 {
     if is_first(search, after) {
-        let found = simulated(alloc, c, j, search.seed, meter)?;
+        let found = simulated(alloc, c, j, search.worker, meter)?;
         return Ok(found);
     }
     deepened(alloc, c, j, search, meter)

@@ -101,7 +101,7 @@ fn lasso_worker(properties: &[u32], limits: Limits, number: u32, meter: Meter) -
         property: properties[0],
         rounds: None,
         lasso_search: Some(LassoSearch {
-            seed: number,
+            worker: number,
             depth: limits.depth,
             done: 0,
             solver: None,
