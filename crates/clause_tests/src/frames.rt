@@ -1,7 +1,8 @@
 //! Frames of lemmas, with values worked out by hand. A lemma is the clause of one variable, or of both.
+use crate::literals::clause;
 use cnf::{Clause, Lit};
 use edge::{Held, Meter};
-use ic3_frames::Frames;
+use ic3_frames::{Frames, signature_of};
 use std::alloc::{AllocError, Global};
 use std::test::*;
 
@@ -218,5 +219,13 @@ fn steps_of_frames(rt: HostRuntime) -> Result<(), Fail> {
     for (acts, wanted) in &COUNTED {
         assert_eq!(rt; counted_after(rt.alloc(), acts)?, *wanted);
     }
+    Ok(())
+}
+
+// Bit 3 for variable 1, and bit 4 for variable 34 negated.
+#[test]
+fn signatures(rt: HostRuntime) -> Result<(), Fail> {
+    let lemma = clause(rt.alloc(), &[1, -34])?;
+    assert_eq!(rt; signature_of(lemma.as_slice()), 24);
     Ok(())
 }

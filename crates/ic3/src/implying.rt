@@ -5,15 +5,15 @@ ghost use Rattle.proof_semantics.specs.Clauses.{is_part};
 ghost use Rattle.ic3.specs.SteppingStart.{IsImpliedBehind};
 
 use cnf::{Lit, subset};
+use ic3_frames::signature_of;
 use ic3_semantics::Lemma;
 use std::alloc::{AllocError, Global};
 
-// A lemma that no later one implies: its place, and marks of its literals. Clauses whose literals are among those of
-// another have no other marks.
+// A lemma that no later one implies: its place, and the signature of its clause.
 #[derive(Drop)]
 struct Kept {
     place: usize,
-    marks: u64,
+    signature: u64,
 }
 
 fn number_of(literal: Lit) -> usize {
@@ -23,14 +23,6 @@ fn number_of(literal: Lit) -> usize {
     } else {
         twice.saturating_add(1)
     }
-}
-
-fn marks_of(clause: &[Lit]) -> u64 {
-    let mut marks = 0;
-    for literal in clause {
-        marks |= 1_u64 << (number_of(*literal) % 64);
-    }
-    marks
 }
 
 fn no_lists(alloc: Global, count: usize) -> Result<Vec<Vec<Kept>>, AllocError> {
@@ -72,9 +64,9 @@ fn list(lists: &mut [Vec<Kept>], literal: usize, kept: Kept) -> Result<(), Alloc
 }
 
 // The place of a listed lemma that implies this one, if there is one.
-fn found_in(list: &[Kept], lemmas: &[Lemma], lemma: &Lemma, marks: u64) -> Option<usize> {
+fn found_in(list: &[Kept], lemmas: &[Lemma], lemma: &Lemma, signature: u64) -> Option<usize> {
     for kept in list {
-        if kept.marks & !marks == 0
+        if kept.signature & !signature == 0
             && kept.place < lemmas.len()
             && implies(&lemmas[kept.place], lemma)
         {
@@ -84,10 +76,10 @@ fn found_in(list: &[Kept], lemmas: &[Lemma], lemma: &Lemma, marks: u64) -> Optio
     None
 }
 
-fn found(lists: &[Vec<Kept>], lemmas: &[Lemma], lemma: &Lemma, marks: u64) -> Option<usize> {
+fn found(lists: &[Vec<Kept>], lemmas: &[Lemma], lemma: &Lemma, signature: u64) -> Option<usize> {
     for literal in lemma.clause.as_slice() {
         if let Some(list) = lists.get(number_of(*literal)) {
-            if let Some(place) = found_in(list.as_slice(), lemmas, lemma, marks) {
+            if let Some(place) = found_in(list.as_slice(), lemmas, lemma, signature) {
                 return Some(place);
             }
         }
@@ -104,12 +96,12 @@ fn implying_place(
     requires { place < length lemmas.now }
 {
     let lemma = &lemmas[place];
-    let marks = marks_of(lemma.clause.as_slice());
-    match found(lists, lemmas, lemma, marks) {
+    let signature = signature_of(lemma.clause.as_slice());
+    match found(lists, lemmas, lemma, signature) {
         Some(other) => Ok(other),
         None => {
             let literal = rarest(lists, lemma.clause.as_slice());
-            list(lists, literal, Kept { place, marks })?;
+            list(lists, literal, Kept { place, signature })?;
             Ok(place)
         }
     }

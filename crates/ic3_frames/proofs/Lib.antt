@@ -4,3 +4,4 @@ pub mod Meaning
 pub mod Counting
 pub mod Rooms
 pub mod Steps
+pub mod SignatureLaws

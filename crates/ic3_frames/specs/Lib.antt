@@ -4,3 +4,4 @@ pub mod Inside
 pub mod Lent
 pub mod Room
 pub mod Meaning
+pub mod Signatures

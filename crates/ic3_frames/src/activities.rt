@@ -1,5 +1,6 @@
 //! In how many lemmas each literal stands, counted now and then. No contract rests on it. The main type is `Activities`.
 
+use crate::signatures::WithSignature;
 use cnf::{Clause, Lit};
 use indexmap::IndexSet;
 use std::alloc::{AllocError, Global};
@@ -33,7 +34,7 @@ impl Activities {
     /// memory, and changes no count.
     pub(crate) fn note(
         &mut self,
-        levels: &[IndexSet<Clause>],
+        levels: &[IndexSet<WithSignature>],
         lemma: &Clause,
     ) -> Result<(), AllocError> {
         self.reach(lemma)?;
@@ -57,13 +58,13 @@ impl Activities {
     }
 
     // Counts the lemmas above the lowest level, which has the starts' own.
-    fn count_all(&mut self, levels: &[IndexSet<Clause>]) {
+    fn count_all(&mut self, levels: &[IndexSet<WithSignature>]) {
         for count in self.counts.iter_mut() {
             *count = 0;
         }
         for level in 1..levels.len() {
             for lemma in levels[level].as_slice() {
-                self.count_one(lemma);
+                self.count_one(lemma.clause());
             }
         }
     }
@@ -87,7 +88,7 @@ fn place_of(literal: Lit) -> usize {
     }
 }
 
-fn count_lemmas(levels: &[IndexSet<Clause>]) -> u64 {
+fn count_lemmas(levels: &[IndexSet<WithSignature>]) -> u64 {
     let mut lemmas: u64 = 0;
     for own in levels {
         lemmas = lemmas.saturating_add(own.len() as u64);

@@ -8,6 +8,7 @@ ghost use Rattle.ic3_frames.specs.Lent.{clauses_of};
 
 use crate::activities::Activities;
 use crate::levels::{add_level, allow, copy_at, count, count_at, first_empty, lemma_at, put};
+use crate::signatures::WithSignature;
 use cnf::{Clause, Lit};
 use edge::{Held, Meter, Spent};
 use indexmap::IndexSet;
@@ -17,7 +18,7 @@ use std::marker::Model;
 /// The frames. Contracts see for each level the lemmas that the next has not, in the order in which they came.
 #[derive(Drop)]
 pub struct Frames {
-    levels: Vec<IndexSet<Clause>>,
+    levels: Vec<IndexSet<WithSignature>>,
     /// Room for the counts that a meter is shown.
     counts: Vec<u64>,
     activities: Activities,

@@ -8,13 +8,14 @@ ghost use Rattle.ic3_frames.specs.Frames.{has_clause, own_lemmas, frame_at, stay
 ghost use Rattle.ic3_frames.specs.Kept.{keys_of, taken_out};
 ghost use Rattle.indexmap.specs.IndexSet.{spare};
 
-use cnf::{Clause, holds, subset};
+use crate::signatures::WithSignature;
+use cnf::{Clause, holds};
 use edge::{Meter, Spent};
 use indexmap::IndexSet;
 use std::alloc::AllocError;
 
 // Whether one of the sets has the lemma.
-fn is_in(sets: &[IndexSet<Clause>], lemma: &Clause) -> bool
+fn is_in(sets: &[IndexSet<WithSignature>], lemma: &WithSignature) -> bool
     ensures { result ≡ has_clause (frame_at (keys_of sets.now) 0) lemma.now }
 {
     for own in sets {
@@ -26,7 +27,7 @@ fn is_in(sets: &[IndexSet<Clause>], lemma: &Clause) -> bool
 }
 
 // Whether a level from this one on has the lemma.
-fn is_from(levels: &[IndexSet<Clause>], level: usize, lemma: &Clause) -> bool
+fn is_from(levels: &[IndexSet<WithSignature>], level: usize, lemma: &WithSignature) -> bool
     requires { level < length levels.now }
     ensures { result ≡ has_clause (frame_at (keys_of levels.now) level) lemma.now }
 {
@@ -34,18 +35,18 @@ fn is_from(levels: &[IndexSet<Clause>], level: usize, lemma: &Clause) -> bool
 }
 
 // Whether a lemma of a level stays where `lemma` comes to this level or to one above it.
-fn stays(level: usize, lemma: &Clause, other: &Clause) -> bool
+fn stays(level: usize, lemma: &WithSignature, other: &WithSignature) -> bool
     ensures { result ≡ stays level lemma.now other.now }
 {
     if level == 0 {
         lemma != other
     } else {
-        !subset(lemma, other)
+        !lemma.is_part_of(other)
     }
 }
 
 // Takes out of a level what does not stay beside the lemma.
-fn take_from(own: &mut IndexSet<Clause>, level: usize, lemma: &Clause)
+fn take_from(own: &mut IndexSet<WithSignature>, level: usize, lemma: &WithSignature)
     ensures keys { own.new.keys ≡ filter (stays level lemma.now) own.old.keys }
     ensures room { spare own.old ≤ spare own.new }
 {
@@ -53,7 +54,7 @@ fn take_from(own: &mut IndexSet<Clause>, level: usize, lemma: &Clause)
 }
 
 // The same of the first `below` levels.
-fn take_out(levels: &mut [IndexSet<Clause>], below: usize, lemma: &Clause)
+fn take_out(levels: &mut [IndexSet<WithSignature>], below: usize, lemma: &WithSignature)
     requires { below ≤ length levels.old }
     ensures keys { keys_of levels.new ≡ taken_out 0 (keys_of levels.old) below lemma.now }
     ensures rest { drop below levels.new ≡ drop below levels.old }
@@ -64,7 +65,7 @@ fn take_out(levels: &mut [IndexSet<Clause>], below: usize, lemma: &Clause)
 }
 
 // Makes room for one more lemma.
-fn make_room(own: &mut IndexSet<Clause>) -> Result<(), AllocError>
+fn make_room(own: &mut IndexSet<WithSignature>) -> Result<(), AllocError>
     ensures keys { own.new.keys ≡ own.old.keys }
     ensures ok { OnOk result (1 ≤ spare own.new) }
 {
@@ -72,7 +73,7 @@ fn make_room(own: &mut IndexSet<Clause>) -> Result<(), AllocError>
 }
 
 // Puts the lemma at the end of a level, where there is room, in place of what does not stay beside it.
-fn put_last(own: &mut IndexSet<Clause>, level: usize, lemma: Clause)
+fn put_last(own: &mut IndexSet<WithSignature>, level: usize, lemma: WithSignature)
     requires { 1 ≤ spare own.old }
     ensures { own.new.keys ≡ filter (stays level lemma) own.old.keys ++ lemma ∷ [] }
 {
@@ -86,7 +87,7 @@ fn put_last(own: &mut IndexSet<Clause>, level: usize, lemma: Clause)
 /// Puts the lemma at the end of a level, and takes out of it and of those below what does not stay beside it, unless the
 /// lemma stands in this level or above. The error is want of memory, and leaves each level as it was.
 pub(crate) fn put(
-    levels: &mut Vec<IndexSet<Clause>>,
+    levels: &mut Vec<IndexSet<WithSignature>>,
     level: usize,
     lemma: Clause,
 ) -> Result<(), AllocError>
@@ -95,11 +96,15 @@ pub(crate) fn put(
     ensures err { OnErr result (keys_of levels.new.items ≡ keys_of levels.old.items) }
     ensures size { length levels.new.items ≡ length levels.old.items }
 {
-    put_at(levels, level, lemma)
+    put_at(levels, level, WithSignature::new(lemma))
 }
 
 // The same over the levels as a slice.
-fn put_at(levels: &mut [IndexSet<Clause>], level: usize, lemma: Clause) -> Result<(), AllocError>
+fn put_at(
+    levels: &mut [IndexSet<WithSignature>],
+    level: usize,
+    lemma: WithSignature,
+) -> Result<(), AllocError>
     requires { level < length levels.old }
     ensures ok { OnOk result (keys_of levels.new ≡ with_lemma (keys_of levels.old) level lemma) }
     ensures err { OnErr result (keys_of levels.new ≡ keys_of levels.old) }
@@ -116,7 +121,7 @@ fn put_at(levels: &mut [IndexSet<Clause>], level: usize, lemma: Clause) -> Resul
 /// Puts a level without lemmas above the others, and one more count. The error is want of memory, and changes no
 /// level and no count.
 pub(crate) fn add_level(
-    levels: &mut Vec<IndexSet<Clause>>,
+    levels: &mut Vec<IndexSet<WithSignature>>,
     counts: &mut Vec<u64>,
 ) -> Result<(), AllocError>
     ensures ok { OnOk result (keys_of levels.new.items ≡ keys_of levels.old.items ++ [] ∷ []) }
@@ -132,7 +137,7 @@ pub(crate) fn add_level(
 }
 
 // Writes how many lemmas each level has.
-fn write_counts(levels: &[IndexSet<Clause>], counts: &mut [u64])
+fn write_counts(levels: &[IndexSet<WithSignature>], counts: &mut [u64])
     requires { length counts.old ≡ length levels.now }
     ensures { (i : ℕ) → i < length levels.now
         → slice_index_or counts.new i 0 ≡ length (own_lemmas (keys_of levels.now) i) }
@@ -143,7 +148,7 @@ fn write_counts(levels: &[IndexSet<Clause>], counts: &mut [u64])
 }
 
 /// The first level below the last without lemmas.
-pub(crate) fn first_empty(levels: &[IndexSet<Clause>]) -> Option<u64>
+pub(crate) fn first_empty(levels: &[IndexSet<WithSignature>]) -> Option<u64>
     ensures found { IfSome result (λ k. k + 1 < length levels.now) }
     ensures empty { IfSome result (λ k. own_lemmas (keys_of levels.now) k ≡ []) }
     ensures none { IfNone result ((k : ℕ) → k + 1 < length levels.now → own_lemmas (keys_of levels.now) k ≢ []) }
@@ -158,7 +163,7 @@ pub(crate) fn first_empty(levels: &[IndexSet<Clause>]) -> Option<u64>
 
 /// Counts the step of a frame above these levels, each of which has to differ from the next.
 pub(crate) fn count(
-    levels: &[IndexSet<Clause>],
+    levels: &[IndexSet<WithSignature>],
     counts: &mut [u64],
     meter: &mut Meter,
 ) -> Result<(), Spent>
@@ -175,7 +180,7 @@ pub(crate) fn count(
 }
 
 /// How many lemmas a level has.
-pub(crate) fn count_at(levels: &[IndexSet<Clause>], level: usize) -> u64
+pub(crate) fn count_at(levels: &[IndexSet<WithSignature>], level: usize) -> u64
     ensures { result ≡ length (own_lemmas (keys_of levels.now) level) }
 {
     if level < levels.len() {
@@ -186,11 +191,15 @@ pub(crate) fn count_at(levels: &[IndexSet<Clause>], level: usize) -> u64
 }
 
 /// The lemma at a place of a level.
-pub(crate) fn lemma_at(levels: &[IndexSet<Clause>], level: usize, place: usize) -> Option<&Clause>
+pub(crate) fn lemma_at(
+    levels: &[IndexSet<WithSignature>],
+    level: usize,
+    place: usize,
+) -> Option<&Clause>
     ensures { option_copied result ≡ slice_get (own_lemmas (keys_of levels.now) level) place }
 {
     if level < levels.len() {
-        levels[level].get_index(place)
+        Some(levels[level].get_index(place)?.clause())
     } else {
         None
     }
@@ -198,7 +207,7 @@ pub(crate) fn lemma_at(levels: &[IndexSet<Clause>], level: usize, place: usize) 
 
 /// A copy of the lemma at a place of a level.
 pub(crate) fn copy_at(
-    levels: &[IndexSet<Clause>],
+    levels: &[IndexSet<WithSignature>],
     level: usize,
     place: usize,
 ) -> Result<Clause, AllocError>
@@ -207,17 +216,17 @@ pub(crate) fn copy_at(
     ensures { IfOk result (λ lemma. lemma ≡ slice_index_or (own_lemmas (keys_of levels.now) level) place []) }
 {
     let own = levels[level].as_slice();
-    own[place].clone()
+    own[place].clause().clone()
 }
 
-fn all_hold(lemmas: &[Clause], state: &[bool]) -> bool
+fn all_hold(lemmas: &[WithSignature], state: &[bool]) -> bool
     ensures { result ≡ clauses_value (values_of state.now) lemmas.now }
 {
-    lemmas.iter().all(|lemma| holds(lemma, state))
+    lemmas.iter().all(|lemma| holds(lemma.clause(), state))
 }
 
 /// Whether the lemmas of all these levels are true where variable v has the value at place v.
-pub(crate) fn allow(levels: &[IndexSet<Clause>], state: &[bool]) -> bool
+pub(crate) fn allow(levels: &[IndexSet<WithSignature>], state: &[bool]) -> bool
     ensures { result ≡ clauses_value (values_of state.now) (frame_at (keys_of levels.now) 0) }
 {
     for own in levels {

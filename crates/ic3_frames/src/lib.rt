@@ -14,6 +14,7 @@
 //! | `at` | a frame as a list of clauses, for the meter of a search |
 //! | `equal_pair` | a level whose frame has the same lemmas as the next |
 //! | `count_frame` | counts the step of a frame that is to be opened |
+//! | `signature_of` | a number whose bits tell of most clauses that they are no part of another |
 //! | `frames_grow` | nothing: the laws of what frames mean |
 //! | `steps_take_room` | nothing: the laws of the room that bounds the steps of a search |
 //!
@@ -24,6 +25,8 @@ mod activities;
 mod frames;
 mod laws;
 mod levels;
+mod signatures;
 
 pub use frames::{FrameAt, Frames};
 pub use laws::{frames_grow, steps_take_room};
+pub use signatures::signature_of;
