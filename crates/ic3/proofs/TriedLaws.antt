@@ -13,7 +13,8 @@ use Rattle.aig_semantics.specs.Circuits.{Circuit}
 use Rattle.aig_semantics.specs.Literals.{variable_of, variable_in, literal_in}
 use Rattle.aig_semantics.specs.Runs.{IsPosition, valuation_at, successor}
 use Rattle.proof_semantics.specs.declared.literals.Lit.{Lit}
-use Rattle.proof_semantics.specs.Clauses.{clauses_value, cube_value, values_of}
+use Rattle.proof_semantics.specs.Clauses.{clause_value, clauses_value, cube_value, values_of}
+use Rattle.cdcl.specs.Asking.{assigned}
 use Rattle.edge.specs.declared.solve_end.SolveEnd.{SolveEnd}
 use Rattle.fair_semantics.specs.declared.skeletons.Situation.{Situation}
 use Rattle.fair_semantics.specs.Skeletons.{IsSituation}
@@ -28,14 +29,14 @@ use Rattle.cnf_unroll.proofs.ObligationLaws.{state_length}
 use Rattle.ic3_semantics.specs.Arenas.{restricting}
 use Rattle.ic3_semantics.specs.Searching.{Question}
 use Rattle.ic3_semantics.specs.Stepping.{Stepping, meets_from, IsArenaStep, IsPredecessor, IsMissing, IsFound, MeetsFrom, IsGoalFound, IsOver}
-use Rattle.ic3_questions.specs.SteppingClauses.{own_uses, base_clauses}
+use Rattle.ic3_questions.specs.SteppingClauses.{own_uses, base_clauses, denied_at}
 use Rattle.ic3_semantics.specs.declared.found.Found.{Found}
 use Rattle.ic3_semantics.specs.declared.found.Found.TheVariants.{Step, Missing}
 use Rattle.ic3_questions.proofs.BaseLaws.{base_read}
 use Rattle.ic3.specs.SteppingInside.{IsHeldBy, IsHeldWith, ModelInto, ModelGoal, question_clause, IsTold, TriedInto, TellsTried, TriedGoal, TellsTriedGoal}
 use Rattle.ic3_questions.specs.ReadVariables.{is_read}
 use Rattle.ic3.specs.declared.stepping_questions.Questions.{Questions}
-use Rattle.ic3.proofs.FoundLaws.{not_true, frame_read, found_missing}
+use Rattle.ic3.proofs.FoundLaws.{denied_there, over_place, not_true, frame_read, found_missing}
 use Rattle.ic3.proofs.GoalLaws.{says_read, goal_none}
 
 -- the position that an assignment gives has a value for each latch and input
@@ -196,6 +197,23 @@ tried_goal st s level literal p v by answers is tried =
           ∙ frame_read st s level 0 (literal_in_block 0 literal ∷ []) answers.assumptions v by answers.model.clauses answers.assumed
           answers.model.assumed);
     }
+
+-- The state of a position that stood up to the trial is outside the cube, so a model that was found without the question's clause
+-- is one of the question.
+pub told_from : (c : Circuit) (s : Questions) (base : List (List Lit)) (level : ℕ) (cube : List Lit) (p : Position) (values : List Lit)
+    → s.here ≡ state_place c 0 → IsOver (length c.latches) cube
+    → (clause_value (assigned values) (denied_at s.here cube) ≡ true → ModelInto s level cube (assigned values))
+    → p ≡ (situation_in c 0 (assigned values)).position → TriedInto base c cube p → TellsTried s base c level cube (Some (Step p))
+told_from c s base level cube p values here over model is tried =
+    let v : ℕ → Bool = assigned values in
+    let outside : cube_value (values_of (map (assigned values) (state_place c 0))) cube ≡ false =
+    ap (λ q. cube_value (values_of q.latches) cube) (sym is) ∙ tried.outside
+    in
+    let denied : clause_value (assigned values) (denied_at s.here cube) ≡ true =
+    ap (λ place. clause_value v (denied_at place cube)) here
+    ∙ (denied_there v (state_place c 0) cube (over_place (length c.latches) (state_place c 0) cube (state_length c 0) over) ∙ ap not outside)
+    in
+    (v, model denied, is, tried)
 
 -- what is tried over the circuit's values is tried of the position that has them
 pub told_at : (base : List (List Lit)) (c : Circuit) (p : Position) (values next : List Bool) → values ≡ valuation_at c p

@@ -7,7 +7,7 @@ use Rattle.aig_semantics.specs.Literals.{variable_of, is_negated, literal_in}
 use Rattle.aig_semantics.specs.Runs.{valuation_at, literal_at, successor}
 use Rattle.aig_semantics.specs.Valuations.{valuation, IsValuation}
 use Rattle.proof_semantics.specs.declared.literals.Lit.{Lit}
-use Rattle.proof_semantics.specs.Clauses.{clauses_value, cube_value, values_of}
+use Rattle.proof_semantics.specs.Clauses.{clause_value, clauses_value, cube_value, values_of}
 use Rattle.cdcl.specs.Solving.{IsModel, HasNoModel}
 use Rattle.cdcl.specs.Asking.{IsCore, assigned}
 use Rattle.cdcl.specs.declared.asking.Asked.{Asked}
@@ -120,6 +120,13 @@ pub record CoreInto (s : Questions) (level : ℕ) (cube part : List Lit) : Type 
 abbrev pub AnswersInto : Questions → ℕ → List Lit → List Lit → Asked → Type 0
 AnswersInto s level cube values Sat = ModelInto s level cube (assigned values)
 AnswersInto s level cube values (Unsat core) = CoreInto s level cube core.items
+
+-- What it answers, whether the clause of the question came or not: a core of the question, or a model, which is one of the
+-- question where its state is outside the cube.
+abbrev pub AnswersFrom : Questions → ℕ → List Lit → List Lit → Asked → Type 0
+AnswersFrom s level cube values Sat =
+    clause_value (assigned values) (denied_at s.here cube) ≡ true → ModelInto s level cube (assigned values)
+AnswersFrom s level cube values (Unsat core) = CoreInto s level cube core.items
 
 -- what is told of it: a position that was read off a model, or a part of the cube by a core
 abbrev pub TellsInto : Questions → Circuit → ℕ → List Lit → Found → Type 0

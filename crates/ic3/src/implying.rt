@@ -66,7 +66,7 @@ fn list(lists: &mut [Vec<Kept>], literal: usize, kept: Kept) -> Result<(), Alloc
 // The place of a listed lemma that implies this one, if there is one.
 fn found_in(list: &[Kept], lemmas: &[Lemma], lemma: &Lemma, signature: u64) -> Option<usize> {
     for kept in list {
-        if kept.signature & !signature == 0
+        if kept.signature | signature == signature
             && kept.place < lemmas.len()
             && implies(&lemmas[kept.place], lemma)
         {

@@ -6,7 +6,7 @@ ghost use Rattle.cdcl.specs.Asking.{assigned};
 ghost use Rattle.cnf_unroll.specs.Numbers.{clause_at_place, state_place, literal_in_block};
 ghost use Rattle.cnf_unroll.specs.Situations.{situation_in};
 ghost use Rattle.ic3_questions.specs.SteppingClauses.{level_guard, question_guard, IsOn, AreAssumed, part_at};
-ghost use Rattle.ic3.specs.SteppingInside.{KeepsNumbers, Begins, Rests, Keeps, AnswersInto, TellsInto};
+ghost use Rattle.ic3.specs.SteppingInside.{KeepsNumbers, Begins, Rests, Keeps, AnswersInto, AnswersFrom, TellsInto};
 ghost use Rattle.ic3.specs.SteppingInside.{AnswersGoal, TellsGoal, TellsLiteral, Holds};
 ghost use Rattle.ic3_questions.specs.ReadVariables.{is_read};
 
@@ -192,6 +192,26 @@ pub(crate) fn ask_into(
     ensures counted { CountsConflicts meter.old meter.new }
 {
     let number = begin(alloc, s, cube)?;
+    let assumptions = assume(alloc, s, level, number, s.next.as_slice(), cube)?;
+    s.count = s.count.saturating_add(1);
+    s.solver.ask(alloc, assumptions.as_slice(), meter)
+}
+
+/// Asks for a step into the cube from any state of the frame, so that no clause comes. A model whose state is outside the cube,
+/// and a core, are those of `ask_into`. The guard of the next question is assumed, which stands in no clause yet.
+pub(crate) fn ask_from(
+    alloc: Global,
+    s: &mut Questions,
+    level: u64,
+    cube: &[Lit],
+    meter: &mut Meter,
+) -> Result<Asked, SolveEnd>
+    ensures answer { IfOk result (AnswersFrom s.old level cube.now s.new.solver.values) }
+    ensures kept { Keeps s.old s.new }
+    ensures end { IfErr result (IsEnd meter.new) }
+    ensures counted { CountsConflicts meter.old meter.new }
+{
+    let number = s.asked.checked_add(1).ok_or(AllocError)?;
     let assumptions = assume(alloc, s, level, number, s.next.as_slice(), cube)?;
     s.count = s.count.saturating_add(1);
     s.solver.ask(alloc, assumptions.as_slice(), meter)

@@ -15,7 +15,7 @@ use crate::stepping_clauses::add_all;
 use crate::stepping_lemmas::hold_lemma;
 use crate::stepping_questions::{Questions, goal_at, predecessor};
 use crate::stepping_start::{base, questions_of};
-use crate::trying::{try_goal, try_predecessor};
+use crate::trying::{StepQuestion, try_goal, try_predecessor};
 use circuit::{Circuit, Position};
 use cnf::{Clause, Cube, Db};
 use edge::{Meter, SolveEnd};
@@ -214,10 +214,31 @@ impl<'a> Steps<'a> {
         ensures end { IfErr result (IsEnd meter.new) }
         ensures counted { CountsConflicts meter.old meter.new }
     {
+        let question = StepQuestion {
+            level,
+            cube,
+            brings_clause: true,
+        };
+        self.find_step(alloc, question, meter)
+    }
+
+    // What the clauses of the cone tell, or else all clauses.
+    fn find_step(
+        &mut self,
+        alloc: Global,
+        question: StepQuestion<'_>,
+        meter: &mut Meter,
+    ) -> Result<Found, SolveEnd>
+        requires { IsOver (length self.old.question.circuit.latches) question.cube.now }
+        ensures found { IfOk result (IsFound self.old question.entry.level question.entry.cube.now) }
+        ensures same { self.new ≡ self.old }
+        ensures end { IfErr result (IsEnd meter.new) }
+        ensures counted { CountsConflicts meter.old meter.new }
+    {
         self.renew_where_old()?;
-        match self.try_predecessor(alloc, level, cube, meter)? {
+        match self.try_predecessor(alloc, question, meter)? {
             Some(found) => Ok(found),
-            None => self.predecessor_in_all(alloc, level, cube, meter),
+            None => self.predecessor_in_all(alloc, question.level, question.cube, meter),
         }
     }
 
@@ -225,12 +246,11 @@ impl<'a> Steps<'a> {
     fn try_predecessor(
         &mut self,
         alloc: Global,
-        level: u64,
-        cube: &Cube,
+        question: StepQuestion<'_>,
         meter: &mut Meter,
     ) -> Result<Option<Found>, SolveEnd>
-        requires { IsOver (length self.old.question.circuit.latches) cube.now }
-        ensures found { IfOk result (λ found. IfSome found (IsFound self.old level cube.now)) }
+        requires { IsOver (length self.old.question.circuit.latches) question.cube.now }
+        ensures found { IfOk result (λ found. IfSome found (IsFound self.old question.entry.level question.entry.cube.now)) }
         ensures same { self.new ≡ self.old }
         ensures end { IfErr result (IsEnd meter.new) }
         ensures counted { CountsConflicts meter.old meter.new }
@@ -240,15 +260,14 @@ impl<'a> Steps<'a> {
             &self.base,
             &mut self.cone,
             &mut self.questions.solver,
-            cube.as_slice(),
+            question.cube.as_slice(),
         )?;
         try_predecessor(
             alloc,
             self.c,
             &mut self.questions,
             &self.base,
-            level,
-            cube,
+            question,
             meter,
         )
     }
@@ -390,7 +409,12 @@ impl<'a> StepSolver for Steps<'a> {
         cube: &Cube,
         meter: &mut Meter,
     ) -> Result<Found, SolveEnd> {
-        Steps::predecessor(self, alloc, level, cube, meter)
+        let question = StepQuestion {
+            level,
+            cube,
+            brings_clause: false,
+        };
+        self.find_step(alloc, question, meter)
     }
 
     fn meets_goal(

@@ -12,9 +12,12 @@ ghost use Rattle.cdcl.specs.Asking.{assigned};
 ghost use Rattle.cnf_unroll.specs.Numbers.{state_place, successor_place};
 ghost use Rattle.cnf_unroll.specs.Blocks.{step_clauses};
 ghost use Rattle.cnf_unroll.specs.Situations.{situation_in};
-ghost use Rattle.ic3.specs.SteppingInside.{Keeps, Completes, IsTold, TriedInto, TellsTried, TriedGoal, TellsTriedGoal};
+ghost use Rattle.ic3_semantics.specs.Stepping.{IsOver};
+ghost use Rattle.ic3.specs.SteppingInside.{Keeps, AnswersFrom, Completes, IsTold, TriedInto, TellsTried, TriedGoal, TellsTriedGoal};
 
-use crate::stepping_questions::{Questions, ask_goal, ask_into, part_at, position_of, retire};
+use crate::stepping_questions::{
+    Questions, ask_from, ask_goal, ask_into, part_at, position_of, retire,
+};
 use cdcl::Asked;
 use circuit::{Circuit, Position, eval_into, literal_value, next_into};
 use cnf::{Clause, Cube, Db, holds};
@@ -235,25 +238,53 @@ fn goal_in(
     }
 }
 
+/// A question for a step from the frame of a level, from outside a cube into it; and whether it brings a clause of its own, that
+/// the state lies outside. Without it the state of a model may lie in the cube, which the trial then refuses.
+#[derive(Clone, Copy)]
+pub(crate) struct StepQuestion<'a> {
+    pub(crate) level: u64,
+    pub(crate) cube: &'a Cube,
+    pub(crate) brings_clause: bool,
+}
+
+// Asks it by `ask_into` or by `ask_from`.
+fn ask_step(
+    alloc: Global,
+    s: &mut Questions,
+    question: StepQuestion<'_>,
+    meter: &mut Meter,
+) -> Result<Asked, SolveEnd>
+    ensures answer { IfOk result (AnswersFrom s.old question.entry.level question.entry.cube.now s.new.solver.values) }
+    ensures kept { Keeps s.old s.new }
+    ensures end { IfErr result (IsEnd meter.new) }
+    ensures counted { CountsConflicts meter.old meter.new }
+{
+    if question.brings_clause {
+        ask_into(alloc, s, question.level, question.cube.as_slice(), meter)
+    } else {
+        ask_from(alloc, s, question.level, question.cube.as_slice(), meter)
+    }
+}
+
 // What the question for a step into the cube answers.
 fn found_in(
     alloc: Global,
     c: &Circuit,
     s: &mut Questions,
     base: &Db,
-    level: u64,
-    cube: &Cube,
+    question: StepQuestion<'_>,
     meter: &mut Meter,
 ) -> Result<Option<Found>, SolveEnd>
     requires here { s.old.here ≡ state_place c.now 0 }
     requires next { s.old.next ≡ successor_place c.now 0 }
-    ensures found { IfOk result (TellsTried s.old base.now.clauses c.now level cube.now) }
+    requires over { IsOver (length c.now.latches) question.cube.now }
+    ensures found { IfOk result (TellsTried s.old base.now.clauses c.now question.entry.level question.entry.cube.now) }
     ensures kept { Keeps s.old s.new }
     ensures end { IfErr result (IsEnd meter.new) }
     ensures counted { CountsConflicts meter.old meter.new }
 {
-    match ask_into(alloc, s, level, cube.as_slice(), meter)? {
-        Asked::Sat => match step_in(alloc, c, s, base, cube)? {
+    match ask_step(alloc, s, question, meter)? {
+        Asked::Sat => match step_in(alloc, c, s, base, question.cube)? {
             Some(p) => Ok(Some(Found::Step(p))),
             None => Ok(None),
         },
@@ -261,7 +292,7 @@ fn found_in(
             alloc,
             s.next.as_slice(),
             core.as_slice(),
-            cube,
+            question.cube,
         )?))),
     }
 }
@@ -273,19 +304,21 @@ pub(crate) fn try_predecessor(
     c: &Circuit,
     s: &mut Questions,
     base: &Db,
-    level: u64,
-    cube: &Cube,
+    question: StepQuestion<'_>,
     meter: &mut Meter,
 ) -> Result<Option<Found>, SolveEnd>
     requires here { s.old.here ≡ state_place c.now 0 }
     requires next { s.old.next ≡ successor_place c.now 0 }
-    ensures found { IfOk result (TellsTried s.old base.now.clauses c.now level cube.now) }
+    requires over { IsOver (length c.now.latches) question.cube.now }
+    ensures found { IfOk result (TellsTried s.old base.now.clauses c.now question.entry.level question.entry.cube.now) }
     ensures kept { Keeps s.old s.new }
     ensures end { IfErr result (IsEnd meter.new) }
     ensures counted { CountsConflicts meter.old meter.new }
 {
-    let found = found_in(alloc, c, s, base, level, cube, meter)?;
-    retire(alloc, s)?;
+    let found = found_in(alloc, c, s, base, question, meter)?;
+    if question.brings_clause {
+        retire(alloc, s)?;
+    }
     Ok(found)
 }
 

@@ -20,9 +20,9 @@ returns-clause-found c =
     after_growth st c.self.inside.base.clauses c.self.inside.questions middle c.self.invariant
     (record { here = refl; next = refl; free = refl; levels = refl }) refl c.meet_nexts.ensures
     in
-    subst (λ (x : Stepping). IfOk c.try_predecessor.result (λ found. IfSome found (IsFound x c.args.level c.args.cube.now))) c.self.view_is
-    (tells_tried st c.self.inside.base.clauses middle c.args.level c.args.cube.now c.try_predecessor.result held
-    (subst (λ (x : Stepping). IsOver (length x.question.circuit.latches) c.args.cube.now) (sym c.self.view_is) c.requires)
+    subst (λ (x : Stepping). IfOk c.try_predecessor.result (λ found. IfSome found (IsFound x c.args.question.level c.args.question.cube.now))) c.self.view_is
+    (tells_tried st c.self.inside.base.clauses middle c.args.question.level c.args.question.cube.now c.try_predecessor.result held
+    (subst (λ (x : Stepping). IsOver (length x.question.circuit.latches) c.args.question.cube.now) (sym c.self.view_is) c.requires)
     c.try_predecessor.ensures.found)
 
 pub invariant_of-self : goal.invariant_of-self
