@@ -1,4 +1,5 @@
-//! Frames of lemmas, with values worked out by hand. A lemma is the clause of one variable, or of both.
+//! Frames of lemmas, and signatures of clauses, with values worked out by hand. A lemma of a frame is the clause of one
+//! variable, or of both.
 use crate::literals::clause;
 use cnf::{Clause, Lit};
 use edge::{Held, Meter};
@@ -222,10 +223,27 @@ fn steps_of_frames(rt: HostRuntime) -> Result<(), Fail> {
     Ok(())
 }
 
-// Bit 3 for variable 1, and bit 4 for variable 34 negated.
+// Clauses, and their signatures: bits 3 and 2 for variable 1 and its negation, and bit 4 for variable 34 negated.
+fn signature_rows() -> &'static [(&'static [i64], u64)] {
+    &[
+        (&[], 0),
+        (&[-1], 4),
+        (&[1, 33], 8),
+        (&[31], 1 << 63),
+        (&[-32], 1),
+        (&[1, -34], 24),
+    ]
+}
+
+fn signature_of_numbers(alloc: Global, numbers: &[i64]) -> Result<u64, AllocError> {
+    let made = clause(alloc, numbers)?;
+    Ok(signature_of(made.as_slice()))
+}
+
 #[test]
 fn signatures(rt: HostRuntime) -> Result<(), Fail> {
-    let lemma = clause(rt.alloc(), &[1, -34])?;
-    assert_eq!(rt; signature_of(lemma.as_slice()), 24);
+    for (numbers, wanted) in signature_rows() {
+        assert_eq!(rt; signature_of_numbers(rt.alloc(), numbers)?, *wanted);
+    }
     Ok(())
 }

@@ -9,6 +9,7 @@ use cnf::{Clause, Cube, Lit};
 use edge::{Meter, SolveEnd};
 use entry::good_lists_grow;
 use ic3::{Start, Steps};
+use ic3_loops::StepSolver;
 use ic3_semantics::Found;
 use std::alloc::{AllocError, Global};
 use std::test::Fail;
@@ -31,20 +32,26 @@ fn literals_of(alloc: Global, codes: &[u64]) -> Result<Vec<Lit>, AllocError> {
     Ok(literals)
 }
 
-// A step into the cube from a level, under the lemma, which the solver gets.
+// A step into the cube from a level, under the lemma, which the solver gets; asked with a clause of its own, or without.
 fn predecessor_under(
     alloc: Global,
     steps: &mut Steps<'_>,
     lemma: (u64, &Clause),
     level: u64,
     cube: &Cube,
+    brings_clause: bool,
 ) -> Result<Found, SolveEnd>
     requires lemma { IsOver (length steps.old.question.circuit.latches) lemma.1.now }
     requires cube { IsOver (length steps.old.question.circuit.latches) cube.now }
 {
     let (at, clause) = lemma;
     steps.hold(at, clause)?;
-    steps.predecessor(alloc, level, cube, &mut Meter::new(100, 0))
+    let mut meter = Meter::new(100, 0);
+    if brings_clause {
+        steps.predecessor(alloc, level, cube, &mut meter)
+    } else {
+        StepSolver::predecessor_of_excluded(steps, alloc, level, cube, &mut meter)
+    }
 }
 
 // The same of a new solver.
@@ -54,6 +61,7 @@ fn predecessor_of(
     lemma: (u64, &Clause),
     level: u64,
     cube: &Cube,
+    brings_clause: bool,
 ) -> Result<Found, SolveEnd>
     requires lemma { IsOver (length c.now.latches) lemma.1.now }
     requires cube { IsOver (length c.now.latches) cube.now }
@@ -61,7 +69,7 @@ fn predecessor_of(
     good_lists_grow(c);
     let start = Start::Initial;
     let mut steps = Steps::new(alloc, c, &[], &start, &[])?;
-    let found = predecessor_under(alloc, &mut steps, lemma, level, cube);
+    let found = predecessor_under(alloc, &mut steps, lemma, level, cube, brings_clause);
     drop(steps);
     found
 }
@@ -105,6 +113,22 @@ fn is_found(found: Found, wanted: &[bool]) -> bool {
 }
 
 // Whether the only step is from this state; nothing where there is none.
+fn finds(
+    alloc: Global,
+    c: &Circuit,
+    clause: &Clause,
+    cube: &Cube,
+    row: &Row,
+    brings_clause: bool,
+) -> Result<bool, SolveEnd>
+    requires lemma { IsOver (length c.now.latches) clause.now }
+    requires cube { IsOver (length c.now.latches) cube.now }
+{
+    let found = predecessor_of(alloc, c, (row.1, clause), row.3, cube, brings_clause)?;
+    Ok(is_found(found, row.5))
+}
+
+// The same by both questions.
 fn leads_as(
     alloc: Global,
     c: &Circuit,
@@ -115,8 +139,7 @@ fn leads_as(
     if !is_over(c, clause.as_slice()) || !is_over(c, cube.as_slice()) {
         return Ok(false);
     }
-    let found = predecessor_of(alloc, c, (row.1, clause), row.3, cube)?;
-    Ok(is_found(found, row.5))
+    Ok(finds(alloc, c, clause, cube, row, true)? && finds(alloc, c, clause, cube, row, false)?)
 }
 
 fn steps_on(alloc: Global, c: &Circuit, row: &Row) -> Result<bool, SolveEnd> {

@@ -1,5 +1,5 @@
 //! Clauses struck out until no step from the states of the rest breaks one of them. The main call is `strike`.
-ghost use Rattle.std.specs.Prelude.{◌≡◌, false, IfErr};
+ghost use Rattle.std.specs.Prelude.{IfErr};
 ghost use Rattle.edge.specs.Ends.{CountsConflicts, IsEnd};
 
 use cdcl::{Asked, Solver, are_sized, has_opposites};

@@ -356,7 +356,8 @@ fn steps() -> &'static [Step] {
     ]
 }
 
-// The same of assumptions that `ask` alone takes: opposites, and variables 0 and 2^63, which no solver holds.
+// The same with assumptions that `solve` does not take: opposites, and variables 0 and 2^63, which no solver holds; between
+// them some that it takes.
 fn steps_under_any() -> &'static [Step] {
     &[
         (&[1, 2, 0], &[1, -1], 0, Said::Unsat, 0),
