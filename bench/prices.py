@@ -3,6 +3,7 @@ program."""
 import os
 import re
 import sys
+import time
 
 from measuring import BENCH, is_asked, make, program, run_once
 
@@ -14,7 +15,8 @@ SEARCHED = (
     ("models", "token_ring_64", 200, 33),
     ("models", "ys_uart_tx", 200, 1),
 )
-SEED, RUNS = 1, 5
+# Each search is run so many times at least, and for so many seconds, as long as a slow phase of a shared machine may last.
+SEED, RUNS, SECONDS = 1, 15, 60
 # How many questions are the first ones, after how many a search is old, and how many more are measured then.
 YOUNG, OLD, MORE = 1_000, 10_000, 2_000
 # Steps that are tried first; and how near to a number of questions is near enough.
@@ -42,7 +44,7 @@ def prices_of(words):
     last = steps_near(words, OLD + MORE)
     most = cost(words, last)[1]
     young, old = (steps_near(words, questions) for questions in (YOUNG, min(OLD, most - YOUNG)))
-    first, before, whole = (least_of(words, steps) for steps in (young, old, last))
+    first, before, whole = least_of(words, (young, old, last))
     price, later = (price_of(*pair) for pair in (((0, 0), first), (before, whole)))
     return {
         "questions": f"{whole[0]:,}",
@@ -73,10 +75,13 @@ def steps_near(words, questions):
     return steps
 
 
-def least_of(words, steps):
-    """The questions of a search of so many steps, and the least microseconds of some runs: a difference of two is told."""
-    runs = [cost(words, steps) for _ in range(RUNS)]
-    return runs[0][1], min(run[2] for run in runs)
+def least_of(words, ends):
+    """The questions of searches of so many steps, and the least microseconds of some runs of each, by turns: differences of two
+    are told, so a slow minute of the machine has to meet all of them alike."""
+    rounds, begun = [], time.monotonic()
+    while len(rounds) < RUNS or time.monotonic() < begun + SECONDS:
+        rounds.append([cost(words, steps) for steps in ends])
+    return [(runs[0][1], min(run[2] for run in runs)) for runs in zip(*rounds)]
 
 
 def price_of(before, behind):
