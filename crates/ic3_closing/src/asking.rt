@@ -1,4 +1,4 @@
-//! Questions to a solver, which count conflicts alone.
+//! Whether a solver refuses assumptions.
 ghost use Rattle.std.specs.Prelude.{◌≡◌, true, IfOk, IfErr};
 ghost use Rattle.edge.specs.Ends.{CountsConflicts, IsEnd};
 ghost use Rattle.cdcl.specs.Solving.{HasNoModel};

@@ -21,9 +21,6 @@ or_three a b c =
     ∙ max_three (bit_at a i) (bit_at b i) (bit_at c i)
     ∙ ap (λ x. max (bit_at a i) x) (sym (bit_at_or b c i)) ∙ sym (bit_at_or a (bit_or b c) i))
 
-pub or_none : (a : ℕ) → bit_or a 0 ≡ a
-or_none a = or_zero_r a
-
 bit_in : (whole : List Lit) (a : Lit) → has_literal whole a ≡ true → bit_or (bit_of a) (signature_of whole) ≡ signature_of whole
 bit_in [] a there = absurd (false≢true there)
 bit_in (b ∷ whole) a there =
@@ -64,4 +61,4 @@ signature_step literals k m n a there is before =
 pub signature_end : (literals : List Lit) (k m : ℕ) → length literals ≤ k → bit_or m (signature_of (drop k literals)) ≡ signature_of literals
     → m ≡ signature_of literals
 signature_end literals k m far before =
-    sym (or_none m) ∙ ap (λ c. bit_or m (signature_of c)) (sym (drop_all k literals far)) ∙ before
+    sym (or_zero_r m) ∙ ap (λ c. bit_or m (signature_of c)) (sym (drop_all k literals far)) ∙ before

@@ -4,7 +4,7 @@ use Rattle.std.specs.Prelude.{ℕ, ◌+◌, ◌*◌, ◌^◌, ◌%◌, Bool, tru
 use Rattle.std.specs.Int.Bits.{bit_or}
 use Rattle.proof_semantics.specs.declared.literals.Lit.{Lit}
 
--- one of 64 bits: two for each remainder of the variable
+-- one of 64 bits: two for each remainder of the variable by 32, the upper one where the literal is positive
 abbrev pub bit_of : Lit → ℕ
 bit_of a = 2 ^ (2 * (a.var % 32) + (if a.positive then 1 else 0))
 

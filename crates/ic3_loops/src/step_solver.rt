@@ -67,8 +67,9 @@ pub trait StepSolver {
         ensures end { IfErr result (IsEnd meter.new) }
         ensures counted { CountsConflicts meter.old meter.new };
 
-    /// The same, for a cube of which the frame of this level should have no state, as that of a lemma: it is asked for
-    /// steps from the frame, so that no clause comes to be asked for states outside the cube.
+    /// The same, for a cube of which the frame of this level is thought to have no state, as that of a lemma: it is asked
+    /// for steps from the frame, so that no clause comes for states outside the cube. Where the frame has one all the same
+    /// the answer is right still.
     fn predecessor_of_excluded(
         &mut self,
         alloc: Global,

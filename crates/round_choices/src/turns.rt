@@ -49,7 +49,7 @@ pub struct Pauses {
 pub const NO_PAUSE: Pauses = Pauses { passed: 0, most: 0 };
 
 /// Whether this round looks for walls of one latch. Behind it more rounds pass than before it: twice as many and one more, up
-/// to the most.
+/// to `MOST_PAUSE`.
 pub fn looks(pauses: &mut Pauses) -> bool {
     if pauses.passed < pauses.most {
         pauses.passed += 1;
