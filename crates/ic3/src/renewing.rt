@@ -17,13 +17,13 @@ use ic3_semantics::{Lemma, Start};
 use std::alloc::{AllocError, Global};
 use std::sync::Arc;
 
-/// A solver is old where the questions that brought a clause of their own outnumber this, the gates of its cone and half
-/// of the clauses of lemmas together.
+/// A solver is old where its questions for steps outnumber this, the gates of its cone and half of the clauses of lemmas
+/// together.
 const OLD_BEHIND: u64 = 200;
 
 /// Whether the solver is old. No contract rests on it.
 pub(crate) fn is_old(s: &Questions, cone: &Cone) -> bool {
-    s.asked
+    s.asked.saturating_add(s.without_clause)
         > OLD_BEHIND
             .saturating_add(cone.gates())
             .saturating_add(s.held / 2)

@@ -32,6 +32,8 @@ pub(crate) struct Questions {
     pub(crate) levels: u64,
     /// How many questions brought a clause of their own.
     pub(crate) asked: u64,
+    /// How many were asked for steps from a level and brought none; no contract speaks of it.
+    pub(crate) without_clause: u64,
     /// How many questions were handed to `ask`, or 2^64 - 1 where there were more; no contract speaks of it.
     pub(crate) count: u64,
     /// How many clauses of lemmas came; no contract speaks of it.
@@ -213,6 +215,7 @@ pub(crate) fn ask_from(
 {
     let number = s.asked.checked_add(1).ok_or(AllocError)?;
     let assumptions = assume(alloc, s, level, number, s.next.as_slice(), cube)?;
+    s.without_clause = s.without_clause.saturating_add(1);
     s.count = s.count.saturating_add(1);
     s.solver.ask(alloc, assumptions.as_slice(), meter)
 }

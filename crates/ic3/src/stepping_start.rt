@@ -143,6 +143,7 @@ pub(crate) fn questions_of(
         free,
         levels: 0,
         asked: 0,
+        without_clause: 0,
         count: 0,
         held: 0,
         implying: Vec::new(alloc),

@@ -15,6 +15,7 @@ returns c =
       free = c.hold_all.new.s.free;
       levels = c.hold_all.new.s.levels;
       asked = c.hold_all.new.s.asked;
+      without_clause = c.hold_all.new.s.without_clause;
       count = c.args.old.now.count;
       held = c.hold_all.new.s.held;
       implying = c.in_ok-others.others;

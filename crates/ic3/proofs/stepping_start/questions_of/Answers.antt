@@ -19,6 +19,7 @@ returns c =
       free = c.args.free;
       levels = 0;
       asked = 0;
+      without_clause = 0;
       count = 0;
       held = 0;
       implying = c.new.result;
