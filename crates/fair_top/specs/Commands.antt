@@ -49,8 +49,8 @@ Decides held (Shortest model request) status = DecidesShortest (held model) requ
 Decides held (Trim model answer) status = DecidesRemade (held model) (held answer) status
 Decides held (Export model answer request) status = DecidesExport (held model) (held answer) request status
 
--- what is so of the texts on the shelf where a run that asks for this accepts an answer, a text about rounds or a sheet; `gen`, `demo`,
--- `wave`, `slice`, `convert`, `safety`, `trim` and `export` never do
+-- what is so of the texts on the shelf where a run that asks for this accepts or prints an answer, a text about rounds or a
+-- sheet; `gen`, `demo`, `wave`, `slice`, `convert`, `safety`, `trim` and `export` never do
 abbrev pub ShownBy : (List ℕ → Option (List ℕ)) → Asked → Judged → Type 0
 ShownBy held (Solve model request resume) accepted = ShownBySolve (held model) accepted
 ShownBy held (Check model answer) accepted = ShownByCheck (held model) accepted

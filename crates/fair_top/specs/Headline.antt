@@ -54,8 +54,8 @@ IsVerdict held words verdict =
 
 -- What is true.
 
--- where the status is that of an accepted answer, or text about rounds, the words ask for its check or for its search, and
--- what it shows is true
+-- where the status is that of an accepted or a printed answer, sheet or text about rounds, the words ask for its check or for
+-- its search, and what it shows is true
 abbrev pub IsShown : (List ℕ → Option (List ℕ)) → List (List ℕ) → Status → Type 0
 IsShown held words status =
     (accepted : Judged) → status ≡ statuses.Done (done_by accepted)

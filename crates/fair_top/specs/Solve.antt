@@ -1,7 +1,6 @@
--- The command
--- `solve MODEL [--property N] [--workers W] [--conflicts C] [--steps S] [--skeletons K] [--lassos N] [--depth D] [--all] [--resume ANSWER]`: what it
--- gives. The search is FAIR (Bradley, Somenzi, Hassan, Zhang, 2011); that one list serves all properties, and may begin with
--- the entries of an answer, is this program's.
+-- The command `solve MODEL [--property N] [--workers W] [--conflicts C] [--steps S] [--skeletons K] [--lassos N] [--depth D]
+-- [--all] [--resume ANSWER]`: what it gives. The search is FAIR (Bradley, Somenzi, Hassan, Zhang, 2011); that one list serves
+-- all properties, and may begin with the entries of an answer, is this program's.
 use Rattle.std.specs.Prelude.{◌≡◌, ◌⊎◌, ◌≤◌, ◌<◌, ◌+◌, min, ℕ, Bool, true, false, List, [], ◌∷◌, ◌++◌, length, take, Option, None, Some, if◌then◌else◌}
 use Rattle.aig_semantics.specs.declared.traces.Lasso.{Lasso}
 use Rattle.aig_semantics.specs.Circuits.{Circuit}
