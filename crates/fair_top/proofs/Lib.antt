@@ -7,3 +7,4 @@ mod EachCommand
 mod Ending
 mod Agreeing
 mod Summed
+mod AsAsked

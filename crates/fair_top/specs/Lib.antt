@@ -6,3 +6,4 @@ pub mod Commands
 pub mod Solved
 pub mod Beginnings
 pub mod Headline
+pub mod Laws

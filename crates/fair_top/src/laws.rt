@@ -1,6 +1,7 @@
-//! The law of two runs. Its call does nothing; its contract is the law.
+//! The laws of runs. Each call does nothing; its contract is the law.
 
 ghost use Rattle.fair_top.specs.Solve.{RunsAgree};
+ghost use Rattle.fair_top.specs.Laws.{OpenRoundsAreAsked, OpenDepthsAreAsked, ReportsAreAsked, CertificatesAreAsked, SheetsAreAsked, ReportsBeginAsAsked, CertificatesBeginAsAsked, WavesAreAsked, SummariesAreTrue, VerdictsAreAccepted, OpenSheetsAreAccepted};
 
 use aiger_ascii::ascii_laws;
 use aiger_binary::binary_laws;
@@ -16,3 +17,23 @@ pub fn runs_agree(c: &Circuit)
     binary_laws();
     good_answers_agree(c);
 }
+
+/// What a command answers is of what was asked for: the limits of a search that is cut short, the workers, depth and list of a
+/// report, the entries of a certificate and of a sheet, the property of a dump; and the verdict that `demo` sums up is true.
+pub fn answers_are_as_asked()
+    ensures rounds { OpenRoundsAreAsked }
+    ensures shortest { OpenDepthsAreAsked }
+    ensures reports { ReportsAreAsked }
+    ensures certificates { CertificatesAreAsked }
+    ensures sheets { SheetsAreAsked }
+    ensures reports_begin { ReportsBeginAsAsked }
+    ensures certificates_begin { CertificatesBeginAsAsked }
+    ensures waves { WavesAreAsked }
+    ensures summaries { SummariesAreTrue }
+{}
+
+/// `check` accepts what `solve` prints: with a verdict, of which it says the same, and of all properties with a report, too.
+pub fn printed_answers_are_accepted()
+    ensures verdicts { VerdictsAreAccepted }
+    ensures open_sheets { OpenSheetsAreAccepted }
+{}
