@@ -30,27 +30,28 @@ mod translating;
 mod trimming;
 mod waving;
 
+use crate::words::{attached, for_model_and_answer, for_property};
 pub use bounding::ShortestRequest;
-use bounding::{shortest_of, with_shortest};
-use checking::{check_of, with_check};
+use bounding::{shortest_command, shortest_of};
+use checking::check_of;
 use clap::error::ErrorKind;
 use clap::{ArgMatches, Command, Error};
-use converting::{convert_of, with_convert};
+use converting::convert_of;
 pub use counting::RoundsRequest;
-use counting::{rounds_of, with_rounds};
+use counting::{rounds_command, rounds_of};
 pub use demonstrating::DemoRequest;
-use demonstrating::{demo_of, with_demo};
+use demonstrating::{demo_command, demo_of};
 pub use exporting::ExportRequest;
-use exporting::{export_of, with_export};
+use exporting::{export_command, export_of};
 pub use generating::{GenKind, GenRequest};
-use generating::{gen_of, with_gen};
-use slicing::{slice_of, with_slice};
+use generating::{gen_command, gen_of};
+use slicing::slice_of;
 pub use solving::{DEFAULTS, SolveRequest};
-use solving::{solve_of, with_solve};
+use solving::{solve_command, solve_of};
 use std::alloc::{AllocError, Global};
-use translating::{safety_of, with_safety};
-use trimming::{trim_of, with_trim};
-use waving::{wave_of, with_wave};
+use translating::safety_of;
+use trimming::trim_of;
+use waving::{wave_command, wave_of};
 
 /// A command with its values.
 #[derive(Clone, Copy)]
@@ -145,14 +146,22 @@ fn read_words<'a>(alloc: Global, words: &'a [String]) -> Result<Asked<'a>, Words
     ensures { IsRead (bytes_of words.now) result }
 {
     match matches_of(alloc, words) {
-        Ok(matches) => match asked_by(&matches) {
-            Some(asked) => Ok(asked),
-            None => Err(WordsEnd::Usage),
-        },
-        Err(error) => match error.kind() {
-            ErrorKind::OutOfMemory => Err(WordsEnd::Memory),
-            _ => Err(WordsEnd::Usage),
-        },
+        Ok(matches) => {
+            let asked = asked_by(&matches);
+            drop(matches);
+            match asked {
+                Some(asked) => Ok(asked),
+                None => Err(WordsEnd::Usage),
+            }
+        }
+        Err(error) => {
+            let kind = error.kind();
+            drop(error);
+            match kind {
+                ErrorKind::OutOfMemory => Err(WordsEnd::Memory),
+                _ => Err(WordsEnd::Usage),
+            }
+        }
     }
 }
 
@@ -172,18 +181,18 @@ fn program<'a>(alloc: Global) -> Result<Command<'a>, AllocError>
     let program = Command::new(alloc, "fairlive")
         .subcommand_required(true)
         .disable_help_subcommand(true);
-    let program = with_solve(alloc, program)?;
-    let program = with_check(alloc, program)?;
-    let program = with_gen(alloc, program)?;
-    let program = with_demo(alloc, program)?;
-    let program = with_wave(alloc, program)?;
-    let program = with_slice(alloc, program)?;
-    let program = with_convert(alloc, program)?;
-    let program = with_safety(alloc, program)?;
-    let program = with_rounds(alloc, program)?;
-    let program = with_shortest(alloc, program)?;
-    let program = with_trim(alloc, program)?;
-    with_export(alloc, program)
+    let program = attached(Ok(program), solve_command(alloc));
+    let program = attached(program, for_model_and_answer(alloc, "check"));
+    let program = attached(program, gen_command(alloc));
+    let program = attached(program, demo_command(alloc));
+    let program = attached(program, wave_command(alloc));
+    let program = attached(program, for_property(alloc, "slice"));
+    let program = attached(program, for_model_and_answer(alloc, "convert"));
+    let program = attached(program, for_property(alloc, "safety"));
+    let program = attached(program, rounds_command(alloc));
+    let program = attached(program, shortest_command(alloc));
+    let program = attached(program, for_model_and_answer(alloc, "trim"));
+    attached(program, export_command(alloc))
 }
 
 /// What the command that was met asks for, if it is one of the program's and its values are a request.

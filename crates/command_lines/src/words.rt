@@ -11,52 +11,8 @@ use clap::builder::ValueParser;
 use clap::{Arg, ArgAction, ArgMatches, Command};
 use std::alloc::{AllocError, Global};
 
-/// A value that has to be given.
-pub(crate) fn required<'a>(alloc: Global, name: &'a str) -> Arg<'a>
-    ensures rule { rule_of result ≡ wanted name.now }
-    ensures local { result.global ≡ false }
-{
-    Arg::new(alloc, name).required(true)
-}
-
-/// A number that has to be given.
-pub(crate) fn required_number<'a>(alloc: Global, name: &'a str, low: u64, high: u64) -> Arg<'a>
-    ensures rule { rule_of result ≡ wanted_number name.now low high }
-    ensures local { result.global ≡ false }
-{
-    Arg::new(alloc, name)
-        .required(true)
-        .value_parser(ValueParser::unsigned(low, high))
-}
-
-/// An option without a value.
-pub(crate) fn flag<'a>(alloc: Global, name: &'a str) -> Arg<'a>
-    ensures rule { rule_of result ≡ flag name.now }
-    ensures local { result.global ≡ false }
-{
-    Arg::new(alloc, name).long(name).action(ArgAction::SetTrue)
-}
-
-/// An option that has a number.
-pub(crate) fn number_option<'a>(alloc: Global, name: &'a str, low: u64, high: u64) -> Arg<'a>
-    ensures rule { rule_of result ≡ number_option name.now low high }
-    ensures local { result.global ≡ false }
-{
-    Arg::new(alloc, name)
-        .long(name)
-        .value_parser(ValueParser::unsigned(low, high))
-}
-
-/// An option that has a text.
-pub(crate) fn text_option<'a>(alloc: Global, name: &'a str) -> Arg<'a>
-    ensures rule { rule_of result ≡ text_option name.now }
-    ensures local { result.global ≡ false }
-{
-    Arg::new(alloc, name).long(name)
-}
-
 /// A command with one more argument, where it was made and takes it.
-pub(crate) fn with_argument<'a>(
+fn with_argument<'a>(
     made: Result<Command<'a>, AllocError>,
     argument: Arg<'a>,
 ) -> Result<Command<'a>, AllocError>
@@ -66,7 +22,106 @@ pub(crate) fn with_argument<'a>(
     ensures local { IfOk made.entry (λ command. (fields_of command).has_globals ≡ false)
         → IfOk result (λ more. (fields_of more).has_globals ≡ false) }
 {
-    made?.arg(argument)
+    match made {
+        Ok(command) => command.arg(argument),
+        Err(error) => {
+            drop(argument);
+            Err(error)
+        }
+    }
+}
+
+/// A command with a value that has to be given.
+pub(crate) fn with_wanted<'a>(
+    alloc: Global,
+    made: Result<Command<'a>, AllocError>,
+    name: &'a str,
+) -> Result<Command<'a>, AllocError>
+    ensures shape { (app : App) → IfOk made.entry (λ command. app_of command ≡ app)
+        → IfOk result (λ more. app_of more ≡ with_rule app (wanted name.now)) }
+    ensures local { IfOk made.entry (λ command. (fields_of command).has_globals ≡ false)
+        → IfOk result (λ more. (fields_of more).has_globals ≡ false) }
+{
+    with_argument(made, Arg::new(alloc, name).required(true))
+}
+
+/// A command with a number that has to be given.
+pub(crate) fn with_wanted_number<'a>(
+    alloc: Global,
+    made: Result<Command<'a>, AllocError>,
+    name: &'a str,
+    low: u64,
+    high: u64,
+) -> Result<Command<'a>, AllocError>
+    ensures shape { (app : App) → IfOk made.entry (λ command. app_of command ≡ app)
+        → IfOk result (λ more. app_of more ≡ with_rule app (wanted_number name.now low high)) }
+    ensures local { IfOk made.entry (λ command. (fields_of command).has_globals ≡ false)
+        → IfOk result (λ more. (fields_of more).has_globals ≡ false) }
+{
+    let argument = Arg::new(alloc, name)
+        .required(true)
+        .value_parser(ValueParser::unsigned(low, high));
+    with_argument(made, argument)
+}
+
+/// A command with an option without a value.
+pub(crate) fn with_flag<'a>(
+    alloc: Global,
+    made: Result<Command<'a>, AllocError>,
+    name: &'a str,
+) -> Result<Command<'a>, AllocError>
+    ensures shape { (app : App) → IfOk made.entry (λ command. app_of command ≡ app)
+        → IfOk result (λ more. app_of more ≡ with_rule app (flag name.now)) }
+    ensures local { IfOk made.entry (λ command. (fields_of command).has_globals ≡ false)
+        → IfOk result (λ more. (fields_of more).has_globals ≡ false) }
+{
+    let argument = Arg::new(alloc, name).long(name).action(ArgAction::SetTrue);
+    with_argument(made, argument)
+}
+
+/// A command with an option that has a number.
+pub(crate) fn with_number_option<'a>(
+    alloc: Global,
+    made: Result<Command<'a>, AllocError>,
+    name: &'a str,
+    low: u64,
+    high: u64,
+) -> Result<Command<'a>, AllocError>
+    ensures shape { (app : App) → IfOk made.entry (λ command. app_of command ≡ app)
+        → IfOk result (λ more. app_of more ≡ with_rule app (number_option name.now low high)) }
+    ensures local { IfOk made.entry (λ command. (fields_of command).has_globals ≡ false)
+        → IfOk result (λ more. (fields_of more).has_globals ≡ false) }
+{
+    let argument = Arg::new(alloc, name)
+        .long(name)
+        .value_parser(ValueParser::unsigned(low, high));
+    with_argument(made, argument)
+}
+
+/// A command with an option that has a text.
+pub(crate) fn with_text_option<'a>(
+    alloc: Global,
+    made: Result<Command<'a>, AllocError>,
+    name: &'a str,
+) -> Result<Command<'a>, AllocError>
+    ensures shape { (app : App) → IfOk made.entry (λ command. app_of command ≡ app)
+        → IfOk result (λ more. app_of more ≡ with_rule app (text_option name.now)) }
+    ensures local { IfOk made.entry (λ command. (fields_of command).has_globals ≡ false)
+        → IfOk result (λ more. (fields_of more).has_globals ≡ false) }
+{
+    with_argument(made, Arg::new(alloc, name).long(name))
+}
+
+/// A command of this name that wants a value.
+pub(crate) fn for_value<'a>(
+    alloc: Global,
+    name: &'a str,
+    value: &'a str,
+) -> Result<Command<'a>, AllocError>
+    ensures shape { IfOk result (λ command. app_of command ≡ with_rule (new_app name.now) (wanted value.now)) }
+    ensures local { IfOk result (λ command. (fields_of command).has_globals ≡ false) }
+{
+    with_wanted(alloc, Ok(Command::new(alloc, name)), value)
 }
 
 /// A command of this name that wants the names of a model and of an answer.
@@ -78,9 +133,7 @@ pub(crate) fn for_model_and_answer<'a>(
         ≡ with_rule (with_rule (new_app name.now) (wanted (codes "MODEL"))) (wanted (codes "ANSWER"))) }
     ensures local { IfOk result (λ command. (fields_of command).has_globals ≡ false) }
 {
-    Command::new(alloc, name)
-        .arg(required(alloc, "MODEL"))?
-        .arg(required(alloc, "ANSWER"))
+    with_wanted(alloc, for_value(alloc, name, "MODEL"), "ANSWER")
 }
 
 /// A command of this name that wants the name of a model, and takes the number of a property.
@@ -89,13 +142,30 @@ pub(crate) fn for_property<'a>(alloc: Global, name: &'a str) -> Result<Command<'
         ≡ with_rule (with_rule (new_app name.now) (wanted (codes "MODEL"))) (number_option (codes "property") 0 4294967295)) }
     ensures local { IfOk result (λ command. (fields_of command).has_globals ≡ false) }
 {
-    Command::new(alloc, name)
-        .arg(required(alloc, "MODEL"))?
-        .arg(number_option(alloc, "property", 0, 4_294_967_295))
+    let command = for_value(alloc, name, "MODEL");
+    with_number_option(alloc, command, "property", 0, 4_294_967_295)
 }
 
-/// The program with one more command, where that was made.
+/// The program with one more command, where both were made.
 pub(crate) fn attached<'a>(
+    program: Result<Command<'a>, AllocError>,
+    made: Result<Command<'a>, AllocError>,
+) -> Result<Command<'a>, AllocError>
+    requires { IfOk made (λ command. (fields_of command).has_globals ≡ false) }
+    ensures { (before app : App) → IfOk program.entry (λ command. app_of command ≡ before)
+        → IfOk made.entry (λ command. app_of command ≡ app)
+        → IfOk result (λ more. app_of more ≡ with_subcommand before app.top) }
+{
+    match program {
+        Ok(program) => with_made(program, made),
+        Err(error) => {
+            drop(made);
+            Err(error)
+        }
+    }
+}
+
+fn with_made<'a>(
     program: Command<'a>,
     made: Result<Command<'a>, AllocError>,
 ) -> Result<Command<'a>, AllocError>
@@ -103,7 +173,13 @@ pub(crate) fn attached<'a>(
     ensures { (app : App) → IfOk made.entry (λ command. app_of command ≡ app)
         → IfOk result (λ more. app_of more ≡ with_subcommand (app_of program.entry) app.top) }
 {
-    program.subcommand(made?)
+    match made {
+        Ok(command) => program.subcommand(command),
+        Err(error) => {
+            drop(program);
+            Err(error)
+        }
+    }
 }
 
 /// The number that is given for a name, if it is from the low one to the high one, or the default where none is given.

@@ -1,7 +1,7 @@
 //! The words of the command `shortest`.
 
 ghost use Rattle.std.specs.Prelude.{◌≡◌, codes, false, IfOk, IfSome, IfNone};
-ghost use Rattle.clap.specs.Simple.{app_of, with_subcommand};
+ghost use Rattle.clap.specs.Simple.{app_of};
 ghost use Rattle.clap.specs.Walk.{rows_of};
 ghost use Rattle.clap.specs.Matches.{found_of};
 ghost use Rattle.clap.specs.declared.builder.command.Command.TheViews.{out-Command as fields_of};
@@ -9,7 +9,7 @@ ghost use Rattle.command_lines.specs.Commands.{Asked as AskedFor, meant, Means};
 ghost use Rattle.command_lines.specs.Shortest.{shortest_command};
 
 use crate::commands::{Asked, DEFAULTS};
-use crate::words::{attached, number_option, number_or, required, value_of, with_argument};
+use crate::words::{for_property, number_or, value_of, with_number_option};
 use clap::{ArgMatches, Command};
 use std::alloc::{AllocError, Global};
 
@@ -24,24 +24,13 @@ pub struct ShortestRequest {
     pub depth: u32,
 }
 
-fn shortest_command<'a>(alloc: Global) -> Result<Command<'a>, AllocError>
+pub(crate) fn shortest_command<'a>(alloc: Global) -> Result<Command<'a>, AllocError>
     ensures shape { IfOk result (λ command. app_of command ≡ shortest_command) }
     ensures local { IfOk result (λ command. (fields_of command).has_globals ≡ false) }
 {
-    let command = Command::new(alloc, "shortest").arg(required(alloc, "MODEL"));
-    let command = with_argument(command, number_option(alloc, "property", 0, 4_294_967_295));
-    let command = with_argument(command, number_option(alloc, "conflicts", 0, 4_294_967_295));
-    with_argument(command, number_option(alloc, "depth", 0, 65_536))
-}
-
-/// The program with this command.
-pub(crate) fn with_shortest<'a>(
-    alloc: Global,
-    program: Command<'a>,
-) -> Result<Command<'a>, AllocError>
-    ensures { IfOk result (λ more. app_of more ≡ with_subcommand (app_of program.entry) shortest_command.top) }
-{
-    attached(program, shortest_command(alloc))
+    let command = for_property(alloc, "shortest");
+    let command = with_number_option(alloc, command, "conflicts", 0, 4_294_967_295);
+    with_number_option(alloc, command, "depth", 0, 65_536)
 }
 
 /// The name and the numbers that `shortest` is given, with the defaults of `solve`, and of 100 positions.

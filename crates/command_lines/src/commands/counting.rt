@@ -1,7 +1,7 @@
 //! The words of the command `rounds`.
 
 ghost use Rattle.std.specs.Prelude.{◌≡◌, codes, false, IfOk, IfSome, IfNone};
-ghost use Rattle.clap.specs.Simple.{app_of, with_subcommand};
+ghost use Rattle.clap.specs.Simple.{app_of};
 ghost use Rattle.clap.specs.Walk.{rows_of};
 ghost use Rattle.clap.specs.Matches.{found_of};
 ghost use Rattle.clap.specs.declared.builder.command.Command.TheViews.{out-Command as fields_of};
@@ -10,8 +10,7 @@ ghost use Rattle.command_lines.specs.Rounds.{rounds_command};
 
 use crate::commands::{Asked, DEFAULTS};
 use crate::words::{
-    attached, number_of, number_option, number_or, required, required_number, value_of,
-    with_argument,
+    for_value, number_of, number_or, value_of, with_number_option, with_wanted_number,
 };
 use clap::{ArgMatches, Command};
 use std::alloc::{AllocError, Global};
@@ -29,25 +28,15 @@ pub struct RoundsRequest {
     pub steps: u64,
 }
 
-fn rounds_command<'a>(alloc: Global) -> Result<Command<'a>, AllocError>
+pub(crate) fn rounds_command<'a>(alloc: Global) -> Result<Command<'a>, AllocError>
     ensures shape { IfOk result (λ command. app_of command ≡ rounds_command) }
     ensures local { IfOk result (λ command. (fields_of command).has_globals ≡ false) }
 {
-    let command = Command::new(alloc, "rounds").arg(required(alloc, "MODEL"));
-    let command = with_argument(command, required_number(alloc, "K", 1, 64));
-    let command = with_argument(command, number_option(alloc, "property", 0, 4_294_967_295));
-    let command = with_argument(command, number_option(alloc, "conflicts", 0, 4_294_967_295));
-    with_argument(command, number_option(alloc, "steps", 0, 4_294_967_295))
-}
-
-/// The program with this command.
-pub(crate) fn with_rounds<'a>(
-    alloc: Global,
-    program: Command<'a>,
-) -> Result<Command<'a>, AllocError>
-    ensures { IfOk result (λ more. app_of more ≡ with_subcommand (app_of program.entry) rounds_command.top) }
-{
-    attached(program, rounds_command(alloc))
+    let command = for_value(alloc, "rounds", "MODEL");
+    let command = with_wanted_number(alloc, command, "K", 1, 64);
+    let command = with_number_option(alloc, command, "property", 0, 4_294_967_295);
+    let command = with_number_option(alloc, command, "conflicts", 0, 4_294_967_295);
+    with_number_option(alloc, command, "steps", 0, 4_294_967_295)
 }
 
 /// The name and the numbers that `rounds` is given, with the defaults of `solve`.

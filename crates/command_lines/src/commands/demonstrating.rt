@@ -1,7 +1,7 @@
 //! The words of the command `demo`.
 
 ghost use Rattle.std.specs.Prelude.{◌≡◌, codes, false, IfOk, IfSome, IfNone};
-ghost use Rattle.clap.specs.Simple.{app_of, with_subcommand};
+ghost use Rattle.clap.specs.Simple.{app_of};
 ghost use Rattle.clap.specs.Walk.{rows_of};
 ghost use Rattle.clap.specs.Matches.{found_of};
 ghost use Rattle.clap.specs.declared.builder.command.Command.TheViews.{out-Command as fields_of};
@@ -9,7 +9,7 @@ ghost use Rattle.command_lines.specs.Commands.{Asked as AskedFor, meant, Means};
 ghost use Rattle.command_lines.specs.Demo.{demo_command};
 
 use crate::commands::Asked;
-use crate::words::{attached, number_of, required_number};
+use crate::words::{number_of, with_wanted_number};
 use clap::{ArgMatches, Command};
 use std::alloc::{AllocError, Global};
 
@@ -22,20 +22,13 @@ pub struct DemoRequest {
     pub size: u64,
 }
 
-fn demo_command<'a>(alloc: Global) -> Result<Command<'a>, AllocError>
+pub(crate) fn demo_command<'a>(alloc: Global) -> Result<Command<'a>, AllocError>
     ensures shape { IfOk result (λ command. app_of command ≡ demo_command) }
     ensures local { IfOk result (λ command. (fields_of command).has_globals ≡ false) }
 {
-    Command::new(alloc, "demo")
-        .arg(required_number(alloc, "SEED", 0, 4_294_967_295))?
-        .arg(required_number(alloc, "SIZE", 1, 256))
-}
-
-/// The program with this command.
-pub(crate) fn with_demo<'a>(alloc: Global, program: Command<'a>) -> Result<Command<'a>, AllocError>
-    ensures { IfOk result (λ more. app_of more ≡ with_subcommand (app_of program.entry) demo_command.top) }
-{
-    attached(program, demo_command(alloc))
+    let command = Ok(Command::new(alloc, "demo"));
+    let command = with_wanted_number(alloc, command, "SEED", 0, 4_294_967_295);
+    with_wanted_number(alloc, command, "SIZE", 1, 256)
 }
 
 /// The request that the values of `demo` are.

@@ -1,7 +1,7 @@
 //! The words of the command `export`.
 
 ghost use Rattle.std.specs.Prelude.{◌≡◌, codes, false, IfOk, IfSome, IfNone};
-ghost use Rattle.clap.specs.Simple.{app_of, with_subcommand};
+ghost use Rattle.clap.specs.Simple.{app_of};
 ghost use Rattle.clap.specs.Walk.{rows_of};
 ghost use Rattle.clap.specs.Matches.{found_of};
 ghost use Rattle.clap.specs.declared.builder.command.Command.TheViews.{out-Command as fields_of};
@@ -11,7 +11,7 @@ ghost use Rattle.command_lines.specs.Export.{export_command, IsItemGiven};
 
 use crate::commands::Asked;
 use crate::words::{
-    attached, flag, flag_of, number_of, required, required_number, value_of, with_argument,
+    flag_of, for_model_and_answer, number_of, value_of, with_flag, with_wanted_number,
 };
 use clap::{ArgMatches, Command};
 use std::alloc::{AllocError, Global};
@@ -27,25 +27,14 @@ pub struct ExportRequest {
     pub lrat: bool,
 }
 
-fn export_command<'a>(alloc: Global) -> Result<Command<'a>, AllocError>
+pub(crate) fn export_command<'a>(alloc: Global) -> Result<Command<'a>, AllocError>
     ensures shape { IfOk result (λ command. app_of command ≡ export_command) }
     ensures local { IfOk result (λ command. (fields_of command).has_globals ≡ false) }
 {
-    let command = Command::new(alloc, "export").arg(required(alloc, "MODEL"));
-    let command = with_argument(command, required(alloc, "ANSWER"));
-    let command = with_argument(command, required_number(alloc, "ENTRY", 0, 4_294_967_295));
-    let command = with_argument(command, required_number(alloc, "CLAUSE", 0, 4_294_967_295));
-    with_argument(command, flag(alloc, "lrat"))
-}
-
-/// The program with this command.
-pub(crate) fn with_export<'a>(
-    alloc: Global,
-    program: Command<'a>,
-) -> Result<Command<'a>, AllocError>
-    ensures { IfOk result (λ more. app_of more ≡ with_subcommand (app_of program.entry) export_command.top) }
-{
-    attached(program, export_command(alloc))
+    let command = for_model_and_answer(alloc, "export");
+    let command = with_wanted_number(alloc, command, "ENTRY", 0, 4_294_967_295);
+    let command = with_wanted_number(alloc, command, "CLAUSE", 0, 4_294_967_295);
+    with_flag(alloc, command, "lrat")
 }
 
 /// The names and the item that `export` is given.

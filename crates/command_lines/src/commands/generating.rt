@@ -1,7 +1,7 @@
 //! The words of the command `gen`.
 
 ghost use Rattle.std.specs.Prelude.{◌≡◌, Some, codes, false, IfOk, IfSome, IfNone};
-ghost use Rattle.clap.specs.Simple.{app_of, with_subcommand};
+ghost use Rattle.clap.specs.Simple.{app_of};
 ghost use Rattle.clap.specs.Walk.{rows_of};
 ghost use Rattle.clap.specs.Matches.{found_of};
 ghost use Rattle.clap.specs.declared.builder.command.Command.TheViews.{out-Command as fields_of};
@@ -11,9 +11,7 @@ ghost use Rattle.command_lines.specs.Commands.{Asked as AskedFor, meant, Means};
 ghost use Rattle.command_lines.specs.Gen.{gen_command, name_of_kind, MeansGen};
 
 use crate::commands::Asked;
-use crate::words::{
-    attached, flag, flag_of, number_of, required, required_number, value_of, with_argument,
-};
+use crate::words::{flag_of, for_value, number_of, value_of, with_flag, with_wanted_number};
 use clap::{ArgMatches, Command};
 use std::alloc::{AllocError, Global};
 
@@ -39,21 +37,14 @@ pub enum GenKind {
 }
 
 /// KIND is tested by the program itself, see `kind_of`.
-fn gen_command<'a>(alloc: Global) -> Result<Command<'a>, AllocError>
+pub(crate) fn gen_command<'a>(alloc: Global) -> Result<Command<'a>, AllocError>
     ensures shape { IfOk result (λ command. app_of command ≡ gen_command) }
     ensures local { IfOk result (λ command. (fields_of command).has_globals ≡ false) }
 {
-    let command = Command::new(alloc, "gen").arg(required(alloc, "KIND"));
-    let command = with_argument(command, required_number(alloc, "SEED", 0, 4_294_967_295));
-    let command = with_argument(command, required_number(alloc, "SIZE", 1, 256));
-    with_argument(command, flag(alloc, "binary"))
-}
-
-/// The program with this command.
-pub(crate) fn with_gen<'a>(alloc: Global, program: Command<'a>) -> Result<Command<'a>, AllocError>
-    ensures { IfOk result (λ more. app_of more ≡ with_subcommand (app_of program.entry) gen_command.top) }
-{
-    attached(program, gen_command(alloc))
+    let command = for_value(alloc, "gen", "KIND");
+    let command = with_wanted_number(alloc, command, "SEED", 0, 4_294_967_295);
+    let command = with_wanted_number(alloc, command, "SIZE", 1, 256);
+    with_flag(alloc, command, "binary")
 }
 
 /// The request that the values of `gen` are.

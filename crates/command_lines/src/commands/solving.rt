@@ -1,7 +1,7 @@
 //! The words of the command `solve`.
 
 ghost use Rattle.std.specs.Prelude.{◌≡◌, codes, false, IfOk, IfSome, IfNone};
-ghost use Rattle.clap.specs.Simple.{app_of, with_subcommand};
+ghost use Rattle.clap.specs.Simple.{app_of};
 ghost use Rattle.clap.specs.Walk.{rows_of};
 ghost use Rattle.clap.specs.Matches.{found_of};
 ghost use Rattle.clap.specs.declared.builder.command.Command.TheViews.{out-Command as fields_of};
@@ -10,8 +10,7 @@ ghost use Rattle.command_lines.specs.Solve.{solve_command};
 
 use crate::commands::Asked;
 use crate::words::{
-    attached, flag, flag_of, number_option, number_or, required, text_option, value_of,
-    with_argument,
+    flag_of, for_property, number_or, value_of, with_flag, with_number_option, with_text_option,
 };
 use clap::{ArgMatches, Command};
 use std::alloc::{AllocError, Global};
@@ -49,27 +48,19 @@ pub const DEFAULTS: SolveRequest = SolveRequest {
     all: false,
 };
 
-fn solve_command<'a>(alloc: Global) -> Result<Command<'a>, AllocError>
+pub(crate) fn solve_command<'a>(alloc: Global) -> Result<Command<'a>, AllocError>
     ensures shape { IfOk result (λ command. app_of command ≡ solve_command) }
     ensures local { IfOk result (λ command. (fields_of command).has_globals ≡ false) }
 {
-    let command = Command::new(alloc, "solve").arg(required(alloc, "MODEL"));
-    let command = with_argument(command, number_option(alloc, "property", 0, 4_294_967_295));
-    let command = with_argument(command, number_option(alloc, "workers", 1, 64));
-    let command = with_argument(command, number_option(alloc, "conflicts", 0, 4_294_967_295));
-    let command = with_argument(command, number_option(alloc, "steps", 0, 4_294_967_295));
-    let command = with_argument(command, number_option(alloc, "skeletons", 0, 65_536));
-    let command = with_argument(command, number_option(alloc, "lassos", 0, 63));
-    let command = with_argument(command, number_option(alloc, "depth", 0, 65_536));
-    let command = with_argument(command, flag(alloc, "all"));
-    with_argument(command, text_option(alloc, "resume"))
-}
-
-/// The program with this command.
-pub(crate) fn with_solve<'a>(alloc: Global, program: Command<'a>) -> Result<Command<'a>, AllocError>
-    ensures { IfOk result (λ more. app_of more ≡ with_subcommand (app_of program.entry) solve_command.top) }
-{
-    attached(program, solve_command(alloc))
+    let command = for_property(alloc, "solve");
+    let command = with_number_option(alloc, command, "workers", 1, 64);
+    let command = with_number_option(alloc, command, "conflicts", 0, 4_294_967_295);
+    let command = with_number_option(alloc, command, "steps", 0, 4_294_967_295);
+    let command = with_number_option(alloc, command, "skeletons", 0, 65_536);
+    let command = with_number_option(alloc, command, "lassos", 0, 63);
+    let command = with_number_option(alloc, command, "depth", 0, 65_536);
+    let command = with_flag(alloc, command, "all");
+    with_text_option(alloc, command, "resume")
 }
 
 /// The names and the numbers that `solve` is given, with the numbers' defaults.

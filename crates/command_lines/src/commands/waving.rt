@@ -1,7 +1,7 @@
 //! The words of the command `wave`.
 
 ghost use Rattle.std.specs.Prelude.{◌≡◌, codes, false, IfOk, IfSome, IfNone};
-ghost use Rattle.clap.specs.Simple.{app_of, with_subcommand};
+ghost use Rattle.clap.specs.Simple.{app_of};
 ghost use Rattle.clap.specs.Walk.{rows_of};
 ghost use Rattle.clap.specs.Matches.{found_of};
 ghost use Rattle.clap.specs.declared.builder.command.Command.TheViews.{out-Command as fields_of};
@@ -9,22 +9,16 @@ ghost use Rattle.command_lines.specs.Commands.{Asked as AskedFor, meant, Means};
 ghost use Rattle.command_lines.specs.Wave.{wave_command};
 
 use crate::commands::Asked;
-use crate::words::{attached, for_model_and_answer, number_option, number_or, value_of};
+use crate::words::{for_model_and_answer, number_or, value_of, with_number_option};
 use clap::{ArgMatches, Command};
 use std::alloc::{AllocError, Global};
 
-fn wave_command<'a>(alloc: Global) -> Result<Command<'a>, AllocError>
+pub(crate) fn wave_command<'a>(alloc: Global) -> Result<Command<'a>, AllocError>
     ensures shape { IfOk result (λ command. app_of command ≡ wave_command) }
     ensures local { IfOk result (λ command. (fields_of command).has_globals ≡ false) }
 {
-    for_model_and_answer(alloc, "wave")?.arg(number_option(alloc, "property", 0, 4_294_967_295))
-}
-
-/// The program with this command.
-pub(crate) fn with_wave<'a>(alloc: Global, program: Command<'a>) -> Result<Command<'a>, AllocError>
-    ensures { IfOk result (λ more. app_of more ≡ with_subcommand (app_of program.entry) wave_command.top) }
-{
-    attached(program, wave_command(alloc))
+    let command = for_model_and_answer(alloc, "wave");
+    with_number_option(alloc, command, "property", 0, 4_294_967_295)
 }
 
 /// The names and the number that `wave` is given.

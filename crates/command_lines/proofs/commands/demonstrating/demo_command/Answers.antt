@@ -1,17 +1,11 @@
-use Rattle.std.proofs.Common.{rules, ap₂, codes, ◌≡◌, ◌∙◌}
-use Rattle.std.proofs.lemmas.Result.{IfOk-weaker}
-use Rattle.clap.specs.Simple.{app_of, new_app, with_rule}
-use Rattle.command_lines.specs.Words.{wanted_number}
-use Rattle.command_lines.proofs.Globals.{none_global}
 use Rattle.command_lines.proofs.commands.demonstrating.demo_command.Goals as goal
 
 pub returns-clause-shape : goal.returns-clause-shape
 returns-clause-shape c =
-    let with_1 : app_of c.in_ok-arg.field-0 ≡ with_rule (new_app (codes "demo")) (wanted_number (codes "SEED") 0 4294967295) =
-    c.in_ok-arg.ensures.shape (search rules) ∙ ap₂ with_rule c.new.ensures.app c.required_number.ensures.rule in
-    IfOk-weaker c.arg-2.result _ _ (λ command h. h.shape (search rules) ∙ ap₂ with_rule with_1 c.required_number-2.ensures.rule) c.arg-2.ensures
+    let made_1 = c.with_wanted_number-command.ensures.shape _ c.new.ensures.app in
+    c.with_wanted_number.ensures.shape _ made_1
 
 pub returns-clause-local : goal.returns-clause-local
 returns-clause-local c =
-    let local_1 = none_global _ c.required_number.result.global _ c.in_ok-arg.ensures.globals c.new.ensures.local c.required_number.ensures.local in
-    IfOk-weaker c.arg-2.result _ _ (λ command h. none_global _ c.required_number-2.result.global _ h.globals local_1 c.required_number-2.ensures.local) c.arg-2.ensures
+    let made_1 = c.with_wanted_number-command.ensures.local c.new.ensures.local in
+    c.with_wanted_number.ensures.local made_1

@@ -1,26 +1,13 @@
-use Rattle.std.proofs.Common.{rules, ap₂, ◌∙◌}
-use Rattle.std.proofs.lemmas.Result.{IfOk-weaker}
-use Rattle.clap.specs.Simple.{with_rule}
-use Rattle.command_lines.proofs.Globals.{none_global}
 use Rattle.command_lines.proofs.commands.exporting.export_command.Goals as goal
 
 pub returns-clause-shape : goal.returns-clause-shape
 returns-clause-shape c =
-    let made_1 =
-    IfOk-weaker c.arg-command.result _ _ (λ command h. h.shape (search rules) ∙ ap₂ with_rule c.new.ensures.app c.required.ensures.rule) c.arg-command.ensures
-    in
-    let made_2 = c.with_argument-command.ensures.shape _ _ c.required-2.ensures.rule made_1 in
-    let made_3 = c.with_argument-command-2.ensures.shape _ _ c.required_number.ensures.rule made_2 in
-    let made_4 = c.with_argument-command-3.ensures.shape _ _ c.required_number-2.ensures.rule made_3 in
-    c.with_argument.ensures.shape _ _ c.flag.ensures.rule made_4
+    let made_1 = c.with_wanted_number-command.ensures.shape _ c.for_model_and_answer-command.ensures.shape in
+    let made_2 = c.with_wanted_number-command-2.ensures.shape _ made_1 in
+    c.with_flag.ensures.shape _ made_2
 
 pub returns-clause-local : goal.returns-clause-local
 returns-clause-local c =
-    let local_1 =
-    IfOk-weaker c.arg-command.result _ _ (λ command h. none_global _ c.required.result.global _ h.globals c.new.ensures.local c.required.ensures.local)
-    c.arg-command.ensures
-    in
-    let local_2 = c.with_argument-command.ensures.local local_1 in
-    let local_3 = c.with_argument-command-2.ensures.local local_2 in
-    let local_4 = c.with_argument-command-3.ensures.local local_3 in
-    c.with_argument.ensures.local local_4
+    let made_1 = c.with_wanted_number-command.ensures.local c.for_model_and_answer-command.ensures.local in
+    let made_2 = c.with_wanted_number-command-2.ensures.local made_1 in
+    c.with_flag.ensures.local made_2

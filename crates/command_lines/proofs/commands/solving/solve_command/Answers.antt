@@ -1,36 +1,23 @@
-use Rattle.std.proofs.Common.{rules, ap₂, ◌∙◌}
-use Rattle.std.proofs.lemmas.Result.{IfOk-weaker}
-use Rattle.clap.specs.Simple.{with_rule}
-use Rattle.command_lines.proofs.Globals.{none_global}
 use Rattle.command_lines.proofs.commands.solving.solve_command.Goals as goal
 
 pub returns-clause-shape : goal.returns-clause-shape
 returns-clause-shape c =
-    let made_1 =
-    IfOk-weaker c.arg-command.result _ _ (λ command h. h.shape (search rules) ∙ ap₂ with_rule c.new.ensures.app c.required.ensures.rule) c.arg-command.ensures
-    in
-    let made_2 = c.with_argument-command.ensures.shape _ _ c.number_option.ensures.rule made_1 in
-    let made_3 = c.with_argument-command-2.ensures.shape _ _ c.number_option-2.ensures.rule made_2 in
-    let made_4 = c.with_argument-command-3.ensures.shape _ _ c.number_option-3.ensures.rule made_3 in
-    let made_5 = c.with_argument-command-4.ensures.shape _ _ c.number_option-4.ensures.rule made_4 in
-    let made_6 = c.with_argument-command-5.ensures.shape _ _ c.number_option-5.ensures.rule made_5 in
-    let made_7 = c.with_argument-command-6.ensures.shape _ _ c.number_option-6.ensures.rule made_6 in
-    let made_8 = c.with_argument-command-7.ensures.shape _ _ c.number_option-7.ensures.rule made_7 in
-    let made_9 = c.with_argument-command-8.ensures.shape _ _ c.flag.ensures.rule made_8 in
-    c.with_argument.ensures.shape _ _ c.text_option.ensures.rule made_9
+    let made_1 = c.with_number_option-command.ensures.shape _ c.for_property-command.ensures.shape in
+    let made_2 = c.with_number_option-command-2.ensures.shape _ made_1 in
+    let made_3 = c.with_number_option-command-3.ensures.shape _ made_2 in
+    let made_4 = c.with_number_option-command-4.ensures.shape _ made_3 in
+    let made_5 = c.with_number_option-command-5.ensures.shape _ made_4 in
+    let made_6 = c.with_number_option-command-6.ensures.shape _ made_5 in
+    let made_7 = c.with_flag-command.ensures.shape _ made_6 in
+    c.with_text_option.ensures.shape _ made_7
 
 pub returns-clause-local : goal.returns-clause-local
 returns-clause-local c =
-    let local_1 =
-    IfOk-weaker c.arg-command.result _ _ (λ command h. none_global _ c.required.result.global _ h.globals c.new.ensures.local c.required.ensures.local)
-    c.arg-command.ensures
-    in
-    let local_2 = c.with_argument-command.ensures.local local_1 in
-    let local_3 = c.with_argument-command-2.ensures.local local_2 in
-    let local_4 = c.with_argument-command-3.ensures.local local_3 in
-    let local_5 = c.with_argument-command-4.ensures.local local_4 in
-    let local_6 = c.with_argument-command-5.ensures.local local_5 in
-    let local_7 = c.with_argument-command-6.ensures.local local_6 in
-    let local_8 = c.with_argument-command-7.ensures.local local_7 in
-    let local_9 = c.with_argument-command-8.ensures.local local_8 in
-    c.with_argument.ensures.local local_9
+    let made_1 = c.with_number_option-command.ensures.local c.for_property-command.ensures.local in
+    let made_2 = c.with_number_option-command-2.ensures.local made_1 in
+    let made_3 = c.with_number_option-command-3.ensures.local made_2 in
+    let made_4 = c.with_number_option-command-4.ensures.local made_3 in
+    let made_5 = c.with_number_option-command-5.ensures.local made_4 in
+    let made_6 = c.with_number_option-command-6.ensures.local made_5 in
+    let made_7 = c.with_flag-command.ensures.local made_6 in
+    c.with_text_option.ensures.local made_7

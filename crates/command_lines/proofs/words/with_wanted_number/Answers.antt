@@ -1,0 +1,9 @@
+use Rattle.std.proofs.Common.{rules}
+use Rattle.command_lines.specs.Words.{wanted_number}
+use Rattle.command_lines.proofs.words.with_wanted_number.Goals as goal
+
+pub returns-clause-shape : goal.returns-clause-shape
+returns-clause-shape c app made = c.with_argument.ensures.shape app (wanted_number c.args.name.now c.args.low c.args.high) (search rules) made
+
+pub returns-clause-local : goal.returns-clause-local
+returns-clause-local c = c.with_argument.ensures.local
