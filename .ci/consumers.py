@@ -59,7 +59,7 @@ def reason(file, function, met):
 
 
 # Crates that are offered as libraries: what judges or reads. `wall_ledger` is to be the list of workers on threads.
-LIBRARIES = set("text_grammar cnf edge circuit aiger_ascii aiger_binary aiger_names lrat cnf_unroll entry answer_lines stimulus certificate wall_ledger".split())
+LIBRARIES = set("text_grammar cnf edge circuit aiger_ascii aiger_binary aiger_names lrat cnf_unroll entry answer_lines stimulus certificate_texts certificate wall_ledger".split())
 PROMISE = "a promise to who uses the crate as a library"
 
 

@@ -7,8 +7,8 @@ use Rattle.std.proofs.lemmas.List.Elements.{All-map, All-weaker}
 use Rattle.aig_semantics.specs.Circuits.{Circuit}
 use Rattle.fair_semantics.specs.declared.entries.Use.{Use}
 use Rattle.fair_semantics.specs.Entries.{Entry}
-use Rattle.certificate.specs.declared.loaded.Written.{Written}
-use Rattle.certificate.specs.declared.loaded.Certificate.{Certificate}
+use Rattle.certificate_texts.specs.declared.certificates.Written.{Written}
+use Rattle.certificate_texts.specs.declared.certificates.Certificate.{Certificate}
 use Rattle.certificate.specs.Certificates.{AreProvedBehind}
 use Rattle.cert_tools.specs.declared.reaching.Node.{Node}
 use Rattle.cert_tools.specs.declared.reaching.Numbers.{Numbers}

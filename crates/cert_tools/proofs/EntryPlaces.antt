@@ -5,7 +5,7 @@ use Rattle.std.specs.List.{filter}
 use Rattle.std.proofs.lemmas.List.{take_more, append-nil}
 use Rattle.std.proofs.lemmas.List.Elements.{filter-append, All-head, All-tail}
 use Rattle.fair_semantics.specs.declared.entries.Use.{Use}
-use Rattle.certificate.specs.declared.loaded.Written.{Written}
+use Rattle.certificate_texts.specs.declared.certificates.Written.{Written}
 use Rattle.cert_tools.specs.declared.reaching.Node.{Node}
 use Rattle.cert_tools.specs.declared.reaching.Numbers.{Numbers}
 use Rattle.cert_tools.specs.Reaching.{is_in}

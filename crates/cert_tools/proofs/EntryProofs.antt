@@ -15,8 +15,8 @@ use Rattle.entry.specs.declared.faults.EntryFault.{EntryFault}
 use Rattle.entry.specs.Clauses.{latch_literal, with_literal, clause_behind, clause_of}
 use Rattle.entry.specs.Proved.{obligation_of, IsProved}
 use Rattle.certificate_lines.specs.declared.words.Version.TheVariants.{Two}
-use Rattle.certificate.specs.declared.loaded.Written.{Written}
-use Rattle.certificate.specs.declared.loaded.Certificate.{Certificate}
+use Rattle.certificate_texts.specs.declared.certificates.Written.{Written}
+use Rattle.certificate_texts.specs.declared.certificates.Certificate.{Certificate}
 use Rattle.certificate.specs.Certificates.{AreClausesOf, entry_with, AreProvedBehind, IsGoodCertificate}
 use Rattle.certificate.proofs.GoodRead.{all_proved}
 use Rattle.cert_tools.specs.declared.reaching.Numbers.{Numbers}

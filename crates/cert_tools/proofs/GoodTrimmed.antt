@@ -16,9 +16,10 @@ use Rattle.certificate_lines.specs.Fields.{IsNumber}
 use Rattle.certificate_lines.specs.Uses.{MayStand, written}
 use Rattle.entry.specs.Proved.{obligation_of}
 use Rattle.certificate.specs.declared.limits.TheConstants.{MAX_ENTRIES}
-use Rattle.certificate.specs.declared.loaded.Written.{Written}
-use Rattle.certificate.specs.declared.loaded.Certificate.{Certificate}
-use Rattle.certificate.specs.Certificates.{CanBeWritten, IsGoodCertificate}
+use Rattle.certificate_texts.specs.declared.certificates.Written.{Written}
+use Rattle.certificate_texts.specs.declared.certificates.Certificate.{Certificate}
+use Rattle.certificate_texts.specs.Certificates.{CanBeWritten}
+use Rattle.certificate.specs.Certificates.{IsGoodCertificate}
 use Rattle.certificate.proofs.GoodRead.{all_proved}
 use Rattle.cert_tools.specs.Kept.{Keeps}
 use Rattle.cert_tools.specs.TrimmedProofs.{IsTrimmedProof, AreTrimmedProofs}

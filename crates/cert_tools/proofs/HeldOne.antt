@@ -7,13 +7,13 @@ use Rattle.aig_semantics.specs.Circuits.{Circuit}
 use Rattle.certificate.specs.declared.ends.Accepted.TheVariants as accepted
 use Rattle.certificate.specs.declared.loaded.Loaded.{Loaded}
 use Rattle.certificate.specs.declared.loaded.Loaded.TheVariants.{Lasso, Holds}
-use Rattle.certificate.specs.declared.loaded.Certificate.{Certificate}
+use Rattle.certificate_texts.specs.declared.certificates.Certificate.{Certificate}
 use Rattle.certificate.specs.Lines.{kept_in, bare}
-use Rattle.certificate.specs.Answers.{property_line}
+use Rattle.certificate_texts.specs.Writing.{property_line}
 use Rattle.certificate.specs.Lassos.{lasso_of}
 use Rattle.certificate.specs.Loading.{HoldsAnswer, accepted_of}
 use Rattle.certificate.specs.Reading.{Status, Dotted, Stepped, read_lines}
-use Rattle.certificate.specs.Taking.{certificate_at}
+use Rattle.certificate_texts.specs.Taking.{certificate_at}
 use Rattle.certificate.proofs.Kept.{stimulus_is_read}
 use Rattle.certificate.proofs.OneEnd.{one_is_good}
 use Rattle.certificate.proofs.Printed.{held_is_good}

@@ -24,8 +24,8 @@ use Rattle.cnf_unroll.specs.Obligations.{after_step, obligation_clauses, skeleto
 use Rattle.entry.specs.declared.list.Listed.{Listed}
 use Rattle.entry.specs.Listing.{entry_of, entries_of}
 use Rattle.entry.specs.Proved.{obligation_of}
-use Rattle.certificate.specs.declared.loaded.Written.{Written}
-use Rattle.certificate.specs.declared.loaded.Certificate.{Certificate}
+use Rattle.certificate_texts.specs.declared.certificates.Written.{Written}
+use Rattle.certificate_texts.specs.declared.certificates.Certificate.{Certificate}
 use Rattle.certificate.specs.declared.loaded.Loaded.{Loaded}
 use Rattle.certificate.specs.declared.loaded.Loaded.TheVariants.{Lasso, Holds}
 use Rattle.certificate.specs.Certificates.{AreClausesOf, entry_with, AreProvedBehind, IsGoodCertificate}

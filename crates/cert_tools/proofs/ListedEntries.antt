@@ -9,7 +9,7 @@ use Rattle.entry.specs.declared.faults.EntryFault.{EntryFault}
 use Rattle.entry.specs.declared.list.Listed.{Listed}
 use Rattle.entry.specs.Clauses.{clause_of}
 use Rattle.entry.specs.Listing.{entry_of, entries_of}
-use Rattle.certificate.specs.declared.loaded.Written.{Written}
+use Rattle.certificate_texts.specs.declared.certificates.Written.{Written}
 use Rattle.certificate.specs.Certificates.{AreClausesOf, entry_with, AreProvedBehind}
 use Rattle.certificate.proofs.GoodRead.{all_proved}
 use Rattle.cert_tools.proofs.TrimmedAgain.{ok_same}

@@ -12,8 +12,8 @@ use Rattle.cnf_unroll.specs.Obligations.{obligation_clauses, skeleton_clauses}
 use Rattle.certificate_lines.specs.declared.words.Version.TheVariants.{Two}
 use Rattle.entry.specs.declared.faults.EntryFault.{EntryFault}
 use Rattle.entry.specs.Proved.{obligation_of}
-use Rattle.certificate.specs.declared.loaded.Written.{Written}
-use Rattle.certificate.specs.declared.loaded.Certificate.{Certificate}
+use Rattle.certificate_texts.specs.declared.certificates.Written.{Written}
+use Rattle.certificate_texts.specs.declared.certificates.Certificate.{Certificate}
 use Rattle.certificate.specs.Certificates.{entry_with, AreProvedBehind, IsGoodCertificate}
 use Rattle.cert_tools.specs.Kept.{Keeps, Reaches}
 use Rattle.cert_tools.specs.TrimmedProofs.{IsTrimmedProof, AreTrimmedProofs}

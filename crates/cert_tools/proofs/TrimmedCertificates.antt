@@ -14,8 +14,8 @@ use Rattle.fair_semantics.specs.declared.entries.Use.{Use}
 use Rattle.fair_semantics.specs.Entries.{Entry, Numbered as NumberedEntry, entry_at, used_entries, IsSigned, Uses, NamesUsed, AreClosed}
 use Rattle.cnf_unroll.specs.Obligations.{obligation_clauses}
 use Rattle.entry.specs.Proved.{obligation_of, IsProved}
-use Rattle.certificate.specs.declared.loaded.Written.{Written}
-use Rattle.certificate.specs.declared.loaded.Certificate.{Certificate}
+use Rattle.certificate_texts.specs.declared.certificates.Written.{Written}
+use Rattle.certificate_texts.specs.declared.certificates.Certificate.{Certificate}
 use Rattle.certificate.specs.Certificates.{entry_with, AreClausesOf, AreProvedBehind}
 use Rattle.cert_tools.specs.Kept.{Keeps}
 use Rattle.cert_tools.specs.TrimmedProofs.{IsTrimmedProof, AreTrimmedProofs}

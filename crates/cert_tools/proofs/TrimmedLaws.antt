@@ -10,9 +10,10 @@ use Rattle.certificate_lines.specs.declared.words.Version.{Version}
 use Rattle.certificate_lines.specs.declared.words.Version.TheVariants.{Two}
 use Rattle.certificate.specs.declared.loaded.Loaded.{Loaded}
 use Rattle.certificate.specs.declared.loaded.Loaded.TheVariants.{Lasso, Holds}
-use Rattle.certificate.specs.declared.loaded.Certificate.{Certificate}
+use Rattle.certificate_texts.specs.declared.certificates.Certificate.{Certificate}
 use Rattle.certificate.specs.Certificates.{AreProvedBehind, IsGoodCertificate}
-use Rattle.certificate.specs.Loading.{HoldsAnswer, IsHeld, in_version_two, printed_text}
+use Rattle.certificate_texts.specs.Writing.{in_version_two}
+use Rattle.certificate.specs.Loading.{HoldsAnswer, IsHeld, printed_text}
 use Rattle.certificate.proofs.Printed.{good_of_two, has_certificate}
 use Rattle.cert_tools.specs.Trimmed.{IsTrimmedCertificate, IsTrimmed}
 use Rattle.cert_tools.specs.Laws.{TrimmedIsGood, TrimmedStays}

@@ -14,8 +14,8 @@ use Rattle.cnf_unroll.specs.Obligations.{skeleton_clauses}
 use Rattle.entry.specs.Proved.{obligation_of}
 use Rattle.certificate_lines.specs.declared.words.Version.{Version}
 use Rattle.certificate.specs.declared.loaded.Loaded.TheVariants.{Lasso, Holds}
-use Rattle.certificate.specs.declared.loaded.Written.{Written}
-use Rattle.certificate.specs.declared.loaded.Certificate.{Certificate}
+use Rattle.certificate_texts.specs.declared.certificates.Written.{Written}
+use Rattle.certificate_texts.specs.declared.certificates.Certificate.{Certificate}
 use Rattle.cert_tools.specs.Kept.{Keeps}
 use Rattle.cert_tools.specs.TrimmedProofs.{IsFirstEmpty, IsReached, IsTrimmedProof, AreTrimmedProofs}
 use Rattle.cert_tools.specs.Trimmed.{Numbered, numbered_from, IsReachedEntry, renumbered, IsTrimmedEntry, IsTrimmedCertificate}

@@ -9,8 +9,8 @@ use Rattle.fair_semantics.specs.Entries.{Entry, Numbered, entry_at, used_entries
 use Rattle.cnf_unroll.specs.Uses.{Numbering, free_from, after_uses}
 use Rattle.cnf_unroll.specs.Obligations.{after_step, blocks_places, block_count, after_blocks, skeleton_clauses}
 use Rattle.entry.specs.Proved.{obligation_of}
-use Rattle.certificate.specs.declared.loaded.Written.{Written}
-use Rattle.certificate.specs.declared.loaded.Certificate.{Certificate}
+use Rattle.certificate_texts.specs.declared.certificates.Written.{Written}
+use Rattle.certificate_texts.specs.declared.certificates.Certificate.{Certificate}
 use Rattle.certificate.specs.declared.loaded.Loaded.{Loaded}
 use Rattle.certificate.specs.declared.loaded.Loaded.TheVariants.{Lasso, Holds}
 use Rattle.certificate.specs.Certificates.{AreProvedBehind}

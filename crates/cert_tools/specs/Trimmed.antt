@@ -10,8 +10,8 @@ use Rattle.certificate_lines.specs.declared.words.Version.TheVariants.{Two}
 use Rattle.entry.specs.Proved.{obligation_of}
 use Rattle.certificate.specs.declared.loaded.Loaded.{Loaded}
 use Rattle.certificate.specs.declared.loaded.Loaded.TheVariants.{Lasso, Holds}
-use Rattle.certificate.specs.declared.loaded.Written.{Written}
-use Rattle.certificate.specs.declared.loaded.Certificate.{Certificate}
+use Rattle.certificate_texts.specs.declared.certificates.Written.{Written}
+use Rattle.certificate_texts.specs.declared.certificates.Certificate.{Certificate}
 use Rattle.certificate.specs.Certificates.{AreProvedBehind}
 use Rattle.cert_tools.specs.Kept.{Keeps, Reaches}
 use Rattle.cert_tools.specs.TrimmedProofs.{IsTrimmedProof, AreTrimmedProofs}

@@ -6,7 +6,7 @@ use Rattle.fair_semantics.specs.declared.entries.Kind.{Kind}
 use Rattle.fair_semantics.specs.declared.entries.Kind.TheVariants.{Reach, Wall}
 use Rattle.fair_semantics.specs.declared.entries.Use.{Use}
 use Rattle.fair_semantics.specs.Entries.{Entry}
-use Rattle.certificate.specs.declared.loaded.Written.{Written}
+use Rattle.certificate_texts.specs.declared.certificates.Written.{Written}
 use Rattle.certificate.specs.Certificates.{AreProvedBehind}
 use Rattle.cert_tools.specs.declared.reaching.Node.{Node}
 use Rattle.cert_tools.specs.declared.reaching.Numbers.{Numbers}

@@ -5,7 +5,7 @@ ghost use Rattle.std.specs.Prelude.{◌≡◌, ◌<◌, ◌≤◌, ◌+◌, ◌^
 ghost use Rattle.aig_semantics.specs.Circuits.{Circuit as CircuitOf};
 ghost use Rattle.fair_semantics.specs.Entries.{Entry as EntryOf};
 ghost use Rattle.certificate.specs.Certificates.{AreProvedBehind};
-ghost use Rattle.certificate.specs.declared.loaded.Written.{Written as WrittenOf};
+ghost use Rattle.certificate_texts.specs.declared.certificates.Written.{Written as WrittenOf};
 ghost use Rattle.cert_tools.specs.Reaching.{is_in, IsReachedFrom};
 ghost use Rattle.cert_tools.specs.Trimmed.{Numbered, IsTrimmedEntry};
 ghost use Rattle.cert_tools.specs.TrimmingEntries.{numbers_of, entry_node, entry_nodes, needed_entries, ArePlaces, IsEntryOf, GetsEntry};

@@ -20,10 +20,12 @@ use Rattle.entry.specs.Faults.{first_bad_use, fault_from, proof_fault, proofs_fa
 use Rattle.entry.specs.Proved.{obligation_of}
 use Rattle.certificate.specs.declared.limits.TheConstants.{MAX_ENTRIES}
 use Rattle.certificate.specs.declared.ends.Accepted.{Accepted}
-use Rattle.certificate.specs.Certificates.{Written, proof_lines, entry_lines, CanBeWritten, AreClausesOf, AreProvedBehind}
+use Rattle.certificate_texts.specs.declared.certificates.Written.{Written}
+use Rattle.certificate_texts.specs.Certificates.{proof_lines, entry_lines, CanBeWritten}
+use Rattle.certificate.specs.Certificates.{AreClausesOf, AreProvedBehind}
 use Rattle.certificate.specs.Refuted.{Refuted, refuted_clauses, IsRefutation, may_open}
 use Rattle.certificate.specs.declared.state.Refuted.TheVariants.{Skeletons}
-use Rattle.certificate.specs.Answers.{property_line}
+use Rattle.certificate_texts.specs.Writing.{property_line}
 use Rattle.certificate.specs.Reading.{Body, Begun, Proving, Wanted, Start, EntryUses, EntryClause, EntryProof, EntryLine, RefutationUses, RefutationLine, Last, Claim, HasLasso, HasNone, State, Status, Property, Latches, Rows, Dotted, Versioned, Certified, Ended, Stepped, with_entry, begin_entry, has_base}
 use Rattle.certificate.specs.Ends.{IsGoodAtEnd}
 

@@ -7,7 +7,9 @@ use Rattle.proof_semantics.specs.declared.literals.Lit.{Lit}
 use Rattle.certificate_lines.specs.Clauses.{clause_text}
 use Rattle.certificate.specs.declared.ends.Accepted.{Accepted}
 use Rattle.certificate.specs.Lines.{Numbered, bare}
-use Rattle.certificate.specs.Certificates.{Written, proof_lines, AreClausesOf}
+use Rattle.certificate_texts.specs.declared.certificates.Written.{Written}
+use Rattle.certificate_texts.specs.Certificates.{proof_lines}
+use Rattle.certificate.specs.Certificates.{AreClausesOf}
 use Rattle.certificate.specs.Reading.{Body, Wanted, Start, EntryUses, EntryClause, EntryProof, EntryLine, RefutationUses, RefutationLine, Last, State, Status, Property, Latches, Rows, Dotted, Versioned, Certified, Ended, Stepped, step, certificate_step, and_then, read_lines}
 use Rattle.certificate.specs.Ends.{IsGoodAtEnd}
 use Rattle.certificate.proofs.Completing.{end_line, rest_lines, Continues, Completes, After}

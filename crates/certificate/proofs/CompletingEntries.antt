@@ -35,7 +35,8 @@ use Rattle.certificate.specs.declared.ends.Accepted.{Accepted}
 use Rattle.certificate.specs.declared.ends.AnswerFault.TheVariants as faults
 use Rattle.certificate.specs.Certificates.{AreClausesOf}
 use Rattle.certificate.specs.Refuted.{refuted_clauses}
-use Rattle.certificate.specs.Reading.{Body, Begun, EntryUses, EntryClause, RefutationUses, Certified, Stepped, entry_fault, next_proof, next_clause, begin_proof, next_refuting_line, as_use, unless_bad, uses_step, begin_entry, with_clause, has_base, base_step, clause_step, entry_uses_step, refutation_uses_step}
+use Rattle.certificate_texts.specs.Certificates.{as_use}
+use Rattle.certificate.specs.Reading.{Body, Begun, EntryUses, EntryClause, RefutationUses, Certified, Stepped, entry_fault, next_proof, next_clause, begin_proof, next_refuting_line, unless_bad, uses_step, begin_entry, with_clause, has_base, base_step, clause_step, entry_uses_step, refutation_uses_step}
 use Rattle.certificate.proofs.Completing.{end_line, ProofsTail, ClausesTail, RefutationTail, Continues, After}
 use Rattle.certificate.proofs.CompletingProofs.{heads, differs, refuting_next, refuting_from, proof_next, proof_from}
 

@@ -19,7 +19,7 @@ use Rattle.entry.specs.Faults.{unfinished_at, line_fault, fault_from, proof_faul
 use Rattle.entry.specs.Proved.{obligation_of}
 use Rattle.certificate.specs.declared.ends.Accepted.{Accepted}
 use Rattle.certificate.specs.declared.ends.AnswerFault.TheVariants as faults
-use Rattle.certificate.specs.Certificates.{proof_lines}
+use Rattle.certificate_texts.specs.Certificates.{proof_lines}
 use Rattle.certificate.specs.Reading.{Body, Proving, Start, EntryProof, EntryLine, RefutationLine, Last, Certified, Ended, with_entry, entry_fault, next_proof, next_line, next_refuting_line, begin_proof, with_line, proof_step, line_step, refuting_step, last_step}
 use Rattle.certificate.specs.Ends.{IsGoodAtEnd}
 use Rattle.certificate.proofs.Completing.{end_line, FromStart, ProofsTail, LinesTail, RefutationTail, Continues, After}

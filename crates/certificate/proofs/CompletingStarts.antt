@@ -18,7 +18,9 @@ use Rattle.certificate_lines.proofs.WordLaws.{word_given_line, word_back}
 use Rattle.certificate.specs.declared.limits.TheConstants.{MAX_ENTRIES}
 use Rattle.certificate.specs.declared.ends.Accepted.{Accepted}
 use Rattle.certificate.specs.declared.ends.AnswerFault.TheVariants as faults
-use Rattle.certificate.specs.Certificates.{Written, proof_lines, opening_line, entry_lines, entry_with, CanBeWritten, AreProvedBehind}
+use Rattle.certificate_texts.specs.declared.certificates.Written.{Written}
+use Rattle.certificate_texts.specs.Certificates.{proof_lines, opening_line, entry_lines, CanBeWritten}
+use Rattle.certificate.specs.Certificates.{entry_with, AreProvedBehind}
 use Rattle.certificate.specs.Refuted.{IsRefutation, may_open}
 use Rattle.certificate.specs.Reading.{Body, Start, EntryUses, Certified, Ended, with_entry, open_step, start_step, begin_entry}
 use Rattle.certificate.specs.Ends.{IsGoodAtEnd}

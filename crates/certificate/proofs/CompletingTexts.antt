@@ -16,7 +16,7 @@ use Rattle.certificate_lines.proofs.FieldLaws.{number_given, number_back}
 use Rattle.certificate_lines.proofs.WordLaws.{word_given_line, word_back}
 use Rattle.certificate.specs.declared.ends.Accepted.{Accepted}
 use Rattle.certificate.specs.declared.ends.AnswerFault.TheVariants as faults
-use Rattle.certificate.specs.Answers.{property_line}
+use Rattle.certificate_texts.specs.Writing.{property_line}
 use Rattle.certificate.specs.Reading.{Claim, HasLasso, HasNone, Status, Property, Rows, Dotted, Stepped, opens_other, other_status, status_step, property_in, claimed, property_step, version_step, with_value, values_in, latches_step, row_step, step}
 use Rattle.certificate.specs.Ends.{IsGoodAtEnd}
 use Rattle.certificate.proofs.Completing.{FromRows, FromLatches, FromVersion, Claims, FromProperty, Completes, After}

@@ -15,8 +15,12 @@ use Rattle.certificate.specs.declared.limits.TheConstants.{MAX_ENTRIES}
 use Rattle.certificate.specs.declared.ends.Accepted.{Accepted}
 use Rattle.certificate.specs.declared.ends.Accepted.TheVariants.{Lasso, Holds}
 use Rattle.certificate.specs.Lines.{kept_from, kept_in, bare, but_last, kept_readable}
-use Rattle.certificate.specs.Certificates.{Written, Certificate, entry_lines, entry_with, refutation_lines, lines_of_certificate, AreProvedBehind, IsGoodCertificate}
-use Rattle.certificate.specs.Answers.{property_line, HasStimulus, IsGood}
+use Rattle.certificate_texts.specs.declared.certificates.Written.{Written}
+use Rattle.certificate_texts.specs.declared.certificates.Certificate.{Certificate}
+use Rattle.certificate_texts.specs.Certificates.{entry_lines, refutation_lines, lines_of_certificate}
+use Rattle.certificate.specs.Certificates.{entry_with, AreProvedBehind, IsGoodCertificate}
+use Rattle.certificate_texts.specs.Writing.{property_line}
+use Rattle.certificate.specs.Answers.{HasStimulus, IsGood}
 use Rattle.certificate.specs.Reading.{HasLasso, HasNone, Status}
 use Rattle.certificate.specs.Ends.{ReadsWell}
 use Rattle.certificate.specs.Laws.{ReadsGood}

@@ -9,7 +9,8 @@ use Rattle.fair_semantics.specs.Entries.{Entry}
 use Rattle.fair_semantics.specs.Laws.{NoLassoMeansFewRounds}
 use Rattle.entry.specs.Laws.{IsGoodList, GoodListsGrow, RefutedHasNoLasso}
 use Rattle.certificate.specs.declared.ends.Accepted.TheVariants.{Lasso, Holds}
-use Rattle.certificate.specs.Certificates.{Written, entry_with, AreProvedBehind}
+use Rattle.certificate_texts.specs.declared.certificates.Written.{Written}
+use Rattle.certificate.specs.Certificates.{entry_with, AreProvedBehind}
 use Rattle.certificate.specs.Laws.{GoodIsTrue, VerdictsAgree}
 
 -- entries that are proved one behind the other are a good list

@@ -16,7 +16,8 @@ use Rattle.certificate.specs.declared.ends.Accepted.{Accepted}
 use Rattle.certificate.specs.declared.ends.Accepted.TheVariants.{Lasso, Holds}
 use Rattle.certificate.specs.declared.ends.AnswerFault.TheVariants as faults
 use Rattle.certificate.specs.declared.ends.AnswerEnd.{AnswerEnd}
-use Rattle.certificate.specs.Answers.{property_line, IsGood}
+use Rattle.certificate_texts.specs.Writing.{property_line}
+use Rattle.certificate.specs.Answers.{IsGood}
 use Rattle.certificate.specs.Ends.{IsGoodAtEnd}
 use Rattle.certificate.specs.Lines.{Numbered, bare, kept_in, kept_readable}
 use Rattle.certificate.specs.Reading.{HasLasso, State, Status, Property, Latches, Rows, Dotted, Stepped, property_step, claimed, latches_step, row_step, values_in, step, and_then, read_lines}

@@ -24,7 +24,6 @@ mod AddedLines
 pub mod PlainLines
 pub mod WrittenCertificates
 pub mod Kept
-pub mod Taken
 pub mod TakenBack
 pub mod Printed
 pub mod LoadedLaws

@@ -12,15 +12,16 @@ use Rattle.certificate.specs.declared.ends.AnswerEnd.{AnswerEnd}
 use Rattle.certificate.specs.declared.ends.AnswerEnd.TheVariants as ends
 use Rattle.certificate.specs.declared.loaded.Loaded.{Loaded}
 use Rattle.certificate.specs.declared.loaded.Loaded.TheVariants.{Lasso, Holds}
-use Rattle.certificate.specs.Certificates.{Certificate}
-use Rattle.certificate.specs.Answers.{property_line, HasStimulus, Shows}
+use Rattle.certificate_texts.specs.declared.certificates.Certificate.{Certificate}
+use Rattle.certificate_texts.specs.Writing.{property_line}
+use Rattle.certificate.specs.Answers.{HasStimulus, Shows}
 use Rattle.certificate.specs.Ends.{CheckSays, EndsWith, has_unread}
 use Rattle.certificate.specs.Lassos.{lasso_of, IsLassoAtEnd}
 use Rattle.certificate.specs.Lines.{Numbered, bare, kept_in, kept_readable}
 use Rattle.certificate.specs.Reading.{State, Status, Dotted, read_lines}
 use Rattle.certificate.specs.Loading.{IsHeldOf, accepted_of, accepted_in}
 use Rattle.certificate.specs.Laws.{GoodIsTrue, HeldIsGood}
-use Rattle.certificate.specs.Taking.{certificate_at}
+use Rattle.certificate_texts.specs.Taking.{certificate_at}
 use Rattle.certificate.specs.Whole.{IsReadWhole, IsLoadedAs, GivesLoaded}
 use Rattle.certificate.proofs.GoodRead.{all_readable}
 use Rattle.certificate.proofs.Kept.{same_state, stimulus_is_read}

@@ -29,7 +29,7 @@ use Rattle.certificate_lines.specs.Words.{kind_text, word_line_text, HasNumbers}
 use Rattle.certificate_lines.specs.Uses.{sign_text, use_text, uses_text, MayStand}
 use Rattle.certificate_lines.specs.Clauses.{clause_text}
 use Rattle.certificate.specs.Lines.{kept_in, bare}
-use Rattle.certificate.specs.Answers.{property_line}
+use Rattle.certificate_texts.specs.Writing.{property_line}
 use Rattle.certificate.proofs.WrittenGood.{kept-bare}
 
 pub record IsPlain (line : List ℕ) : Type 0 where

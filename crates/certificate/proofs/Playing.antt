@@ -32,7 +32,8 @@ use Rattle.certificate.specs.declared.ends.AnswerFault.{AnswerFault}
 use Rattle.certificate.specs.declared.ends.AnswerFault.TheVariants as faults
 use Rattle.certificate.specs.Lines.{Numbered, end_of, kept_readable}
 use Rattle.certificate.specs.Refuted.{refuted_clauses, may_open}
-use Rattle.certificate.specs.Reading.{Body, Begun, Proving, Wanted, Start, EntryUses, EntryClause, EntryProof, EntryLine, RefutationUses, RefutationLine, Last, Claim, HasLasso, HasNone, State, Status, Property, Latches, Rows, Dotted, Versioned, Certified, Ended, Stepped, with_entry, entry_fault, next_proof, next_clause, next_line, next_refuting_line, begin_proof, with_line, open_step, start_step, as_use, unless_bad, uses_step, begin_entry, with_clause, has_base, base_step, clause_step, proof_step, line_step, refuting_step, last_step, certificate_step, version_step, other_status, opens_other, status_step, property_in, claimed, property_step, values_in, latches_step, row_step, step, and_then, read_lines}
+use Rattle.certificate_texts.specs.Certificates.{as_use}
+use Rattle.certificate.specs.Reading.{Body, Begun, Proving, Wanted, Start, EntryUses, EntryClause, EntryProof, EntryLine, RefutationUses, RefutationLine, Last, Claim, HasLasso, HasNone, State, Status, Property, Latches, Rows, Dotted, Versioned, Certified, Ended, Stepped, with_entry, entry_fault, next_proof, next_clause, next_line, next_refuting_line, begin_proof, with_line, open_step, start_step, unless_bad, uses_step, begin_entry, with_clause, has_base, base_step, clause_step, proof_step, line_step, refuting_step, last_step, certificate_step, version_step, other_status, opens_other, status_step, property_in, claimed, property_step, values_in, latches_step, row_step, step, and_then, read_lines}
 use Rattle.certificate.specs.Ends.{IsFaultAtEnd, IsFirstFault}
 use Rattle.certificate.specs.Laws.{JudgedBefore}
 

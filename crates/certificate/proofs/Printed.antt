@@ -15,10 +15,12 @@ use Rattle.certificate_lines.specs.Uses.{uses_text, MayStand, written}
 use Rattle.certificate_lines.specs.Clauses.{clause_text}
 use Rattle.entry.specs.Proved.{AreProofs, obligation_of}
 use Rattle.certificate.specs.declared.loaded.Loaded.TheVariants.{Lasso, Holds}
-use Rattle.certificate.specs.Certificates.{Written, Certificate, opening_line, proof_lines, entry_lines, entry_with, refuting_line, refutation_lines, lines_of_certificate, CanBeWritten, AreProvedBehind, IsGoodCertificate}
-use Rattle.certificate.specs.Answers.{property_line, HasCertificate}
-use Rattle.certificate.specs.Writing.{certificate_lines_of, certificate_text}
-use Rattle.certificate.specs.Loading.{in_version_two}
+use Rattle.certificate_texts.specs.declared.certificates.Written.{Written}
+use Rattle.certificate_texts.specs.declared.certificates.Certificate.{Certificate}
+use Rattle.certificate_texts.specs.Certificates.{opening_line, proof_lines, entry_lines, refuting_line, refutation_lines, lines_of_certificate, CanBeWritten}
+use Rattle.certificate.specs.Certificates.{entry_with, AreProvedBehind, IsGoodCertificate}
+use Rattle.certificate_texts.specs.Writing.{property_line, certificate_lines_of, certificate_text, in_version_two}
+use Rattle.certificate.specs.Answers.{HasCertificate}
 use Rattle.certificate.specs.Laws.{HeldIsGood, PrintedHoldsTheSame}
 use Rattle.certificate.proofs.PlainLines.{IsPlain, word_line_plain, property_plain, status_plain, uses_plain, clause_plain, refuting_plain, written_kept}
 use Rattle.certificate.proofs.WrittenGood.{written_has}

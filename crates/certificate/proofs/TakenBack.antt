@@ -19,9 +19,12 @@ use Rattle.certificate_lines.proofs.WordLaws.{word_back}
 use Rattle.certificate_lines.proofs.UseLaws.{uses_back}
 use Rattle.certificate_lines.proofs.ClauseLaws.{clause_back}
 use Rattle.certificate.specs.declared.limits.TheConstants.{MAX_ENTRIES}
-use Rattle.certificate.specs.Certificates.{Written, Certificate, proof_lines, entry_lines, entry_with, refuting_line, refutation_lines, lines_of_certificate, CanBeWritten, AreProvedBehind, IsGoodCertificate}
-use Rattle.certificate.specs.Answers.{property_line}
-use Rattle.certificate.specs.Taking.{Taker, ◌>>=◌, many, line_at, with_rest, opening_in, refuting_in, version_in, proof_in, opening_at, refuting_at, version_at, count_at, clause_at, named, uses_at, proof_at, entry_at, certificate_at}
+use Rattle.certificate_texts.specs.declared.certificates.Written.{Written}
+use Rattle.certificate_texts.specs.declared.certificates.Certificate.{Certificate}
+use Rattle.certificate_texts.specs.Certificates.{proof_lines, entry_lines, refuting_line, refutation_lines, lines_of_certificate, CanBeWritten}
+use Rattle.certificate.specs.Certificates.{entry_with, AreProvedBehind, IsGoodCertificate}
+use Rattle.certificate_texts.specs.Writing.{property_line}
+use Rattle.certificate_texts.specs.Taking.{Taker, ◌>>=◌, many, line_at, with_rest, opening_in, refuting_in, version_in, proof_in, opening_at, refuting_at, version_at, count_at, clause_at, named, uses_at, proof_at, entry_at, certificate_at}
 use Rattle.certificate.proofs.CompletingEntries.{as_many}
 use Rattle.certificate.proofs.GoodRead.{all_proved}
 

@@ -15,7 +15,8 @@ use Rattle.entry.proofs.Present.{present-from_none}
 use Rattle.certificate.specs.declared.limits.TheConstants.{MAX_ENTRIES}
 use Rattle.certificate.specs.declared.uses.UsesEnd.{UsesEnd}
 use Rattle.certificate.specs.declared.uses.UsesEnd.TheVariants.{Shape, Bad, Memory}
-use Rattle.certificate.specs.Reading.{Body, Stepped, as_use, unless_bad, uses_step}
+use Rattle.certificate_texts.specs.Certificates.{as_use}
+use Rattle.certificate.specs.Reading.{Body, Stepped, unless_bad, uses_step}
 use Rattle.certificate.specs.Steps.{Stands, IsCut, TellsUses}
 
 abbrev or_number : Option ℕ → Option ℕ → Option ℕ

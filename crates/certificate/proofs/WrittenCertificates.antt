@@ -1,5 +1,5 @@
 -- What is written of proved entries and a good refutation over them is a good answer.
-use Rattle.std.proofs.Common.{◌≡◌, ◌≢◌, ◌≤◌, ◌<◌, ◌^◌, ◌/◌, ◌%◌, ◌*◌, ℕ, zero, suc, ◌+◌, Bool, true, false, not, List, [], ◌∷◌, ◌++◌, map, flat_map, length, get_or, refl, sym, ap, ◌∙◌, subst, arith, inl, inr, All, Option, Some, None, Ok, append_assoc, append-nil, length-append}
+use Rattle.std.proofs.Common.{◌≡◌, ◌≢◌, ◌≤◌, ◌<◌, ◌^◌, ◌/◌, ◌%◌, ◌*◌, ℕ, zero, suc, ◌+◌, Bool, true, false, not, List, [], ◌∷◌, ◌++◌, map, flat_map, length, get_or, refl, sym, ap, ◌∙◌, subst, arith, inl, inr, All, Some, Ok, append_assoc, append-nil, length-append}
 use Rattle.std.specs.Prelude.{codes, slice_get, if◌then◌else◌, ◌==◌}
 use Rattle.std.specs.List.{join_with_byte}
 use Rattle.std.proofs.lemmas.Bool.{eq-eqb, ne_eqb}
@@ -12,7 +12,6 @@ use Rattle.aig_semantics.specs.declared.parts.Latch.{Latch}
 use Rattle.aig_semantics.specs.Literals.{variable_of, is_negated}
 use Rattle.aig_semantics.specs.Circuits.{Circuit, IsChecked, IsWithinLimits}
 use Rattle.aig_semantics.proofs.Lists.{AllDiffer, AllDiffer-tail, AllDiffer-left, AllDiffer-right}
-use Rattle.circuit.proofs.Evaluated.{latches_in_range}
 use Rattle.proof_semantics.specs.declared.literals.Lit.{Lit}
 use Rattle.fair_semantics.specs.declared.entries.Use.{Use}
 use Rattle.fair_semantics.specs.Entries.{Entry}
@@ -28,11 +27,16 @@ use Rattle.entry.specs.declared.refutations.Refutation.{Refutation}
 use Rattle.entry.specs.Clauses.{latch_from, latch_literal, with_literal, clause_behind, clause_of}
 use Rattle.entry.specs.Proved.{IsProved, AreProofs, obligation_of}
 use Rattle.entry.specs.CheckedEntries.{CheckedEntry}
+use Rattle.certificate_texts.proofs.Variables.{variable_small}
 use Rattle.certificate.specs.declared.limits.TheConstants.{MAX_ENTRIES}
 use Rattle.certificate.specs.declared.ends.Accepted.TheVariants.{Holds}
-use Rattle.certificate.specs.Certificates.{Written, Certificate, opening_line, proof_lines, entry_lines, refuting_line, refutation_lines, lines_of_certificate, CanBeWritten, AreProvedBehind, IsGoodCertificate}
-use Rattle.certificate.specs.Answers.{property_line, HasCertificate, IsGood}
-use Rattle.certificate.specs.Writing.{variable_of_latch, literal_in_model, written_entry, certificate_of, certificate_lines_of, certificate_text, AreProvedInOrder, IsRefutedBy}
+use Rattle.certificate_texts.specs.declared.certificates.Written.{Written}
+use Rattle.certificate_texts.specs.declared.certificates.Certificate.{Certificate}
+use Rattle.certificate_texts.specs.Certificates.{opening_line, proof_lines, entry_lines, refuting_line, refutation_lines, lines_of_certificate, CanBeWritten}
+use Rattle.certificate.specs.Certificates.{AreProvedBehind, IsGoodCertificate}
+use Rattle.certificate_texts.specs.Writing.{property_line, variable_of_latch, literal_in_model, certificate_lines_of, certificate_text}
+use Rattle.certificate.specs.Answers.{HasCertificate, IsGood}
+use Rattle.certificate.specs.Writing.{written_entry, certificate_of, AreProvedInOrder, IsRefutedBy}
 use Rattle.certificate.specs.Laws.{WrittenCertificatesAreGood}
 use Rattle.certificate.proofs.PlainLines.{IsPlain, word_line_plain, property_plain, status_plain, uses_plain, clause_plain, refuting_plain, written_kept}
 
@@ -162,21 +166,12 @@ module _ (c : Circuit) (checked : IsChecked c) (limits : IsWithinLimits c) where
 
   -- ---- numbers
 
-  pub variable_small : (o : Option Latch) (v : ℕ) → slice_get c.latches v ≡ o → variable_of_latch o < 2 ^ 32
-  variable_small None v at = omega arith
-  variable_small (Some latch) v at =
-      let range = latches_in_range c checked v latch (slice_get_within c.latches v latch at) in
-      let same : get_or c.latches v latch ≡ latch = get_or_from_slice_get c.latches v latch latch at in
-      let most : latch.var ≤ c.max = subst (λ (l : Latch). l.var ≤ c.max) same range.1 in
-      let limit = limits.max in
-      omega (arith, most, limit)
-
   sign_small : (v : ℕ) (positive : Bool) → v < 2 ^ 32 → 2 * v + (if positive then 0 else 1) < 2 ^ 63
   sign_small v true h = omega (arith, h)
   sign_small v false h = omega (arith, h)
 
   literal_small : (l : Lit) → IsNumber (literal_in_model c l)
-  literal_small l = sign_small (variable_of_latch (slice_get c.latches l.var)) l.positive (variable_small (slice_get c.latches l.var) l.var refl)
+  literal_small l = sign_small (variable_of_latch (slice_get c.latches l.var)) l.positive (variable_small c checked limits (slice_get c.latches l.var) l.var refl)
 
   literals_small : (clause : List Lit) → All IsNumber (map (literal_in_model c) clause)
   literals_small clause = All-map IsNumber (literal_in_model c) clause (λ k d below. literal_small (get_or clause k d))

@@ -15,7 +15,8 @@ use Rattle.aig_semantics.specs.Circuits.{Circuit}
 use Rattle.stimulus.specs.Texts.{is_skipped, kept_lines, digit_of, stimulus_lines, answer_text}
 use Rattle.stimulus.proofs.WriteLemmas.{rows_lack, rows_kept, rows_read}
 use Rattle.certificate.specs.Lines.{kept_from, kept_in, bare}
-use Rattle.certificate.specs.Answers.{property_line, Spells, HasStimulus}
+use Rattle.certificate_texts.specs.Writing.{property_line}
+use Rattle.certificate.specs.Answers.{Spells, HasStimulus}
 use Rattle.certificate.specs.Laws.{WrittenIsGood}
 
 -- ---- the kept lines are those of a stimulus' text

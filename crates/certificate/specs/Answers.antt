@@ -1,6 +1,6 @@
 -- Good answers: a stimulus, after the witnesses of AIGER 1.9 (Biere, Heljanko, Wieringa, 2011), that stands for a fair
 -- lasso, or a certificate that there is none.
-use Rattle.std.specs.Prelude.{◌≡◌, ◌^◌, ◌≤◌, ◌<◌, ℕ, List, [], ◌∷◌, ◌++◌, length, decimal, codes}
+use Rattle.std.specs.Prelude.{◌≡◌, ◌^◌, ◌≤◌, ◌<◌, ℕ, List, [], ◌∷◌, ◌++◌, length, codes}
 use Rattle.aig_semantics.specs.declared.traces.Position.{Position}
 use Rattle.aig_semantics.specs.declared.traces.Stimulus.{Stimulus}
 use Rattle.aig_semantics.specs.Circuits.{Circuit}
@@ -9,14 +9,13 @@ use Rattle.aig_semantics.specs.Stimuli.{StandsFor}
 use Rattle.fair_semantics.specs.Rounds.{HasFewRounds}
 use Rattle.answer_lines.specs.Left.{most_bytes}
 use Rattle.stimulus.specs.Texts.{row_values, present}
+use Rattle.certificate_texts.specs.Writing.{property_line}
 use Rattle.certificate.specs.declared.ends.Accepted.{Accepted}
 use Rattle.certificate.specs.declared.ends.Accepted.TheVariants.{Lasso, Holds}
 use Rattle.certificate.specs.Lines.{kept_in, bare}
-use Rattle.certificate.specs.Certificates.{Certificate, lines_of_certificate, IsGoodCertificate}
-
--- the line of property n
-abbrev pub property_line : ℕ → List ℕ
-property_line n = codes "j" ++ decimal n
+use Rattle.certificate_texts.specs.declared.certificates.Certificate.{Certificate}
+use Rattle.certificate_texts.specs.Certificates.{lines_of_certificate}
+use Rattle.certificate.specs.Certificates.{IsGoodCertificate}
 
 -- the lines are the status, the line of property n, and the others
 abbrev pub Opens : List ℕ → ℕ → List (List ℕ) → List (List ℕ) → Type 0

@@ -18,7 +18,8 @@ use Rattle.certificate.specs.declared.ends.AnswerFault.TheVariants.{Shape, Repla
 use Rattle.certificate.specs.Lines.{end_of}
 use Rattle.certificate.specs.Answers.{HasCertificate, IsGood, Shows}
 use Rattle.certificate.specs.Ends.{IsRefused, ReadsWell}
-use Rattle.certificate.specs.Writing.{certificate_of, certificate_text, IsRefutedBy}
+use Rattle.certificate_texts.specs.Writing.{certificate_text}
+use Rattle.certificate.specs.Writing.{certificate_of, IsRefutedBy}
 use Rattle.certificate.specs.declared.loaded.Loaded.{Loaded}
 use Rattle.certificate.specs.Loading.{HoldsAnswer, accepted_of, printed_text, printed_again}
 

@@ -10,8 +10,6 @@ pub mod Laws
 pub mod Seen
 pub mod Steps
 pub mod Texts
-pub mod Adding
 pub mod Lassos
 pub mod Loading
-pub mod Taking
 pub mod Whole

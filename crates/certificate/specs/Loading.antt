@@ -5,16 +5,15 @@ use Rattle.aig_semantics.specs.Stimuli.{StandsFor}
 use Rattle.answer_lines.specs.Left.{most_bytes}
 use Rattle.edge.specs.Told.{MayBe}
 use Rattle.stimulus.specs.Texts.{answer_text}
-use Rattle.certificate_lines.specs.declared.words.Version.TheVariants.{Two}
+use Rattle.certificate_texts.specs.Writing.{certificate_text, in_version_two}
 use Rattle.certificate.specs.declared.ends.Accepted.{Accepted}
 use Rattle.certificate.specs.declared.ends.Accepted.TheVariants as accepted
 use Rattle.certificate.specs.declared.ends.AnswerEnd.{AnswerEnd}
 use Rattle.certificate.specs.declared.loaded.Loaded.{Loaded}
 use Rattle.certificate.specs.declared.loaded.Loaded.TheVariants.{Lasso, Holds}
-use Rattle.certificate.specs.Certificates.{Certificate, IsGoodCertificate}
+use Rattle.certificate.specs.Certificates.{IsGoodCertificate}
 use Rattle.certificate.specs.Answers.{HasStimulus, HasCertificate}
 use Rattle.certificate.specs.Lassos.{lasso_of}
-use Rattle.certificate.specs.Writing.{certificate_text}
 
 -- The text is a good answer, and this is what it has: its property; its stimulus, and the lasso that it stands for; or its
 -- certificate.
@@ -43,11 +42,6 @@ accepted_of (Holds n certificate) = accepted.Holds n (length certificate.entries
 abbrev pub accepted_in : Result Loaded AnswerEnd → Result Accepted AnswerEnd
 accepted_in (Ok loaded) = Ok (accepted_of loaded)
 accepted_in (Err end) = Err end
-
--- the same certificate in version 2
-abbrev pub in_version_two : Certificate → Certificate
-in_version_two certificate =
-    record { version = Two; entries = certificate.entries; uses = certificate.uses; proof = certificate.proof }
 
 -- The text that is printed: that of the stimulus, with all of its positions, or of the certificate in version 2, with its
 -- entries and the lines of its proofs as they are; nothing else.

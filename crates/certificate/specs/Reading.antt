@@ -33,6 +33,7 @@ use Rattle.entry.specs.declared.uses.User.TheVariants as users
 use Rattle.entry.specs.Clauses.{clause_of}
 use Rattle.entry.specs.Faults.{first_bad_use}
 use Rattle.entry.specs.Proved.{obligation_of}
+use Rattle.certificate_texts.specs.Certificates.{as_use}
 use Rattle.certificate.specs.declared.limits.TheConstants.{MAX_ENTRIES}
 use Rattle.certificate.specs.declared.ends.AnswerFault.{AnswerFault}
 use Rattle.certificate.specs.declared.ends.AnswerFault.TheVariants as faults
@@ -151,10 +152,6 @@ start_step b number (Some (lines.Opening o)) =
     if may_open b.refuted o.kind then open_step b o else Err (faults.Shape number)
 start_step b number (Some (lines.Refutation r)) = Ok (Certified b (RefutationUses r))
 start_step b number _ = Err (faults.Shape number)
-
--- a use with its number, of whatever size
-abbrev pub as_use : WrittenUse → Use
-as_use u = record { entry = u.number; side = u.side }
 
 abbrev pub unless_bad : Option ℕ → (ℕ → Stepped) → Stepped → Stepped
 unless_bad None bad rest = rest

@@ -1,33 +1,21 @@
--- The certificate of checked entries and of a refutation over them, and its text. Literals are those of AIGER 1.9
--- (Biere, Heljanko, Wieringa, 2011), where variable v has 2v and, negated, 2v + 1; the format is this program's own.
-use Rattle.std.specs.Prelude.{◌≡◌, ◌≤◌, ◌<◌, ◌+◌, ◌*◌, ℕ, List, [], ◌∷◌, ◌++◌, map, length, codes, Option, Some, None, slice_get, if◌then◌else◌}
+-- The certificate of checked entries and of a refutation over them.
+use Rattle.std.specs.Prelude.{◌≡◌, ◌≤◌, ◌<◌, ℕ, List, [], ◌∷◌, ◌++◌, map, length}
 use Rattle.std.specs.Arc.{arc_value}
 use Rattle.std.specs.declared.sync.Arc.{Arc}
-use Rattle.aig_semantics.specs.declared.parts.Latch.{Latch}
 use Rattle.aig_semantics.specs.Circuits.{Circuit}
-use Rattle.proof_semantics.specs.declared.literals.Lit.{Lit}
-use Rattle.text_grammar.specs.Lines.{ended_lines}
 use Rattle.fair_semantics.specs.Entries.{Entry}
 use Rattle.certificate_lines.specs.declared.words.Version.TheVariants.{Two}
 use Rattle.entry.specs.declared.refutations.Refutation.{Refutation}
 use Rattle.entry.specs.Proved.{IsProved, IsGoodRefutation}
 use Rattle.entry.specs.CheckedEntries.{CheckedEntry}
+use Rattle.certificate_texts.specs.declared.certificates.Written.{Written}
+use Rattle.certificate_texts.specs.declared.certificates.Certificate.{Certificate}
+use Rattle.certificate_texts.specs.Writing.{literal_in_model}
 use Rattle.certificate.specs.declared.limits.TheConstants.{MAX_ENTRIES}
-use Rattle.certificate.specs.Certificates.{Written, Certificate, lines_of_certificate}
-use Rattle.certificate.specs.Answers.{property_line}
 
 -- a shared list, as the list of what is shared
 abbrev pub listed : {Z : Type 0} → List (Arc CheckedEntry Z) → List CheckedEntry
 listed list = map (λ shared. arc_value {X = CheckedEntry} shared) list
-
--- the variable of a latch; 0 of none
-abbrev pub variable_of_latch : Option Latch → ℕ
-variable_of_latch None = 0
-variable_of_latch (Some latch) = latch.var
-
--- a literal over the number of a latch, as the model numbers it
-abbrev pub literal_in_model : Circuit → Lit → ℕ
-literal_in_model c l = 2 * variable_of_latch (slice_get c.latches l.var) + (if l.positive then 0 else 1)
 
 -- an entry with its proofs, as its lines spell it
 abbrev pub written_entry : CheckedEntry → Written
@@ -46,14 +34,6 @@ certificate_of list refutation = record {
   uses = refutation.uses;
   proof = refutation.proof;
 }
-
--- the lines of the answer of status 0 with a certificate, for property n
-abbrev pub certificate_lines_of : ℕ → Certificate → List (List ℕ)
-certificate_lines_of n certificate = codes "0" ∷ property_line n ∷ lines_of_certificate certificate
-
--- The text of that answer: each line with its line feed, and nothing else.
-abbrev pub certificate_text : ℕ → Certificate → List ℕ
-certificate_text n certificate = ended_lines (certificate_lines_of n certificate)
 
 -- behind the first entries each of the checked ones is proved, which are all of this circuit
 abbrev pub AreProvedInOrder : Circuit → List Entry → List CheckedEntry → Type 0

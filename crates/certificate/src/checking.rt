@@ -19,12 +19,12 @@ ghost use Rattle.certificate.specs.Whole.{IsReadWhole};
 ghost use Rattle.stimulus.specs.Texts.{kept_lines};
 
 use crate::ends::{Accepted, AnswerEnd};
-use crate::keeping::KeptLines;
 use crate::laws::good_answers_are_true;
 use crate::state::State;
 use crate::steps::{finish, step};
 use aig_semantics::Lasso;
 use answer_lines::Lines;
+use certificate_texts::KeptLines;
 use circuit::Circuit;
 use edge::Shelf;
 use std::alloc::Global;

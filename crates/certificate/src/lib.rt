@@ -25,7 +25,6 @@ mod ending;
 mod ends;
 mod entries;
 mod heads;
-mod keeping;
 mod laws;
 mod limits;
 mod loaded;
@@ -36,24 +35,25 @@ mod rows;
 mod state;
 mod states;
 mod steps;
-mod taking;
 mod uses;
 mod writing;
 
+pub use certificate_texts::{
+    Certificate, EntryForm, Form, KeptLines, TakeEnd, Written, add_lines, add_uses, add_word_line,
+    take_many,
+};
 pub use checking::{check_answer, check_with_lasso};
 pub use ends::{Accepted, AnswerEnd, AnswerFault};
 pub use heads::{number_in, opens_rounds, opens_sheet, property_in, property_of, states_refuted};
-pub use keeping::KeptLines;
 pub use laws::{
     answers_are_read_as_good, answers_have_one_end, first_faults_stay, good_answers_agree,
     good_answers_are_true, printed_answers_hold_the_same, written_certificates_are_good,
     written_stimuli_are_good,
 };
 pub use limits::MAX_ENTRIES;
-pub use loaded::{Certificate, Loaded, Written};
+pub use loaded::Loaded;
 pub use loading::load;
 pub use printing::print;
 pub use state::{Begun, Body, Claim, Proving, Refuted, State, Wanted};
 pub use steps::step;
-pub use taking::{EntryForm, Form, TakeEnd, take_many};
-pub use writing::{add_entry, add_lines, add_uses, add_word_line, write};
+pub use writing::{add_entry, write};

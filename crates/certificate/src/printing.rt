@@ -1,18 +1,11 @@
 //! The text of an answer that is held, written. The main call is `print`.
 
-ghost use Rattle.std.specs.Prelude.{◌≡◌, ◌≤◌, [], ◌∷◌, map, flat_map, length, IfOk, OnOk};
+ghost use Rattle.std.specs.Prelude.{◌≡◌, ◌≤◌, length, IfOk};
 ghost use Rattle.answer_lines.specs.Left.{most_bytes};
-ghost use Rattle.certificate_lines.specs.Clauses.{clause_text};
-ghost use Rattle.certificate_lines.specs.declared.words.WordLine.TheVariants as lines;
-ghost use Rattle.certificate.specs.Certificates.{opening_line, entry_lines};
-ghost use Rattle.certificate.specs.Writing.{certificate_text};
-ghost use Rattle.certificate.specs.Loading.{in_version_two, printed_text};
-ghost use Rattle.certificate.specs.Adding.{Adds};
+ghost use Rattle.certificate.specs.Loading.{printed_text};
 
-use crate::loaded::{Certificate, Loaded, Written};
-use crate::writing::{add_head, add_last, add_proofs, add_uses, add_word_line};
-use certificate_lines::{Opening, WordLine, push_clause};
-use items::Items;
+use crate::loaded::Loaded;
+use certificate_texts::print_certificate;
 use std::alloc::{AllocError, Global};
 
 /// Writes a whole answer: of a stimulus as `stimulus::write` does, with all of its positions; of a certificate in version 2,
@@ -33,62 +26,4 @@ pub fn print(alloc: Global, loaded: &Loaded) -> Result<Vec<u8>, AllocError>
             certificate,
         } => print_certificate(alloc, *property, certificate),
     }
-}
-
-fn print_certificate(
-    alloc: Global,
-    property: u32,
-    certificate: &Certificate,
-) -> Result<Vec<u8>, AllocError>
-    ensures { IfOk result (λ text. text.items ≡ certificate_text property (in_version_two certificate.now)) }
-{
-    let mut text = Vec::new(alloc);
-    add_head(&mut text, property)?;
-    add_entries(&mut text, certificate.entries.as_slice())?;
-    add_last(
-        &mut text,
-        certificate.uses.as_slice(),
-        certificate.proof.as_slice(),
-    )?;
-    Ok(text)
-}
-
-fn add_entries(text: &mut Vec<u8>, entries: &[Written]) -> Result<(), AllocError>
-    ensures { OnOk result (Adds text.old.items text.new.items (flat_map entry_lines entries.now)) }
-{
-    for entry in entries {
-        add_written(text, entry)?;
-    }
-    Ok(())
-}
-
-fn opening_of(e: &Written) -> Opening
-    ensures { lines.Opening result ≡ opening_line e.now }
-{
-    Opening {
-        kind: e.kind,
-        clauses: e.clauses.len() as u64,
-        uses: e.uses.len() as u64,
-    }
-}
-
-// The lines of an entry.
-fn add_written(text: &mut Vec<u8>, e: &Written) -> Result<(), AllocError>
-    ensures { OnOk result (Adds text.old.items text.new.items (entry_lines e.now)) }
-{
-    add_word_line(text, WordLine::Opening(opening_of(e)))?;
-    add_uses(text, e.uses.as_slice())?;
-    add_literals(text, e.clauses.as_slice())?;
-    add_proofs(text, e.proofs.as_slice())
-}
-
-// The lines of its clauses.
-fn add_literals(text: &mut Vec<u8>, clauses: &[Items<u64>]) -> Result<(), AllocError>
-    ensures { OnOk result (Adds text.old.items text.new.items (map clause_text clauses.now)) }
-{
-    for literals in clauses {
-        push_clause(text, literals.as_slice())?;
-        text.push(b'\n')?;
-    }
-    Ok(())
 }

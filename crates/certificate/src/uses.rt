@@ -8,7 +8,7 @@ ghost use Rattle.entry.specs.Listing.{entries_of};
 ghost use Rattle.fair_semantics.specs.declared.entries.Use.{Use as UseOf};
 ghost use Rattle.std.specs.Prelude.{List};
 ghost use Rattle.certificate.specs.declared.limits.TheConstants.{MAX_ENTRIES};
-ghost use Rattle.certificate.specs.Reading.{as_use};
+ghost use Rattle.certificate_texts.specs.Certificates.{as_use};
 ghost use Rattle.certificate.specs.Seen.{seen_body};
 ghost use Rattle.certificate.specs.Steps.{Stands, IsCut, TellsUses};
 

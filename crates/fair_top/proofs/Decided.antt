@@ -15,7 +15,8 @@ use Rattle.sheet_commands.specs.Each.{property_numbers}
 use Rattle.sheet_commands.specs.Boards.{IsSheetOf}
 use Rattle.sheet_commands.proofs.BoardBlocks.{proved_in_order, settled_counts}
 use Rattle.certificate.specs.Answers.{IsGood}
-use Rattle.certificate.specs.Writing.{IsRefutedBy, certificate_of, certificate_text}
+use Rattle.certificate_texts.specs.Writing.{certificate_text}
+use Rattle.certificate.specs.Writing.{IsRefutedBy, certificate_of}
 use Rattle.certificate.specs.Laws.{GoodIsTrue, WrittenIsGood, WrittenCertificatesAreGood}
 use Rattle.answer_lines.specs.Left.{most_bytes}
 use Rattle.aig_semantics.specs.Stimuli.{StandsFor}

@@ -10,7 +10,8 @@ use Rattle.certificate.specs.declared.ends.Accepted.{Accepted}
 use Rattle.certificate.specs.declared.ends.Accepted.TheVariants as accepted
 use Rattle.certificate.specs.Answers.{IsGood}
 use Rattle.sheet_answers.specs.declared.ends.Judged.{Judged}
-use Rattle.certificate.specs.Writing.{certificate_of, certificate_text}
+use Rattle.certificate_texts.specs.Writing.{certificate_text}
+use Rattle.certificate.specs.Writing.{certificate_of}
 use Rattle.entry.specs.declared.refutations.Refutation.{Refutation}
 use Rattle.entry.specs.CheckedEntries.{CheckedEntry}
 use Rattle.lasso_join.specs.Prefixes.{stimulus_of}

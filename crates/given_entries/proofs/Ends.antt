@@ -17,7 +17,7 @@ use Rattle.certificate.specs.declared.ends.AnswerFault.TheVariants.{UnknownStatu
 use Rattle.certificate.specs.declared.limits.TheConstants.{MAX_ENTRIES}
 use Rattle.certificate.specs.declared.loaded.Loaded.{Loaded}
 use Rattle.certificate.specs.declared.loaded.Loaded.TheVariants.{Lasso, Holds}
-use Rattle.certificate.specs.declared.loaded.Certificate.{Certificate}
+use Rattle.certificate_texts.specs.declared.certificates.Certificate.{Certificate}
 use Rattle.certificate.specs.Lines.{readable}
 use Rattle.certificate.specs.Ends.{CheckSays, IsRefused, has_unread}
 use Rattle.certificate.specs.Laws.{GoodHasNoFault, OneFault}

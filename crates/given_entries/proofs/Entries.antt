@@ -7,7 +7,7 @@ use Rattle.fair_semantics.specs.Entries.{Entry}
 use Rattle.entry.specs.declared.entries.Entry.{Entry as WithProofs}
 use Rattle.entry.specs.Entries.{said}
 use Rattle.entry.specs.Proved.{IsProved}
-use Rattle.certificate.specs.declared.loaded.Written.{Written}
+use Rattle.certificate_texts.specs.declared.certificates.Written.{Written}
 use Rattle.certificate.specs.Certificates.{AreClausesOf, entry_with, AreProvedBehind}
 use Rattle.cert_tools.proofs.TrimmedAgain.{ok_same}
 use Rattle.given_entries.specs.Given.{IsEntryOf, AreEntriesOf, AreProvedInTurn}

@@ -13,12 +13,13 @@ use Rattle.certificate_lines.specs.declared.words.Version.TheVariants.{Two}
 use Rattle.certificate.specs.declared.limits.TheConstants.{MAX_ENTRIES}
 use Rattle.certificate.specs.declared.ends.AnswerEnd.{AnswerEnd}
 use Rattle.certificate.specs.declared.ends.AnswerEnd.TheVariants as answer_ends
-use Rattle.certificate.specs.declared.loaded.Written.{Written}
+use Rattle.certificate_texts.specs.declared.certificates.Written.{Written}
 use Rattle.certificate.specs.Lines.{kept_in, bare}
-use Rattle.certificate.specs.Certificates.{entry_lines, AreProvedBehind}
+use Rattle.certificate_texts.specs.Certificates.{entry_lines}
+use Rattle.certificate.specs.Certificates.{AreProvedBehind}
 use Rattle.certificate.specs.Ends.{has_unread as answer_unread}
 use Rattle.certificate.specs.Laws.{GoodHasNoFault, OneFault}
-use Rattle.certificate.specs.Taking.{many, entry_at}
+use Rattle.certificate_texts.specs.Taking.{many, entry_at}
 use Rattle.certificate.proofs.TakenBack.{many_back, entry_back, entries_fit, Fits}
 use Rattle.cert_tools.specs.Laws.{OneHeld}
 use Rattle.sheet_answers.specs.declared.ends.JudgeEnd.{JudgeEnd}

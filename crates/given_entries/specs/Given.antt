@@ -14,8 +14,8 @@ use Rattle.certificate.specs.declared.ends.AnswerFault.{AnswerFault}
 use Rattle.certificate.specs.declared.ends.AnswerFault.TheVariants.{UnknownStatus}
 use Rattle.certificate.specs.declared.ends.AnswerEnd.{AnswerEnd}
 use Rattle.certificate.specs.declared.ends.AnswerEnd.TheVariants as ends
-use Rattle.certificate.specs.declared.loaded.Written.{Written}
-use Rattle.certificate.specs.declared.loaded.Certificate.{Certificate}
+use Rattle.certificate_texts.specs.declared.certificates.Written.{Written}
+use Rattle.certificate_texts.specs.declared.certificates.Certificate.{Certificate}
 use Rattle.certificate.specs.declared.loaded.Loaded.TheVariants.{Holds}
 use Rattle.certificate.specs.Lines.{readable}
 use Rattle.certificate.specs.Certificates.{AreClausesOf}

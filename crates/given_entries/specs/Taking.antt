@@ -9,7 +9,8 @@ use Rattle.certificate.specs.declared.ends.AnswerEnd.TheVariants as ends
 use Rattle.certificate.specs.declared.loaded.Loaded.{Loaded}
 use Rattle.certificate.specs.declared.loaded.Loaded.TheVariants.{Lasso, Holds}
 use Rattle.certificate.specs.declared.limits.TheConstants.{MAX_ENTRIES}
-use Rattle.certificate.specs.Certificates.{entry_lines, CanBeWritten, AreProvedBehind}
+use Rattle.certificate_texts.specs.Certificates.{entry_lines, CanBeWritten}
+use Rattle.certificate.specs.Certificates.{AreProvedBehind}
 use Rattle.sheet_answers.specs.declared.ends.JudgeEnd.{JudgeEnd}
 use Rattle.sheet_answers.specs.Sheets.{Sheet, all_line, version_line}
 use Rattle.sheet_answers.specs.Ends.{answer_end}

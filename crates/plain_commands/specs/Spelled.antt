@@ -8,8 +8,8 @@ use Rattle.stimulus.specs.Texts.{answer_text}
 use Rattle.certificate_lines.specs.declared.words.Version.TheVariants.{Two}
 use Rattle.certificate.specs.declared.ends.Accepted.{Accepted}
 use Rattle.certificate.specs.declared.ends.Accepted.TheVariants as accepted
-use Rattle.certificate.specs.declared.loaded.Certificate.{Certificate}
-use Rattle.certificate.specs.Writing.{certificate_text}
+use Rattle.certificate_texts.specs.declared.certificates.Certificate.{Certificate}
+use Rattle.certificate_texts.specs.Writing.{certificate_text}
 
 -- The text is as `solve` spells it. Of a stimulus all positions are needed: it stands for a fair lasso of so many, and
 -- none of its prefixes with fewer has a fair lasso of the property. A certificate is of version 2.

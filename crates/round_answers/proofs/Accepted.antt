@@ -16,10 +16,10 @@ use Rattle.certificate_lines.specs.Uses.{uses_text, MayStand, written}
 use Rattle.entry.specs.declared.entries.Entry.{Entry as WithProofs}
 use Rattle.entry.specs.declared.refutations.Refutation.{Refutation}
 use Rattle.entry.specs.Entries.{said}
-use Rattle.certificate.specs.declared.loaded.Written.{Written}
-use Rattle.certificate.specs.declared.loaded.Certificate.{Certificate}
-use Rattle.certificate.specs.Certificates.{refuting_line, refutation_lines, lines_of_certificate}
-use Rattle.certificate.specs.Answers.{property_line}
+use Rattle.certificate_texts.specs.declared.certificates.Written.{Written}
+use Rattle.certificate_texts.specs.declared.certificates.Certificate.{Certificate}
+use Rattle.certificate_texts.specs.Certificates.{refuting_line, refutation_lines, lines_of_certificate}
+use Rattle.certificate_texts.specs.Writing.{property_line}
 use Rattle.certificate.proofs.PlainLines.{IsPlain, word_line_plain, property_plain, uses_plain, refuting_plain, written_kept}
 use Rattle.round_monitor.specs.Ends.{IsMonitorable}
 use Rattle.round_monitor.specs.Monitor.{monitor_circuit}

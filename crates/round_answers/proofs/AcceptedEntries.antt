@@ -18,9 +18,10 @@ use Rattle.entry.specs.declared.entries.Entry.{Entry as WithProofs}
 use Rattle.entry.specs.Entries.{said}
 use Rattle.entry.specs.Proved.{IsProved, AreProofs, obligation_of}
 use Rattle.certificate.specs.declared.limits.TheConstants.{MAX_ENTRIES}
-use Rattle.certificate.specs.declared.loaded.Written.{Written}
-use Rattle.certificate.specs.Certificates.{opening_line, proof_lines, entry_lines, CanBeWritten, AreProvedBehind}
-use Rattle.certificate.specs.Writing.{literal_in_model}
+use Rattle.certificate_texts.specs.declared.certificates.Written.{Written}
+use Rattle.certificate_texts.specs.Certificates.{opening_line, proof_lines, entry_lines, CanBeWritten}
+use Rattle.certificate.specs.Certificates.{AreProvedBehind}
+use Rattle.certificate_texts.specs.Writing.{literal_in_model}
 use Rattle.certificate.proofs.PlainLines.{IsPlain, word_line_plain, uses_plain, clause_plain, refuting_plain}
 use Rattle.round_answers.specs.Writing.{written_entry, AreProvedInOrder}
 use Rattle.round_answers.proofs.AcceptedSizes.{size, size_first, size_both, counted, uses_counted, proofs_counted}

@@ -15,7 +15,7 @@ use Rattle.cnf_unroll.specs.Laws.{AreOver}
 use Rattle.certificate_lines.specs.Fields.{IsNumber}
 use Rattle.entry.specs.Clauses.{latch_from, latch_literal, with_literal, clause_behind}
 use Rattle.certificate.specs.Certificates.{AreClausesOf}
-use Rattle.certificate.specs.Writing.{variable_of_latch, literal_in_model}
+use Rattle.certificate_texts.specs.Writing.{variable_of_latch, literal_in_model}
 use Rattle.round_answers.proofs.Variables.{variable_small}
 
 -- the latch at a place is the first with its variable

@@ -16,7 +16,7 @@ use Rattle.fair_semantics.specs.Rounds.{HasRounds}
 use Rattle.answer_lines.specs.Left.{most_bytes}
 use Rattle.stimulus.specs.Texts.{digit_of, is_skipped}
 use Rattle.stimulus.proofs.WriteLemmas.{rows_lack, rows_read}
-use Rattle.certificate.specs.Answers.{property_line}
+use Rattle.certificate_texts.specs.Writing.{property_line}
 use Rattle.certificate.proofs.PlainLines.{IsPlain, plain_decimal, property_plain, written_kept}
 use Rattle.round_monitor.specs.Ends.{IsMonitorable}
 use Rattle.round_answers.specs.Texts.{MayBeAsked, rounds_line, HasRun}

@@ -9,7 +9,7 @@ use Rattle.fair_semantics.specs.declared.entries.Use.{Use}
 use Rattle.certificate_lines.specs.declared.words.WordLine.TheVariants as lines
 use Rattle.certificate_lines.specs.Words.{word_line_text}
 use Rattle.certificate_lines.specs.Uses.{use_text, uses_text, written}
-use Rattle.certificate.specs.Certificates.{proof_lines}
+use Rattle.certificate_texts.specs.Certificates.{proof_lines}
 
 abbrev pub size : List (List ℕ) → ℕ
 size ls = length (ended_lines ls)

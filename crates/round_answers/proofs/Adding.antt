@@ -6,11 +6,10 @@ use Rattle.std.proofs.lemmas.List.{take_all}
 use Rattle.aig_semantics.specs.declared.traces.Position.{Position}
 use Rattle.text_grammar.specs.Lines.{ended_lines}
 use Rattle.stimulus.specs.Texts.{digit_of}
-use Rattle.certificate.specs.Adding.{Adds}
-use Rattle.certificate.specs.Answers.{property_line}
-use Rattle.certificate.specs.declared.loaded.Certificate.{Certificate}
-use Rattle.certificate.specs.Certificates.{lines_of_certificate}
-use Rattle.certificate.specs.Writing.{certificate_text}
+use Rattle.certificate_texts.specs.Adding.{Adds}
+use Rattle.certificate_texts.specs.Writing.{property_line, certificate_text}
+use Rattle.certificate_texts.specs.declared.certificates.Certificate.{Certificate}
+use Rattle.certificate_texts.specs.Certificates.{lines_of_certificate}
 use Rattle.round_answers.specs.Texts.{rounds_line}
 use Rattle.round_answers.specs.Writing.{start_of, run_lines}
 

@@ -28,11 +28,12 @@ use Rattle.certificate.specs.declared.ends.Accepted.{Accepted}
 use Rattle.certificate.specs.declared.ends.Accepted.TheVariants.{Holds}
 use Rattle.certificate.specs.declared.ends.AnswerFault.TheVariants as faults
 use Rattle.certificate.specs.Lines.{Numbered, bare}
-use Rattle.certificate.specs.declared.loaded.Written.{Written}
-use Rattle.certificate.specs.declared.loaded.Certificate.{Certificate}
-use Rattle.certificate.specs.Certificates.{entry_lines, refutation_lines, lines_of_certificate}
+use Rattle.certificate_texts.specs.declared.certificates.Written.{Written}
+use Rattle.certificate_texts.specs.declared.certificates.Certificate.{Certificate}
+use Rattle.certificate_texts.specs.Certificates.{entry_lines, refutation_lines, lines_of_certificate}
 use Rattle.certificate.specs.Refuted.{may_open}
-use Rattle.certificate.specs.Answers.{property_line, Spells}
+use Rattle.certificate_texts.specs.Writing.{property_line}
+use Rattle.certificate.specs.Answers.{Spells}
 use Rattle.certificate.specs.Reading.{Start, Latches, Dotted, Certified, Ended, property_in}
 use Rattle.certificate.specs.Reading as answers
 use Rattle.certificate.specs.Ends.{IsGoodAtEnd as IsGoodAnswer}

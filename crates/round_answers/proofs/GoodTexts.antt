@@ -14,7 +14,8 @@ use Rattle.certificate.specs.declared.ends.AnswerFault.TheVariants.{UnknownStatu
 use Rattle.certificate.specs.declared.ends.AnswerEnd.{AnswerEnd}
 use Rattle.certificate.specs.declared.ends.AnswerEnd.TheVariants as ends
 use Rattle.certificate.specs.Lines.{Numbered, kept_in, kept_readable, bare}
-use Rattle.certificate.specs.Answers.{property_line, IsGood, Shows}
+use Rattle.certificate_texts.specs.Writing.{property_line}
+use Rattle.certificate.specs.Answers.{IsGood, Shows}
 use Rattle.certificate.specs.Ends.{IsFirstFault as IsAnswersFault, IsRefused, DecidesEnd, CheckSays, EndsWith as AnswerEndsWith}
 use Rattle.certificate.specs.Ends.{has_unread as answer_unread}
 use Rattle.certificate.specs.Reading.{opens_rounds}

@@ -9,8 +9,8 @@ use Rattle.fair_semantics.specs.declared.entries.Kind.TheVariants.{Reach}
 use Rattle.fair_semantics.specs.Entries.{Entry}
 use Rattle.fair_semantics.specs.Rounds.{HasRounds}
 use Rattle.entry.specs.Laws.{IsGoodList}
-use Rattle.certificate.specs.declared.loaded.Written.{Written}
-use Rattle.certificate.specs.declared.loaded.Certificate.{Certificate}
+use Rattle.certificate_texts.specs.declared.certificates.Written.{Written}
+use Rattle.certificate_texts.specs.declared.certificates.Certificate.{Certificate}
 use Rattle.certificate.specs.Certificates.{entry_with, AreProvedBehind}
 use Rattle.certificate.proofs.GoodTrue.{proved_list}
 use Rattle.round_monitor.specs.Counting.{HasFullRun}

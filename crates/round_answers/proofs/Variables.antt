@@ -8,7 +8,7 @@ use Rattle.std.proofs.lemmas.Option.{slice_get_within, get_or_from_slice_get}
 use Rattle.aig_semantics.specs.declared.parts.Latch.{Latch}
 use Rattle.aig_semantics.specs.Circuits.{Circuit, IsChecked, IsWithinLimits}
 use Rattle.circuit.proofs.Evaluated.{latches_in_range}
-use Rattle.certificate.specs.Writing.{variable_of_latch}
+use Rattle.certificate_texts.specs.Writing.{variable_of_latch}
 use Rattle.live_to_safe.specs.Watching.{numbered}
 use Rattle.round_monitor.specs.Numbers.{sizes_of}
 use Rattle.round_monitor.specs.Watching.{seen_latch, counter_latch, new_latches}

@@ -17,8 +17,9 @@ use Rattle.certificate_lines.specs.Uses.{MayStand, written}
 use Rattle.certificate.specs.declared.limits.TheConstants.{MAX_ENTRIES}
 use Rattle.certificate.specs.declared.ends.Accepted.{Accepted}
 use Rattle.certificate.specs.Lines.{kept_in, bare}
-use Rattle.certificate.specs.declared.loaded.Certificate.{Certificate}
-use Rattle.certificate.specs.Certificates.{refuting_line, CanBeWritten, AreProvedBehind}
+use Rattle.certificate_texts.specs.declared.certificates.Certificate.{Certificate}
+use Rattle.certificate_texts.specs.Certificates.{refuting_line, CanBeWritten}
+use Rattle.certificate.specs.Certificates.{AreProvedBehind}
 use Rattle.certificate.specs.Answers.{IsGood, Shows}
 use Rattle.certificate.specs.Refuted.{IsStateRefutation}
 use Rattle.round_monitor.specs.Counting.{HasRunOfRounds}

@@ -5,9 +5,10 @@
 use Rattle.std.specs.Prelude.{◌≡◌, ◌^◌, ◌<◌, ◌≤◌, ℕ, Bool, false, List, [], ◌∷◌, ◌++◌, decimal, codes}
 use Rattle.aig_semantics.specs.declared.traces.Stimulus.{Stimulus}
 use Rattle.certificate.specs.Lines.{kept_in, bare}
-use Rattle.certificate.specs.declared.loaded.Certificate.{Certificate}
-use Rattle.certificate.specs.Certificates.{lines_of_certificate}
-use Rattle.certificate.specs.Answers.{property_line, Spells}
+use Rattle.certificate_texts.specs.declared.certificates.Certificate.{Certificate}
+use Rattle.certificate_texts.specs.Certificates.{lines_of_certificate}
+use Rattle.certificate_texts.specs.Writing.{property_line}
+use Rattle.certificate.specs.Answers.{Spells}
 use Rattle.certificate.specs.Reading.{opens_rounds}
 use Rattle.round_answers.specs.declared.limits.TheConstants.{MAX_ROUNDS}
 

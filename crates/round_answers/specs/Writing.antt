@@ -15,11 +15,10 @@ use Rattle.entry.specs.declared.refutations.Refutation.{Refutation}
 use Rattle.entry.specs.Entries.{said}
 use Rattle.entry.specs.Proved.{IsProved}
 use Rattle.certificate.specs.declared.limits.TheConstants.{MAX_ENTRIES}
-use Rattle.certificate.specs.declared.loaded.Written.{Written}
-use Rattle.certificate.specs.declared.loaded.Certificate.{Certificate}
-use Rattle.certificate.specs.Certificates.{lines_of_certificate}
-use Rattle.certificate.specs.Answers.{property_line}
-use Rattle.certificate.specs.Writing.{literal_in_model}
+use Rattle.certificate_texts.specs.declared.certificates.Written.{Written}
+use Rattle.certificate_texts.specs.declared.certificates.Certificate.{Certificate}
+use Rattle.certificate_texts.specs.Certificates.{lines_of_certificate}
+use Rattle.certificate_texts.specs.Writing.{property_line, literal_in_model}
 use Rattle.certificate.specs.Refuted.{IsStateRefutation}
 use Rattle.round_monitor.specs.Monitor.{monitor_circuit}
 use Rattle.round_answers.specs.declared.rounds.Rounds.{Rounds}

@@ -3,9 +3,8 @@
 ghost use Rattle.std.specs.Prelude.{◌≡◌, ◌≤◌, ◌<◌, ◌^◌, false, [], ◌∷◌, ◌++◌, map, drop, length, slice_get, codes, IfOk, OnOk};
 ghost use Rattle.answer_lines.specs.Left.{most_bytes};
 ghost use Rattle.stimulus.specs.Texts.{digit_of};
-ghost use Rattle.certificate.specs.Adding.{Adds};
-ghost use Rattle.certificate.specs.Answers.{property_line};
-ghost use Rattle.certificate.specs.Writing.{variable_of_latch, literal_in_model, certificate_text};
+ghost use Rattle.certificate_texts.specs.Adding.{Adds};
+ghost use Rattle.certificate_texts.specs.Writing.{property_line, variable_of_latch, literal_in_model, certificate_text};
 ghost use Rattle.round_monitor.specs.Ends.{IsMonitorable};
 ghost use Rattle.round_monitor.specs.Monitor.{monitor_circuit};
 ghost use Rattle.round_answers.specs.declared.limits.TheConstants.{MAX_ROUNDS};

@@ -13,8 +13,8 @@ use Rattle.certificate_lines.specs.Words.{word_line_text}
 use Rattle.certificate_lines.specs.Uses.{uses_text, written}
 use Rattle.entry.specs.declared.refutations.Refutation.{Refutation}
 use Rattle.entry.specs.CheckedEntries.{CheckedEntry}
-use Rattle.certificate.specs.Adding.{Adds}
-use Rattle.certificate.specs.Certificates.{entry_lines, refuting_line, refutation_lines}
+use Rattle.certificate_texts.specs.Adding.{Adds}
+use Rattle.certificate_texts.specs.Certificates.{entry_lines, refuting_line, refutation_lines}
 use Rattle.certificate.specs.Writing.{listed, written_entry}
 use Rattle.sheet_answers.specs.Sheets.{Block, all_line, version_line, end_line, refuting}
 use Rattle.sheet_answers.specs.Writing.{stimulus_rows, block_lines, lines_of_blocks, lines_of_sheet, sheet_text}

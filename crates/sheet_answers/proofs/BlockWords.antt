@@ -5,7 +5,7 @@ use Rattle.std.specs.Str.{bytes_eq}
 use Rattle.std.proofs.lemmas.Bool.{eqb-true, eq-eqb, false≢true}
 use Rattle.std.proofs.lemmas.Option.{none-some, same_Some}
 use Rattle.std.proofs.lemmas.Slice.Eq.{bytes_eq-Decides}
-use Rattle.certificate.specs.Answers.{property_line}
+use Rattle.certificate_texts.specs.Writing.{property_line}
 use Rattle.certificate.specs.Reading.{property_in}
 use Rattle.certificate.proofs.CompletingProofs.{heads}
 use Rattle.certificate.proofs.CompletingTexts.{named, name_of}

@@ -13,7 +13,8 @@ use Rattle.certificate_lines.specs.Clauses.{clause_text}
 use Rattle.entry.specs.declared.uses.User.TheVariants as users
 use Rattle.entry.specs.Faults.{first_bad_use, fault_from, proof_fault, proofs_fault}
 use Rattle.entry.specs.Proved.{obligation_of}
-use Rattle.certificate.specs.Certificates.{proof_lines, AreClausesOf}
+use Rattle.certificate_texts.specs.Certificates.{proof_lines}
+use Rattle.certificate.specs.Certificates.{AreClausesOf}
 use Rattle.certificate.specs.Refuted.{refuted_clauses}
 use Rattle.certificate.specs.Reading.{Body, Begun, Proving, Wanted, Start, EntryUses, EntryClause, EntryProof, EntryLine, RefutationUses, RefutationLine, Last, State, Certified, Stepped, with_entry, begin_entry, has_base}
 

@@ -17,7 +17,7 @@ use Rattle.entry.specs.declared.faults.EntryFault.TheVariants.{Proof}
 use Rattle.entry.specs.Faults.{unfinished_at, line_fault, fault_from, proof_fault, clause_fault, proofs_fault}
 use Rattle.entry.specs.Proved.{obligation_of}
 use Rattle.certificate.specs.declared.ends.AnswerFault.TheVariants as faults
-use Rattle.certificate.specs.Certificates.{proof_lines}
+use Rattle.certificate_texts.specs.Certificates.{proof_lines}
 use Rattle.certificate.specs.Reading.{Body, Proving, Start, EntryProof, EntryLine, RefutationLine, Last, Certified, with_entry, entry_fault, next_proof, next_line, next_refuting_line, begin_proof, with_line, proof_step, line_step, refuting_step}
 use Rattle.certificate.proofs.CompletingProofs.{heads, differs, clause_parts}
 use Rattle.sheet_answers.proofs.Entering.{ProofsTail, LinesTail, RefutationTail, Continues, After}

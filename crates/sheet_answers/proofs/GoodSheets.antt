@@ -5,8 +5,9 @@ use Rattle.fair_semantics.specs.Entries.{Entry}
 use Rattle.answer_lines.specs.Left.{most_bytes}
 use Rattle.certificate.specs.declared.limits.TheConstants.{MAX_ENTRIES}
 use Rattle.certificate.specs.Lines.{kept_in, kept_readable, bare}
-use Rattle.certificate.specs.declared.loaded.Written.{Written}
-use Rattle.certificate.specs.Certificates.{entry_lines, entry_with, AreProvedBehind}
+use Rattle.certificate_texts.specs.declared.certificates.Written.{Written}
+use Rattle.certificate_texts.specs.Certificates.{entry_lines}
+use Rattle.certificate.specs.Certificates.{entry_with, AreProvedBehind}
 use Rattle.certificate.proofs.GoodRead.{all_readable}
 use Rattle.sheet_answers.specs.declared.found.Accepted.{Accepted}
 use Rattle.sheet_answers.specs.Sheets.{Sheet, Counts, all_line, version_line, IsSheetWith, none}

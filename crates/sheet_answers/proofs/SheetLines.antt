@@ -18,8 +18,9 @@ use Rattle.certificate_lines.proofs.WordLaws.{word_given_line, word_back}
 use Rattle.entry.specs.declared.refutations.Refutation.{Refutation}
 use Rattle.entry.proofs.Faultless.{faultless_is_good}
 use Rattle.certificate.specs.declared.limits.TheConstants.{MAX_ENTRIES}
-use Rattle.certificate.specs.declared.loaded.Written.{Written}
-use Rattle.certificate.specs.Certificates.{proof_lines, entry_lines, CanBeWritten, AreProvedBehind, refuting_line, refutation_lines}
+use Rattle.certificate_texts.specs.declared.certificates.Written.{Written}
+use Rattle.certificate_texts.specs.Certificates.{proof_lines, entry_lines, CanBeWritten, refuting_line, refutation_lines}
+use Rattle.certificate.specs.Certificates.{AreProvedBehind}
 use Rattle.certificate.specs.Reading.{Body, Start, EntryUses, EntryClause, EntryProof, EntryLine, RefutationUses, RefutationLine, Last, Latches, Rows, Dotted, Certified}
 use Rattle.certificate.specs.Reading as answers
 use Rattle.certificate.proofs.CompletingProofs.{heads}

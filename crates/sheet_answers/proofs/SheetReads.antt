@@ -31,8 +31,9 @@ use Rattle.certificate_lines.proofs.FieldLaws.{number_given, number_back}
 use Rattle.certificate.specs.declared.limits.TheConstants.{MAX_ENTRIES}
 use Rattle.certificate.specs.declared.ends.AnswerFault.TheVariants as faults
 use Rattle.certificate.specs.Lines.{Numbered, bare}
-use Rattle.certificate.specs.declared.loaded.Written.{Written}
-use Rattle.certificate.specs.Certificates.{proof_lines, opening_line, entry_lines, entry_with, CanBeWritten, AreClausesOf, AreProvedBehind, refutation_lines}
+use Rattle.certificate_texts.specs.declared.certificates.Written.{Written}
+use Rattle.certificate_texts.specs.Certificates.{proof_lines, opening_line, entry_lines, CanBeWritten, refutation_lines}
+use Rattle.certificate.specs.Certificates.{entry_with, AreClausesOf, AreProvedBehind}
 use Rattle.certificate.specs.Reading.{Body, Start, EntryUses, EntryClause, EntryProof, EntryLine, RefutationUses, RefutationLine, Last, Latches, Rows, Dotted, Certified, with_entry, begin_entry}
 use Rattle.certificate.specs.Reading as answers
 use Rattle.certificate.proofs.CompletingProofs.{heads}

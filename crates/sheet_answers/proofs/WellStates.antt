@@ -30,7 +30,8 @@ use Rattle.certificate.specs.declared.limits.TheConstants.{MAX_ENTRIES}
 use Rattle.certificate.specs.declared.ends.AnswerFault.{AnswerFault}
 use Rattle.certificate.specs.declared.ends.AnswerFault.TheVariants as faults
 use Rattle.certificate.specs.Refuted.{refuted_clauses}
-use Rattle.certificate.specs.Reading.{Body, Begun, Proving as ProvingOf, Start, EntryUses, EntryClause, EntryProof, EntryLine, RefutationUses, RefutationLine, Last, Latches, Rows, Dotted, Certified, with_entry, entry_fault, next_proof, next_clause, next_line, next_refuting_line, begin_proof, with_line, open_step, as_use, unless_bad, uses_step, begin_entry, with_clause, has_base, base_step, clause_step, proof_step, line_step, refuting_step, entry_uses_step, values_in, latches_step, row_step}
+use Rattle.certificate_texts.specs.Certificates.{as_use}
+use Rattle.certificate.specs.Reading.{Body, Begun, Proving as ProvingOf, Start, EntryUses, EntryClause, EntryProof, EntryLine, RefutationUses, RefutationLine, Last, Latches, Rows, Dotted, Certified, with_entry, entry_fault, next_proof, next_clause, next_line, next_refuting_line, begin_proof, with_line, open_step, unless_bad, uses_step, begin_entry, with_clause, has_base, base_step, clause_step, proof_step, line_step, refuting_step, entry_uses_step, values_in, latches_step, row_step}
 use Rattle.certificate.specs.Reading as answers
 use Rattle.sheet_answers.specs.Sheets.{Counts, none, total, lasso_line, holds_line, open_line}
 use Rattle.sheet_answers.specs.Reading.{State, First, Versioned, Listing, Between, Refuting, Proving, Showing, Done, Fault, Plain, Replays, Stepped, misplaced, after_answer, count_in, first_step, version_step, end_step, block_step, between_step, entry_step, listing_step, refute_step, proved, refuting_fault, replayed, shown, step}

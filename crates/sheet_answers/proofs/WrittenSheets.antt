@@ -15,8 +15,9 @@ use Rattle.certificate_lines.specs.Uses.{uses_text, MayStand, written}
 use Rattle.entry.specs.declared.refutations.Refutation.{Refutation}
 use Rattle.entry.specs.CheckedEntries.{CheckedEntry}
 use Rattle.certificate.specs.declared.limits.TheConstants.{MAX_ENTRIES}
-use Rattle.certificate.specs.Certificates.{entry_lines, refuting_line, refutation_lines}
-use Rattle.certificate.specs.Answers.{property_line, Spells}
+use Rattle.certificate_texts.specs.Certificates.{entry_lines, refuting_line, refutation_lines}
+use Rattle.certificate_texts.specs.Writing.{property_line}
+use Rattle.certificate.specs.Answers.{Spells}
 use Rattle.certificate.specs.Writing.{written_entry}
 use Rattle.certificate.proofs.PlainLines.{IsPlain, plain_append, plain_word, plain_decimal, word_line_plain, property_plain, uses_plain, refuting_plain, written_kept}
 use Rattle.certificate.proofs.WrittenCertificates.{size, size_first, size_both, counted, uses_counted, uses_stand, AreFine, all_fine}

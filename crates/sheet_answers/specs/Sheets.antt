@@ -17,10 +17,12 @@ use Rattle.entry.specs.declared.refutations.Refutation.{Refutation}
 use Rattle.entry.specs.Proved.{IsGoodRefutation}
 use Rattle.certificate.specs.declared.limits.TheConstants.{MAX_ENTRIES}
 use Rattle.certificate.specs.Lines.{kept_in, bare}
-use Rattle.certificate.specs.declared.loaded.Written.{Written}
-use Rattle.certificate.specs.declared.loaded.Certificate.{Certificate}
-use Rattle.certificate.specs.Certificates.{entry_lines, refuting_line, refutation_lines, CanBeWritten, AreProvedBehind}
-use Rattle.certificate.specs.Answers.{property_line, Spells}
+use Rattle.certificate_texts.specs.declared.certificates.Written.{Written}
+use Rattle.certificate_texts.specs.declared.certificates.Certificate.{Certificate}
+use Rattle.certificate_texts.specs.Certificates.{entry_lines, refuting_line, refutation_lines, CanBeWritten}
+use Rattle.certificate.specs.Certificates.{AreProvedBehind}
+use Rattle.certificate_texts.specs.Writing.{property_line}
+use Rattle.certificate.specs.Answers.{Spells}
 pub use Rattle.sheet_answers.specs.declared.blocks.Block.{Block}
 use Rattle.sheet_answers.specs.declared.blocks.Block.TheVariants.{Lasso, Holds, Open}
 pub use Rattle.sheet_answers.specs.declared.counts.Counts.{Counts}

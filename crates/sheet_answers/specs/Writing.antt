@@ -9,7 +9,7 @@ use Rattle.stimulus.specs.Texts.{digit_of}
 use Rattle.entry.specs.CheckedEntries.{CheckedEntry}
 use Rattle.entry.specs.Proved.{IsGoodRefutation}
 use Rattle.certificate.specs.declared.limits.TheConstants.{MAX_ENTRIES}
-use Rattle.certificate.specs.Certificates.{entry_lines, refutation_lines}
+use Rattle.certificate_texts.specs.Certificates.{entry_lines, refutation_lines}
 use Rattle.certificate.specs.Writing.{written_entry, AreProvedInOrder}
 use Rattle.sheet_answers.specs.Sheets.{Sheet, Block, all_line, version_line, lasso_line, holds_line, open_line, end_line, refuting}
 use Rattle.sheet_answers.specs.declared.blocks.Block.TheVariants.{Lasso, Holds, Open}

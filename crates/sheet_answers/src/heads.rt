@@ -4,7 +4,7 @@ ghost use Rattle.std.specs.Prelude.{◌≡◌, ◌++◌, ◌≤◌, ◌<◌, len
 ghost use Rattle.std.specs.Str.{bytes_eq};
 ghost use Rattle.entry.specs.Listing.{entries_of};
 ghost use Rattle.certificate_lines.specs.Words.{word_line_of};
-ghost use Rattle.certificate.specs.Answers.{property_line};
+ghost use Rattle.certificate_texts.specs.Writing.{property_line};
 ghost use Rattle.sheet_answers.specs.Sheets.{total};
 ghost use Rattle.sheet_answers.specs.Reading.{count_in, first_step, version_step, end_step};
 ghost use Rattle.sheet_answers.specs.Seen.{TellsStep, AreFew};

@@ -3,9 +3,9 @@
 ghost use Rattle.std.specs.Prelude.{◌≡◌, ◌≤◌, ◌<◌, ◌+◌, ◌^◌, [], ◌∷◌, ◌++◌, map, flat_map, length, codes, IfOk, OnOk};
 ghost use Rattle.answer_lines.specs.Left.{most_bytes};
 ghost use Rattle.stimulus.specs.Texts.{digit_of};
-ghost use Rattle.certificate.specs.Adding.{Adds};
-ghost use Rattle.certificate.specs.Answers.{property_line};
-ghost use Rattle.certificate.specs.Certificates.{entry_lines, refutation_lines};
+ghost use Rattle.certificate_texts.specs.Adding.{Adds};
+ghost use Rattle.certificate_texts.specs.Writing.{property_line};
+ghost use Rattle.certificate_texts.specs.Certificates.{entry_lines, refutation_lines};
 ghost use Rattle.certificate.specs.Writing.{listed, written_entry};
 ghost use Rattle.sheet_answers.specs.Sheets.{all_line, refuting};
 ghost use Rattle.sheet_answers.specs.Writing.{stimulus_rows, block_lines, lines_of_blocks, sheet_text};

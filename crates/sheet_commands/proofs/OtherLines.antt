@@ -32,8 +32,9 @@ use Rattle.certificate_lines.specs.Clauses.{clause_text}
 use Rattle.entry.specs.declared.refutations.Refutation.{Refutation}
 use Rattle.entry.specs.Proved.{IsProved, AreProofs, obligation_of}
 use Rattle.certificate.specs.Answers.{Spells}
-use Rattle.certificate.specs.declared.loaded.Written.{Written}
-use Rattle.certificate.specs.Certificates.{opening_line, proof_lines, entry_lines, entry_with, refuting_line, refutation_lines, CanBeWritten, AreProvedBehind}
+use Rattle.certificate_texts.specs.declared.certificates.Written.{Written}
+use Rattle.certificate_texts.specs.Certificates.{opening_line, proof_lines, entry_lines, refuting_line, refutation_lines, CanBeWritten}
+use Rattle.certificate.specs.Certificates.{entry_with, AreProvedBehind}
 use Rattle.certificate.proofs.CompletingProofs.{heads}
 use Rattle.certificate.proofs.PlainLines.{IsPlain, plain_append, plain_word}
 use Rattle.sheet_answers.specs.Sheets.{refuting}

@@ -21,8 +21,9 @@ use Rattle.certificate_lines.specs.declared.words.WordLine.TheVariants as lines
 use Rattle.certificate.specs.declared.ends.Accepted.TheVariants as accepted
 use Rattle.certificate.specs.declared.ends.AnswerFault.TheVariants.{NoProperty, UnknownStatus}
 use Rattle.certificate.specs.Lines.{kept_in, bare}
-use Rattle.certificate.specs.Answers.{property_line, Spells, HasStimulus}
-use Rattle.certificate.specs.Certificates.{entry_lines, refutation_lines}
+use Rattle.certificate_texts.specs.Writing.{property_line}
+use Rattle.certificate.specs.Answers.{Spells, HasStimulus}
+use Rattle.certificate_texts.specs.Certificates.{entry_lines, refutation_lines}
 use Rattle.certificate.specs.Lassos.{HasGoodLasso}
 use Rattle.certificate.specs.Reading.{Status, Dotted, Stepped, read_lines}
 use Rattle.certificate.proofs.CompletingProofs.{heads}

@@ -9,7 +9,8 @@ use Rattle.certificate.specs.declared.ends.Accepted.TheVariants.{Lasso, Holds}
 use Rattle.certificate.specs.declared.ends.AnswerEnd.{AnswerEnd}
 use Rattle.certificate.specs.declared.ends.AnswerFault.{AnswerFault}
 use Rattle.certificate.specs.declared.ends.AnswerFault.TheVariants.{NoProperty, UnknownStatus}
-use Rattle.certificate.specs.Answers.{property_line, IsGood}
+use Rattle.certificate_texts.specs.Writing.{property_line}
+use Rattle.certificate.specs.Answers.{IsGood}
 use Rattle.certificate.specs.Ends.{IsRefused}
 use Rattle.certificate.specs.Lassos.{HasGoodLasso}
 use Rattle.sheet_answers.specs.declared.ends.JudgeEnd.{JudgeEnd}

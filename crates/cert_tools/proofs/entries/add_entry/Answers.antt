@@ -1,5 +1,5 @@
 use Rattle.std.proofs.Common.{◌≡◌, ℕ, List, length, sym, ap, ◌∙◌, subst, Some}
-use Rattle.certificate.specs.declared.loaded.Written.{Written}
+use Rattle.certificate_texts.specs.declared.certificates.Written.{Written}
 use Rattle.cert_tools.specs.Trimmed.{IsTrimmedEntry}
 use Rattle.cert_tools.specs.TrimmingEntries.{ArePlaces, GetsEntry}
 use Rattle.cert_tools.proofs.EntryProofs.{at_index}

@@ -1,5 +1,5 @@
 use Rattle.std.proofs.Common.{ℕ, List, [], ◌∷◌, ◌++◌, sym, ap, ap₂, ◌∙◌}
-use Rattle.certificate.specs.declared.loaded.Written.{Written}
+use Rattle.certificate_texts.specs.declared.certificates.Written.{Written}
 use Rattle.cert_tools.specs.declared.reaching.Node.{Node}
 use Rattle.cert_tools.specs.TrimmingEntries.{entry_node}
 use Rattle.cert_tools.proofs.EntryPlaces.{entry_more}

@@ -1,6 +1,6 @@
 use Rattle.std.proofs.Common.{ℕ, ◌+◌, List, [], subst, sym}
 use Rattle.fair_semantics.specs.declared.entries.Kind.TheVariants.{Reach}
-use Rattle.certificate.specs.declared.loaded.Written.{Written}
+use Rattle.certificate_texts.specs.declared.certificates.Written.{Written}
 use Rattle.cert_tools.proofs.EntryPlaces.{AreFirstPlaces, places_next}
 use Rattle.cert_tools.proofs.entries.places.Goals as goal
 

@@ -1,6 +1,6 @@
 use Rattle.std.proofs.Common.{ℕ, List, [], get_or}
 use Rattle.fair_semantics.specs.declared.entries.Kind.TheVariants.{Reach}
-use Rattle.certificate.specs.declared.loaded.Written.{Written}
+use Rattle.certificate_texts.specs.declared.certificates.Written.{Written}
 use Rattle.cert_tools.specs.Trimmed.{IsTrimmedEntry}
 use Rattle.cert_tools.proofs.EntryProofs.{entries_next, get_there}
 use Rattle.cert_tools.proofs.entries.trimmed_entries.Goals as goal

@@ -1,7 +1,7 @@
 use Rattle.std.proofs.Common.{List, [], sym, subst}
 use Rattle.std.proofs.lemmas.Result.{IfOk-weaker}
 use Rattle.fair_semantics.specs.Entries.{Entry}
-use Rattle.certificate.specs.declared.loaded.Written.{Written}
+use Rattle.certificate_texts.specs.declared.certificates.Written.{Written}
 use Rattle.certificate.specs.Certificates.{AreProvedBehind}
 use Rattle.cert_tools.specs.Exporting.{HasObligation, StandsForObligation}
 use Rattle.cert_tools.proofs.ItemLaws.{listed_all}

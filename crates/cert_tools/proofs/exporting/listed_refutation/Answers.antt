@@ -2,7 +2,7 @@ use Rattle.std.proofs.Common.{◌<◌, List, [], length, sym, subst, All}
 use Rattle.std.proofs.lemmas.Result.{IfOk-weaker}
 use Rattle.fair_semantics.specs.declared.entries.Use.{Use}
 use Rattle.fair_semantics.specs.Entries.{Entry}
-use Rattle.certificate.specs.declared.loaded.Written.{Written}
+use Rattle.certificate_texts.specs.declared.certificates.Written.{Written}
 use Rattle.certificate.specs.Certificates.{AreProvedBehind}
 use Rattle.cert_tools.specs.Exporting.{EntriesAreOver, StandsForSkeleton}
 use Rattle.cert_tools.proofs.ItemLaws.{entries_over, listed_all, refuting_uses}

@@ -2,7 +2,7 @@ use Rattle.std.proofs.Common.{◌≡◌, List, sym, ap, ◌∙◌, subst}
 use Rattle.proof_semantics.specs.declared.literals.Lit.{Lit}
 use Rattle.entry.specs.declared.list.Listed.{Listed}
 use Rattle.entry.specs.Listing.{entry_of, entries_of}
-use Rattle.certificate.specs.declared.loaded.Written.{Written}
+use Rattle.certificate_texts.specs.declared.certificates.Written.{Written}
 use Rattle.certificate.specs.Certificates.{AreClausesOf, entry_with}
 use Rattle.cert_tools.proofs.ListedEntries.{entry_clauses, listed_next, listed_done}
 use Rattle.cert_tools.proofs.listing.listed.Goals as goal

@@ -4,8 +4,8 @@ use Rattle.aig_semantics.specs.Circuits.{Circuit}
 use Rattle.fair_semantics.specs.declared.entries.Use.{Use}
 use Rattle.fair_semantics.specs.Entries.{Entry, used_entries}
 use Rattle.cnf_unroll.specs.Obligations.{skeleton_clauses}
-use Rattle.certificate.specs.declared.loaded.Written.{Written}
-use Rattle.certificate.specs.declared.loaded.Certificate.{Certificate}
+use Rattle.certificate_texts.specs.declared.certificates.Written.{Written}
+use Rattle.certificate_texts.specs.declared.certificates.Certificate.{Certificate}
 use Rattle.certificate.specs.Certificates.{AreProvedBehind, IsGoodCertificate}
 use Rattle.cert_tools.specs.Trimmed.{Numbered, IsTrimmedEntry}
 use Rattle.cert_tools.specs.TrimmingEntries.{needed_entries, ArePlaces, at_places, any_empties}

@@ -2,7 +2,7 @@ use Rattle.std.proofs.Common.{◌+◌, List, ◌∷◌, ◌++◌, map, drop, get
 use Rattle.fair_semantics.specs.declared.entries.Use.{Use}
 use Rattle.fair_semantics.specs.declared.entries.Side.TheVariants as sides
 use Rattle.certificate_lines.specs.declared.uses.WrittenUse.{WrittenUse}
-use Rattle.certificate.specs.Reading.{as_use}
+use Rattle.certificate_texts.specs.Certificates.{as_use}
 use Rattle.certificate.proofs.UseLaws.{cut_at}
 use Rattle.certificate.proofs.uses.cut_uses.Goals as goal
 

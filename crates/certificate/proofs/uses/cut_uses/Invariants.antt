@@ -1,5 +1,5 @@
 use Rattle.std.proofs.Common.{◌≡◌, map, take}
-use Rattle.certificate.specs.Reading.{as_use}
+use Rattle.certificate_texts.specs.Certificates.{as_use}
 use Rattle.certificate.proofs.uses.cut_uses.Given as goal
 
 abbrev pub invariant-loop-u : goal.invariant-loop-u

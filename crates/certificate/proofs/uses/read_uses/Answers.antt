@@ -2,7 +2,7 @@ use Rattle.std.proofs.Common.{◌<◌, List, length, map, subst}
 use Rattle.std.specs.Prelude.{IfOk}
 use Rattle.std.specs.List.{All}
 use Rattle.entry.specs.declared.list.Listed.{Listed}
-use Rattle.certificate.specs.Reading.{as_use}
+use Rattle.certificate_texts.specs.Certificates.{as_use}
 use Rattle.certificate.proofs.UseLaws.{standing_present}
 use Rattle.certificate.proofs.uses.read_uses.Goals as goal
 

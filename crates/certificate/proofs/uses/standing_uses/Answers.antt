@@ -2,7 +2,7 @@ use Rattle.std.proofs.Common.{◌≡◌, List, map, None, sym, subst, ◌∙◌}
 use Rattle.fair_semantics.specs.declared.entries.Use.{Use}
 use Rattle.entry.specs.Faults.{first_bad_use}
 use Rattle.entry.specs.Listing.{entries_of}
-use Rattle.certificate.specs.Reading.{as_use}
+use Rattle.certificate_texts.specs.Certificates.{as_use}
 use Rattle.certificate.specs.Steps.{IsCut}
 use Rattle.certificate.proofs.UseLaws.{cut_whole}
 use Rattle.certificate.proofs.uses.standing_uses.Goals as goal

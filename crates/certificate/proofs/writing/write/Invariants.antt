@@ -1,6 +1,6 @@
 use Rattle.std.proofs.Common.{[], ◌++◌, flat_map, map, take}
-use Rattle.certificate.specs.Certificates.{entry_lines}
-use Rattle.certificate.specs.Adding.{Adds, head_lines}
+use Rattle.certificate_texts.specs.Certificates.{entry_lines}
+use Rattle.certificate_texts.specs.Adding.{Adds, head_lines}
 use Rattle.certificate.specs.Writing.{listed, written_entry}
 use Rattle.certificate.proofs.writing.write.Given as goal
 

@@ -1,6 +1,6 @@
 use Rattle.std.proofs.Common.{◌≡◌, ◌∙◌, ap, subst, arith}
 use Rattle.aig_semantics.specs.Circuits.{Circuit, IsChecked, IsWithinLimits}
-use Rattle.certificate.specs.Writing.{certificate_text}
+use Rattle.certificate_texts.specs.Writing.{certificate_text}
 use Rattle.round_monitor.specs.Monitor.{monitor_circuit}
 use Rattle.round_answers.specs.Writing.{certificate_of}
 use Rattle.round_answers.proofs.Adding.{replaced_if}

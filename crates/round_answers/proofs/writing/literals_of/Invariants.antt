@@ -1,5 +1,5 @@
 use Rattle.std.proofs.Common.{◌≡◌, map, take}
-use Rattle.certificate.specs.Writing.{literal_in_model}
+use Rattle.certificate_texts.specs.Writing.{literal_in_model}
 use Rattle.round_answers.proofs.writing.literals_of.Given as goal
 
 abbrev pub invariant-loop-literal : goal.invariant-loop-literal

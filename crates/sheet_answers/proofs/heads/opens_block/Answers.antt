@@ -1,7 +1,7 @@
 use Rattle.std.proofs.Common.{rules, ◌≡◌, ◌∙◌, ℕ, Bool, true, false, List, sym, ap}
 use Rattle.std.specs.Prelude.{◌&&◌}
 use Rattle.std.specs.Str.{bytes_eq}
-use Rattle.certificate.specs.Answers.{property_line}
+use Rattle.certificate_texts.specs.Writing.{property_line}
 use Rattle.sheet_answers.proofs.BlockWords.{word_test}
 use Rattle.sheet_answers.proofs.heads.opens_block.Goals as goal
 

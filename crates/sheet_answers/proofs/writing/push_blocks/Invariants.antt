@@ -1,5 +1,5 @@
 use Rattle.std.proofs.Common.{take}
-use Rattle.certificate.specs.Adding.{Adds}
+use Rattle.certificate_texts.specs.Adding.{Adds}
 use Rattle.sheet_answers.specs.Writing.{lines_of_blocks}
 use Rattle.sheet_answers.proofs.writing.push_blocks.Given as goal
 

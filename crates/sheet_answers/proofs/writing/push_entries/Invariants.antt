@@ -1,6 +1,6 @@
 use Rattle.std.proofs.Common.{flat_map, map, take}
-use Rattle.certificate.specs.Certificates.{entry_lines}
-use Rattle.certificate.specs.Adding.{Adds}
+use Rattle.certificate_texts.specs.Certificates.{entry_lines}
+use Rattle.certificate_texts.specs.Adding.{Adds}
 use Rattle.certificate.specs.Writing.{listed, written_entry}
 use Rattle.sheet_answers.proofs.writing.push_entries.Given as goal
 

@@ -1,6 +1,6 @@
 use Rattle.std.proofs.Common.{Bool, List, [], ◌∷◌, map, subst}
 use Rattle.stimulus.specs.Texts.{digit_of}
-use Rattle.certificate.specs.Adding.{Adds}
+use Rattle.certificate_texts.specs.Adding.{Adds}
 use Rattle.sheet_answers.proofs.AddedBlocks.{stimulus_added}
 use Rattle.sheet_answers.proofs.writing.push_stimulus.Goals as goal
 

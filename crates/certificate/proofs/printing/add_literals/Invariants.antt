@@ -1,7 +1,0 @@
-use Rattle.std.proofs.Common.{map, take}
-use Rattle.certificate_lines.specs.Clauses.{clause_text}
-use Rattle.certificate.specs.Adding.{Adds}
-use Rattle.certificate.proofs.printing.add_literals.Given as goal
-
-abbrev pub invariant-loop-literals : goal.invariant-loop-literals
-invariant-loop-literals l = Adds l.initial.text.items l.text.items (map clause_text (take l.literals-index l.clauses))

@@ -1,6 +1,0 @@
-use Rattle.std.proofs.Common.{take}
-use Rattle.certificate.specs.Adding.{Adds}
-use Rattle.certificate.proofs.writing.add_lines.Given as goal
-
-abbrev pub invariant-loop-line : goal.invariant-loop-line
-invariant-loop-line l = Adds l.initial.text.items l.text.items (take l.line-index l.lines)

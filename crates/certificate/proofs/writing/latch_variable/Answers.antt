@@ -1,7 +1,0 @@
-use Rattle.std.proofs.Common.{◌∙◌, sym}
-use Rattle.certificate.proofs.WrittenCertificates.{variable_small}
-use Rattle.certificate.proofs.writing.latch_variable.Goals as goal
-
-pub returns-in-Some-clause-small : goal.returns-in-Some-clause-small
-returns-in-Some-clause-small c =
-    variable_small c.args.c.now c.max-within_limits.ensures.checked c.max-within_limits.ensures.limits _ c.args.n (sym c.latch_at.ensures ∙ c.in-Some.is)

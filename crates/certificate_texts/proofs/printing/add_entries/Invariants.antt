@@ -1,0 +1,7 @@
+use Rattle.std.proofs.Common.{flat_map, take}
+use Rattle.certificate_texts.specs.Certificates.{entry_lines}
+use Rattle.certificate_texts.specs.Adding.{Adds}
+use Rattle.certificate_texts.proofs.printing.add_entries.Given as goal
+
+abbrev pub invariant-loop-entry : goal.invariant-loop-entry
+invariant-loop-entry l = Adds l.initial.text.items l.text.items (flat_map entry_lines (take l.entry-index l.entries))
