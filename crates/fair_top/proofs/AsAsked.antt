@@ -14,7 +14,8 @@ use Rattle.certificate.specs.declared.ends.Accepted.{Accepted}
 use Rattle.certificate.specs.declared.ends.Accepted.TheVariants as accepted
 use Rattle.certificate.specs.declared.ends.AnswerEnd.TheVariants as answers
 use Rattle.certificate.specs.Answers.{IsGood}
-use Rattle.certificate.specs.Writing.{certificate_of, certificate_text}
+use Rattle.certificate_texts.specs.Writing.{certificate_text}
+use Rattle.certificate.specs.Writing.{certificate_of}
 use Rattle.entry.specs.declared.entries.Entry.{Entry}
 use Rattle.entry.specs.declared.refutations.Refutation.{Refutation}
 use Rattle.entry.specs.Proved.{IsGoodRefutation}

@@ -6,7 +6,8 @@ use Rattle.aig_semantics.specs.Stimuli.{IsFairLassoOf}
 use Rattle.aiger_grammar.specs.Models.{Model}
 use Rattle.edge.specs.Units.{Spendings, limit_of}
 use Rattle.waves.specs.Dumps.{waves_text}
-use Rattle.certificate.specs.Writing.{certificate_of, certificate_text}
+use Rattle.certificate_texts.specs.Writing.{certificate_text}
+use Rattle.certificate.specs.Writing.{certificate_of}
 use Rattle.entry.specs.declared.entries.Entry.{Entry}
 use Rattle.entry.specs.declared.refutations.Refutation.{Refutation}
 use Rattle.entry.specs.Proved.{IsGoodRefutation}
