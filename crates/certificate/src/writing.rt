@@ -52,7 +52,8 @@ fn opening_of(e: &Checked) -> Opening
     }
 }
 
-// The lines of an entry at the end of a text, each with its line feed.
+/// Adds the lines of an entry at the end of a text, each with its line feed. Where memory is wanting a part of them may stand
+/// there.
 pub fn add_entry(alloc: Global, text: &mut Vec<u8>, e: &Checked) -> Result<(), AllocError>
     ensures { OnOk result (Adds text.old.items text.new.items (entry_lines (written_entry e.now))) }
 {

@@ -1,4 +1,5 @@
-//! Lines of certificates, added to a text. Each of these calls adds lines at the end of the text, each with its line feed.
+//! Lines of certificates, added to a text. Each of these calls adds lines at the end of the text, each with its line feed;
+//! where memory is wanting it may have added a part of them.
 
 ghost use Rattle.std.specs.Prelude.{◌≡◌, ◌<◌, ◌^◌, [], ◌∷◌, map, flat_map, slice_get, IfOk, OnOk};
 ghost use Rattle.certificate_lines.specs.Uses.{uses_text, written};
@@ -16,6 +17,7 @@ use proof_semantics::Lit;
 use std::alloc::{AllocError, Global};
 use text_grammar::push_number;
 
+/// Adds a line of words and numbers.
 pub fn add_word_line(text: &mut Vec<u8>, line: WordLine) -> Result<(), AllocError>
     ensures { OnOk result (Adds text.old.items text.new.items (word_line_text line ∷ [])) }
 {
@@ -24,6 +26,7 @@ pub fn add_word_line(text: &mut Vec<u8>, line: WordLine) -> Result<(), AllocErro
     Ok(())
 }
 
+/// Adds the line of an entry's uses, or of a refutation's.
 pub fn add_uses(text: &mut Vec<u8>, uses: &[Use]) -> Result<(), AllocError>
     ensures { OnOk result (Adds text.old.items text.new.items (uses_text (map written uses.now) ∷ [])) }
 {
@@ -32,7 +35,7 @@ pub fn add_uses(text: &mut Vec<u8>, uses: &[Use]) -> Result<(), AllocError>
     Ok(())
 }
 
-// The status, the property and the version.
+/// Adds the status, the property and the version.
 pub fn add_head(text: &mut Vec<u8>, j: u32) -> Result<(), AllocError>
     ensures { OnOk result (Adds text.old.items text.new.items (head_lines j)) }
 {
@@ -92,7 +95,7 @@ fn add_clause(
     Ok(())
 }
 
-// The clauses of an entry over latch numbers, each literal as the model numbers it.
+/// Adds the clauses of an entry over latch numbers, each literal as the model numbers it.
 pub fn add_clauses(
     alloc: Global,
     text: &mut Vec<u8>,
@@ -108,7 +111,7 @@ pub fn add_clauses(
     Ok(())
 }
 
-// The lines of a proof, as they are.
+/// Adds the lines of a proof, as they are.
 pub fn add_lines(text: &mut Vec<u8>, lines: &[ProofLine]) -> Result<(), AllocError>
     ensures { OnOk result (Adds text.old.items text.new.items lines.now) }
 {
@@ -126,7 +129,7 @@ fn add_proof(text: &mut Vec<u8>, proof: &Proof) -> Result<(), AllocError>
     add_lines(text, proof.as_slice())
 }
 
-// The proofs of an entry, each behind the line with its number of lines.
+/// Adds the proofs of an entry, each behind the line with its number of lines.
 pub fn add_proofs(text: &mut Vec<u8>, proofs: &[Proof]) -> Result<(), AllocError>
     ensures { OnOk result (Adds text.old.items text.new.items (flat_map proof_lines proofs.now)) }
 {
@@ -136,7 +139,7 @@ pub fn add_proofs(text: &mut Vec<u8>, proofs: &[Proof]) -> Result<(), AllocError
     Ok(())
 }
 
-// The refutation and the line `end`.
+/// Adds the refutation and the line `end`.
 pub fn add_last(text: &mut Vec<u8>, uses: &[Use], proof: &[ProofLine]) -> Result<(), AllocError>
     ensures { OnOk result (Adds text.old.items text.new.items (last_lines uses.now proof.now)) }
 {

@@ -1,6 +1,6 @@
 //! The lines of an answer, kept where that is wanted. The main type is `KeptLines`.
 
-ghost use Rattle.std.specs.Prelude.{◌≡◌, [], ◌∷◌, ◌++◌, false, true, OnOk};
+ghost use Rattle.std.specs.Prelude.{◌≡◌, [], ◌∷◌, ◌++◌, false, true, OnOk, OnErr};
 ghost use Rattle.stimulus.specs.Texts.{kept_lines};
 
 use cnf::ProofLine;
@@ -38,10 +38,12 @@ impl KeptLines {
         }
     }
 
-    /// Keeps the line, unless it is skipped or none is kept.
+    /// Keeps the line, unless it is skipped or none is kept. Where memory is wanting the lines are as they were.
     pub fn keep(&mut self, alloc: Global, line: &[u8]) -> Result<(), AllocError>
         ensures keeps { self.new.keeps ≡ self.old.keeps }
         ensures lines { OnOk result (self.old.keeps ≡ true → self.new.lines ≡ self.old.lines ++ kept_lines (line.now ∷ [])) }
+        ensures none { self.old.keeps ≡ false → self.new.lines ≡ self.old.lines }
+        ensures err { OnErr result (self.new.lines ≡ self.old.lines) }
     {
         if self.keeps {
             keep_line(alloc, &mut self.lines, line)?;
@@ -51,7 +53,8 @@ impl KeptLines {
 }
 
 fn keep_line(alloc: Global, lines: &mut Items<ProofLine>, line: &[u8]) -> Result<(), AllocError>
-    ensures { OnOk result (lines.new ≡ lines.old ++ kept_lines (line.now ∷ [])) }
+    ensures ok { OnOk result (lines.new ≡ lines.old ++ kept_lines (line.now ∷ [])) }
+    ensures err { OnErr result (lines.new ≡ lines.old) }
 {
     if is_skipped(line) {
         return Ok(());
