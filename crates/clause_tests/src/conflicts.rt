@@ -36,7 +36,9 @@ fn conflict_on(
 
 fn first_conflict(alloc: Global, db: &Db, decided: &[i64]) -> Result<Option<Learned>, AllocError> {
     let mut trail = Trail::new(alloc);
-    conflict_on(alloc, db, &mut trail, decided)
+    let found = conflict_on(alloc, db, &mut trail, decided);
+    drop(trail);
+    found
 }
 
 // Clauses, decided literals, the clause that the first conflict teaches, and its hints.
@@ -106,7 +108,11 @@ fn is(alloc: Global, found: &Learned, row: &Row) -> Result<bool, AllocError> {
 
 fn teaches_of(alloc: Global, db: &Db, row: &Row) -> Result<bool, AllocError> {
     match first_conflict(alloc, db, row.1)? {
-        Some(found) => is(alloc, &found, row),
+        Some(found) => {
+            let is_so = is(alloc, &found, row);
+            drop(found);
+            is_so
+        }
         None => Ok(false),
     }
 }
@@ -116,18 +122,25 @@ fn teaches(alloc: Global, row: &Row) -> Result<bool, AllocError> {
     teaches_of(alloc, &db, row)
 }
 
-#[test]
-fn first_implication_points(rt: HostRuntime) -> Result<(), Fail> {
-    for (k, row) in rows().iter().enumerate() {
-        assert!(rt; teaches(rt.alloc(), row)?, "of row {k}");
+// The place of the first row that teaches something else, from 0.
+fn wrong_row(alloc: Global, rows: &[Row]) -> Result<Option<usize>, AllocError> {
+    for (k, row) in rows.iter().enumerate() {
+        if !teaches(alloc, row)? {
+            return Ok(Some(k));
+        }
     }
-    Ok(())
+    Ok(None)
+}
+
+fn wrong_rows(alloc: Global) -> Result<[Option<usize>; 2], AllocError> {
+    Ok([
+        wrong_row(alloc, rows())?,
+        wrong_row(alloc, minimised_rows())?,
+    ])
 }
 
 #[test]
-fn minimised_clauses(rt: HostRuntime) -> Result<(), Fail> {
-    for (k, row) in minimised_rows().iter().enumerate() {
-        assert!(rt; teaches(rt.alloc(), row)?, "of row {k}");
-    }
+fn first_implication_points(rt: HostRuntime) -> Result<(), Fail> {
+    assert_eq!(rt; wrong_rows(rt.alloc())?, [None; 2]);
     Ok(())
 }

@@ -22,12 +22,21 @@ fn codes_of(number: u32) -> ([u32; 2], bool) {
     )
 }
 
+fn has_codes(number: u32, codes: [u32; 2]) -> bool {
+    codes_of(number) == (codes, true)
+}
+
+fn are_read_back() -> [bool; 3] {
+    [
+        has_codes(0, [0, 1]),
+        has_codes(3, [6, 7]),
+        has_codes((1 << 31) - 1, [u32::MAX - 1, u32::MAX]),
+    ]
+}
+
 #[test]
-fn a_literal_is_read_back(rt: HostRuntime) -> Result<(), Fail> {
-    assert!(rt; codes_of(0) == ([0, 1], true));
-    assert!(rt; codes_of(3) == ([6, 7], true));
-    assert!(rt; codes_of((1 << 31) - 1) == ([u32::MAX - 1, u32::MAX], true));
-    Ok(())
+fn a_literal_is_read_back(rt: HostRuntime) {
+    assert!(rt; are_read_back() == [true; 3]);
 }
 
 // The numbers of these variables, as they are met.
