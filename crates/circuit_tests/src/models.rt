@@ -3,6 +3,7 @@
 use circuit::{Circuit, Gate, Latch, ModelEnd, ModelFault, Parts, check_circuit};
 use items::Items;
 use std::alloc::{AllocError, Global};
+use std::mem;
 
 /// A model with one property.
 #[derive(Drop)]
@@ -16,7 +17,8 @@ pub(crate) struct Model {
     pub(crate) fairness: &'static [u64],
 }
 
-fn no_parts(alloc: Global, max: u64) -> Parts {
+/// Nothing but a greatest variable.
+pub(crate) fn no_parts(alloc: Global, max: u64) -> Parts {
     Parts {
         max,
         inputs: Items::new(alloc),
@@ -31,15 +33,20 @@ fn no_parts(alloc: Global, max: u64) -> Parts {
 }
 
 fn put_lists(alloc: Global, model: &Model, parts: &mut Parts) -> Result<(), AllocError> {
-    parts.inputs = Items::from_slice(alloc, model.inputs)?;
-    parts.latches = Items::from_slice(alloc, model.latches)?;
-    parts.gates = Items::from_slice(alloc, model.gates)?;
+    let inputs = Items::from_slice(alloc, model.inputs)?;
+    drop(mem::replace(&mut parts.inputs, inputs));
+    let latches = Items::from_slice(alloc, model.latches)?;
+    drop(mem::replace(&mut parts.latches, latches));
+    let gates = Items::from_slice(alloc, model.gates)?;
+    drop(mem::replace(&mut parts.gates, gates));
     Ok(())
 }
 
 fn put_properties(alloc: Global, model: &Model, parts: &mut Parts) -> Result<(), AllocError> {
-    parts.constraints = Items::from_slice(alloc, model.constraints)?;
-    parts.fairness = Items::from_slice(alloc, model.fairness)?;
+    let constraints = Items::from_slice(alloc, model.constraints)?;
+    drop(mem::replace(&mut parts.constraints, constraints));
+    let fairness = Items::from_slice(alloc, model.fairness)?;
+    drop(mem::replace(&mut parts.fairness, fairness));
     parts
         .justice
         .push(Items::from_slice(alloc, model.property)?)
@@ -66,5 +73,7 @@ pub(crate) fn checked(alloc: Global, parts: &Parts) -> Result<Circuit, ModelEnd>
 
 pub(crate) fn circuit_of(alloc: Global, model: &Model) -> Result<Circuit, ModelEnd> {
     let parts = parts_of(alloc, model)?;
-    checked(alloc, &parts)
+    let c = checked(alloc, &parts);
+    drop(parts);
+    c
 }

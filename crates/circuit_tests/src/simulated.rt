@@ -109,7 +109,9 @@ fn wide_parts(alloc: Global) -> Result<Parts, AllocError> {
 
 fn wide(alloc: Global) -> Result<Circuit, ModelEnd> {
     let parts = wide_parts(alloc)?;
-    checked(alloc, &parts)
+    let c = checked(alloc, &parts);
+    drop(parts);
+    c
 }
 
 fn letter(value: Value3) -> u8 {

@@ -9,7 +9,7 @@ use stimulus::{ReplayEnd, ReplayFault, read, replay, write};
 // The text, and how many latches and positions it has, or the number of the line that is none of a stimulus.
 type Text = (&'static str, Result<(usize, usize), u64>);
 
-fn all_texts() -> &'static [Text] {
+fn texts() -> &'static [Text] {
     &[
         ("", Err(1)),
         ("c\n", Err(2)),
@@ -21,6 +21,11 @@ fn all_texts() -> &'static [Text] {
         ("01\n1\n0\n\n", Ok((2, 3))),
         ("01\n1", Ok((2, 1))),
         ("c\n01\nu1\n1\nc", Ok((2, 1))),
+    ]
+}
+
+fn other_texts() -> &'static [Text] {
+    &[
         ("02\n1\n", Err(1)),
         ("c\n0\n2\n3\n", Err(3)),
         ("0\n1\n2", Err(3)),
@@ -74,21 +79,33 @@ fn is_written(alloc: Global, j: u32, text: &str, wanted: &[u8]) -> Result<bool, 
 
 const POSITIONS: &[&[bool]] = &[&[true, true, false], &[false, true, false]];
 
+// The place of the first text that is told otherwise, from 0.
+fn wrong_text(alloc: Global, rows: &[Text]) -> Option<usize> {
+    for (k, (text, wanted)) in rows.iter().enumerate() {
+        if size_of(alloc, text) != *wanted {
+            return Some(k);
+        }
+    }
+    None
+}
+
+fn is_stimulus(alloc: Global, text: &str) -> Result<bool, ReplayEnd> {
+    let is_written = is_written(alloc, 20, text, b"1\nj20\n01\n110\n010\n.\n")?;
+    Ok(is_written && is_read_as(alloc, text, &[false, true], POSITIONS)?)
+}
+
+fn are_read(alloc: Global) -> Result<[bool; 4], ReplayEnd> {
+    Ok([
+        wrong_text(alloc, texts()).is_none(),
+        wrong_text(alloc, other_texts()).is_none(),
+        is_stimulus(alloc, "x1\nc\n110\n01x")?,
+        is_stimulus(alloc, "c\n01\n110\nu\n010\n")?,
+    ])
+}
+
 #[test]
-fn texts(rt: HostRuntime) -> Result<(), Fail> {
-    for (text, wanted) in all_texts() {
-        assert!(rt; size_of(rt.alloc(), text) == *wanted, "of {text}");
-    }
-    for text in ["x1\nc\n110\n01x", "c\n01\n110\nu\n010\n"] {
-        assert!(rt;
-            is_read_as(rt.alloc(), text, &[false, true], POSITIONS)?,
-            "of {text}"
-        );
-        assert!(rt;
-            is_written(rt.alloc(), 20, text, b"1\nj20\n01\n110\n010\n.\n")?,
-            "of {text}"
-        );
-    }
+fn texts_are_read(rt: HostRuntime) -> Result<(), Fail> {
+    assert!(rt; are_read(rt.alloc())? == [true; 4]);
     Ok(())
 }
 
@@ -257,7 +274,8 @@ type Replay = (
     Result<(usize, u64), ReplayFault>,
 );
 
-fn all_replays() -> &'static [Replay] {
+// Of a latch that changes.
+fn replays_of_one_latch() -> &'static [Replay] {
     &[
         (&TOGGLE, 0, "0\n", Err(ReplayFault::NoFairLoop)),
         (&TOGGLE, 0, "0\n\n", Err(ReplayFault::NoFairLoop)),
@@ -270,6 +288,12 @@ fn all_replays() -> &'static [Replay] {
         (&TOGGLE, 0, "10\n\n1\n", Err(ReplayFault::Width(0))),
         (&TOGGLE, 0, "0\n1\n\n", Err(ReplayFault::Width(1))),
         (&TOGGLE, 0, "1\n\n\n1\n", Err(ReplayFault::Width(3))),
+    ]
+}
+
+// Of one that stays, one that is free, an input, and a property of the stem or of the loop.
+fn replays_of_others() -> &'static [Replay] {
+    &[
         (&STUCK, 0, "0\n\n\n\n", Err(ReplayFault::NoFairLoop)),
         (&FREE, 0, "1\n\n", Ok((1, 0))),
         (&FREE, 0, "x\n\n\n", Err(ReplayFault::NoFairLoop)),
@@ -281,6 +305,12 @@ fn all_replays() -> &'static [Replay] {
         (&STEM, 0, "0\n\n\n\n", Err(ReplayFault::NotInitial(0))),
         (&FALLS, 0, "1\n\n\n\n", Ok((2, 1))),
         (&CALM, 0, "0\n0\n0\n", Ok((1, 0))),
+    ]
+}
+
+// Of a latch that takes the value of the input.
+fn replays_of_both() -> &'static [Replay] {
+    &[
         (&CALM, 0, "0\n0\n1\n", Ok((1, 0))),
         (&CALM, 0, "1\n0\n0\n", Ok((2, 1))),
         (&CALM, 0, "1\n0\n1\n", Err(ReplayFault::Constraint(1))),
@@ -292,12 +322,25 @@ fn all_replays() -> &'static [Replay] {
     ]
 }
 
+// The place of the first row that is replayed otherwise, from 0.
+fn wrong_replay(alloc: Global, rows: &[Replay]) -> Option<usize> {
+    for (k, (model, j, text, wanted)) in rows.iter().enumerate() {
+        if replayed_on(alloc, model, *j, text) != *wanted {
+            return Some(k);
+        }
+    }
+    None
+}
+
+fn wrong_replays(alloc: Global) -> [Option<usize>; 3] {
+    [
+        wrong_replay(alloc, replays_of_one_latch()),
+        wrong_replay(alloc, replays_of_others()),
+        wrong_replay(alloc, replays_of_both()),
+    ]
+}
+
 #[test]
 fn replays(rt: HostRuntime) {
-    for (model, j, text, wanted) in all_replays() {
-        assert!(rt;
-            replayed_on(rt.alloc(), model, *j, text) == *wanted,
-            "of {text}"
-        );
-    }
+    assert_eq!(rt; wrong_replays(rt.alloc()), [None; 3]);
 }
