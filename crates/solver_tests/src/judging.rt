@@ -45,7 +45,9 @@ pub(crate) fn judge(
     noted: &mut Vec<i64>,
 ) -> Result<Said, AllocError> {
     match answer {
-        Answer::Sat(values) => judge_values(alloc, asked, assumed, values.as_slice()),
+        Answer::Sat(values) => {
+            judge_values(alloc, asked, assumed, &Values::Listed(values.as_slice()))
+        }
         Answer::Unsat(core, proof) => {
             note_numbers(core.as_slice(), noted)?;
             judge_refusal(alloc, asked, assumed, core.as_slice(), proof.as_slice())
@@ -63,7 +65,7 @@ pub(crate) fn judge_asked(
     noted: &mut Vec<i64>,
 ) -> Result<Said, AllocError> {
     match answer {
-        Asked::Sat => judge_told(alloc, asked, assumed, solver),
+        Asked::Sat => judge_values(alloc, asked, assumed, &Values::Told(solver)),
         Asked::Unsat(core) => {
             note_numbers(core.as_slice(), noted)?;
             judge_core(alloc, asked, assumed, core.as_slice())
@@ -80,79 +82,62 @@ pub(crate) fn judge_refuted(
     answer: &Refuted,
 ) -> Result<Said, AllocError> {
     match answer {
-        Refuted::Sat => judge_told(alloc, asked, units, solver),
+        Refuted::Sat => judge_values(alloc, asked, units, &Values::Told(solver)),
         Refuted::Unsat(proof) => judge_refutation(alloc, asked, units, proof.as_slice()),
     }
 }
 
+/// The values of a model: by its list, of which variable v has the value at place v, and false past the end; or as a solver
+/// tells them.
+#[derive(Clone, Copy)]
+enum Values<'a> {
+    Listed(&'a [bool]),
+    Told(&'a Solver),
+}
+
+// There is a model, each clause has a true literal, and each assumption holds.
 fn judge_values(
     alloc: Global,
     asked: &[i64],
     assumed: &[i64],
-    values: &[bool],
+    values: &Values<'_>,
 ) -> Result<Said, AllocError> {
-    let truths = truths_in(alloc, values, asked)?;
-    let holds = all_true_in(values, assumed);
-    judge_truths(alloc, asked, assumed, truths.as_slice(), holds)
-}
-
-fn judge_told(
-    alloc: Global,
-    asked: &[i64],
-    assumed: &[i64],
-    solver: &Solver,
-) -> Result<Said, AllocError> {
-    let truths = truths_told(alloc, solver, asked)?;
-    let holds = are_told_true(solver, assumed);
+    let truths = truths_under(alloc, values, asked)?;
+    let holds = all_hold(values, assumed);
     judge_truths(alloc, asked, assumed, truths.as_slice(), holds)
 }
 
 // Which of the literals are true under values.
-fn truths_in(alloc: Global, values: &[bool], numbers: &[i64]) -> Result<Vec<bool>, AllocError> {
+fn truths_under(
+    alloc: Global,
+    values: &Values<'_>,
+    numbers: &[i64],
+) -> Result<Vec<bool>, AllocError> {
     let mut truths = Vec::new(alloc);
     for number in numbers {
-        truths.push(is_true_in(values, *number))?;
+        truths.push(is_true_under(values, *number))?;
     }
     Ok(truths)
 }
 
-fn all_true_in(values: &[bool], numbers: &[i64]) -> bool {
+fn all_hold(values: &Values<'_>, numbers: &[i64]) -> bool {
     for number in numbers {
-        if !is_true_in(values, *number) {
+        if !is_true_under(values, *number) {
             return false;
         }
     }
     true
 }
 
-// Whether a literal is true where variable v has the value at place v, and is false past the end.
-fn is_true_in(values: &[bool], number: i64) -> bool {
-    is_at(values, number.unsigned_abs() as usize) == (number > 0)
+fn is_true_under(values: &Values<'_>, number: i64) -> bool {
+    let variable = number.unsigned_abs();
+    let value = match values {
+        Values::Listed(list) => is_at(list, variable as usize),
+        Values::Told(solver) => solver.value(variable),
+    };
+    value == (number > 0)
 }
 
-// Which of the literals are true by the values that a solver tells.
-fn truths_told(alloc: Global, solver: &Solver, numbers: &[i64]) -> Result<Vec<bool>, AllocError> {
-    let mut truths = Vec::new(alloc);
-    for number in numbers {
-        truths.push(is_told_true(solver, *number))?;
-    }
-    Ok(truths)
-}
-
-fn are_told_true(solver: &Solver, numbers: &[i64]) -> bool {
-    for number in numbers {
-        if !is_told_true(solver, *number) {
-            return false;
-        }
-    }
-    true
-}
-
-fn is_told_true(solver: &Solver, number: i64) -> bool {
-    solver.value(number.unsigned_abs()) == (number > 0)
-}
-
-// There is a model, each clause has a true literal, and each assumption holds.
 fn judge_truths(
     alloc: Global,
     asked: &[i64],

@@ -74,17 +74,13 @@ fn ask_far(session: &mut Session, assumed: &[i64]) -> Result<Said, AllocError> {
 }
 
 // The steps that are left of a drawn sequence that goes wrong, a line for each; nothing where it does not.
-fn failing_text<T: Trial>(alloc: Global, trial: &T, seed: u64) -> Result<String, AllocError> {
+fn failing_text(alloc: Global, seed: u64) -> Result<String, AllocError> {
     let steps = draw_sequence(alloc, seed)?;
-    text_of_shortened(alloc, trial, steps.as_slice())
+    text_of_shortened(alloc, steps.as_slice())
 }
 
-fn text_of_shortened<T: Trial>(
-    alloc: Global,
-    trial: &T,
-    steps: &[Step],
-) -> Result<String, AllocError> {
-    let kept = shortened(alloc, trial, steps)?;
+fn text_of_shortened(alloc: Global, steps: &[Step]) -> Result<String, AllocError> {
+    let kept = shortened(alloc, &OnSolver, steps)?;
     text_of(alloc, steps, kept.as_slice())
 }
 
@@ -137,7 +133,7 @@ fn push_limit(alloc: Global, limit: u64, text: &mut String) -> Result<(), AllocE
 #[test]
 fn drawn_sequences(rt: HostRuntime) -> Result<(), Fail> {
     for seed in 0..100u64 {
-        let failing = failing_text(rt.alloc(), &OnSolver, seed)?;
+        let failing = failing_text(rt.alloc(), seed)?;
         assert!(rt; failing.is_empty(), "of {seed}:\n{failing}");
     }
     Ok(())
