@@ -6,12 +6,11 @@ use crate::formula::read_formula;
 use crate::outside::{print_text, read_file};
 use crate::sat_run::{MAX_BYTES, NO_LIMIT, solver_of};
 use crate::stamps::Stamp;
-use cdcl::{Asked, Solver, are_sized, has_opposites};
+use cdcl::{Asked, Solver};
 use cnf::{Clause, Db, Lit};
 use edge::Meter;
 use std::alloc::{AllocError, Global};
 use std::io;
-use std::marker::Model;
 
 /// How many questions were answered each way, and after how many conflicts.
 #[derive(Clone, Copy)]
@@ -21,29 +20,9 @@ struct Tally {
     conflicts: u64,
 }
 
-/// The assumptions of a question that a solver may be asked: no literal is the negation of another, and each variable is from
-/// 1 to 2^63 - 1.
-#[derive(Drop)]
-struct Asking {
-    literals: Clause,
-}
-
-impl Model for Asking {
-    ghost use Rattle.std.specs.Prelude.{◌≡◌, List, false};
-    ghost use Rattle.proof_semantics.specs.Clauses.{has_opposites};
-    ghost use Rattle.proof_semantics.specs.Lines.{AreSized};
-    ghost use Rattle.proof_semantics.specs.declared.literals.Lit.{Lit};
-
-    ghost Value = { List Lit };
-
-    ghost view = { λ s. s.literals };
-
-    ghost invariant = { λ s. (has_opposites s.literals ≡ false) × AreSized s.literals };
-}
-
 /// Asks a solver of the clauses in one file the questions in another, whose clauses are lists of assumptions, one
-/// after another. Writes how many have a model and how many have none; what they took goes to standard error, and the
-/// reading is not in it. Gives 0, the number with which the program ends.
+/// after another. Writes how many have a model and how many have none; a list with a literal and its negation has none. What
+/// they took goes to standard error, and the reading is not in it. Gives 0, the number with which the program ends.
 ///
 /// Where a third file is named, each question brings a clause of its own: the clause with its number in that file is added
 /// before it is asked. Behind the answer the clause is retired: its last literal, which stands in no other clause and whose
@@ -72,34 +51,34 @@ fn ask_file(
     questions: &str,
     own: Option<&str>,
 ) -> Result<u8, Failure> {
-    let askings = askings_in(rt, questions)?;
+    let questions = formula_in(rt, questions)?;
     match own {
-        Some(own) => ask_bringing(rt, solver, &askings, own),
-        None => ask_timed(rt, solver, &askings, &[]),
+        Some(own) => ask_bringing(rt, solver, questions.as_slice(), own),
+        None => ask_timed(rt, solver, questions.as_slice(), &[]),
     }
 }
 
 fn ask_bringing(
     rt: &HostRuntime,
     solver: &mut Solver,
-    askings: &[Asking],
+    questions: &[Clause],
     own: &str,
 ) -> Result<u8, Failure> {
     let brought = formula_in(rt, own)?;
-    ask_alike(rt, solver, askings, brought.as_slice())
+    ask_alike(rt, solver, questions, brought.as_slice())
 }
 
 // Asks if each question has a clause.
 fn ask_alike(
     rt: &HostRuntime,
     solver: &mut Solver,
-    askings: &[Asking],
+    questions: &[Clause],
     brought: &[Clause],
 ) -> Result<u8, Failure> {
-    if brought.len() != askings.len() {
+    if brought.len() != questions.len() {
         return Err(Failure::BadInput);
     }
-    ask_timed(rt, solver, askings, brought)
+    ask_timed(rt, solver, questions, brought)
 }
 
 // The clauses in a file.
@@ -108,44 +87,14 @@ fn formula_in(rt: &HostRuntime, name: &str) -> Result<Db, Failure> {
     read_formula(rt.alloc(), &text)
 }
 
-// The questions in a file.
-fn askings_in(rt: &HostRuntime, name: &str) -> Result<Vec<Asking>, Failure> {
-    askings_of(rt.alloc(), formula_in(rt, name)?)
-}
-
-fn askings_of(alloc: Global, lists: Db) -> Result<Vec<Asking>, Failure> {
-    let mut askings = Vec::new(alloc);
-    take_lists(lists, &mut askings)?;
-    Ok(askings)
-}
-
-fn take_lists(lists: Db, askings: &mut Vec<Asking>) -> Result<(), Failure> {
-    for list in lists.into_vec() {
-        take_list(list, askings)?;
-    }
-    Ok(())
-}
-
-fn take_list(list: Clause, askings: &mut Vec<Asking>) -> Result<(), Failure> {
-    askings.push(asking_of(list)?)?;
-    Ok(())
-}
-
-fn asking_of(literals: Clause) -> Result<Asking, Failure> {
-    if has_opposites(literals.as_slice()) || !are_sized(literals.as_slice()) {
-        return Err(Failure::BadInput);
-    }
-    Ok(Asking { literals })
-}
-
 fn ask_timed(
     rt: &HostRuntime,
     solver: &mut Solver,
-    askings: &[Asking],
+    questions: &[Clause],
     brought: &[Clause],
 ) -> Result<u8, Failure> {
     let start = Stamp::now(rt)?;
-    let tally = ask_all(rt.alloc(), solver, askings, brought)?;
+    let tally = ask_all(rt.alloc(), solver, questions, brought)?;
     let end = Stamp::now(rt)?;
     print_costs(rt, tally, start, end)?;
     print_tally(rt, tally)?;
@@ -155,11 +104,11 @@ fn ask_timed(
 fn ask_all(
     alloc: Global,
     solver: &mut Solver,
-    askings: &[Asking],
+    questions: &[Clause],
     brought: &[Clause],
 ) -> Result<Tally, Failure> {
     let mut meter = Meter::new(NO_LIMIT, 0);
-    let mut tally = ask_each(alloc, solver, askings, brought, &mut meter)?;
+    let mut tally = ask_each(alloc, solver, questions, brought, &mut meter)?;
     tally.conflicts = meter.spending().conflicts();
     Ok(tally)
 }
@@ -168,7 +117,7 @@ fn ask_all(
 fn ask_each(
     alloc: Global,
     solver: &mut Solver,
-    askings: &[Asking],
+    questions: &[Clause],
     brought: &[Clause],
     meter: &mut Meter,
 ) -> Result<Tally, Failure> {
@@ -177,12 +126,12 @@ fn ask_each(
         unsat: 0,
         conflicts: 0,
     };
-    for (number, asking) in askings.iter().enumerate() {
+    for (number, question) in questions.iter().enumerate() {
         ask_with(
             alloc,
             solver,
             brought.get(number),
-            asking,
+            question,
             meter,
             &mut tally,
         )?;
@@ -195,13 +144,13 @@ fn ask_with(
     alloc: Global,
     solver: &mut Solver,
     own: Option<&Clause>,
-    asking: &Asking,
+    question: &Clause,
     meter: &mut Meter,
     tally: &mut Tally,
 ) -> Result<(), Failure> {
     match own {
-        Some(clause) => ask_beside(alloc, solver, clause, asking, meter, tally),
-        None => ask_one(alloc, solver, asking, meter, tally),
+        Some(clause) => ask_beside(alloc, solver, clause, question, meter, tally),
+        None => ask_one(alloc, solver, question, meter, tally),
     }
 }
 
@@ -209,12 +158,12 @@ fn ask_beside(
     alloc: Global,
     solver: &mut Solver,
     own: &Clause,
-    asking: &Asking,
+    question: &Clause,
     meter: &mut Meter,
     tally: &mut Tally,
 ) -> Result<(), Failure> {
     bring(alloc, solver, own)?;
-    ask_one(alloc, solver, asking, meter, tally)?;
+    ask_one(alloc, solver, question, meter, tally)?;
     retire(alloc, solver, own)
 }
 
@@ -239,11 +188,11 @@ fn add_unit(alloc: Global, solver: &mut Solver, literal: Lit) -> Result<(), Allo
 fn ask_one(
     alloc: Global,
     solver: &mut Solver,
-    asking: &Asking,
+    question: &Clause,
     meter: &mut Meter,
     tally: &mut Tally,
 ) -> Result<(), Failure> {
-    let answer = solver.ask(alloc, asking.literals.as_slice(), meter)?;
+    let answer = solver.ask(alloc, question.as_slice(), meter)?;
     count_answer(&answer, tally);
     Ok(())
 }
