@@ -41,14 +41,16 @@ const SHOWN_BY_ENTRY: &str =
 
 const SHOWN_BY_RUN: &str = "rounds 2\nj0\nrun\n0\n\n\n\n\n.\n";
 
-fn model_of(alloc: Global, text: &str) -> Result<Model, AllocError> {
+/// The model of a text; one that is refused is told as want of memory.
+pub(crate) fn model_of(alloc: Global, text: &str) -> Result<Model, AllocError> {
     match read(alloc, text.as_bytes()) {
         Ok(model) => Ok(model),
         Err(_) => Err(AllocError),
     }
 }
 
-fn shelf_of(alloc: Global, text: &str) -> Result<MemShelf, AllocError> {
+/// A shelf of this text alone, under the name `a`.
+pub(crate) fn shelf_of(alloc: Global, text: &str) -> Result<MemShelf, AllocError> {
     let mut texts = Vec::new(alloc);
     texts.push((
         String::from_str(alloc, "a")?,
@@ -76,51 +78,55 @@ fn judged(alloc: Global, model: &str, text: &str) -> Result<Judged, JudgeEnd> {
 }
 
 // Texts that are accepted, and what they show.
-fn accepted_rows() -> &'static [(&'static str, &'static str, Judged)] {
-    &[
-        (
-            STUCK,
-            SHOWN_BY_ENTRY,
-            Judged::Rounds {
-                property: 0,
-                k: 1,
-                reached: false,
-            },
-        ),
-        (
-            TOGGLE,
-            SHOWN_BY_RUN,
-            Judged::Rounds {
-                property: 0,
-                k: 2,
-                reached: true,
-            },
-        ),
-        (
-            TOGGLE,
-            "cx\nrounds 2\nu\nj0\nrun\n0\n\n\n\n\n.\nc",
-            Judged::Rounds {
-                property: 0,
-                k: 2,
-                reached: true,
-            },
-        ),
-        (
-            TOGGLE,
-            "1\nj0\n0\n\n\n.\n",
-            Judged::Answer(Accepted::Lasso {
-                property: 0,
-                positions: 2,
-                from: 0,
-            }),
-        ),
-    ]
+type Accepting = (&'static str, &'static str, Judged);
+
+const ACCEPTED: [Accepting; 4] = [
+    (
+        STUCK,
+        SHOWN_BY_ENTRY,
+        Judged::Rounds {
+            property: 0,
+            k: 1,
+            reached: false,
+        },
+    ),
+    (
+        TOGGLE,
+        SHOWN_BY_RUN,
+        Judged::Rounds {
+            property: 0,
+            k: 2,
+            reached: true,
+        },
+    ),
+    (
+        TOGGLE,
+        "cx\nrounds 2\nu\nj0\nrun\n0\n\n\n\n\n.\nc",
+        Judged::Rounds {
+            property: 0,
+            k: 2,
+            reached: true,
+        },
+    ),
+    (
+        TOGGLE,
+        "1\nj0\n0\n\n\n.\n",
+        Judged::Answer(Accepted::Lasso {
+            property: 0,
+            positions: 2,
+            from: 0,
+        }),
+    ),
+];
+
+fn accepted_rows() -> &'static [Accepting] {
+    &ACCEPTED
 }
 
 // Texts that are refused, and their faults.
 type Refused = (&'static str, &'static str, AnswerFault);
 
-const REFUSED: [Refused; 19] = [
+const REFUSED: [Refused; 9] = [
     (
         TOGGLE,
         "rounds 2\nj0\nrun\n0\n\n\n\n.\n",
@@ -138,6 +144,13 @@ const REFUSED: [Refused; 19] = [
         "rounds 1\nj0\nversion 2\nwall 0 0\n",
         AnswerFault::Shape(4),
     ),
+];
+
+fn refused_rows() -> &'static [Refused] {
+    &REFUSED
+}
+
+const LATER: [Refused; 10] = [
     (
         TOGGLE,
         "rounds 1\nj0\nrun\n00\n1\n.\n",
@@ -186,8 +199,8 @@ const REFUSED: [Refused; 19] = [
     (TOGGLE, "", AnswerFault::Shape(1)),
 ];
 
-fn refused_rows() -> &'static [Refused] {
-    &REFUSED
+fn later_rows() -> &'static [Refused] {
+    &LATER
 }
 
 // The place of the first row that is judged otherwise, from 0.
@@ -200,8 +213,8 @@ fn first_other_accepted(alloc: Global) -> Option<usize> {
     None
 }
 
-fn first_other_refused(alloc: Global) -> Option<usize> {
-    for (number, (model, text, wanted)) in refused_rows().iter().enumerate() {
+fn first_other_refused(alloc: Global, rows: &[Refused]) -> Option<usize> {
+    for (number, (model, text, wanted)) in rows.iter().enumerate() {
         if judged(alloc, model, text) != Err(JudgeEnd::Answer(AnswerEnd::Refused(*wanted))) {
             return Some(number);
         }
@@ -209,10 +222,18 @@ fn first_other_refused(alloc: Global) -> Option<usize> {
     None
 }
 
+// The first other row of each table.
+fn first_others(alloc: Global) -> [Option<usize>; 3] {
+    [
+        first_other_accepted(alloc),
+        first_other_refused(alloc, refused_rows()),
+        first_other_refused(alloc, later_rows()),
+    ]
+}
+
 #[test]
 fn texts_are_judged(rt: HostRuntime) -> Result<(), Fail> {
-    assert_eq!(rt; first_other_accepted(rt.alloc()), None);
-    assert_eq!(rt; first_other_refused(rt.alloc()), None);
+    assert_eq!(rt; first_others(rt.alloc()), [None; 3]);
     Ok(())
 }
 
