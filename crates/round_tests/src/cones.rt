@@ -18,11 +18,20 @@ enum Told {
 }
 
 // Asks for positions more, at most so many, until a lasso is found.
-fn asked(alloc: Global, c: &Circuit, search: &mut ConeSearch, questions: u32) -> Told {
-    let mut meter = Meter::new(4_294_967_295, 4_294_967_295);
+fn asked_on(
+    alloc: Global,
+    c: &Circuit,
+    search: &mut ConeSearch,
+    questions: u32,
+    meter: &mut Meter,
+) -> Told {
     for _question in 0..questions {
-        match deepen_cone(alloc, c, 0, search, &mut meter) {
-            Ok(Some(lasso)) => return Told::Found(lasso.inputs.len() as u64),
+        match deepen_cone(alloc, c, 0, search, meter) {
+            Ok(Some(lasso)) => {
+                let positions = lasso.inputs.len() as u64;
+                drop(lasso);
+                return Told::Found(positions);
+            }
             Ok(None) => {}
             Err(_) => return Told::Nothing,
         }
@@ -33,19 +42,32 @@ fn asked(alloc: Global, c: &Circuit, search: &mut ConeSearch, questions: u32) ->
     Told::None(search.done())
 }
 
+fn asked(alloc: Global, c: &Circuit, search: &mut ConeSearch, questions: u32) -> Told {
+    let mut meter = Meter::new(4_294_967_295, 4_294_967_295);
+    let told = asked_on(alloc, c, search, questions, &mut meter);
+    drop(meter);
+    told
+}
+
 fn searched(alloc: Global, c: &Circuit, questions: u32) -> Told {
     match ConeSearch::new(alloc, c, 0) {
         Ok(Some(made)) => {
             let mut search = made;
-            asked(alloc, c, &mut search, questions)
+            let told = asked(alloc, c, &mut search, questions);
+            drop(search);
+            told
         }
         _ => Told::Nothing,
     }
 }
 
-fn told_of(alloc: Global, text: &[u8], questions: u32) -> Told {
-    match aiger_ascii::read(alloc, text) {
-        Ok(model) => searched(alloc, model.circuit(), questions),
+fn told_of(alloc: Global, text: &str, questions: u32) -> Told {
+    match aiger_ascii::read(alloc, text.as_bytes()) {
+        Ok(model) => {
+            let told = searched(alloc, model.circuit(), questions);
+            drop(model);
+            told
+        }
         Err(_) => Told::Nothing,
     }
 }
@@ -69,19 +91,32 @@ const TOGGLE: &str = "aag 5 1 4 0 0 0 0 1 0\n2\n4 5\n6 10 1\n8 6\n10 8\n1\n4\n";
 // A literal that is true nowhere.
 const FALSE: &str = "aag 1 1 0 0 0 0 0 1 0\n2\n1\n0\n";
 
-#[test]
-fn loops_are_repeated_until_all_is_back(rt: HostRuntime) -> Result<(), Fail> {
-    assert!(rt; told_of(rt.alloc(), ALONE.as_bytes(), 1) == Told::Found(1));
-    assert!(rt; told_of(rt.alloc(), FOUR.as_bytes(), 1) == Told::Found(4));
-    assert!(rt; told_of(rt.alloc(), SIXTEEN.as_bytes(), 1) == Told::Found(16));
-    assert!(rt; told_of(rt.alloc(), TOGGLE.as_bytes(), 1) == Told::None(1));
-    assert!(rt; told_of(rt.alloc(), TOGGLE.as_bytes(), 2) == Told::Found(6));
-    Ok(())
+// A text, how many questions are asked, and what they come to.
+const ROWS: [(&str, u32, Told); 7] = [
+    (ALONE, 1, Told::Found(1)),
+    (FOUR, 1, Told::Found(4)),
+    (SIXTEEN, 1, Told::Found(16)),
+    (TOGGLE, 1, Told::None(1)),
+    (TOGGLE, 2, Told::Found(6)),
+    (NEVER, 3, Told::Over),
+    (FALSE, 5, Told::None(5)),
+];
+
+fn rows() -> &'static [(&'static str, u32, Told)] {
+    &ROWS
+}
+
+// The place of the first row of which something else is told, from 0.
+fn wrong_row(alloc: Global) -> Option<usize> {
+    for (k, (text, questions, wanted)) in rows().iter().enumerate() {
+        if told_of(alloc, text, *questions) != *wanted {
+            return Some(k);
+        }
+    }
+    None
 }
 
 #[test]
-fn a_search_goes_on_or_is_over(rt: HostRuntime) -> Result<(), Fail> {
-    assert!(rt; told_of(rt.alloc(), NEVER.as_bytes(), 3) == Told::Over);
-    assert!(rt; told_of(rt.alloc(), FALSE.as_bytes(), 5) == Told::None(5));
-    Ok(())
+fn loops_are_repeated_until_all_is_back(rt: HostRuntime) {
+    assert!(rt; wrong_row(rt.alloc()).is_none());
 }

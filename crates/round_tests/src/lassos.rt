@@ -1,10 +1,10 @@
 //! Shortest lassos of drawn circuits, by a bounded search and by a search of all states. The main calls are `searched_within`
 //! and `fewest_positions`.
 
-use crate::counting::{Steps, blank, is_in, put, step_at, step_from, steps_of};
-use crate::properties::{property_drawn, text_with};
+use crate::counting::{Steps, blank, is_in, put, step_at, step_from};
+use crate::drawn::Case;
 use circuit::Circuit;
-use drawn_circuits::{Drawn, circuit_drawn, may_begin};
+use drawn_circuits::{Drawn, may_begin};
 use edge::Meter;
 use lasso_bmc::{SearchEnd, Searched, search};
 use std::alloc::{AllocError, Global};
@@ -20,17 +20,24 @@ enum Told {
     Nothing,
 }
 
+fn told_as(found: &Result<Searched, SearchEnd>) -> Told {
+    match found {
+        Ok(Searched::Found(lasso)) => Told::Found(lasso.inputs.len() as u64),
+        Ok(Searched::NoneWithin) => Told::None,
+        Err(SearchEnd::Spent(_, done)) => Told::Spent(*done),
+        Err(SearchEnd::Memory) => Told::Nothing,
+    }
+}
+
 // What a search of the first property tells.
 fn searched(alloc: Global, c: &Circuit, depth: u32, meter: &mut Meter) -> Told {
     if c.property_count() == 0 {
         return Told::Nothing;
     }
-    match search(alloc, c, 0, 0, depth, meter) {
-        Ok(Searched::Found(lasso)) => Told::Found(lasso.inputs.len() as u64),
-        Ok(Searched::NoneWithin) => Told::None,
-        Err(SearchEnd::Spent(_, done)) => Told::Spent(done),
-        Err(SearchEnd::Memory) => Told::Nothing,
-    }
+    let found = search(alloc, c, 0, 0, depth, meter);
+    let told = told_as(&found);
+    drop(found);
+    told
 }
 
 fn searched_within(alloc: Global, c: &Circuit, depth: u32, conflicts: u64) -> Told {
@@ -136,8 +143,8 @@ fn fewest_positions(alloc: Global, d: &Drawn, steps: &Steps, most: u64) -> Resul
 
 // ---- both
 
-// More positions than are asked for.
-const MOST: u64 = 41;
+/// More positions than are asked for.
+pub(crate) const MOST: u64 = 41;
 
 // Whether what is told of up to 40 positions, and of one position fewer than a shortest lasso has, agrees.
 fn agrees(alloc: Global, c: &Circuit, fewest: u64) -> bool {
@@ -151,45 +158,27 @@ fn agrees(alloc: Global, c: &Circuit, fewest: u64) -> bool {
 
 fn text_agrees(alloc: Global, text: &[u8], fewest: u64) -> bool {
     match aiger_ascii::read(alloc, text) {
-        Ok(model) => agrees(alloc, model.circuit(), fewest),
+        Ok(model) => {
+            let is_so = agrees(alloc, model.circuit(), fewest);
+            drop(model);
+            is_so
+        }
         Err(_) => false,
     }
 }
 
-// The fewest positions of a lasso of the circuit with a number, where what is told agrees.
-fn fewest_agreed(alloc: Global, number: u64) -> Result<Option<u64>, AllocError> {
-    let d = circuit_drawn(alloc, number)?;
-    let p = property_drawn(alloc, &d, number)?;
-    let steps = steps_of(alloc, &d, &p)?;
-    let fewest = fewest_positions(alloc, &d, &steps, MOST)?;
-    let text = text_with(alloc, &d, &p)?;
-    if text_agrees(alloc, text.as_slice(), fewest) {
+/// The fewest positions of a lasso of the circuit, where what is told agrees.
+pub(crate) fn fewest_agreed(
+    alloc: Global,
+    d: &Drawn,
+    case: &Case,
+) -> Result<Option<u64>, AllocError> {
+    let fewest = fewest_positions(alloc, d, &case.steps, MOST)?;
+    if text_agrees(alloc, case.text.as_slice(), fewest) {
         Ok(Some(fewest))
     } else {
         Ok(None)
     }
-}
-
-// How many of the first drawn circuits have a lasso, of more than one position; nothing where one does not agree.
-fn telling(alloc: Global, circuits: u64) -> Result<Option<u64>, AllocError> {
-    let mut count: u64 = 0;
-    for number in 0..circuits {
-        let Some(fewest) = fewest_agreed(alloc, number)? else {
-            return Ok(None);
-        };
-        if fewest > 1 && fewest < MOST {
-            count = count.saturating_add(1);
-        }
-    }
-    Ok(Some(count))
-}
-
-/// Of 60 drawn circuits the shortest lasso has as many positions as a search of all states has it.
-#[test]
-fn drawn_lassos_are_shortest(rt: HostRuntime) -> Result<(), Fail> {
-    let told = telling(rt.alloc(), 60)?.unwrap_or(0);
-    assert!(rt; told >= 5);
-    Ok(())
 }
 
 // ---- limits
@@ -200,15 +189,24 @@ const PARITY: &str =
 
 fn told_of(alloc: Global, text: &[u8], depth: u32, conflicts: u64) -> Told {
     match aiger_ascii::read(alloc, text) {
-        Ok(model) => searched_within(alloc, model.circuit(), depth, conflicts),
+        Ok(model) => {
+            let told = searched_within(alloc, model.circuit(), depth, conflicts);
+            drop(model);
+            told
+        }
         Err(_) => Told::Nothing,
     }
 }
 
+fn told_of_parity(alloc: Global) -> [Told; 3] {
+    [
+        told_of(alloc, PARITY.as_bytes(), 3, 0),
+        told_of(alloc, PARITY.as_bytes(), 0, 0),
+        told_of(alloc, PARITY.as_bytes(), 3, 1000),
+    ]
+}
+
 #[test]
-fn limits_are_kept(rt: HostRuntime) -> Result<(), Fail> {
-    assert!(rt; told_of(rt.alloc(), PARITY.as_bytes(), 3, 0) == Told::Spent(0));
-    assert!(rt; told_of(rt.alloc(), PARITY.as_bytes(), 0, 0) == Told::None);
-    assert!(rt; told_of(rt.alloc(), PARITY.as_bytes(), 3, 1000) == Told::None);
-    Ok(())
+fn limits_are_kept(rt: HostRuntime) {
+    assert!(rt; told_of_parity(rt.alloc()) == [Told::Spent(0), Told::None, Told::None]);
 }

@@ -1,15 +1,31 @@
 //! Lasso clauses of drawn circuits, for up to five positions, by a solver and by a search of all states. The main calls are
 //! `satisfiable_of` and `has_lasso`.
 
-use crate::counting::{Steps, blank, is_in, put, step_from, steps_of};
-use crate::properties::{property_drawn, text_with};
+use crate::counting::{Steps, blank, is_in, put, step_from};
+use crate::drawn::{Case, case_of};
 use cdcl::{Answer, Solver};
 use circuit::Circuit;
 use drawn_circuits::{Drawn, circuit_drawn, may_begin};
-use edge::Meter;
+use edge::{Meter, SolveEnd};
 use lasso_bmc::lasso_cnf;
 use std::alloc::{AllocError, Global};
 use std::test::*;
+
+fn is_sat(answer: &Result<Answer, SolveEnd>) -> Option<bool> {
+    match answer {
+        Ok(Answer::Sat(_)) => Some(true),
+        Ok(Answer::Unsat(_, _)) => Some(false),
+        Err(_) => None,
+    }
+}
+
+fn has_model(solver: &mut Solver) -> Option<bool> {
+    let mut meter = Meter::new(4_294_967_295, 4_294_967_295);
+    let answer = solver.solve(&[], &mut meter);
+    let told = is_sat(&answer);
+    drop(answer);
+    told
+}
 
 // Whether the lasso clauses of the first property are satisfiable.
 fn is_satisfiable(alloc: Global, c: &Circuit, k: u32) -> Option<bool> {
@@ -18,17 +34,18 @@ fn is_satisfiable(alloc: Global, c: &Circuit, k: u32) -> Option<bool> {
     }
     let clauses = lasso_cnf(alloc, c, 0, k).ok()?;
     let mut solver = Solver::with_clauses(alloc, clauses.into_vec()).ok()?;
-    let mut meter = Meter::new(4_294_967_295, 4_294_967_295);
-    match solver.solve(&[], &mut meter) {
-        Ok(Answer::Sat(_)) => Some(true),
-        Ok(Answer::Unsat(_, _)) => Some(false),
-        Err(_) => None,
-    }
+    let told = has_model(&mut solver);
+    drop(solver);
+    told
 }
 
 fn satisfiable_of(alloc: Global, text: &[u8], k: u32) -> Option<bool> {
     match aiger_ascii::read(alloc, text) {
-        Ok(model) => is_satisfiable(alloc, model.circuit(), k),
+        Ok(model) => {
+            let told = is_satisfiable(alloc, model.circuit(), k);
+            drop(model);
+            told
+        }
         Err(_) => None,
     }
 }
@@ -124,32 +141,61 @@ fn has_lasso(alloc: Global, d: &Drawn, steps: &Steps, k: u32) -> Result<bool, Al
 
 // ---- both
 
-// How many lengths of the circuit with this number agree with the search: those without a lasso, those with one, the others.
-fn agreed(alloc: Global, d: &Drawn, number: u64, counts: &mut [u64; 3]) -> Result<(), AllocError> {
-    let p = property_drawn(alloc, d, number)?;
-    let text = text_with(alloc, d, &p)?;
-    let steps = steps_of(alloc, d, &p)?;
+// The place at which a length is counted: of those without a lasso, of those with one, and of those that do not agree.
+fn place_of(told: Option<bool>, wanted: bool) -> usize {
+    if told != Some(wanted) {
+        2
+    } else if wanted {
+        1
+    } else {
+        0
+    }
+}
+
+// Counts up to five positions of the circuit.
+fn count_lengths(
+    alloc: Global,
+    d: &Drawn,
+    case: &Case,
+    counts: &mut [u64; 3],
+) -> Result<(), AllocError> {
     for k in 0..6_u32 {
-        let wanted = has_lasso(alloc, d, &steps, k)?;
-        let told = satisfiable_of(alloc, text.as_slice(), k);
-        if told != Some(wanted) {
-            counts[2] = counts[2].saturating_add(1);
-        } else if wanted {
-            counts[1] = counts[1].saturating_add(1);
-        } else {
-            counts[0] = counts[0].saturating_add(1);
-        }
+        let wanted = has_lasso(alloc, d, &case.steps, k)?;
+        let told = satisfiable_of(alloc, case.text.as_slice(), k);
+        let place = place_of(told, wanted) % 3;
+        counts[place] = counts[place].saturating_add(1);
     }
     Ok(())
+}
+
+fn count_case(
+    alloc: Global,
+    d: &Drawn,
+    number: u64,
+    counts: &mut [u64; 3],
+) -> Result<(), AllocError> {
+    let case = case_of(alloc, d, number)?;
+    let counted = count_lengths(alloc, d, &case, counts);
+    drop(case);
+    counted
+}
+
+// Counts those of the circuit with a number, if it has at most three latches.
+fn count_drawn(alloc: Global, number: u64, counts: &mut [u64; 3]) -> Result<(), AllocError> {
+    let d = circuit_drawn(alloc, number)?;
+    let counted = if d.latches < 4 {
+        count_case(alloc, &d, number, counts)
+    } else {
+        Ok(())
+    };
+    drop(d);
+    counted
 }
 
 fn counted(alloc: Global, end: u64) -> Result<[u64; 3], AllocError> {
     let mut counts = [0, 0, 0];
     for number in 0..end {
-        let d = circuit_drawn(alloc, number)?;
-        if d.latches < 4 {
-            agreed(alloc, &d, number, &mut counts)?;
-        }
+        count_drawn(alloc, number, &mut counts)?;
     }
     Ok(counts)
 }
@@ -159,7 +205,6 @@ fn counted(alloc: Global, end: u64) -> Result<[u64; 3], AllocError> {
 #[test]
 fn clauses_of_drawn_circuits_agree(rt: HostRuntime) -> Result<(), Fail> {
     let counts = counted(rt.alloc(), 80)?;
-    assert_eq!(rt; counts[2], 0);
-    assert!(rt; counts[0] > 0 && counts[1] > 0);
+    assert!(rt; counts[2] == 0 && counts[0] > 0 && counts[1] > 0);
     Ok(())
 }

@@ -1,9 +1,9 @@
 //! What is decided, against what was worked out. The main calls are `row_is`, `is_written` and `most_agreed`.
 
-use crate::counting::{most_rounds, steps_of};
-use crate::properties::{property_drawn, text_with};
+use crate::counting::most_rounds;
+use crate::drawn::Case;
 use circuit::Circuit;
-use drawn_circuits::circuit_drawn;
+use drawn_circuits::Drawn;
 use edge::Meter;
 use k_live::{Rounds, RoundsEnd, decide, write};
 use std::alloc::{AllocError, Global};
@@ -20,18 +20,25 @@ enum Told {
     Nothing,
 }
 
+fn told_as(decided: &Result<Rounds, RoundsEnd>) -> Told {
+    match decided {
+        Ok(Rounds::Fewer { .. }) => Told::Fewer,
+        Ok(Rounds::Reached { .. }) => Told::Reached,
+        Err(RoundsEnd::Unsettled(_)) => Told::Unsettled,
+        Err(RoundsEnd::TooLarge(most)) => Told::TooLarge(*most),
+        Err(RoundsEnd::Memory) => Told::Nothing,
+    }
+}
+
 // What is decided of the first property.
 fn told_by(alloc: Global, c: &Circuit, k: u32, meter: &mut Meter) -> Told {
     if c.property_count() == 0 || k == 0 {
         return Told::Nothing;
     }
-    match decide(alloc, c, 0, k, meter) {
-        Ok(Rounds::Fewer { .. }) => Told::Fewer,
-        Ok(Rounds::Reached { .. }) => Told::Reached,
-        Err(RoundsEnd::Unsettled(_)) => Told::Unsettled,
-        Err(RoundsEnd::TooLarge(most)) => Told::TooLarge(most),
-        Err(RoundsEnd::Memory) => Told::Nothing,
-    }
+    let decided = decide(alloc, c, 0, k, meter);
+    let told = told_as(&decided);
+    drop(decided);
+    told
 }
 
 fn told_within(alloc: Global, c: &Circuit, k: u32, steps: u64) -> Told {
@@ -41,7 +48,11 @@ fn told_within(alloc: Global, c: &Circuit, k: u32, steps: u64) -> Told {
 
 fn told_of(alloc: Global, text: &[u8], k: u32, steps: u64) -> Told {
     match aiger_ascii::read(alloc, text) {
-        Ok(model) => told_within(alloc, model.circuit(), k, steps),
+        Ok(model) => {
+            let told = told_within(alloc, model.circuit(), k, steps);
+            drop(model);
+            told
+        }
         Err(_) => Told::Nothing,
     }
 }
@@ -94,14 +105,22 @@ fn written_of(alloc: Global, c: &Circuit, k: u32) -> Option<Vec<u8>> {
     }
     let mut meter = Meter::new(4_294_967_295, 4_294_967_295);
     match decide(alloc, c, 0, k, &mut meter) {
-        Ok(rounds) => write(alloc, c, 0, k, &rounds).ok(),
+        Ok(rounds) => {
+            let text = write(alloc, c, 0, k, &rounds).ok();
+            drop(rounds);
+            text
+        }
         Err(_) => None,
     }
 }
 
 fn written(alloc: Global, model: &[u8], k: u32) -> Option<Vec<u8>> {
     match aiger_ascii::read(alloc, model) {
-        Ok(model) => written_of(alloc, model.circuit(), k),
+        Ok(model) => {
+            let text = written_of(alloc, model.circuit(), k);
+            drop(model);
+            text
+        }
         Err(_) => None,
     }
 }
@@ -146,43 +165,25 @@ fn agrees_with(alloc: Global, c: &Circuit, most: u32) -> bool {
 
 fn text_agrees(alloc: Global, text: &[u8], most: u32) -> bool {
     match aiger_ascii::read(alloc, text) {
-        Ok(model) => agrees_with(alloc, model.circuit(), most),
+        Ok(model) => {
+            let agrees = agrees_with(alloc, model.circuit(), most);
+            drop(model);
+            agrees
+        }
         Err(_) => false,
     }
 }
 
-// The most rounds, up to six, that a run of the circuit with a number has, where what is told of 1 to 6 agrees.
-fn most_agreed(alloc: Global, number: u64) -> Result<Option<u32>, AllocError> {
-    let d = circuit_drawn(alloc, number)?;
-    let p = property_drawn(alloc, &d, number)?;
-    let steps = steps_of(alloc, &d, &p)?;
-    let most = most_rounds(alloc, &d, &steps)?;
-    let text = text_with(alloc, &d, &p)?;
-    if text_agrees(alloc, text.as_slice(), most) {
-        Ok(Some(most))
+/// The most rounds, up to six, that a run of the circuit has, where what is told of 1 to 6 agrees.
+pub(crate) fn most_agreed(
+    alloc: Global,
+    d: &Drawn,
+    case: &Case,
+) -> Result<Option<u64>, AllocError> {
+    let most = most_rounds(alloc, d, &case.steps)?;
+    if text_agrees(alloc, case.text.as_slice(), most) {
+        Ok(Some(u64::from(most)))
     } else {
         Ok(None)
     }
-}
-
-// How many of the first drawn circuits have a run with a round, but none with six; nothing where one does not agree.
-fn telling(alloc: Global, circuits: u64) -> Result<Option<u64>, AllocError> {
-    let mut count: u64 = 0;
-    for number in 0..circuits {
-        let Some(most) = most_agreed(alloc, number)? else {
-            return Ok(None);
-        };
-        if most > 0 && most < 6 {
-            count = count.saturating_add(1);
-        }
-    }
-    Ok(Some(count))
-}
-
-/// Of 60 drawn circuits, and 1 to 6 rounds, it is decided as a search of all states has it.
-#[test]
-fn drawn_circuits_are_decided(rt: HostRuntime) -> Result<(), Fail> {
-    let told = telling(rt.alloc(), 60)?.unwrap_or(0);
-    assert!(rt; told >= 5);
-    Ok(())
 }
