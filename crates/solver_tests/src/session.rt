@@ -106,7 +106,9 @@ impl Session {
         match self.solver.solve(assumptions, meter) {
             Ok(found) => {
                 let added = self.added.as_slice();
-                judge(self.alloc, added, assumed, &found, &mut self.core)
+                let said = judge(self.alloc, added, assumed, &found, &mut self.core);
+                drop(found);
+                said
             }
             Err(end) => Ok(said_at(&end)),
         }
@@ -121,15 +123,16 @@ impl Session {
     ) -> Result<Said, AllocError> {
         match self.solver.ask(self.alloc, assumptions, meter) {
             Ok(found) => {
-                let added = self.added.as_slice();
-                judge_asked(
+                let said = judge_asked(
                     self.alloc,
-                    added,
+                    self.added.as_slice(),
                     assumed,
                     &self.solver,
                     &found,
                     &mut self.core,
-                )
+                );
+                drop(found);
+                said
             }
             Err(end) => Ok(said_at(&end)),
         }
@@ -146,13 +149,17 @@ impl Session {
             return Err(AllocError);
         }
         match self.solver.refute(self.alloc, literals, meter) {
-            Ok(found) => judge_refuted(
-                self.alloc,
-                self.added.as_slice(),
-                units,
-                &self.solver,
-                &found,
-            ),
+            Ok(found) => {
+                let said = judge_refuted(
+                    self.alloc,
+                    self.added.as_slice(),
+                    units,
+                    &self.solver,
+                    &found,
+                );
+                drop(found);
+                said
+            }
             Err(end) => Ok(said_at(&end)),
         }
     }

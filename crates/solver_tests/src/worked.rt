@@ -85,29 +85,8 @@ fn is_answered_again(session: &mut Session, question: &Question) -> Result<bool,
     Ok(is_right(again, false) && (again == *wanted || *wanted == Said::Spent))
 }
 
-fn is_answered_twice(alloc: Global, way: Way, question: &Question) -> Result<bool, AllocError> {
-    let mut session = Session::new(alloc, way, question.0)?;
-    let is_right = are_answers(&mut session, way, question);
-    drop(session);
-    is_right
-}
-
 fn are_answers(session: &mut Session, way: Way, question: &Question) -> Result<bool, AllocError> {
     Ok(is_answered(session, way, question)? && is_answered_again(session, question)?)
-}
-
-#[test]
-fn answers(rt: HostRuntime) -> Result<(), Fail> {
-    for (number, question) in questions().iter().enumerate() {
-        for way in WAYS {
-            assert!(rt;
-                is_answered_twice(rt.alloc(), way, question)?,
-                "{} of {number}",
-                way.name()
-            );
-        }
-    }
-    Ok(())
 }
 
 // Clauses, assumptions of which some are not needed, and the core, in ascending order of the numbers.
@@ -125,14 +104,6 @@ fn cores() -> &'static [Core] {
     ]
 }
 
-fn has_core(alloc: Global, way: Way, row: &Core) -> Result<bool, AllocError> {
-    let (numbers, assumed, wanted) = row;
-    let mut session = Session::new(alloc, way, numbers)?;
-    let is_right = is_refused_by(&mut session, assumed, wanted);
-    drop(session);
-    is_right
-}
-
 fn is_refused_by(
     session: &mut Session,
     assumed: &[i64],
@@ -140,15 +111,6 @@ fn is_refused_by(
 ) -> Result<bool, AllocError> {
     let said = session.ask(assumed, NO_LIMIT)?;
     Ok(said == Said::Unsat && is_core(session, wanted))
-}
-
-#[test]
-fn cores_are_without_what_is_not_needed(rt: HostRuntime) -> Result<(), Fail> {
-    for (number, row) in cores().iter().enumerate() {
-        assert!(rt; has_core(rt.alloc(), Way::Solve, row)?, "solve of {number}");
-        assert!(rt; has_core(rt.alloc(), Way::Ask, row)?, "ask of {number}");
-    }
-    Ok(())
 }
 
 // The clauses of the square.
@@ -165,14 +127,6 @@ fn is_order(places: [usize; 4]) -> bool {
     a != b && a != c && a != d && b != c && b != d && c != d
 }
 
-fn count_orders() -> u64 {
-    let mut count = 0u64;
-    for code in 0..256usize {
-        count = count.saturating_add(u64::from(is_order(places_of(code))));
-    }
-    count
-}
-
 fn add_in_order(session: &mut Session, order: [usize; 4]) -> Result<(), AllocError> {
     for place in order {
         session.add(&SIDES[place % 4])?;
@@ -180,44 +134,10 @@ fn add_in_order(session: &mut Session, order: [usize; 4]) -> Result<(), AllocErr
     Ok(())
 }
 
-fn is_refuted_once(session: &mut Session) -> Result<bool, AllocError> {
-    Ok(session.ask(&[], NO_LIMIT)? == Said::Unsat && session.conflicts() == 1)
-}
-
 // Whether the square is refuted after one conflict when its clauses are added in an order.
-fn is_refuted_in(alloc: Global, way: Way, order: [usize; 4]) -> Result<bool, AllocError> {
-    let mut session = Session::new(alloc, way, &[])?;
-    let is_right = is_refuted_after(&mut session, order);
-    drop(session);
-    is_right
-}
-
 fn is_refuted_after(session: &mut Session, order: [usize; 4]) -> Result<bool, AllocError> {
     add_in_order(session, order)?;
-    is_refuted_once(session)
-}
-
-// The same of each call.
-fn is_refuted_by_all(alloc: Global, order: [usize; 4]) -> Result<bool, AllocError> {
-    for way in WAYS {
-        if !is_refuted_in(alloc, way, order)? {
-            return Ok(false);
-        }
-    }
-    Ok(true)
-}
-
-#[test]
-fn the_square_in_each_order(rt: HostRuntime) -> Result<(), Fail> {
-    for code in 0..256usize {
-        let order = places_of(code);
-        assert!(rt;
-            !is_order(order) || is_refuted_by_all(rt.alloc(), order)?,
-            "in order {code}"
-        );
-    }
-    assert!(rt; count_orders() == 24);
-    Ok(())
+    Ok(session.ask(&[], NO_LIMIT)? == Said::Unsat && session.conflicts() == 1)
 }
 
 // Clauses and assumptions, or units, and what must be said each time.
@@ -253,30 +173,8 @@ fn says(session: &mut Session, assumed: &[i64], wanted: Said) -> Result<bool, Al
     Ok(session.ask(assumed, NO_LIMIT)? == wanted)
 }
 
-fn says_twice(alloc: Global, way: Way, row: &Row) -> Result<bool, AllocError> {
-    let (numbers, assumed, wanted) = row;
-    let mut session = Session::new(alloc, way, numbers)?;
-    let is_right = says_again(&mut session, assumed, *wanted);
-    drop(session);
-    is_right
-}
-
 fn says_again(session: &mut Session, assumed: &[i64], wanted: Said) -> Result<bool, AllocError> {
     Ok(says(session, assumed, wanted)? && says(session, assumed, wanted)?)
-}
-
-#[test]
-fn special_clauses_and_assumptions(rt: HostRuntime) -> Result<(), Fail> {
-    for (number, row) in special_rows().iter().enumerate() {
-        for way in WAYS {
-            assert!(rt;
-                says_twice(rt.alloc(), way, row)?,
-                "{} of {number}",
-                way.name()
-            );
-        }
-    }
-    Ok(())
 }
 
 // Units together with clauses: opposite units, also beside others, and units that are added clauses already.
@@ -290,14 +188,6 @@ fn unit_rows() -> &'static [Row] {
         (&[1, 0, -1, 2, 0], &[1, -2], Said::Unsat),
         (&[1, 2, 0, -1, 2, 0], &[4, -2, 5], Said::Unsat),
     ]
-}
-
-#[test]
-fn units_behind_clauses(rt: HostRuntime) -> Result<(), Fail> {
-    for (number, row) in unit_rows().iter().enumerate() {
-        assert!(rt; says_twice(rt.alloc(), Way::Refute, row)?, "of {number}");
-    }
-    Ok(())
 }
 
 // No two of four pigeons sit in one of three holes, and each of the pigeons, of whom three or four come, sits in one.
@@ -321,20 +211,6 @@ fn pigeon_rows() -> &'static [Row] {
         (THREE, &[-1, -4], Said::Sat),
         (THREE, &[-1, -4, -7], Said::Unsat),
     ]
-}
-
-#[test]
-fn pigeons(rt: HostRuntime) -> Result<(), Fail> {
-    for (number, row) in pigeon_rows().iter().enumerate() {
-        for way in WAYS {
-            assert!(rt;
-                says_twice(rt.alloc(), way, row)?,
-                "{} of {number}",
-                way.name()
-            );
-        }
-    }
-    Ok(())
 }
 
 // Clauses that are added, assumptions, the limit of conflicts, and what must be said after how many conflicts. The
@@ -379,41 +255,13 @@ fn is_step_right(session: &mut Session, step: &Step) -> Result<bool, AllocError>
     Ok(said == *wanted && session.conflicts() == *conflicts)
 }
 
-// How many steps come before the first wrong one.
-fn right_steps(session: &mut Session, steps: &[Step]) -> Result<u64, AllocError> {
-    let mut count = 0u64;
+fn are_steps_right(session: &mut Session, steps: &[Step]) -> Result<bool, AllocError> {
     for step in steps {
         if !is_step_right(session, step)? {
-            return Ok(count);
+            return Ok(false);
         }
-        count = count.saturating_add(1);
     }
-    Ok(count)
-}
-
-fn right_steps_by(alloc: Global, way: Way, steps: &[Step]) -> Result<u64, AllocError> {
-    let mut session = Session::new(alloc, way, &[])?;
-    let count = right_steps(&mut session, steps);
-    drop(session);
-    count
-}
-
-#[test]
-fn asked_again(rt: HostRuntime) -> Result<(), Fail> {
-    for way in WAYS {
-        assert!(rt;
-            right_steps_by(rt.alloc(), way, steps())? == 9,
-            "{}",
-            way.name()
-        );
-    }
-    Ok(())
-}
-
-#[test]
-fn asked_under_any_assumptions(rt: HostRuntime) -> Result<(), Fail> {
-    assert!(rt; right_steps_by(rt.alloc(), Way::Ask, steps_under_any())? == 9);
-    Ok(())
+    Ok(true)
 }
 
 fn positive(var: u64) -> Lit {
@@ -423,24 +271,156 @@ fn positive(var: u64) -> Lit {
     }
 }
 
-// Whether variables 0, 2^63 - 1 and 2^63 are refused.
-fn refusals_by(session: &mut Session) -> Result<[bool; 3], AllocError> {
-    Ok([
+// Whether variables 0 and 2^63 are refused, and 2^63 - 1 is not.
+fn refuses_others(session: &mut Session) -> Result<bool, AllocError> {
+    let refused = [
         session.refuses(positive(0))?,
         session.refuses(positive((1 << 63) - 1))?,
         session.refuses(positive(1 << 63))?,
+    ];
+    Ok(refused == [true, false, true])
+}
+
+/// What a new solver is tried on.
+#[derive(Clone, Copy)]
+enum Case {
+    /// A question, asked again under another limit.
+    Question(&'static Question),
+    /// A question of which the core is wanted.
+    Core(&'static Core),
+    /// A question, asked twice.
+    Row(&'static Row),
+    /// The clauses of the square, added in this order.
+    Order([usize; 4]),
+    /// Clauses and questions, one after another.
+    Steps(&'static [Step]),
+    /// Clauses of numbers that are not held.
+    Numbers,
+}
+
+// The clauses that the solver is made with.
+fn clauses_of(case: Case) -> &'static [i64] {
+    match case {
+        Case::Question(question) => question.0,
+        Case::Core(row) => row.0,
+        Case::Row(row) => row.0,
+        Case::Order(_) | Case::Steps(_) => &[],
+        Case::Numbers => SQUARE,
+    }
+}
+
+fn is_right_on(session: &mut Session, way: Way, case: Case) -> Result<bool, AllocError> {
+    match case {
+        Case::Question(question) => are_answers(session, way, question),
+        Case::Core(row) => is_refused_by(session, row.1, row.2),
+        Case::Row(row) => says_again(session, row.1, row.2),
+        Case::Order(order) => is_refuted_after(session, order),
+        Case::Steps(steps) => are_steps_right(session, steps),
+        Case::Numbers => refuses_others(session),
+    }
+}
+
+fn is_right_by(alloc: Global, way: Way, case: Case) -> Result<bool, AllocError> {
+    let mut session = Session::new(alloc, way, clauses_of(case))?;
+    let is_right = is_right_on(&mut session, way, case);
+    drop(session);
+    is_right
+}
+
+// Whether each of these calls answers as it must.
+fn is_case_right(alloc: Global, ways: &[Way], case: Case) -> Result<bool, AllocError> {
+    for way in ways {
+        if !is_right_by(alloc, *way, case)? {
+            return Ok(false);
+        }
+    }
+    Ok(true)
+}
+
+// The place of the first question that is answered otherwise, from 0.
+fn wrong_question(alloc: Global) -> Result<Option<usize>, AllocError> {
+    for (k, question) in questions().iter().enumerate() {
+        if !is_case_right(alloc, &WAYS, Case::Question(question))? {
+            return Ok(Some(k));
+        }
+    }
+    Ok(None)
+}
+
+// The same of the cores, which two of the calls tell.
+fn wrong_core(alloc: Global) -> Result<Option<usize>, AllocError> {
+    for (k, row) in cores().iter().enumerate() {
+        if !is_case_right(alloc, &[Way::Solve, Way::Ask], Case::Core(row))? {
+            return Ok(Some(k));
+        }
+    }
+    Ok(None)
+}
+
+// The same of rows that are asked twice by these calls.
+fn wrong_row(
+    alloc: Global,
+    ways: &[Way],
+    rows: &'static [Row],
+) -> Result<Option<usize>, AllocError> {
+    for (k, row) in rows.iter().enumerate() {
+        if !is_case_right(alloc, ways, Case::Row(row))? {
+            return Ok(Some(k));
+        }
+    }
+    Ok(None)
+}
+
+// The first wrong row of each table.
+fn wrong_rows(alloc: Global) -> Result<[Option<usize>; 5], AllocError> {
+    Ok([
+        wrong_question(alloc)?,
+        wrong_core(alloc)?,
+        wrong_row(alloc, &WAYS, special_rows())?,
+        wrong_row(alloc, &[Way::Refute], unit_rows())?,
+        wrong_row(alloc, &WAYS, pigeon_rows())?,
     ])
 }
 
-fn refusals(alloc: Global) -> Result<[bool; 3], AllocError> {
-    let mut session = Session::new(alloc, Way::Solve, SQUARE)?;
-    let refused = refusals_by(&mut session);
-    drop(session);
-    refused
+#[test]
+fn answers(rt: HostRuntime) -> Result<(), Fail> {
+    assert_eq!(rt; wrong_rows(rt.alloc())?, [None; 5]);
+    Ok(())
+}
+
+// In how many orders of its clauses the square is refuted so; nothing where it is not in one of them.
+fn refuted_orders(alloc: Global) -> Result<Option<u64>, AllocError> {
+    let mut count = 0u64;
+    for code in 0..256usize {
+        let order = places_of(code);
+        if is_order(order) {
+            if !is_case_right(alloc, &WAYS, Case::Order(order))? {
+                return Ok(None);
+            }
+            count = count.saturating_add(1);
+        }
+    }
+    Ok(Some(count))
 }
 
 #[test]
-fn numbers_that_are_not_held(rt: HostRuntime) -> Result<(), Fail> {
-    assert!(rt; refusals(rt.alloc())? == [true, false, true]);
+fn the_square_in_each_order(rt: HostRuntime) -> Result<(), Fail> {
+    assert!(rt; refuted_orders(rt.alloc())? == Some(24));
+    Ok(())
+}
+
+// Whether one solver after another is right of the steps by each call, of those under any assumptions by `ask`, and of
+// the numbers that are not held.
+fn are_right(alloc: Global) -> Result<[bool; 3], AllocError> {
+    Ok([
+        is_case_right(alloc, &WAYS, Case::Steps(steps()))?,
+        is_case_right(alloc, &[Way::Ask], Case::Steps(steps_under_any()))?,
+        is_case_right(alloc, &[Way::Solve], Case::Numbers)?,
+    ])
+}
+
+#[test]
+fn steps_and_numbers(rt: HostRuntime) -> Result<(), Fail> {
+    assert!(rt; are_right(rt.alloc())? == [true; 3]);
     Ok(())
 }
