@@ -106,8 +106,11 @@ fn spelled(alloc: Global, frames: &Frames) -> Result<String, AllocError> {
     Ok(text)
 }
 
-// The frames of these acts, and how they are spelled.
-const SPELLED: [(&[Act], &str); 13] = [
+/// What is done to new frames, and what they tell then.
+type Row = (&'static [Act], &'static str);
+
+// How the lemmas of the levels are spelled, of variable 1 or 2 alone.
+const SPELLED: [Row; 7] = [
     (&[], ""),
     (&[Add(0, 1)], ""),
     (&[Open, Add(0, 2), Add(0, 1), Add(0, 2)], "21/"),
@@ -129,6 +132,14 @@ const SPELLED: [(&[Act], &str); 13] = [
         ],
         "//1/",
     ),
+];
+
+fn spelled_rows() -> &'static [Row] {
+    &SPELLED
+}
+
+// The same with lemmas of both.
+const OF_BOTH: [Row; 6] = [
     (&[Open, Open, Both(1), Add(1, 1)], "/1/"),
     (&[Open, Open, Open, Both(1), Add(2, 1)], "//1/"),
     (&[Open, Open, Open, Both(2), Add(1, 1)], "/1/B/"),
@@ -136,6 +147,10 @@ const SPELLED: [(&[Act], &str); 13] = [
     (&[Open, Open, Open, Add(1, 1), Both(2)], "/1/B/"),
     (&[Open, Open, Open, Add(1, 1), Both(2), Push(1, 0)], "//1/"),
 ];
+
+fn rows_of_both() -> &'static [Row] {
+    &OF_BOTH
+}
 
 fn push_allowed(frames: &Frames, text: &mut String) -> Result<(), AllocError> {
     for level in 0..frames.len() {
@@ -164,7 +179,7 @@ fn counted(frames: &mut Frames, meter: &mut Meter) -> Result<u64, Option<bool>> 
 }
 
 // Which frames of these acts allow that state.
-const ALLOWED: [(&[Act], &str); 5] = [
+const ALLOWED: [Row; 5] = [
     (&[Open, Add(0, 2)], "0"),
     (&[Open, Open, Add(0, 2)], "01"),
     (&[Open, Open, Add(1, 2)], "00"),
@@ -172,8 +187,14 @@ const ALLOWED: [(&[Act], &str); 5] = [
     (&[Open, Open, Open, Add(0, 1), Add(2, 2)], "000"),
 ];
 
-// What becomes of the step of one more frame, with one step left.
-const COUNTED: [(&[Act], Result<u64, Option<bool>>); 5] = [
+fn allowed_rows() -> &'static [Row] {
+    &ALLOWED
+}
+
+/// What is done to frames, and what becomes of the step of one more frame, with one step left.
+type Step = (&'static [Act], Result<u64, Option<bool>>);
+
+const COUNTED: [Step; 5] = [
     (&[Open, Add(0, 2)], Err(None)),
     (&[Open, Open, Add(0, 2)], Err(Some(true))),
     (&[Open, Open, Add(1, 2)], Ok(0)),
@@ -181,46 +202,58 @@ const COUNTED: [(&[Act], Result<u64, Option<bool>>); 5] = [
     (&[Open, Open, Open, Add(0, 1), Add(2, 2)], Ok(1)),
 ];
 
-fn is_spelled(alloc: Global, acts: &[Act], wanted: &str) -> Result<bool, AllocError> {
-    let frames = after(alloc, acts)?;
-    let text = spelled(alloc, &frames)?;
-    Ok(text.as_str() == wanted)
+fn steps() -> &'static [Step] {
+    &COUNTED
 }
 
-#[test]
-fn lemmas_of_levels(rt: HostRuntime) -> Result<(), Fail> {
-    for (acts, wanted) in &SPELLED {
-        assert!(rt; is_spelled(rt.alloc(), acts, wanted)?, "of {wanted}");
+/// What frames tell.
+#[derive(Clone, Copy)]
+enum Told {
+    /// The lemmas of each level.
+    Lemmas,
+    /// Which levels allow the state in which variable 1 alone is true.
+    Allowed,
+}
+
+fn text_of(alloc: Global, frames: &Frames, told: Told) -> Result<String, AllocError> {
+    match told {
+        Told::Lemmas => spelled(alloc, frames),
+        Told::Allowed => allowed(alloc, frames),
     }
-    Ok(())
 }
 
-fn is_allowed(alloc: Global, acts: &[Act], wanted: &str) -> Result<bool, AllocError> {
+fn is_told(alloc: Global, acts: &[Act], told: Told, wanted: &str) -> Result<bool, AllocError> {
     let frames = after(alloc, acts)?;
-    let text = allowed(alloc, &frames)?;
-    Ok(text.as_str() == wanted)
+    let text = text_of(alloc, &frames, told);
+    drop(frames);
+    Ok(text?.as_str() == wanted)
 }
 
-#[test]
-fn states_of_frames(rt: HostRuntime) -> Result<(), Fail> {
-    for (acts, wanted) in &ALLOWED {
-        assert!(rt; is_allowed(rt.alloc(), acts, wanted)?, "of {wanted}");
+// The place of the first row that tells something else, from 0.
+fn wrong_row(alloc: Global, rows: &[Row], told: Told) -> Result<Option<usize>, AllocError> {
+    for (k, (acts, wanted)) in rows.iter().enumerate() {
+        if !is_told(alloc, acts, told, wanted)? {
+            return Ok(Some(k));
+        }
     }
-    Ok(())
+    Ok(None)
 }
 
 fn counted_after(alloc: Global, acts: &[Act]) -> Result<Result<u64, Option<bool>>, AllocError> {
     let mut meter = Meter::new(0, 1);
     let mut frames = after(alloc, acts)?;
-    Ok(counted(&mut frames, &mut meter))
+    let step = counted(&mut frames, &mut meter);
+    drop(frames);
+    Ok(step)
 }
 
-#[test]
-fn steps_of_frames(rt: HostRuntime) -> Result<(), Fail> {
-    for (acts, wanted) in &COUNTED {
-        assert_eq!(rt; counted_after(rt.alloc(), acts)?, *wanted);
+fn wrong_step(alloc: Global) -> Result<Option<usize>, AllocError> {
+    for (k, (acts, wanted)) in steps().iter().enumerate() {
+        if counted_after(alloc, acts)? != *wanted {
+            return Ok(Some(k));
+        }
     }
-    Ok(())
+    Ok(None)
 }
 
 // Clauses, and their signatures: bits 3 and 2 for variable 1 and its negation, and bit 4 for variable 34 negated.
@@ -240,10 +273,28 @@ fn signature_of_numbers(alloc: Global, numbers: &[i64]) -> Result<u64, AllocErro
     Ok(signature_of(made.as_slice()))
 }
 
-#[test]
-fn signatures(rt: HostRuntime) -> Result<(), Fail> {
-    for (numbers, wanted) in signature_rows() {
-        assert_eq!(rt; signature_of_numbers(rt.alloc(), numbers)?, *wanted);
+fn wrong_signature(alloc: Global) -> Result<Option<usize>, AllocError> {
+    for (k, (numbers, wanted)) in signature_rows().iter().enumerate() {
+        if signature_of_numbers(alloc, numbers)? != *wanted {
+            return Ok(Some(k));
+        }
     }
+    Ok(None)
+}
+
+// The first wrong row of each table.
+fn wrong_rows(alloc: Global) -> Result<[Option<usize>; 5], AllocError> {
+    Ok([
+        wrong_row(alloc, spelled_rows(), Told::Lemmas)?,
+        wrong_row(alloc, rows_of_both(), Told::Lemmas)?,
+        wrong_row(alloc, allowed_rows(), Told::Allowed)?,
+        wrong_step(alloc)?,
+        wrong_signature(alloc)?,
+    ])
+}
+
+#[test]
+fn frames_and_signatures(rt: HostRuntime) -> Result<(), Fail> {
+    assert_eq!(rt; wrong_rows(rt.alloc())?, [None; 5]);
     Ok(())
 }

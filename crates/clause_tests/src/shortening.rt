@@ -214,8 +214,10 @@ fn asker_of(alloc: Global, lists: &[&[u64]]) -> Result<Listed, AllocError> {
 fn by_list(alloc: Global, row: &Row, meter: &mut Meter) -> Result<bool, SolveEnd> {
     let (own, cube, order, wanted, questions) = *row;
     let mut asker = asker_of(alloc, own)?;
-    let same = is_left(alloc, cube, order, wanted, &mut asker, meter)?;
-    Ok(same && asker.asked == questions.saturating_add(1))
+    let is_same = is_left(alloc, cube, order, wanted, &mut asker, meter);
+    let asked = asker.asked;
+    drop(asker);
+    Ok(is_same? && asked == questions.saturating_add(1))
 }
 
 fn core_asker_of(alloc: Global, lists: &[&[u64]]) -> Result<Core, AllocError> {
@@ -227,21 +229,20 @@ fn core_asker_of(alloc: Global, lists: &[&[u64]]) -> Result<Core, AllocError> {
 
 fn by_core(alloc: Global, row: &Row) -> Result<bool, SolveEnd> {
     let (own, cube, order, wanted, questions) = *row;
+    let mut meter = Meter::new(0, 0);
     let mut asker = core_asker_of(alloc, own)?;
-    let same = is_left(
-        alloc,
-        cube,
-        order,
-        wanted,
-        &mut asker,
-        &mut Meter::new(0, 0),
-    )?;
-    Ok(same && asker.asked == questions.saturating_add(1))
+    let is_same = is_left(alloc, cube, order, wanted, &mut asker, &mut meter);
+    let asked = asker.asked;
+    drop(asker);
+    Ok(is_same? && asked == questions.saturating_add(1))
 }
+
+// The one literal that an asker has is left.
+const ONE: Row = (&[&[2]], &[2, 4, 6], &[2, 4, 6], &[2], 3);
 
 // The order of the literals decides where two cubes pass, and of a literal that is not in it nothing is asked.
 const LISTED: [Row; 8] = [
-    (&[&[2]], &[2, 4, 6], &[2, 4, 6], &[2], 3),
+    ONE,
     (&[&[2], &[4, 6]], &[2, 4, 6], &[2, 4, 6], &[4, 6], 3),
     (&[&[2], &[4, 6]], &[2, 4, 6], &[4, 6, 2], &[2], 3),
     (&[&[2], &[4, 6]], &[2, 4, 6], &[8, 4], &[2, 6], 1),
@@ -251,6 +252,10 @@ const LISTED: [Row; 8] = [
     (&[&[]], &[2, 4], &[2, 4], &[], 2),
 ];
 
+fn listed_rows() -> &'static [Row] {
+    &LISTED
+}
+
 // Nothing is asked of a literal that an answer left out.
 const CORES: [Row; 4] = [
     (&[&[6]], &[2, 4, 6, 8], &[2, 4, 6, 8], &[6], 2),
@@ -259,25 +264,42 @@ const CORES: [Row; 4] = [
     (&[&[]], &[2, 4, 6], &[2, 4, 6], &[], 1),
 ];
 
+fn core_rows() -> &'static [Row] {
+    &CORES
+}
+
+// The place of the first row of which something else is left, from 0.
+fn wrong_listed(alloc: Global) -> Result<Option<usize>, SolveEnd> {
+    for (k, row) in listed_rows().iter().enumerate() {
+        if !by_list(alloc, row, &mut Meter::new(7, 0))? {
+            return Ok(Some(k));
+        }
+    }
+    Ok(None)
+}
+
+fn wrong_core(alloc: Global) -> Result<Option<usize>, SolveEnd> {
+    for (k, row) in core_rows().iter().enumerate() {
+        if !by_core(alloc, row)? {
+            return Ok(Some(k));
+        }
+    }
+    Ok(None)
+}
+
+fn is_spent(alloc: Global) -> bool {
+    let end = by_list(alloc, &ONE, &mut Meter::new(0, 7));
+    matches!(end, Err(SolveEnd::Spent(_)))
+}
+
 #[test]
 fn literals_are_dropped_in_order(rt: HostRuntime) -> Result<(), Fail> {
-    for row in &LISTED {
-        assert!(rt; by_list(rt.alloc(), row, &mut Meter::new(7, 0))?);
-    }
+    let wrong = [wrong_listed(rt.alloc())?, wrong_core(rt.alloc())?];
+    assert_eq!(rt; wrong, [None; 2]);
     Ok(())
 }
 
 #[test]
-fn answers_are_taken_up(rt: HostRuntime) -> Result<(), Fail> {
-    for row in &CORES {
-        assert!(rt; by_core(rt.alloc(), row)?);
-    }
-    Ok(())
-}
-
-#[test]
-fn spent_where_the_meter_is(rt: HostRuntime) -> Result<(), Fail> {
-    let spent = by_list(rt.alloc(), &LISTED[0], &mut Meter::new(0, 7));
-    assert!(rt; matches!(spent, Err(SolveEnd::Spent(_))));
-    Ok(())
+fn spent_where_the_meter_is(rt: HostRuntime) {
+    assert!(rt; is_spent(rt.alloc()));
 }
