@@ -1,7 +1,7 @@
 //! Rounds of drawn runs against every way to cut them, and their monitors against the runs. The main call is
 //! `judged_alike`. Evaluation here is the test's own.
 
-use crate::models::checked;
+use crate::models::{checked, no_parts};
 use aiger_names::Model;
 use circuit::{Circuit, Gate, Latch, ModelEnd, Parts, Position, Reset, are_positions, rounds};
 use items::Items;
@@ -50,8 +50,7 @@ fn literal_count(n: Counts) -> u64 {
     first_gate(n).saturating_add(n.gates).saturating_mul(2)
 }
 
-fn latches_of(alloc: Global, n: Counts, seed: &mut u64) -> Result<Items<Latch>, AllocError> {
-    let mut latches = Items::new(alloc);
+fn push_latches(n: Counts, seed: &mut u64, latches: &mut Items<Latch>) -> Result<(), AllocError> {
     for i in 0..n.latches {
         let next = draw(seed, literal_count(n));
         let reset = match draw(seed, 3) {
@@ -65,11 +64,10 @@ fn latches_of(alloc: Global, n: Counts, seed: &mut u64) -> Result<Items<Latch>, 
             reset,
         })?;
     }
-    Ok(latches)
+    Ok(())
 }
 
-fn gates_of(alloc: Global, n: Counts, seed: &mut u64) -> Result<Items<Gate>, AllocError> {
-    let mut gates = Items::new(alloc);
+fn push_gates(n: Counts, seed: &mut u64, gates: &mut Items<Gate>) -> Result<(), AllocError> {
     for i in 0..n.gates {
         let var = first_gate(n).saturating_add(i);
         let below = var.saturating_mul(2);
@@ -77,50 +75,60 @@ fn gates_of(alloc: Global, n: Counts, seed: &mut u64) -> Result<Items<Gate>, All
         let rhs1 = draw(seed, below);
         gates.push(Gate { var, rhs0, rhs1 })?;
     }
-    Ok(gates)
+    Ok(())
 }
 
-fn inputs_of(alloc: Global, n: Counts) -> Result<Items<u64>, AllocError> {
-    let mut inputs = Items::new(alloc);
+fn push_inputs(n: Counts, inputs: &mut Items<u64>) -> Result<(), AllocError> {
     for i in 0..n.inputs {
         inputs.push(i.saturating_add(1))?;
     }
-    Ok(inputs)
+    Ok(())
 }
 
-fn literals(
-    alloc: Global,
+fn push_literals(
     n: Counts,
     count: u64,
     seed: &mut u64,
-) -> Result<Items<u64>, AllocError> {
-    let mut drawn = Items::new(alloc);
+    drawn: &mut Items<u64>,
+) -> Result<(), AllocError> {
     for _turn in 0..count {
         drawn.push(draw(seed, literal_count(n)))?;
     }
+    Ok(())
+}
+
+fn property(alloc: Global, n: Counts, seed: &mut u64) -> Result<Items<u64>, AllocError> {
+    let mut drawn = Items::new(alloc);
+    push_literals(n, n.literals, seed, &mut drawn)?;
     Ok(drawn)
 }
 
+fn put_parts(
+    alloc: Global,
+    n: Counts,
+    seed: &mut u64,
+    parts: &mut Parts,
+) -> Result<(), AllocError> {
+    parts.justice.push(property(alloc, n, seed)?)?;
+    push_inputs(n, &mut parts.inputs)?;
+    push_latches(n, seed, &mut parts.latches)?;
+    push_gates(n, seed, &mut parts.gates)?;
+    push_literals(n, n.fairness, seed, &mut parts.fairness)
+}
+
 fn parts_of(alloc: Global, n: Counts, seed: &mut u64) -> Result<Parts, AllocError> {
-    let mut justice = Items::new(alloc);
-    justice.push(literals(alloc, n, n.literals, seed)?)?;
-    Ok(Parts {
-        max: first_gate(n).saturating_sub(1).saturating_add(n.gates),
-        inputs: inputs_of(alloc, n)?,
-        latches: latches_of(alloc, n, seed)?,
-        gates: gates_of(alloc, n, seed)?,
-        outputs: Items::new(alloc),
-        bad: Items::new(alloc),
-        constraints: Items::new(alloc),
-        justice,
-        fairness: literals(alloc, n, n.fairness, seed)?,
-    })
+    let max = first_gate(n).saturating_sub(1).saturating_add(n.gates);
+    let mut parts = no_parts(alloc, max);
+    put_parts(alloc, n, seed, &mut parts)?;
+    Ok(parts)
 }
 
 fn circuit_drawn(alloc: Global, seed: &mut u64) -> Result<Circuit, ModelEnd> {
     let n = counts_of(seed);
     let parts = parts_of(alloc, n, seed)?;
-    checked(alloc, &parts)
+    let c = checked(alloc, &parts);
+    drop(parts);
+    c
 }
 
 // ---- runs
@@ -453,22 +461,33 @@ fn monitors_go_along(
     Ok(true)
 }
 
-// The rounds of a drawn run of a circuit, where all agree on them.
-fn agreed(alloc: Global, c: &Circuit, seed: &mut u64) -> Result<Option<u64>, AllocError> {
-    let run = run_drawn(alloc, c, 10, seed)?;
-    let best = most_rounds(alloc, c, &run)?;
+// The rounds of a run of a circuit, where all agree on them.
+fn agreed_on(alloc: Global, c: &Circuit, run: &[Position]) -> Result<Option<u64>, AllocError> {
+    let best = most_rounds(alloc, c, run)?;
     let most = entry(&best, run.len());
-    if counted(alloc, c, &run)? != Some(most) || !monitors_go_along(alloc, c, &run, &best)? {
+    if counted(alloc, c, run)? != Some(most) || !monitors_go_along(alloc, c, run, &best)? {
         return Ok(None);
     }
     Ok(Some(most))
+}
+
+// The same of a drawn run.
+fn agreed(alloc: Global, c: &Circuit, seed: &mut u64) -> Result<Option<u64>, AllocError> {
+    let run = run_drawn(alloc, c, 10, seed)?;
+    let most = agreed_on(alloc, c, &run);
+    drop(run);
+    most
 }
 
 // The rounds of the drawn run of the circuit with a number, where all agree on them.
 fn judged(alloc: Global, number: u64) -> Result<Option<u64>, AllocError> {
     let mut seed = number.saturating_add(1).wrapping_mul(0x9e37_79b9_7f4a_7c15);
     match circuit_drawn(alloc, &mut seed) {
-        Ok(c) => agreed(alloc, &c, &mut seed),
+        Ok(c) => {
+            let most = agreed(alloc, &c, &mut seed);
+            drop(c);
+            most
+        }
         Err(_) => Ok(None),
     }
 }
