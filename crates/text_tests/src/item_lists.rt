@@ -3,14 +3,21 @@ use items::Items;
 use std::alloc::{AllocError, Global};
 use std::test::*;
 
-// What a copy has that was made before the last push, and what all bytes are.
-fn copied_and_pushed(alloc: Global) -> Result<(Vec<u8>, Vec<u8>), AllocError> {
-    let mut bytes: Items<u8> = Items::new(alloc);
+fn push_and_copy(alloc: Global, bytes: &mut Items<u8>) -> Result<Items<u8>, AllocError> {
     bytes.push(7)?;
     bytes.push(9)?;
-    let copy = bytes.try_copy(alloc)?;
+    bytes.try_copy(alloc)
+}
+
+// Whether a copy that was made before the last push has what was there.
+fn is_copied(alloc: Global) -> Result<bool, AllocError> {
+    let mut bytes: Items<u8> = Items::new(alloc);
+    let copy = push_and_copy(alloc, &mut bytes)?;
     bytes.push(8)?;
-    Ok((copy.into_vec(), bytes.into_vec()))
+    Ok(
+        copy.into_vec().as_slice() == [7, 9].as_slice()
+            && bytes.into_vec().as_slice() == [7, 9, 8].as_slice(),
+    )
 }
 
 // Whether an empty list is told from one with a byte, and how long that one is.
@@ -38,12 +45,21 @@ fn row_sizes(alloc: Global) -> Result<Vec<usize>, AllocError> {
     Ok(sizes)
 }
 
+fn has_row_sizes(alloc: Global) -> Result<bool, AllocError> {
+    let sizes = row_sizes(alloc)?;
+    Ok(sizes.as_slice() == [2, 0].as_slice())
+}
+
+fn are_right(alloc: Global) -> Result<[bool; 3], AllocError> {
+    Ok([
+        sizes(alloc)? == (true, false, 1),
+        is_copied(alloc)?,
+        has_row_sizes(alloc)?,
+    ])
+}
+
 #[test]
 fn bytes_and_lists_of_lists(rt: HostRuntime) -> Result<(), Fail> {
-    assert!(rt; sizes(rt.alloc())? == (true, false, 1));
-    let (copy, bytes) = copied_and_pushed(rt.alloc())?;
-    assert!(rt; copy.as_slice() == [7, 9].as_slice() && bytes.as_slice() == [7, 9, 8].as_slice());
-    let sizes = row_sizes(rt.alloc())?;
-    assert_eq!(rt; sizes.as_slice(), [2, 0].as_slice());
+    assert!(rt; are_right(rt.alloc())? == [true; 3]);
     Ok(())
 }
