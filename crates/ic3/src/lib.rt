@@ -4,7 +4,7 @@
 //! | Call | Gives |
 //! |---|---|
 //! | `reach` | a path from a start to a goal, or a set that holds the start, misses the goal and is left by no step |
-//! | `by_latch` | such a set of the literal of one latch, from a state to a state, where there is one |
+//! | `by_latch` | such a set of the literal of one latch, from a state to a state, or none; when one comes, no clause says |
 //! | `Search::new` | a search from a start, which was asked nothing yet |
 //! | `Search::reach` | what `reach` gives; goal after goal, while the view grows, over frames that are kept |
 //! | `Search::frames`, `Search::solver_questions` | how many these are, and how many questions its solvers were asked |

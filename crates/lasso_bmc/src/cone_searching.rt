@@ -178,8 +178,8 @@ fn whole_of(
 /// The question for one position more. Where the cone has a fair lasso of so many positions, its inputs are those of a run
 /// of the whole circuit, with 0 outside the cone, and those of its loop are repeated until the state is back: the lasso of
 /// property `j` that this is, or none where it is not back within the bounds of `repeated_lasso`, or `c` and `j` are not those of
-/// the search. Behind this the search is over, and nothing more is asked. The meter counts conflicts alone; `Spent` comes
-/// where their count is at its limit.
+/// the search. Behind this, and behind an error, the search is over, and nothing more is asked. The meter counts conflicts
+/// alone; `Spent` comes where their count is at its limit. What is asked, and what becomes of the search, no clause says.
 pub fn deepen_cone(
     alloc: Global,
     c: &Circuit,

@@ -21,7 +21,7 @@ const MOST: Bounds = Bounds {
 /// where this is no fair lasso, as where a literal is at no position true or a constraint false at one; and where the state
 /// is not back within the bounds: a million positions, a billion values of variables and some hundred million of inputs in
 /// all of them, a loop with at most eight million values of variables, and some three hundred million values that are
-/// computed to see when the state is back.
+/// computed to see when the state is back. That a lasso which comes is that of these inputs no clause says.
 ///
 /// Nothing is counted on the meter. The error is want of memory, or a bell of the meter that is rung, which is looked at
 /// before each repetition, and not while the lasso is judged.

@@ -28,7 +28,8 @@ pub struct Simulated {
 /// one batch with 2^(n + 2) positions. No more than some 40 million words are evaluated for them, so there are fewer where
 /// the cone is large. A lasso has no position more than its stimulus needs, and with it come no runs. Where there is none,
 /// there are at most four runs: of each batch the one that came latest to a new state, up to this state, with at most some
-/// 10 million values of variables in all; a run may be without positions.
+/// 10 million values of variables in all; a run may be without positions. Clauses say that a lasso is fair and needs all its
+/// positions, and that runs are initial ones; whether a lasso comes, and how many runs, no clause says.
 ///
 /// Nothing is counted on the meter. The error is want of memory, or a bell of the meter that is rung, which is looked at
 /// before each position of a batch.
