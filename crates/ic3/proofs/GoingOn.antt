@@ -1,6 +1,6 @@
 -- Frames are kept from one question to the next: a view that goes on from another has a smaller arena, so that sound frames
 -- stay sound.
-use Rattle.std.proofs.Common.{◌≡◌, ℕ, suc, ◌+◌, ◌*◌, ◌^◌, ◌<◌, ◌≤◌, Bool, true, ◌&&◌, List, [], ◌∷◌, ◌++◌, length, refl, sym, ap, ap₂, subst, ◌∙◌, arith, append-nil}
+use Rattle.std.proofs.Common.{◌≡◌, ℕ, suc, ◌+◌, ◌-◌, ◌*◌, ◌^◌, ◌<◌, ◌≤◌, min, max, Bool, true, ◌&&◌, List, [], ◌∷◌, ◌++◌, length, refl, sym, ap, ap₂, subst, ◌∙◌, arith, append-nil}
 use Rattle.std.specs.List.{list_all}
 use Rattle.std.proofs.Math.Path.{fun_ext}
 use Rattle.std.proofs.Math.Nat.{mul-suc}
@@ -140,6 +140,7 @@ paid_behind q starts before after a b c same h = record {
   narrows = h.narrows;
   more = h.more;
   paid = omega (arith, same, h.paid);
+  fewest = subst (λ n. min (n + (length after - max 2 (length before))) (2 ^ 64 - 1) ≤ c.steps) same h.fewest;
 }
 
 -- ---- the room before any question

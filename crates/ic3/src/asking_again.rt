@@ -1,9 +1,9 @@
 //! A search that is asked again and again from one start. The main type is `Search`.
-ghost use Rattle.std.specs.Prelude.{◌≡◌, ◌+◌, ◌*◌, ◌^◌, ◌≤◌, [], length, IfOk, IfErr, OnOk, OnErr};
+ghost use Rattle.std.specs.Prelude.{◌≡◌, ◌+◌, ◌-◌, ◌*◌, ◌^◌, ◌≤◌, max, [], length, IfOk, IfErr, OnOk, OnErr};
 ghost use Rattle.std.specs.Arc.{arc_value};
 ghost use Rattle.entry.specs.CheckedEntries.{viewed, GoesOnFrom};
 ghost use Rattle.entry.specs.Laws.{IsGoodList};
-ghost use Rattle.ic3_semantics.specs.Searching.{CountsUpTo};
+ghost use Rattle.ic3_semantics.specs.Searching.{CountsUpTo, CountsAtLeast};
 ghost use Rattle.ic3.specs.Searches.{steps_left};
 ghost use Rattle.ic3_frames.specs.Room.{room};
 ghost use Rattle.ic3_loops.specs.Propagating.{Narrows};
@@ -93,6 +93,7 @@ fn reach_again(
     }) starts.now kept.new.frames }
     ensures narrows { OnOk result (Narrows kept.old.frames kept.new.frames) }
     ensures more { OnOk result (length kept.old.frames ≤ length kept.new.frames) }
+    ensures fewest { OnOk result (CountsAtLeast (length kept.new.frames - max 2 (length kept.old.frames)) meter.old meter.new) }
     ensures lost { OnErr result (kept.new.frames ≡ []) }
     ensures view { OnOk result (viewed kept.new.seen ≡ viewed view.now) }
     ensures seen { GoesOnFrom (viewed kept.new.seen) (viewed view.now) }
@@ -160,9 +161,9 @@ impl Search {
 
     /// A path from the start to the goal by steps that the entries of the view allow; or, exactly where there is none, a
     /// closed set. From the initial states reach entries alone restrict the steps. The steps that a question counts are
-    /// taken from those that are left; its frames exclude what they excluded, and are no fewer. Each error but that of
-    /// memory comes where the meter's count of its kind is at its limit; after an error the frames are lost, and the next
-    /// question begins new ones.
+    /// taken from those that are left, and each frame that it opens beyond two is counted; its frames exclude what they
+    /// excluded, and are no fewer. Each error but that of memory comes where the meter's count of its kind is at its
+    /// limit; after an error the frames are lost, and the next question begins new ones.
     pub fn reach(
         &mut self,
         alloc: Global,
@@ -183,6 +184,7 @@ impl Search {
         ensures paid { OnOk result (meter.new.steps + steps_left self.new ≤ meter.old.steps + steps_left self.old) }
         ensures narrows { OnOk result (Narrows self.old.levels self.new.levels) }
         ensures more { OnOk result (length self.old.levels ≤ length self.new.levels) }
+        ensures fewest { OnOk result (CountsAtLeast (length self.new.levels - max 2 (length self.old.levels)) meter.old meter.new) }
         ensures lost { OnErr result (self.new.levels ≡ []) }
         ensures circuit { self.new.circuit ≡ self.old.circuit }
         ensures start { self.new.start ≡ self.old.start }

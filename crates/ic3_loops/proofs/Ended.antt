@@ -1,5 +1,5 @@
 -- Ends and counts of a search, put together from those of its parts.
-use Rattle.std.proofs.Common.{◌≡◌, ℕ, suc, ◌+◌, ◌*◌, ◌^◌, ◌<◌, ◌≤◌, [], Result, Ok, Err, Some, refl, sym, ap, subst, ◌∙◌, arith}
+use Rattle.std.proofs.Common.{◌≡◌, ℕ, suc, ◌+◌, ◌-◌, ◌*◌, ◌^◌, ◌<◌, ◌≤◌, min, [], Result, Ok, Err, Some, refl, sym, ap, subst, ◌∙◌, arith}
 use Rattle.std.proofs.Math.Nat.{mul-suc}
 use Rattle.std.specs.Result.{OnOk}
 use Rattle.edge.specs.Faults.{one_more}
@@ -17,7 +17,7 @@ use Rattle.ic3_semantics.specs.Searching.{IsReachEnd, CountsSearch}
 use Rattle.ic3_semantics.specs.Ends.{end_of_kind, reach_end}
 use Rattle.ic3_semantics.specs.Stepping.{Stepping}
 use Rattle.ic3_loops.specs.Sound.{KeepsQuestion}
-use Rattle.ic3_semantics.specs.Searching.{CountsUpTo}
+use Rattle.ic3_semantics.specs.Searching.{CountsUpTo, CountsAtLeast}
 
 -- The end of a solver, and that of a count of steps, as ends of a search.
 pub solver_end : (meter : Spendings) (end : SolveEnd) (r : ReachEnd) → IsEnd meter end → r ≡ reach_end end → IsReachEnd meter r
@@ -76,6 +76,37 @@ one_step_of most a b some h = record {
   steps = h.steps;
   bound = omega (arith, some, h.bound);
 }
+
+-- Where no frame was opened no step need be counted.
+pub least_none : (before after : ℕ) (a b : Spendings) → after ≤ before → a.steps ≤ b.steps → CountsAtLeast (after - before) a b
+least_none before after a b within later = by_steps a.steps b.steps (after - before) (omega (arith, within)) later
+  where
+    by_steps : (old new more : ℕ) → more ≡ 0 → old ≤ new → min (old + more) (2 ^ 64 - 1) ≤ new
+    by_steps old new more none later = omega (arith, none, later)
+
+-- One frame more, and one step more.
+pub least_one : (before after : ℕ) (a b c : Spendings) → after ≡ before + 1 → a.steps ≤ b.steps → c.steps ≡ one_more b.steps
+    → CountsAtLeast (after - before) a c
+least_one before after a b c next later one = by_steps a.steps b.steps c.steps (after - before) (omega (arith, next)) later one
+  where
+    by_steps : (old mid new more : ℕ) → more ≡ 1 → old ≤ mid → new ≡ one_more mid → min (old + more) (2 ^ 64 - 1) ≤ new
+    by_steps old mid new more is later one = omega (arith, is, later, one)
+
+-- From numbers of frames that do not fall.
+pub least_on : (x y z : ℕ) (a b c : Spendings) → x ≤ y → y ≤ z → CountsAtLeast (y - x) a b → CountsAtLeast (z - y) b c
+    → CountsAtLeast (z - x) a c
+least_on x y z a b c more further first second = by_steps a.steps b.steps c.steps (y - x) (z - y) (z - x) (omega (arith, more, further)) first second
+  where
+    by_steps : (old mid new k l m : ℕ) → m ≡ k + l → min (old + k) (2 ^ 64 - 1) ≤ mid → min (mid + l) (2 ^ 64 - 1) ≤ new
+        → min (old + m) (2 ^ 64 - 1) ≤ new
+    by_steps old mid new k l m sum first second = omega (arith, sum, first, second)
+
+-- From a greater number of frames less is counted.
+pub least_from : (x y z : ℕ) (a b : Spendings) → x ≤ y → CountsAtLeast (z - x) a b → CountsAtLeast (z - y) a b
+least_from x y z a b more h = by_steps a.steps b.steps (z - x) (z - y) (omega (arith, more)) h
+  where
+    by_steps : (old new k l : ℕ) → l ≤ k → min (old + k) (2 ^ 64 - 1) ≤ new → min (old + l) (2 ^ 64 - 1) ≤ new
+    by_steps old new k l less h = omega (arith, less, h)
 
 -- The bound of a search, by the room before any frame.
 pub search_counts : (n most : ℕ) (a b : Spendings) → most ≤ room n [] → CountsUpTo most a b → CountsSearch n a b

@@ -2,6 +2,7 @@
 use Rattle.std.proofs.Common.{◌≡◌, ℕ, zero, suc, ◌+◌, ◌^◌, ◌<◌, ◌≤◌, Bool, true, false, List, [], ◌∷◌, ◌++◌, length, refl, sym, ap, subst, arith, ◌∙◌}
 use Rattle.std.specs.List.{AllZip}
 use Rattle.std.proofs.lemmas.Bool.{false≢true}
+use Rattle.std.proofs.lemmas.List.{length-append}
 use Rattle.aig_semantics.specs.declared.parts.Latch.{Latch}
 use Rattle.aig_semantics.specs.declared.parts.Reset.{Reset}
 use Rattle.aig_semantics.specs.declared.parts.Reset.TheVariants.{Zero, One, Free}
@@ -95,3 +96,6 @@ few_differ q cube (own ∷ levels) exact sound differ = differing-few (length q.
 pub opened_narrows : (levels new : Levels) → new ≡ levels ++ [] ∷ [] → Narrows levels new
 opened_narrows levels new is k s h =
     sym (ap (λ clauses. allowed_by clauses s) (opened-stay levels k)) ∙ subst (λ those. allowed_by (frame_at those k) s ≡ true) is h
+
+pub opened_number : (levels mid new : Levels) → length mid ≡ length levels → new ≡ mid ++ [] ∷ [] → length new ≡ length levels + 1
+opened_number levels mid new same is = ap length is ∙ length-append mid ([] ∷ []) ∙ ap (λ n. n + 1) same

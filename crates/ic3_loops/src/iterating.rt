@@ -1,12 +1,12 @@
 //! The iterations of a search: the last frame is strengthened, lemmas are propagated, and a frame is opened. The main call
 //! is `iterate`.
-ghost use Rattle.std.specs.Prelude.{◌≡◌, ◌+◌, ◌^◌, ◌<◌, ◌≤◌, [], ◌∷◌, ◌++◌, length, IfOk, IfErr, OnOk};
+ghost use Rattle.std.specs.Prelude.{◌≡◌, ◌+◌, ◌-◌, ◌^◌, ◌<◌, ◌≤◌, [], ◌∷◌, ◌++◌, length, IfOk, IfErr, OnOk};
 ghost use Rattle.edge.specs.Faults.{one_more};
 ghost use Rattle.ic3_frames.specs.Frames.{AllDiffer};
 ghost use Rattle.ic3_frames.specs.Room.{room};
 ghost use Rattle.ic3_semantics.specs.Searching.{IsReachEnd};
 ghost use Rattle.ic3_loops.specs.Sound.{IsSearch, IsGoalOf, KeepsQuestion, MissesLast};
-ghost use Rattle.ic3_semantics.specs.Searching.{CountsUpTo};
+ghost use Rattle.ic3_semantics.specs.Searching.{CountsUpTo, CountsAtLeast};
 ghost use Rattle.ic3_loops.specs.Propagating.{Narrows, AllStuck};
 ghost use Rattle.ic3_loops.specs.Iterating.{IsIterated, TakesRoom, HasEnded};
 ghost use Rattle.ic3_loops.specs.Witnessing.{AreWitnesses};
@@ -35,6 +35,7 @@ pub enum Iterated {
 }
 
 /// Iterations until there is a path, or two neighbouring frames have the same lemmas. `starts` is the cube of the starts.
+/// Each frame that is opened is counted.
 pub fn iterate<S: StepSolver>(
     alloc: Global,
     starts: &Cube,
@@ -56,6 +57,7 @@ pub fn iterate<S: StepSolver>(
         OnOk result (meter.new.steps + room n frames.new ≤ meter.old.steps + room n frames.old) }
     ensures question { KeepsQuestion (S.seen steps.old) (S.seen steps.new) }
     ensures counted { CountsUpTo (room (length (S.seen steps.old).question.circuit.latches) frames.old) meter.old meter.new }
+    ensures fewest { OnOk result (CountsAtLeast (length frames.new - length frames.old) meter.old meter.new) }
     ensures end { IfErr result (IsReachEnd meter.new) }
 {
     let mut known = no_witnesses(alloc);
@@ -93,6 +95,7 @@ fn iteration<S: StepSolver>(
         OnOk result (meter.new.steps + room n frames.new ≤ meter.old.steps + room n frames.old) }
     ensures question { KeepsQuestion (S.seen steps.old) (S.seen steps.new) }
     ensures counted { CountsUpTo (room (length (S.seen steps.old).question.circuit.latches) frames.old) meter.old meter.new }
+    ensures fewest { OnOk result (CountsAtLeast (length frames.new - length frames.old) meter.old meter.new) }
     ensures end { IfErr result (IsReachEnd meter.new) }
 {
     match strengthen(alloc, starts, goal, steps, frames, meter)? {
@@ -128,6 +131,7 @@ fn propagate_and_open<S: StepSolver>(
         OnOk result (meter.new.steps + room n frames.new ≤ meter.old.steps + room n frames.old) }
     ensures question { KeepsQuestion (S.seen steps.old) (S.seen steps.new) }
     ensures counted { CountsUpTo (room (length (S.seen steps.old).question.circuit.latches) frames.old) meter.old meter.new }
+    ensures fewest { OnOk result (CountsAtLeast (length frames.new - length frames.old) meter.old meter.new) }
     ensures end { IfErr result (IsReachEnd meter.new) }
 {
     propagate(alloc, starts, goal, known, steps, frames, meter)?;

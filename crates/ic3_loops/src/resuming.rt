@@ -1,5 +1,5 @@
 //! Frames that are kept go on under a new question: its solver takes their lemmas. The main call is `resume`.
-ghost use Rattle.std.specs.Prelude.{◌≡◌, ◌≤◌, ◌++◌, [], length, OnOk};
+ghost use Rattle.std.specs.Prelude.{◌≡◌, ◌≤◌, max, ◌++◌, [], length, OnOk};
 ghost use Rattle.std.specs.List.{All};
 ghost use Rattle.cnf_unroll.specs.Laws.{AreOver};
 ghost use Rattle.ic3_frames.specs.Frames.{frame_at, own_lemmas};
@@ -58,6 +58,7 @@ pub fn resume<S: StepSolver>(
     ensures search { OnOk result (IsSearch starts.now (S.seen steps.new) frames.new) }
     ensures two { OnOk result (2 ≤ length frames.new) }
     ensures more { OnOk result (length frames.old ≤ length frames.new) }
+    ensures few { OnOk result (length frames.new ≤ max 2 (length frames.old)) }
     ensures narrows { OnOk result (Narrows frames.old frames.new) }
     ensures room { let n = length (S.seen steps.old).question.circuit.latches in
         OnOk result (room n frames.new ≤ room n frames.old) }

@@ -1,6 +1,6 @@
 -- What a search for a path answers: a path, or a set that is closed under the steps and misses the goal (IC3: Bradley,
 -- SAT-based model checking without unrolling, 2011; under entries as in FAIR: Bradley, Somenzi, Hassan, Zhang, 2011).
-use Rattle.std.specs.Prelude.{◌≡◌, ◌+◌, ◌*◌, ◌^◌, ◌≤◌, ℕ, Bool, true, false, List, [], ◌∷◌, ◌++◌, length, Some, IsTrue}
+use Rattle.std.specs.Prelude.{◌≡◌, ◌+◌, ◌-◌, ◌*◌, ◌^◌, ◌≤◌, min, ℕ, Bool, true, false, List, [], ◌∷◌, ◌++◌, length, Some, IsTrue}
 use Rattle.std.specs.List.{All, list_any}
 use Rattle.aig_semantics.specs.declared.traces.Position.{Position}
 use Rattle.aig_semantics.specs.Circuits.{Circuit}
@@ -121,6 +121,10 @@ pub record CountsSearch (n : ℕ) (old new : Spendings) : Type 0 where
   pub conflicts : old.conflicts ≤ new.conflicts
   pub steps : old.steps ≤ new.steps
   pub bound : new.steps ≤ old.steps + (2 ^ n + 2) * (2 ^ n + 2)
+
+-- At least so many steps were counted, or their count stands at its greatest value.
+abbrev pub CountsAtLeast : ℕ → Spendings → Spendings → Type 0
+CountsAtLeast least old new = min (old.steps + least) (2 ^ 64 - 1) ≤ new.steps
 
 -- The limits are as before, no count fell, and at most so many steps were counted.
 pub record CountsUpTo (most : ℕ) (old new : Spendings) : Type 0 where

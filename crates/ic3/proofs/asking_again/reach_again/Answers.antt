@@ -1,7 +1,8 @@
-use Rattle.std.proofs.Common.{◌++◌, sym, ap, subst, ◌∙◌}
+use Rattle.std.proofs.Common.{◌-◌, ◌++◌, max, length, sym, ap, subst, ◌∙◌}
 use Rattle.entry.specs.CheckedEntries.{viewed}
-use Rattle.ic3_semantics.specs.Searching.{Question}
+use Rattle.ic3_semantics.specs.Searching.{Question, CountsAtLeast}
 use Rattle.ic3_loops.specs.Resuming.{MayGoOn}
+use Rattle.ic3_loops.proofs.Sounds.{Levels}
 use Rattle.ic3.proofs.GoingOn.{goes_on, none_open, on_same}
 use Rattle.ic3.proofs.asking_again.reach_again.Goals as goal
 
@@ -35,3 +36,8 @@ returns-in_err-reached-clause-seen c = on_same (viewed c.catch_up.new.seen) (vie
 
 pub returns-clause-seen : goal.returns-clause-seen
 returns-clause-seen c = on_same (viewed c.catch_up.new.seen) (viewed c.args.view.now) c.in_ok-catch_up.ensures.seen
+
+pub returns-clause-fewest : goal.returns-clause-fewest
+returns-clause-fewest c =
+    subst (λ (levels : Levels). CountsAtLeast (length c.reach_on.new.frames - max 2 (length levels)) c.args.meter.now c.reach_on.new.meter)
+    c.replace-frames.ensures.value c.in_ok-reached.ensures.kept.fewest

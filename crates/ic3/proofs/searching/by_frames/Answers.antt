@@ -1,4 +1,4 @@
-use Rattle.std.proofs.Common.{IfErr, sym, subst, ◌∙◌, arith}
+use Rattle.std.proofs.Common.{max, length, IfErr, sym, subst, ◌∙◌, arith}
 use Rattle.std.proofs.lemmas.Result.{err_from_is_err_and}
 use Rattle.entry.specs.CheckedEntries.{viewed}
 use Rattle.ic3_semantics.specs.Searching.{Question, IsReachEnd}
@@ -7,7 +7,7 @@ use Rattle.ic3_loops.specs.Resuming.{MayGoOn}
 use Rattle.ic3_loops.specs.Iterating.{IsIterated, IsClosedAt}
 use Rattle.ic3_loops.proofs.Stuck.{narrow_on}
 use Rattle.ic3_loops.proofs.Starts.{is_start_cube}
-use Rattle.ic3_loops.proofs.Ended.{memory_end}
+use Rattle.ic3_loops.proofs.Ended.{memory_end, least_from}
 use Rattle.ic3.proofs.Separating.{closed_reached}
 use Rattle.ic3.proofs.GoingOn.{same_question, counts_kept, paid_kept, are_open}
 use Rattle.ic3.proofs.searching.by_frames.Goals as goal
@@ -80,6 +80,9 @@ returns-in-Path-clause-kept c =
           paid_kept q c.args.steps.now.avoid c.args.steps.now c.resume.new.steps c.args.frames.now c.resume.new.frames c.iterate.new.frames
           c.args.meter.now c.iterate.new.meter c.requires.steps c.in_ok-resume.ensures.question c.in_ok-resume.ensures.room
           c.in_ok-positions.ensures.room;
+      fewest =
+          least_from (length c.resume.new.frames) (max 2 (length c.args.frames.now)) (length c.iterate.new.frames) c.args.meter.now c.iterate.new.meter
+          c.in_ok-resume.ensures.few c.in_ok-positions.ensures.fewest;
     }
 
 pub returns-in_ok-close-in-Closed-clause-kept : goal.returns-in_ok-close-in-Closed-clause-kept
@@ -97,4 +100,7 @@ returns-in_ok-close-in-Closed-clause-kept c =
           paid_kept q c.args.steps.now.avoid c.args.steps.now c.resume.new.steps c.args.frames.now c.resume.new.frames c.iterate.new.frames
           c.args.meter.now c.iterate.new.meter c.requires.steps c.in_ok-resume.ensures.question c.in_ok-resume.ensures.room
           c.in_ok-positions.ensures.room;
+      fewest =
+          least_from (length c.resume.new.frames) (max 2 (length c.args.frames.now)) (length c.iterate.new.frames) c.args.meter.now c.iterate.new.meter
+          c.in_ok-resume.ensures.few c.in_ok-positions.ensures.fewest;
     }

@@ -1,4 +1,4 @@
-use Rattle.std.proofs.Common.{length, sym, ap, subst, ◌∙◌, arith}
+use Rattle.std.proofs.Common.{max, length, sym, ap, subst, ◌∙◌, arith}
 use Rattle.entry.specs.CheckedEntries.{viewed}
 use Rattle.ic3_frames.specs.Room.{room}
 use Rattle.ic3_semantics.specs.Searching.{Question}
@@ -6,7 +6,7 @@ use Rattle.ic3_semantics.specs.Stepping.{Stepping}
 use Rattle.ic3_loops.specs.Sound.{AvoidsAsked, IsStartCube}
 use Rattle.ic3_loops.specs.Single.{IsSingleOf}
 use Rattle.ic3_loops.proofs.Starts.{is_start_cube}
-use Rattle.ic3_loops.proofs.Ended.{up_to_conflicts, on_ok}
+use Rattle.ic3_loops.proofs.Ended.{up_to_conflicts, on_ok, least_none}
 use Rattle.ic3.proofs.GoingOn.{paid_behind}
 use Rattle.ic3.proofs.Singles.{single-reached, counts-behind, kept-none}
 use Rattle.ic3.proofs.searching.reach_by.Goals as goal
@@ -53,7 +53,15 @@ returns-in-None-clause-counted c =
 pub returns-in_ok-close_one-in-Some-clause-kept : goal.returns-in_ok-close_one-in-Some-clause-kept
 returns-in_ok-close_one-in-Some-clause-kept c =
     let same = c.in_ok-clause.ensures.counted.steps in
-    record { ready = c.requires.open; narrows = λ k s allowed. allowed; more = omega arith; paid = omega (arith, same) }
+    record {
+      ready = c.requires.open;
+      narrows = λ k s allowed. allowed;
+      more = omega arith;
+      paid = omega (arith, same);
+      fewest =
+          least_none (max 2 (length c.args.frames.now)) (length c.args.frames.now) c.args.meter.now c.single.new.meter (omega arith)
+          (omega (arith, same));
+    }
 
 pub returns-in-None-clause-kept : goal.returns-in-None-clause-kept
 returns-in-None-clause-kept c =

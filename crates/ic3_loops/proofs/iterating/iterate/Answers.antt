@@ -5,7 +5,7 @@ use Rattle.ic3_semantics.specs.Searching.{CountsUpTo}
 use Rattle.ic3_loops.specs.Iterating.{IsIterated}
 use Rattle.ic3_loops.specs.Witnessing.{AreWitnesses}
 use Rattle.ic3_loops.proofs.Stuck.{narrow_on}
-use Rattle.ic3_loops.proofs.Ended.{keeps_on, up_to_none, up_to_on}
+use Rattle.ic3_loops.proofs.Ended.{keeps_on, up_to_none, up_to_on, least_none, least_on}
 use Rattle.ic3_loops.proofs.iterating.iterate.Goals as goal
 
 pub iterations-init : goal.iterations-init
@@ -18,6 +18,7 @@ iterations-init g c = record {
   question = record { question = refl; avoid = refl };
   paid = omega arith;
   counted = up_to_none (room (length (g.S.StepSolver.seen c.args.steps.now).question.circuit.latches) c.args.frames.now) c.args.meter.now;
+  fewest = least_none (length c.args.frames.now) (length c.args.frames.now) c.args.meter.now c.args.meter.now (omega arith) (omega arith);
 }
 
 pub iteration-requires-clause-known : goal.iteration-requires-clause-known
@@ -47,6 +48,9 @@ iterations-preserved g c =
           before.counted before.paid
           (subst (λ (q : Question). CountsUpTo (room (length q.circuit.latches) c.iterations.frames) c.iterations.meter c.iteration.new.meter) is
           says.counted);
+      fewest =
+          least_on (length c.args.frames.now) (length c.iterations.frames) (length c.iteration.new.frames) c.args.meter.now c.iterations.meter
+          c.iteration.new.meter before.more says.more before.fewest says.fewest;
     }
 
 pub returns-in_default : goal.returns-in_default
@@ -73,5 +77,8 @@ returns-in_default g c =
           before.counted before.paid
           (subst (λ (q : Question). CountsUpTo (room (length q.circuit.latches) c.iterations.frames) c.iterations.meter c.iteration.new.meter) is
           says.counted);
+      fewest =
+          least_on (length c.args.frames.now) (length c.iterations.frames) (length c.iteration.new.frames) c.args.meter.now c.iterations.meter
+          c.iteration.new.meter before.more says.more before.fewest says.fewest;
       end = tt;
     }

@@ -1,7 +1,7 @@
-use Rattle.std.proofs.Common.{◌+◌, ◌≤◌, length}
+use Rattle.std.proofs.Common.{◌+◌, ◌-◌, ◌≤◌, length}
 use Rattle.ic3_frames.specs.Room.{room}
 use Rattle.ic3_loops.specs.Sound.{IsSearch, KeepsQuestion}
-use Rattle.ic3_semantics.specs.Searching.{CountsUpTo}
+use Rattle.ic3_semantics.specs.Searching.{CountsUpTo, CountsAtLeast}
 use Rattle.ic3_loops.specs.Propagating.{Narrows}
 use Rattle.ic3_loops.specs.Witnessing.{AreWitnesses}
 use Rattle.ic3_loops.proofs.iterating.iterate.Given as goal
@@ -17,6 +17,7 @@ invariant-iterations g l = record {
   paid : l.meter.steps + room (length (g.S.StepSolver.seen l.initial.steps).question.circuit.latches) l.frames
       ≤ l.initial.meter.steps + room (length (g.S.StepSolver.seen l.initial.steps).question.circuit.latches) l.initial.frames;
   counted : CountsUpTo (room (length (g.S.StepSolver.seen l.initial.steps).question.circuit.latches) l.initial.frames) l.initial.meter l.meter;
+  fewest : CountsAtLeast (length l.frames - length l.initial.frames) l.initial.meter l.meter;
 }
 
 abbrev pub decreases-iterations : goal.decreases-iterations

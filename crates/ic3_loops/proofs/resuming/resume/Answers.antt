@@ -1,4 +1,4 @@
-use Rattle.std.proofs.Common.{◌≤◌, length, sym, subst, ◌∙◌, arith}
+use Rattle.std.proofs.Common.{◌≤◌, max, length, sym, subst, ◌∙◌, arith}
 use Rattle.ic3_frames.specs.Room.{room}
 use Rattle.ic3_loops.proofs.HeldLemmas.{ready_search, empty_is, none_narrows, always_ok}
 use Rattle.ic3_loops.proofs.Ended.{on_ok}
@@ -26,3 +26,10 @@ returns-in_ok-frames-clause-room g c =
 pub returns-in_ok-frames-clause-narrows : goal.returns-in_ok-frames-clause-narrows
 returns-in_ok-frames-clause-narrows g c =
     none_narrows c.args.frames.now c.in_ok-frames.field-0 (empty_is c.args.frames.now (sym c.len.ensures ∙ c.if-len-eq0.true))
+
+pub returns-else-len-eq0-clause-few : goal.returns-else-len-eq0-clause-few
+returns-else-len-eq0-clause-few g c =
+    let few : length c.args.frames.now ≤ max 2 (length c.args.frames.now) = omega arith in always_ok c.hold_all.result _ few
+
+pub returns-in_ok-frames-clause-few : goal.returns-in_ok-frames-clause-few
+returns-in_ok-frames-clause-few g c = let two = c.in_ok-frames.ensures.two in omega (arith, two)
