@@ -1,13 +1,11 @@
 -- What a trial tells.
-use Rattle.std.proofs.Common.{◌≡◌, ℕ, suc, ◌+◌, ◌-◌, ◌*◌, ◌<◌, map, Bool, true, false, not, List, [], ◌∷◌, ◌++◌, length, take, drop, get_or, Option, Some, None, Result, Ok, Err, IfOk, IfSome, refl, sym, ap, subst, ◌∙◌, arith, length-append, append_assoc}
+use Rattle.std.proofs.Common.{◌≡◌, ℕ, suc, ◌+◌, ◌-◌, ◌<◌, map, Bool, true, false, not, List, [], ◌∷◌, ◌++◌, length, take, drop, get_or, Option, Some, None, Result, Ok, Err, IfOk, IfSome, refl, sym, ap, subst, ◌∙◌, arith, append_assoc}
 use Rattle.std.specs.List.{All, list_all, flat_map}
 use Rattle.std.proofs.lemmas.Bool.{and_parts}
 use Rattle.std.proofs.lemmas.List.Elements.{All-nil, All-cons}
 use Rattle.std.proofs.lemmas.List.{length-map, length-drop, take_all, get_or_append_left}
 use Rattle.std.proofs.lemmas.Option.{unwrap_or-slice_get}
 use Rattle.std.proofs.Math.Seq.{drop-append_seam}
-use Rattle.aig_semantics.specs.declared.parts.Latch.{Latch}
-use Rattle.aig_semantics.specs.declared.parts.Gate.{Gate}
 use Rattle.aig_semantics.specs.declared.traces.Position.{Position}
 use Rattle.aig_semantics.specs.Circuits.{Circuit}
 use Rattle.aig_semantics.specs.Literals.{variable_of, variable_in, literal_in}
@@ -18,8 +16,9 @@ use Rattle.cdcl.specs.Asking.{assigned}
 use Rattle.edge.specs.declared.solve_end.SolveEnd.{SolveEnd}
 use Rattle.fair_semantics.specs.declared.skeletons.Situation.{Situation}
 use Rattle.fair_semantics.specs.Skeletons.{IsSituation}
-use Rattle.cnf_unroll.specs.Numbers.{block_size, block_places, minus, number, state_place, set_at_place, clause_at_place, literal_in_block}
-use Rattle.cnf_unroll.specs.Blocks.{gate_clauses, unit_clause, latch_clauses, step_clauses}
+use Rattle.cnf_unroll.specs.Numbers.{block_size, block_places, number, state_place, set_at_place, clause_at_place, literal_in_block}
+use Rattle.cnf_unroll.specs.Blocks.{unit_clause, latch_clauses, step_clauses}
+use Rattle.cnf_unroll.specs.Layout.{BeginWith, before_constraints, before_latch}
 use Rattle.cnf_unroll.specs.Obligations.{units, after_step}
 use Rattle.cnf_unroll.specs.Uses.{free_from, named_sides, uses_clauses}
 use Rattle.cnf_unroll.specs.Situations.{situation_in}
@@ -64,31 +63,12 @@ all_true f (literal ∷ literals) h =
 
 -- ---- the clauses of the block
 
-threes : (f : Gate → List (List Lit)) → ((gate : Gate) → length (f gate) ≡ 3) → (gates : List Gate)
-    → length (flat_map f gates) ≡ 3 * length gates
-threes f three [] = refl
-threes f three (gate ∷ gates) = omega (arith, length-append (f gate) (flat_map f gates), three gate, threes f three gates)
-
-twos : (f : Latch → List (List Lit)) → ((latch : Latch) → length (f latch) ≡ 2) → (latches : List Latch)
-    → length (flat_map f latches) ≡ 2 * length latches
-twos f two [] = refl
-twos f two (latch ∷ latches) = omega (arith, length-append (f latch) (flat_map f latches), two latch, twos f two latches)
-
-pub block_length : (c : Circuit) → length (step_clauses c) ≡ 1 + 3 * length c.gates + length c.constraints + 2 * length c.latches
-block_length c =
-    let head : List (List Lit) = (minus (number 0 0) ∷ []) ∷ [] in
-    let gates : List (List Lit) = flat_map (gate_clauses 0) c.gates in
-    let units : List (List Lit) = map (unit_clause 0) c.constraints in
-    let latches : List (List Lit) = flat_map (latch_clauses c 0) c.latches in
-    omega (
-      arith,
-      length-append (head ++ gates ++ units) latches,
-      length-append (head ++ gates) units,
-      length-append head gates,
-      threes (gate_clauses 0) (λ gate. refl) c.gates,
-      length-map c.constraints (unit_clause 0),
-      twos (latch_clauses c 0) (λ latch. refl) c.latches,
-    )
+-- those before the latch behind the last are all
+pub whole_block : (c : Circuit) (i n : ℕ) → i ≡ length c.latches → BeginWith (step_clauses c) (before_latch c i) n → n ≡ length (step_clauses c)
+whole_block c i n all h =
+    h.count
+    ∙ ap (λ latches. length (before_constraints c ++ map (unit_clause 0) c.constraints ++ flat_map (latch_clauses c 0) latches))
+    (take_all i c.latches (omega (arith, all)))
 
 in_front : (a b c d : List (List Lit)) → ((a ++ b) ++ c) ++ d ≡ a ++ (b ++ (c ++ d))
 in_front a b c d = append_assoc (a ++ b) c d ∙ append_assoc a b (c ++ d)

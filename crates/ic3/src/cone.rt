@@ -5,15 +5,15 @@ ghost use Rattle.ic3.specs.SteppingInside.{Grows};
 use cdcl::Solver;
 use circuit::{Circuit, Gate};
 use cnf::{Db, Lit};
-use cnf_unroll::Used;
+use cnf_unroll::{Used, before_constraints, before_gate, before_latch};
 use std::alloc::{AllocError, Global};
 
-/// Which clauses came. The base has that of the constants first; then three for each gate, one for each constraint, two for
-/// each latch, in the order of the circuit; then those of the entries.
+/// Which clauses came. The base has those of the circuit first, as `cnf_unroll` lays them out, and then those of the
+/// entries.
 #[derive(Drop)]
 pub(crate) struct Cone {
-    // For each variable the first clause of its gate, or 0.
-    firsts: Vec<usize>,
+    // For each variable the number of its gate in the order of the circuit, or 0.
+    gate_numbers: Vec<usize>,
     // Which variables are read.
     read: Vec<bool>,
     // Which have the clauses of their gate in the solver.
@@ -29,7 +29,7 @@ impl Cone {
     pub(crate) fn new(alloc: Global, c: &Circuit) -> Result<Cone, AllocError> {
         let count = c.max() as usize + 1;
         Ok(Cone {
-            firsts: firsts_of(alloc, c, count)?,
+            gate_numbers: gate_numbers_of(alloc, c, count)?,
             read: vec![in alloc; false; count]?,
             held: vec![in alloc; false; count]?,
             nexts: vec![in alloc; false; c.latches().len()]?,
@@ -43,16 +43,14 @@ impl Cone {
     }
 }
 
-fn firsts_of(alloc: Global, c: &Circuit, count: usize) -> Result<Vec<usize>, AllocError> {
-    let mut firsts = vec![in alloc; 0; count]?;
-    let mut first: usize = 1;
-    for gate in c.gates() {
-        if let Some(place) = firsts.get_mut(gate.var as usize) {
-            *place = first;
+fn gate_numbers_of(alloc: Global, c: &Circuit, count: usize) -> Result<Vec<usize>, AllocError> {
+    let mut numbers = vec![in alloc; 0; count]?;
+    for (number, gate) in c.gates().iter().enumerate() {
+        if let Some(place) = numbers.get_mut(gate.var as usize) {
+            *place = number;
         }
-        first = first.saturating_add(3);
     }
-    Ok(firsts)
+    Ok(numbers)
 }
 
 fn is_marked(marks: &[bool], place: usize) -> bool {
@@ -86,7 +84,13 @@ fn put(base: &Db, solver: &mut Solver, from: usize, to: usize) -> Result<(), All
     Ok(())
 }
 
-fn put_gate(base: &Db, cone: &mut Cone, solver: &mut Solver, gate: &Gate) -> Result<(), AllocError>
+fn put_gate(
+    c: &Circuit,
+    base: &Db,
+    cone: &mut Cone,
+    solver: &mut Solver,
+    gate: &Gate,
+) -> Result<(), AllocError>
     ensures { Grows base.now.clauses solver.old.added solver.new.added }
 {
     let v = gate.var as usize;
@@ -97,8 +101,23 @@ fn put_gate(base: &Db, cone: &mut Cone, solver: &mut Solver, gate: &Gate) -> Res
     cone.gates = cone.gates.saturating_add(1);
     mark_variable(&mut cone.read, gate.rhs0);
     mark_variable(&mut cone.read, gate.rhs1);
-    let first = cone.firsts.get(v).copied().unwrap_or(0);
-    put(base, solver, first, first.saturating_add(3))
+    let number = cone.gate_numbers.get(v).copied().unwrap_or(0);
+    put_gate_at(c, base, solver, number)
+}
+
+// The clauses of the gate with this number.
+fn put_gate_at(c: &Circuit, base: &Db, solver: &mut Solver, number: usize) -> Result<(), AllocError>
+    ensures { Grows base.now.clauses solver.old.added solver.new.added }
+{
+    if number >= c.gates().len() {
+        return Ok(());
+    }
+    put(
+        base,
+        solver,
+        before_gate(c, number),
+        before_gate(c, number + 1),
+    )
 }
 
 // The clauses of all gates that are read, or stand behind one that is. A gate is read by later ones alone, so the last
@@ -107,7 +126,7 @@ fn put_gates(c: &Circuit, base: &Db, cone: &mut Cone, solver: &mut Solver) -> Re
     ensures { Grows base.now.clauses solver.old.added solver.new.added }
 {
     for gate in c.evaluation_order().iter().rev() {
-        put_gate(base, cone, solver, gate)?;
+        put_gate(c, base, cone, solver, gate)?;
     }
     Ok(())
 }
@@ -132,18 +151,6 @@ pub(crate) fn meet(
     Ok(())
 }
 
-// The place behind the clauses of gates.
-fn gates_end(c: &Circuit) -> usize {
-    c.gates().len().saturating_mul(3).saturating_add(1)
-}
-
-// The place of the first clause of a latch's next value.
-fn next_place(c: &Circuit, latch: usize) -> usize {
-    gates_end(c)
-        .saturating_add(c.constraints().len())
-        .saturating_add(latch.saturating_mul(2))
-}
-
 // The clauses of a latch's next value, and whether its variable was not read before.
 fn put_next(
     c: &Circuit,
@@ -154,19 +161,19 @@ fn put_next(
 ) -> Result<bool, AllocError>
     ensures { Grows base.now.clauses solver.old.added solver.new.added }
 {
+    if latch >= c.latches().len() {
+        return Ok(false);
+    }
     if !mark(&mut cone.nexts, latch) {
         return Ok(false);
     }
     put(
         base,
         solver,
-        next_place(c, latch),
-        next_place(c, latch.saturating_add(1)),
+        before_latch(c, latch),
+        before_latch(c, latch + 1),
     )?;
-    match c.latches().get(latch) {
-        Some(found) => Ok(mark_variable(&mut cone.read, found.next)),
-        None => Ok(false),
-    }
+    Ok(mark_variable(&mut cone.read, c.latches()[latch].next))
 }
 
 /// What the next values of the latches of these literals stand on.
@@ -199,9 +206,9 @@ pub(crate) fn meet_entries(
 ) -> Result<(), AllocError>
     ensures { Grows base.now.clauses solver.old.added solver.new.added }
 {
-    put(base, solver, 0, 1)?;
-    put(base, solver, gates_end(c), next_place(c, 0))?;
-    put(base, solver, next_place(c, c.latches().len()), base.len())?;
+    put(base, solver, 0, before_gate(c, 0))?;
+    put(base, solver, before_constraints(c), before_latch(c, 0))?;
+    put(base, solver, before_latch(c, c.latches().len()), base.len())?;
     meet(c, base, cone, solver, c.constraints())?;
     for entry in used {
         for clause in entry.set.as_slice() {

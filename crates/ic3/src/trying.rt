@@ -21,6 +21,7 @@ use crate::stepping_questions::{
 use cdcl::Asked;
 use circuit::{Circuit, Position, eval_into, literal_value, next_into};
 use cnf::{Clause, Cube, Db, holds};
+use cnf_unroll::before_latch;
 use edge::{Meter, SolveEnd};
 use ic3_loops::holds_in;
 use ic3_questions::literal_in_block;
@@ -106,8 +107,7 @@ fn values_in(alloc: Global, values: &[bool], place: &[u64]) -> Result<Items<bool
 fn block_len(c: &Circuit) -> usize
     ensures { result ≡ length (step_clauses c.now) }
 {
-    let _limits = c.max();
-    1 + 3 * c.gates().len() + c.constraints().len() + 2 * c.latches().len()
+    before_latch(c, c.latches().len())
 }
 
 fn all_hold(clauses: &[Clause], values: &[bool]) -> bool

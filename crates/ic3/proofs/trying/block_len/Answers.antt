@@ -1,7 +1,6 @@
-use Rattle.std.proofs.Common.{ap, length, arith}
-use Rattle.ic3.proofs.TriedLaws.{block_length}
+use Rattle.std.proofs.Common.{length, ap}
+use Rattle.ic3.proofs.TriedLaws.{whole_block}
 use Rattle.ic3.proofs.trying.block_len.Goals as goal
 
 pub returns : goal.returns
-returns c =
-    omega (arith, block_length c.args.c.now, ap length c.gates.ensures, ap length c.constraints.ensures, ap length c.latches.ensures)
+returns c = whole_block c.args.c.now (length c.latches.result.now) _ (ap length c.latches.ensures) c.before_latch.ensures
