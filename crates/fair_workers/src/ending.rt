@@ -139,7 +139,8 @@ fn told(task: &RunTask<'_>, ends: &[WorkerEnd], report: Report) -> Result<Report
     Err(Ended::Spent(report))
 }
 
-/// What workers leave that are done with the board. Takes no memory: there is room.
+/// What workers leave that are done with the board: where each property has an outcome these; else want of memory, where a
+/// worker was refused some; else a report. Takes no memory: there is room.
 pub(crate) fn ended(
     task: &RunTask<'_>,
     board: Board,
@@ -151,6 +152,8 @@ pub(crate) fn ended(
     requires room { (length ends.now ≤ vec_capacity room.spent) × (length ends.now ≤ vec_capacity room.depths) }
     ensures answer { IfOk result (IsAnswer (task_in task.now)) }
     ensures ended { IfErr result (IsEnded (task_in task.now)) }
+    ensures first { IsSettled board.served → IfErr result (λ _. ⊥) }
+    ensures refused { (IsSettled board.served → ⊥) → any_refused ends.now ≡ true → result ≡ Err Ended.Memory }
 {
     let report = Report {
         board,
