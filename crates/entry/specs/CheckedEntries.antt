@@ -40,7 +40,11 @@ checked_behind c before e proofs origin = record {
 abbrev pub entry_in : {Z : Type 0} → Arc CheckedEntry Z → Entry
 entry_in shared = (arc_value {X = CheckedEntry} shared).entry
 
--- the entries of a view, which is a list of shared checked entries
+-- the checked entries of a view, which is a list of shared ones
+abbrev pub checked_in : {Z : Type 0} → List (Arc CheckedEntry Z) → List CheckedEntry
+checked_in view = map (arc_value {X = CheckedEntry}) view
+
+-- the entries of a view
 abbrev pub viewed : {Z : Type 0} → List (Arc CheckedEntry Z) → List Entry
 viewed view = map entry_in view
 

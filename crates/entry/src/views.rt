@@ -1,9 +1,9 @@
 //! Views: the checked entries that a search knows, as a list of shared handles. The main call is `catch_up`.
 
-ghost use Rattle.std.specs.Prelude.{◌≡◌, ◌<◌, ◌^◌, ◌++◌, length, All, IfOk, OnOk, OnErr};
+ghost use Rattle.std.specs.Prelude.{◌≡◌, ◌<◌, ◌^◌, ◌++◌, length, drop, All, IfOk, OnOk, OnErr};
 ghost use Rattle.fair_semantics.specs.Entries.{entry_at, numbered, used_entries};
 ghost use Rattle.cnf_unroll.specs.Lending.{lent, lent_all};
-ghost use Rattle.entry.specs.CheckedEntries.{entry_in, viewed, GoesOnFrom};
+ghost use Rattle.entry.specs.CheckedEntries.{entry_in, checked_in, viewed, GoesOnFrom};
 ghost use Rattle.entry.specs.Listing.{entries_of};
 
 use crate::checked::Checked;
@@ -15,9 +15,10 @@ use std::alloc::{AllocError, Global};
 use std::mem;
 use std::sync::Arc;
 
-/// A list of the same entries; the entries themselves are not copied. The error is want of memory.
+/// A list of the same checked entries; the entries themselves are not copied. The error is want of memory.
 pub fn share(alloc: Global, view: &[Arc<Checked>]) -> Result<Items<Arc<Checked>>, AllocError>
-    ensures { IfOk result (λ copy. viewed copy ≡ viewed view.now) }
+    ensures checked { IfOk result (λ copy. checked_in copy ≡ checked_in view.now) }
+    ensures viewed { IfOk result (λ copy. viewed copy ≡ viewed view.now) }
 {
     let mut copy = Items::new(alloc);
     for shared in view {
@@ -32,7 +33,7 @@ fn append(
     seen: &mut Items<Arc<Checked>>,
     more: Items<Arc<Checked>>,
 ) -> Result<(), AllocError>
-    ensures seen { OnOk result (viewed seen.new ≡ viewed seen.old ++ viewed more) }
+    ensures seen { OnOk result (seen.new ≡ seen.old ++ more) }
     ensures kept { OnErr result (seen.new ≡ seen.old) }
 {
     let mut values = mem::replace(seen, Items::new(alloc)).into_vec();
@@ -41,14 +42,15 @@ fn append(
     appended
 }
 
-/// Takes in what the view has more than was seen, and copies no other handle. The error is want of memory, and changes
-/// nothing.
+/// Takes in what the view has more than was seen, and copies no other handle: of what was seen the checked entries stay,
+/// with their proofs and origins. The error is want of memory, and changes nothing.
 pub fn catch_up(
     alloc: Global,
     seen: &mut Items<Arc<Checked>>,
     view: &[Arc<Checked>],
 ) -> Result<(), AllocError>
     requires { GoesOnFrom (viewed seen.old) (viewed view.now) }
+    ensures checked { OnOk result (checked_in seen.new ≡ checked_in seen.old ++ drop (length seen.old) (checked_in view.now)) }
     ensures seen { OnOk result (viewed seen.new ≡ viewed view.now) }
     ensures kept { OnErr result (seen.new ≡ seen.old) }
 {

@@ -1,10 +1,22 @@
-use Rattle.std.proofs.Common.{◌≡◌, ◌++◌, OnOk, ap, ◌∙◌, subst}
-use Rattle.entry.specs.CheckedEntries.{viewed}
-use Rattle.entry.proofs.GoingOn.{caught-up}
+use Rattle.std.proofs.Common.{◌≡◌, ◌++◌, length, map, drop}
+use Rattle.std.proofs.lemmas.Result.{on_ok_weaker}
+use Rattle.std.specs.Arc.{arc_value}
+use Rattle.entry.specs.CheckedEntries.{CheckedEntry}
+use Rattle.entry.proofs.GoingOn.{put-behind, caught-up-with}
 use Rattle.entry.proofs.views.catch_up.Goals as goal
+
+pub returns-clause-checked : goal.returns-clause-checked
+returns-clause-checked c =
+    on_ok_weaker c.append.result
+    (λ is.
+    put-behind (arc_value {X = CheckedEntry}) c.append.new.seen c.args.seen.now c.in_ok-more.more c.args.view.now c.len.result is
+    c.in_ok-more.ensures.checked c.len.ensures)
+    c.append.ensures.seen
 
 pub returns-clause-seen : goal.returns-clause-seen
 returns-clause-seen c =
-    subst (λ xs. OnOk c.append.result (viewed c.append.new.seen ≡ xs))
-    (ap (λ xs. viewed c.args.seen.now ++ xs) c.in_ok-more.ensures ∙ caught-up c.args.seen.now c.args.view.now c.len.result c.requires c.len.ensures)
+    on_ok_weaker c.append.result
+    (λ is.
+    caught-up-with c.append.new.seen c.args.seen.now c.in_ok-more.more c.args.view.now c.len.result c.requires is
+    c.in_ok-more.ensures.viewed c.len.ensures)
     c.append.ensures.seen
