@@ -24,7 +24,7 @@ use Rattle.wall_ledger.specs.declared.marks.Shown.{Shown}
 use Rattle.wall_ledger.specs.Passes.{Mark, blank, won, closed, Marked, PassState, LedgerState, IsMarkOf, AreMarksOf, IsPassPost, MayPassPost, shown_by, shown_of}
 use Rattle.wall_ledger.specs.Turns as passing
 use Rattle.wall_ledger.specs.Turns.{Turn, IsShown, closed_unless_won, is_passed}
-use Rattle.shared_lists.specs.Knowing.{Keeps, KeepsList, SeesMore, TellsPosted, HasPosted, HasFinished, HasAsked, IsOwn}
+use Rattle.shared_lists.specs.Knowing.{Keeps, KeepsList, SeesMore, TellsPosted, HasPosted, IsLastOf, HasFinished, HasAsked, IsOwn}
 use Rattle.shared_lists.specs.Holding.{is_shown, known_by, IsPassOf, StaysHeld}
 use Rattle.shared_lists.proofs.LentBoards.{some-not-none, contains-later, same-number, stands-behind}
 
@@ -283,6 +283,18 @@ posted-known-by l p q e r (FoundBy work) is h own answer = record {
 pub posted-known : (l : LedgerState) (p q : PassState) (e : CheckedEntry) (r : Posted) → IsPassOf l p → passing.HasPosted l p e r q
     → FromWorker e.origin (IsOwn (known_by l p) e) → HasPosted (known_by l p) r (known_by l q)
 posted-known l p q e r is h own = posted-known-by l p q e r e.origin is h own h.event.answer
+
+posted-last-by : (l : LedgerState) (p q : PassState) (e : CheckedEntry) (r : Posted) (origin : Origin) → (h : passing.HasPosted l p e r q)
+    → FromWorker origin (λ work. IsPosted h.turn.before work.skeleton r) → IsLastOf e (known_by l q) r
+posted-last-by l p q e r Given h answer = absurd answer
+posted-last-by l p q e (posts.Appended n) (FoundBy work) h answer =
+    (h.turn.before.entries, h.shown.list ∙ posted-entries l p q e (posts.Appended n) h, answer.1.1)
+posted-last-by l p q e (posts.Stale n) (FoundBy work) h answer = tt
+posted-last-by l p q e posts.Full (FoundBy work) h answer = tt
+posted-last-by l p q e posts.Closed (FoundBy work) h answer = tt
+
+pub posted-last : (l : LedgerState) (p q : PassState) (e : CheckedEntry) (r : Posted) → passing.HasPosted l p e r q → IsLastOf e (known_by l q) r
+posted-last l p q e r h = posted-last-by l p q e r e.origin h h.event.answer
 
 -- what a worker may post by what it knows its pass may
 may-by : (l : LedgerState) (p : PassState) (e : CheckedEntry) (origin : Origin) → ClosedUsesStand → FromWorker origin (IsOwn (known_by l p) e)

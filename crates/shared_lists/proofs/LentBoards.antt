@@ -29,7 +29,7 @@ use Rattle.wall_store.specs.declared.outcomes.Finished.TheVariants as ends
 use Rattle.wall_store.specs.Boards.{BoardState, IsBoard, FromWorker, IsTrueOf, plain, Allow, properties_of, outcome_of}
 use Rattle.wall_store.specs.Events.{seen_by, list_of, shown_to, with_outcome, with_post, entries_after, IsOpen, IsSettled, IsPosted, IsPostOf, Looks, Posts, Finishes, IsNextOpen, OpensNext}
 use Rattle.wall_store.specs.Laws.{SeenUsesStand, OutcomesStay}
-use Rattle.shared_lists.specs.Knowing.{Known, AreSettled, KeepsList, SeesMore, HasPosted, HasFinished, HasAsked, IsOwn, MayPostFrom}
+use Rattle.shared_lists.specs.Knowing.{Known, AreSettled, KeepsList, SeesMore, HasPosted, IsLastOf, HasFinished, HasAsked, IsOwn, MayPostFrom}
 use Rattle.shared_lists.specs.declared.lending.LentBoard.{LentBoard}
 use Rattle.shared_lists.specs.Lending.{known_at, known_of, IsLent, IsOfTurn, GoesOnBy, StaysLent}
 
@@ -265,6 +265,21 @@ post-known n turns b c e r Given is below own answer after = absurd own
 post-known n turns b c e r (FoundBy work) is below own answer after =
     subst (λ d. HasPosted (known_at b n turns) r (known_at d n (turns + 1))) (sym after)
     (posted n turns b e r work.skeleton is below own.allowed answer)
+
+posted-last : (n turns : ℕ) (b : BoardState) (e : CheckedEntry) (r : Posted) (skeleton : Skeleton) → IsBoard b → n < b.workers → IsPosted b skeleton r
+    → IsLastOf e (known_at (shown_to (with_post b e r) n) n (turns + 1)) r
+posted-last n turns b e (posts.Appended m) skeleton is below answer =
+    (b.entries, shown-list n (record b { entries = b.entries ++ e ∷ [] }) (omega (arith, below, is.each_seen)), answer.1.1)
+posted-last n turns b e (posts.Stale m) skeleton is below answer = tt
+posted-last n turns b e posts.Full skeleton is below answer = tt
+posted-last n turns b e posts.Closed skeleton is below answer = tt
+
+pub post-last : (n turns : ℕ) (b c : BoardState) (e : CheckedEntry) (r : Posted) (origin : Origin) → IsBoard b → n < b.workers
+    → FromWorker origin (λ work. IsPosted b work.skeleton r) → c ≡ shown_to (with_post b e r) n
+    → IsLastOf e (known_at c n (turns + 1)) r
+post-last n turns b c e r Given is below answer after = absurd answer
+post-last n turns b c e r (FoundBy work) is below answer after =
+    subst (λ d. IsLastOf e (known_at d n (turns + 1)) r) (sym after) (posted-last n turns b e r work.skeleton is below answer)
 
 pub may-post-on : (n turns : ℕ) (b : BoardState) (e : CheckedEntry) (origin : Origin) → SeenUsesStand b n
     → FromWorker origin (IsOwn (known_at b n turns) e) → FromWorker origin (IsPostOf b n e)

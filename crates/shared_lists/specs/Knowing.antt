@@ -1,6 +1,6 @@
 -- Scaffolding of inner functions. What a worker knows of a list that it shares with others, and what a call for the list
 -- makes of that. It goes for a board on which workers take turns, and for whatever else may lend one a list.
-use Rattle.std.specs.Prelude.{◌≡◌, ℕ, ◌+◌, ◌<◌, ◌≤◌, ◌⊎◌, Bool, true, false, List, ◌++◌, length, Contains, Option, Some, None}
+use Rattle.std.specs.Prelude.{◌≡◌, ℕ, ◌+◌, ◌<◌, ◌≤◌, ◌⊎◌, Bool, true, false, List, [], ◌∷◌, ◌++◌, length, Contains, Option, Some, None}
 use Rattle.std.specs.List.{Any}
 use Rattle.aig_semantics.specs.Circuits.{Circuit}
 use Rattle.fair_semantics.specs.Entries.{used_entries, AreClosed}
@@ -59,6 +59,13 @@ TellsPosted k l posts.Closed = AreSettled l
 pub record HasPosted (k : Known) (r : Posted) (l : Known) : Type 0 where
   pub sees : SeesMore k l
   pub tells : TellsPosted k l r
+
+-- An entry that was appended is then the last that the worker has seen, and has this number.
+abbrev pub IsLastOf : CheckedEntry → Known → Posted → Type 0
+IsLastOf e l (posts.Appended n) = (before : List CheckedEntry) × (l.list ≡ before ++ e ∷ []) × (n ≡ length before)
+IsLastOf e l (posts.Stale n) = Unit {0}
+IsLastOf e l posts.Full = Unit {0}
+IsLastOf e l posts.Closed = Unit {0}
 
 -- property j was handed in
 pub record HasFinished (j : ℕ) (k l : Known) : Type 0 where

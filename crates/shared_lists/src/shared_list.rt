@@ -5,7 +5,7 @@ ghost use Rattle.std.specs.Arc.{arc_value};
 ghost use Rattle.entry.specs.CheckedEntries.{viewed};
 ghost use Rattle.entry.specs.Laws.{IsGoodList};
 ghost use Rattle.wall_store.specs.Boards.{IsTrueOf, most_entries, plain};
-ghost use Rattle.shared_lists.specs.Knowing.{Known, KeepsList, SeesMore, HasPosted, HasFinished, HasAsked, MayPostFrom};
+ghost use Rattle.shared_lists.specs.Knowing.{Known, KeepsList, SeesMore, HasPosted, IsLastOf, HasFinished, HasAsked, MayPostFrom};
 
 use entry::Checked;
 use std::alloc::AllocError;
@@ -52,12 +52,14 @@ pub trait SharedList {
         ensures err { OnErr result (KeepsList (known self.old) (known self.new)) }
         ensures on { goes_on self.old self.new };
 
-    /// Posts an entry of the worker, which then sees the whole list. The answers are those of `Board::post`.
+    /// Posts an entry of the worker, which then sees the whole list: its last entry is the one that was appended. The answers
+    /// are those of `Board::post`.
     fn post(&mut self, entry: &Arc<Checked>) -> Result<Posted, AllocError>
         requires kept { is_kept self.old }
         requires turns { (known self.old).turns + 1 < 2 ^ 32 }
         requires may { MayPostFrom (known self.old) (arc_value entry.now) }
         ensures ok { IfOk result (λ posted. HasPosted (known self.old) posted (known self.new)) }
+        ensures last { IfOk result (IsLastOf (arc_value entry.now) (known self.new)) }
         ensures err { OnErr result (KeepsList (known self.old) (known self.new)) }
         ensures on { goes_on self.old self.new };
 

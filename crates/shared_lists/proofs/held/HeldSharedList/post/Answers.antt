@@ -1,9 +1,9 @@
 use Rattle.std.proofs.lemmas.Result.{IfOk-weaker, on_err_weaker}
 use Rattle.std.specs.Arc.{arc_value}
 use Rattle.wall_ledger.specs.Turns as passing
-use Rattle.shared_lists.specs.Knowing.{HasPosted}
+use Rattle.shared_lists.specs.Knowing.{HasPosted, IsLastOf}
 use Rattle.shared_lists.specs.Holding.{known_by, StaysHeld}
-use Rattle.shared_lists.proofs.HeldPasses.{if-either, may-pass, posted-known, refused-known, posted-held, refused-held}
+use Rattle.shared_lists.proofs.HeldPasses.{if-either, may-pass, posted-known, posted-last, refused-known, posted-held, refused-held}
 use Rattle.shared_lists.proofs.held.HeldSharedList.post.Goals as goal
 
 pub post-requires-clause-may : goal.post-requires-clause-may
@@ -19,6 +19,14 @@ returns-clause-ok g c =
     let q = c.post.new.pass in
     IfOk-weaker c.post.result (λ r. passing.HasPosted l s.pass e r q) (λ r. HasPosted (known_by l s.pass) r (known_by l q))
     (λ r h. posted-known l s.pass q e r c.requires.kept h c.requires.may) c.post.ensures.ok
+
+pub returns-clause-last : goal.returns-clause-last
+returns-clause-last g c =
+    let s = c.args.self.now in
+    let l = s.ledger.now in
+    let e = arc_value c.args.entry.now in
+    let q = c.post.new.pass in
+    IfOk-weaker c.post.result (λ r. passing.HasPosted l s.pass e r q) (IsLastOf e (known_by l q)) (λ r h. posted-last l s.pass q e r h) c.post.ensures.ok
 
 pub returns-clause-err : goal.returns-clause-err
 returns-clause-err g c =
