@@ -68,9 +68,11 @@ fn parts_of(alloc: Global, c: &Circuit, j: u32) -> Result<Parts, AllocError> {
     parts
 }
 
-// The circuit, where it has a property.
-fn with_property(kept: Kept) -> Option<Circuit>
-    ensures { IfSome result (λ c. 0 < length c.justice) }
+// The circuit, where it has a property: that of `_c`.
+fn with_property(kept: Kept, _c: &Circuit, _j: u32) -> Option<Circuit>
+    requires { _j < length _c.now.justice }
+    ensures some { IfSome result (λ part. 0 < length part.justice) }
+    ensures property { IfSome result (λ part. _j < length _c.now.justice) }
 {
     if kept.circuit.property_count() == 0 {
         drop(kept);
@@ -86,15 +88,19 @@ pub(crate) fn cone_circuit(
     c: &Circuit,
     j: u32,
 ) -> Result<Option<Circuit>, AllocError>
-    ensures { IfOk result (λ made. IfSome made (λ c. 0 < length c.justice)) }
+    ensures some { IfOk result (λ made. IfSome made (λ part. 0 < length part.justice)) }
+    ensures property { IfOk result (λ made. IfSome made (λ part. j < length c.now.justice)) }
 {
+    if (j as usize) >= c.property_count() {
+        return Ok(None);
+    }
     let parts = parts_of(alloc, c, j)?;
     if !parts.is_in_range() {
         drop(parts);
         return Ok(None);
     }
     match keep_circuit(alloc, parts) {
-        Ok(kept) => Ok(with_property(kept)),
+        Ok(kept) => Ok(with_property(kept, c, j)),
         Err(ModelEnd::Memory) => Err(AllocError),
         Err(ModelEnd::Fault(_fault)) => Ok(None),
     }

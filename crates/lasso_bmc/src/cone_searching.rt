@@ -1,5 +1,5 @@
 //! The search over a cone, which is asked for one position more at a time. The main call is `deepen_cone`.
-ghost use Rattle.std.specs.Prelude.{◌≡◌, ◌+◌, ◌<◌, ◌^◌, length, None, IfOk, IfErr, IfSome, OnOk};
+ghost use Rattle.std.specs.Prelude.{◌≡◌, ◌×◌, ◌+◌, ◌<◌, ◌≤◌, ◌^◌, length, None, IfOk, IfErr, IfSome, OnOk};
 ghost use Rattle.aig_semantics.specs.Stimuli.{IsFairLassoOf};
 ghost use Rattle.edge.specs.Ends.{CountsConflicts, IsEnd};
 ghost use Rattle.lasso_bmc.specs.Searching.{IsSearched};
@@ -41,10 +41,11 @@ impl Model for ConeSearch {
 }
 
 impl ConeSearch {
-    /// A search over the cone of property `j`, counted from 0, for no positions; none where there is no such property. The
-    /// error is want of memory.
+    /// A search over the cone of property `j`, counted from 0, for no positions; none where there is no such property. No
+    /// clause says that there is one where there is. The error is want of memory.
     pub fn new(alloc: Global, c: &Circuit, j: u32) -> Result<Option<ConeSearch>, AllocError>
-        ensures { IfOk result (λ made. IfSome made (λ search. search ≡ 0)) }
+        ensures new { IfOk result (λ made. IfSome made (λ search. search ≡ 0)) }
+        ensures property { IfOk result (λ made. IfSome made (λ search. j < length c.now.justice)) }
     {
         match cone_circuit(alloc, c, j)? {
             Some(circuit) => Ok(Some(ConeSearch {
@@ -95,6 +96,7 @@ fn told(
     requires positions { OnOk answer (positions_in asked ≡ done.old + 1) }
     requires end { IfErr answer (IsEnd _meter.now) }
     ensures solver { IfSome solver.new (IsUpTo _part.now done.new) }
+    ensures done { (done.old ≤ done.new) × (done.new ≤ done.old + 1) }
     ensures end { IfErr result (IsEnd _meter.now) }
 {
     match answer {
@@ -128,6 +130,7 @@ fn asked_of(
     requires taken { IsUpTo part.now done.old taken }
     requires none { solver.old ≡ None }
     ensures solver { IfSome solver.new (IsUpTo part.now done.new) }
+    ensures done { (done.old ≤ done.new) × (done.new ≤ done.old + 1) }
     ensures end { IfErr result (IsEnd meter.new) }
     ensures counted { CountsConflicts meter.old meter.new }
 {
@@ -147,6 +150,7 @@ fn asked(
     requires property { 0 < length part.now.justice }
     requires solver { IfSome solver.old (IsUpTo part.now done.old) }
     ensures solver { IfSome solver.new (IsUpTo part.now done.new) }
+    ensures done { (done.old ≤ done.new) × (done.new ≤ done.old + 1) }
     ensures end { IfErr result (IsEnd meter.new) }
     ensures counted { CountsConflicts meter.old meter.new }
 {
@@ -179,7 +183,8 @@ fn whole_of(
 /// of the whole circuit, with 0 outside the cone, and those of its loop are repeated until the state is back: the lasso of
 /// property `j` that this is, or none where it is not back within the bounds of `repeated_lasso`, or `c` and `j` are not those of
 /// the search. Behind this, and behind an error, the search is over, and nothing more is asked. The meter counts conflicts
-/// alone; `Spent` comes where their count is at its limit. What is asked, and what becomes of the search, no clause says.
+/// alone; `Spent` comes where their count is at its limit. It is done with one position more at most. What is asked, and
+/// whether the search is over, no clause says.
 pub fn deepen_cone(
     alloc: Global,
     c: &Circuit,
@@ -188,6 +193,7 @@ pub fn deepen_cone(
     meter: &mut Meter,
 ) -> Result<Option<Lasso>, SolveEnd>
     ensures lasso { IfOk result (λ found. IfSome found (IsFairLassoOf c.now j)) }
+    ensures done { (search.old ≤ search.new) × (search.new ≤ search.old + 1) }
     ensures end { IfErr result (IsEnd meter.new) }
     ensures counted { CountsConflicts meter.old meter.new }
 {
