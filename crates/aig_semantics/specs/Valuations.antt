@@ -1,5 +1,5 @@
 -- The value of each variable of a circuit, from the values of its latches and inputs (AIGER 1.9; Biere, Heljanko, Wieringa, 2011).
-use Rattle.std.specs.Prelude.{◌≡◌, ℕ, zero, suc, ◌+◌, ◌==◌, Bool, false, ◌&&◌, List, [], ◌∷◌, ◌++◌, map, length, Option, Some, None, unwrap_or, if◌then◌else◌}
+use Rattle.std.specs.Prelude.{◌≡◌, ◌↔◌, ℕ, zero, suc, ◌+◌, ◌==◌, Bool, false, ◌&&◌, List, [], ◌∷◌, ◌++◌, map, length, Option, Some, None, unwrap_or, if◌then◌else◌}
 use Rattle.std.specs.List.{All, Contains, find}
 use Rattle.aig_semantics.specs.declared.parts.Gate.{Gate}
 use Rattle.aig_semantics.specs.Literals.{literal_by, variable_in}
@@ -50,3 +50,9 @@ values_below (suc n) value = values_below n value ++ value n ∷ []
 
 unfoldable pub valuation : Circuit → List Bool → List Bool → List Bool
 valuation c latches inputs = values_below (c.max + 1) (value_through (length c.gates) c.gates (given_value c latches inputs))
+
+-- Latches and inputs that fit the circuit have one valuation, the computed one.
+abbrev pub HasOneValuation : Circuit → Type 0
+HasOneValuation c =
+    (latches inputs values : List Bool) → length latches ≡ length c.latches → length inputs ≡ length c.inputs
+    → (IsValuation c latches inputs values ↔ (values ≡ valuation c latches inputs))

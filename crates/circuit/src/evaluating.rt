@@ -1,9 +1,9 @@
 //! The valuation of a position and its successor. The main call is `eval_into`, which writes into a buffer of the
 //! caller's; nothing here takes memory.
 
-ghost use Rattle.std.specs.Prelude.{◌≡◌, ◌↔◌, ◌+◌, ◌<◌, ◌≤◌, Bool, List, length, map, All, fold, false, replicate};
+ghost use Rattle.std.specs.Prelude.{◌≡◌, ◌+◌, ◌<◌, ◌≤◌, length, map, All, fold, false, replicate};
 ghost use Rattle.aig_semantics.specs.Literals.{literal_in, variable_in};
-ghost use Rattle.aig_semantics.specs.Valuations.{valuation, IsValuation, conjunction};
+ghost use Rattle.aig_semantics.specs.Valuations.{valuation, HasOneValuation, conjunction};
 ghost use Rattle.circuit.specs.Evaluation.{with_values, with_gate};
 
 use crate::circuits::Circuit;
@@ -96,8 +96,7 @@ pub fn next_into(c: &Circuit, values: &[bool], out: &mut [bool])
 /// The law of valuations: latches and inputs that fit a circuit have one valuation, which `eval_into` writes. It
 /// does nothing.
 pub fn one_valuation(c: &Circuit)
-    ensures { (latches inputs values : List Bool) → length latches ≡ length c.now.latches → length inputs ≡ length c.now.inputs
-        → (IsValuation c.now latches inputs values ↔ (values ≡ valuation c.now latches inputs)) }
+    ensures { HasOneValuation c.now }
 {
     let _ = &c.greatest;
 }

@@ -1,5 +1,5 @@
 -- An assignment that makes the clauses of a block true gives it a position and its successor.
-use Rattle.std.proofs.Common.{◌≡◌, ℕ, zero, suc, ◌+◌, ◌<◌, ◌≤◌, ◌==◌, ◌⊎◌, ◌↔◌, Bool, true, false, not, cond, ◌&&◌, ◌||◌, List, [], ◌∷◌, ◌++◌, map, length, get_or, refl, sym, ap, subst, ◌∙◌, inl, inr, arith}
+use Rattle.std.proofs.Common.{◌≡◌, ℕ, zero, suc, ◌+◌, ◌<◌, ◌≤◌, ◌==◌, ◌⊎◌, Bool, true, false, not, cond, ◌&&◌, ◌||◌, List, [], ◌∷◌, ◌++◌, map, length, get_or, refl, sym, ap, subst, ◌∙◌, inl, inr, arith}
 use Rattle.std.specs.List.{All, AllByRecursion, Contains, list_all, list_any, flat_map}
 use Rattle.std.proofs.lemmas.Bool.{and_parts, and_from, cases_Bool, cases_lt, eqb-true, eq-eqb}
 use Rattle.std.proofs.lemmas.List.{length-map, get_or-map, get_or_past}
@@ -8,7 +8,7 @@ use Rattle.aig_semantics.specs.declared.parts.Latch.{Latch}
 use Rattle.aig_semantics.specs.declared.parts.Gate.{Gate}
 use Rattle.aig_semantics.specs.Literals.{variable_of, is_negated, literal_by, variable_in, literal_in}
 use Rattle.aig_semantics.specs.Circuits.{Circuit, IsChecked, defined}
-use Rattle.aig_semantics.specs.Valuations.{conjunction, MeetsEquations, IsValuation, valuation, values_below}
+use Rattle.aig_semantics.specs.Valuations.{conjunction, MeetsEquations, IsValuation, valuation, values_below, HasOneValuation}
 use Rattle.aig_semantics.specs.Runs.{literal_at}
 use Rattle.aig_semantics.proofs.Lists.{All-left, All-right}
 use Rattle.aig_semantics.proofs.Values.{length-values_below, get_or-values_below, given_variables, gate_variables}
@@ -20,12 +20,6 @@ use Rattle.cnf_unroll.specs.Numbers.{number, next_number, minus, literal_in_bloc
 use Rattle.cnf_unroll.specs.Blocks.{gate_clauses, unit_clause, latch_clauses, block_clauses}
 use Rattle.cnf_unroll.specs.Situations.{situation_in}
 use Rattle.cnf_unroll.proofs.Truth.{both, flat_true}
-
--- the law that a checked circuit has one valuation
-abbrev pub HasOneValuation : Circuit → Type 0
-HasOneValuation c =
-    (latches inputs values : List Bool) → length latches ≡ length c.latches → length inputs ≡ length c.inputs
-    → (IsValuation c latches inputs values ↔ (values ≡ valuation c latches inputs))
 
 -- ---- lists
 

@@ -8,7 +8,7 @@ use Rattle.aig_semantics.specs.declared.parts.Latch.{Latch}
 use Rattle.aig_semantics.specs.declared.parts.Gate.{Gate}
 use Rattle.aig_semantics.specs.Literals.{variable_of, variable_in}
 use Rattle.aig_semantics.specs.Circuits.{Circuit, IsChecked, defined}
-use Rattle.aig_semantics.specs.Valuations.{conjunction, IsValuation, value_beside}
+use Rattle.aig_semantics.specs.Valuations.{conjunction, IsValuation, value_beside, HasOneValuation}
 use Rattle.aig_semantics.specs.Runs.{literal_at, valuation_at, successor}
 use Rattle.aig_semantics.proofs.Lists.{AllDiffer-left, AllDiffer-right, value_beside-at}
 use Rattle.aig_semantics.proofs.Values.{given_variables, gate_variables}
@@ -21,7 +21,7 @@ use Rattle.cnf_unroll.specs.Numbers.{block_size, number, next_number, minus, lit
 use Rattle.cnf_unroll.specs.Blocks.{gate_clauses, unit_clause, latch_clauses, block_clauses}
 use Rattle.cnf_unroll.specs.Situations.{situation_in}
 use Rattle.cnf_unroll.proofs.Truth.{together, flat_true}
-use Rattle.cnf_unroll.proofs.BlockReading.{HasOneValuation, passed, each, each_two, map_same, map_map, IsRead, nexts_read, sides_read, constraints_read, latches_defined, inputs_defined, gates_defined, read_in_range, literal_there, literal_same}
+use Rattle.cnf_unroll.proofs.BlockReading.{passed, each, each_two, map_same, map_map, IsRead, nexts_read, sides_read, constraints_read, latches_defined, inputs_defined, gates_defined, read_in_range, literal_there, literal_same}
 
 -- the numbers of the block with this base have the values of the position, and of its successor
 pub record Shows (c : Circuit) (base : ℕ) (s : Situation) (v : ℕ → Bool) : Type 0 where

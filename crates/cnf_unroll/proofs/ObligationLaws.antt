@@ -4,6 +4,7 @@ use Rattle.std.specs.List.{All, AllByRecursion, Contains, list_all}
 use Rattle.std.proofs.lemmas.Bool.{and_parts, and_from}
 use Rattle.std.proofs.lemmas.List.{length-map}
 use Rattle.aig_semantics.specs.Circuits.{Circuit, IsChecked, defined}
+use Rattle.aig_semantics.specs.Valuations.{HasOneValuation}
 use Rattle.proof_semantics.specs.declared.literals.Lit.{Lit}
 use Rattle.proof_semantics.specs.Clauses.{literal_value, clause_value, clauses_value, values_of, negation}
 use Rattle.proof_semantics.proofs.LiteralLaws.{literal_value-negation}
@@ -20,7 +21,7 @@ use Rattle.cnf_unroll.specs.Laws.{IsSatisfiable, AreOver, IsUnderstood, BreaksCl
 use Rattle.cnf_unroll.proofs.Truth.{both, together, clause_there, set_there}
 use Rattle.cnf_unroll.proofs.UseLaws.{states_at, names_here, read_uses}
 use Rattle.cnf_unroll.proofs.UseWriting.{nothing, written}
-use Rattle.cnf_unroll.proofs.BlockReading.{HasOneValuation, each, latches_defined, read_in_range, block_read}
+use Rattle.cnf_unroll.proofs.BlockReading.{each, latches_defined, read_in_range, block_read}
 use Rattle.cnf_unroll.proofs.BlockWriting.{block_value, block_shown, block_true, shown_latches}
 
 or_false : (a : Bool) → (a || false) ≡ a

@@ -6,6 +6,7 @@ use Rattle.std.proofs.lemmas.List.Elements.{All-from_recursion, recursion_from_A
 use Rattle.aig_semantics.specs.Literals.{variable_of}
 use Rattle.aig_semantics.specs.Circuits.{Circuit, IsChecked, fair_literals}
 use Rattle.aig_semantics.proofs.Lists.{All-left, All-right}
+use Rattle.aig_semantics.specs.Valuations.{HasOneValuation}
 use Rattle.proof_semantics.specs.Clauses.{literal_value, clauses_value}
 use Rattle.fair_semantics.specs.declared.skeletons.Situation.{Situation}
 use Rattle.fair_semantics.specs.declared.skeletons.Skeleton.{Skeleton}
@@ -21,7 +22,7 @@ use Rattle.cnf_unroll.specs.Laws.{IsSatisfiable, AreReadable}
 use Rattle.cnf_unroll.proofs.Truth.{both, together}
 use Rattle.cnf_unroll.proofs.UseLaws.{states_at, read_uses}
 use Rattle.cnf_unroll.proofs.UseWriting.{nothing, written}
-use Rattle.cnf_unroll.proofs.BlockReading.{HasOneValuation, IsRead, nexts, sides_of, of_justice, block_read, literal_is}
+use Rattle.cnf_unroll.proofs.BlockReading.{IsRead, nexts, sides_of, of_justice, block_read, literal_is}
 use Rattle.cnf_unroll.proofs.BlockWriting.{Shows, block_value, block_shown, block_true, literal_shown, shown_latches}
 use Rattle.cnf_unroll.proofs.ObligationLaws.{state_length, successor_length, state_below, successor_below}
 

@@ -8,6 +8,7 @@ use Rattle.aig_semantics.specs.declared.traces.Position.{Position}
 use Rattle.aig_semantics.specs.Literals.{is_negated, variable_of, variable_in}
 use Rattle.aig_semantics.specs.Circuits.{Circuit, IsChecked}
 use Rattle.aig_semantics.specs.Runs.{literal_at, successor, valuation_at, MeetsConstraints}
+use Rattle.aig_semantics.specs.Valuations.{HasOneValuation}
 use Rattle.proof_semantics.specs.declared.literals.Lit.{Lit}
 use Rattle.proof_semantics.specs.Clauses.{literal_value, clause_value, clauses_value, cube_value, values_of}
 use Rattle.cnf_unroll.specs.Numbers.{state_place, literal_in_block}
@@ -19,7 +20,7 @@ use Rattle.cnf_unroll.proofs.BlockReading.{literal_is, block_read}
 use Rattle.cnf_unroll.proofs.BlockWriting.{Shows, literal_shown}
 use Rattle.ic3_semantics.specs.Stepping.{Stepping, IsArenaStep, MeetsFrom, IsOver}
 use Rattle.ic3_questions.specs.SteppingClauses.{base_clauses, question_guard, denied_at, avoid_clause}
-use Rattle.ic3.specs.SteppingInside.{HasOneValuation, IsHeldBy, IsWhole, ModelGoal, NoModelGoal}
+use Rattle.ic3.specs.SteppingInside.{IsHeldBy, IsWhole, ModelGoal, NoModelGoal}
 use Rattle.ic3_questions.specs.ReadVariables.{is_read}
 use Rattle.ic3.specs.declared.stepping_questions.Questions.{Questions}
 use Rattle.ic3_questions.proofs.ReadVariables.{read_from, not_read}

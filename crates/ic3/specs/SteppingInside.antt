@@ -1,11 +1,11 @@
 -- Scaffolding of inner functions. What the solver of a search keeps.
-use Rattle.std.specs.Prelude.{◌≡◌, ◌↔◌, ℕ, ◌+◌, ◌<◌, ◌≤◌, ◌⊎◌, Bool, true, false, List, [], ◌∷◌, ◌++◌, length, map, drop, Option, Some, None}
+use Rattle.std.specs.Prelude.{◌≡◌, ℕ, ◌+◌, ◌<◌, ◌≤◌, ◌⊎◌, Bool, true, false, List, [], ◌∷◌, ◌++◌, length, map, drop, Option, Some, None}
 use Rattle.std.specs.List.{All, AllByRecursion, list_all}
 use Rattle.aig_semantics.specs.declared.traces.Position.{Position}
 use Rattle.aig_semantics.specs.Circuits.{Circuit, IsChecked}
 use Rattle.aig_semantics.specs.Literals.{variable_of, is_negated, literal_in}
 use Rattle.aig_semantics.specs.Runs.{valuation_at, literal_at, successor}
-use Rattle.aig_semantics.specs.Valuations.{valuation, IsValuation}
+use Rattle.aig_semantics.specs.Valuations.{HasOneValuation}
 use Rattle.proof_semantics.specs.declared.literals.Lit.{Lit}
 use Rattle.proof_semantics.specs.Clauses.{clause_value, clauses_value, cube_value, values_of}
 use Rattle.cdcl.specs.Solving.{IsModel, HasNoModel}
@@ -24,12 +24,6 @@ use Rattle.ic3_semantics.specs.declared.found.Found.{Found}
 use Rattle.ic3_semantics.specs.declared.found.Found.TheVariants.{Step, Missing}
 use Rattle.ic3_semantics.specs.declared.lemmas.Lemma.{Lemma}
 use Rattle.ic3.specs.declared.stepping_questions.Questions.{Questions}
-
--- a circuit's values are those of its equations
-abbrev pub HasOneValuation : Circuit → Type 0
-HasOneValuation c =
-    (latches inputs values : List Bool) → length latches ≡ length c.latches → length inputs ≡ length c.inputs
-    → (IsValuation c latches inputs values ↔ (values ≡ valuation c latches inputs))
 
 -- a state meets these lemmas from a level on exactly where it meets those
 abbrev pub MeetAlike : List Lemma → List Lemma → Type 0

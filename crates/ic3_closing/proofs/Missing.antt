@@ -6,6 +6,7 @@ use Rattle.std.proofs.lemmas.List.Elements.{All-head, All-tail, All-append, All-
 use Rattle.aig_semantics.specs.Literals.{variable_of}
 use Rattle.aig_semantics.specs.Circuits.{Circuit, IsChecked}
 use Rattle.aig_semantics.specs.Runs.{successor}
+use Rattle.aig_semantics.specs.Valuations.{HasOneValuation}
 use Rattle.proof_semantics.specs.declared.literals.Lit.{Lit}
 use Rattle.proof_semantics.specs.Clauses.{negation, literal_value, clause_value, clauses_value, cube_value, values_of}
 use Rattle.fair_semantics.specs.States.{meets_clauses}
@@ -17,7 +18,7 @@ use Rattle.cnf_unroll.specs.Obligations.{units, step_with_uses, after_step, shar
 use Rattle.cnf_unroll.specs.Laws.{AreOver}
 use Rattle.cnf_unroll.proofs.Truth.{both, together, set_there, negations_value}
 use Rattle.cnf_unroll.proofs.ObligationLaws.{state_length}
-use Rattle.cnf_unroll.proofs.BlockReading.{IsRead, HasOneValuation}
+use Rattle.cnf_unroll.proofs.BlockReading.{IsRead}
 use Rattle.cnf_unroll.proofs.BlockWriting.{literal_shown}
 use Rattle.entry.specs.Laws.{IsGoodList}
 use Rattle.ic3_semantics.specs.declared.questions.Start.{Start}

@@ -6,6 +6,7 @@ use Rattle.std.proofs.lemmas.Bool.{and_parts, and_from, cases_lt}
 use Rattle.aig_semantics.specs.declared.traces.Position.{Position}
 use Rattle.aig_semantics.specs.Circuits.{Circuit, IsChecked}
 use Rattle.aig_semantics.specs.Runs.{successor}
+use Rattle.aig_semantics.specs.Valuations.{HasOneValuation}
 use Rattle.proof_semantics.specs.declared.literals.Lit.{Lit}
 use Rattle.proof_semantics.specs.Clauses.{literal_value, clauses_value}
 use Rattle.fair_semantics.specs.declared.entries.Kind.{Kind}
@@ -27,7 +28,7 @@ use Rattle.cnf_unroll.proofs.Truth.{both, together}
 use Rattle.cnf_unroll.proofs.Walls.{HasFrom, marks_over, after_marks-is}
 use Rattle.cnf_unroll.proofs.UseLaws.{states_at, names_here, read_uses}
 use Rattle.cnf_unroll.proofs.UseWriting.{uses_values, write_uses, nothing}
-use Rattle.cnf_unroll.proofs.BlockReading.{HasOneValuation, block_read}
+use Rattle.cnf_unroll.proofs.BlockReading.{block_read}
 use Rattle.cnf_unroll.proofs.BlockWriting.{Shows, block_value, block_shown, block_true, shown_latches}
 use Rattle.cnf_unroll.proofs.ObligationLaws.{state_length, successor_length}
 use Rattle.entry.specs.Laws.{IsGoodList}

@@ -11,11 +11,12 @@ use Rattle.aig_semantics.specs.Circuits.{Circuit, IsChecked, fair_literals}
 use Rattle.aig_semantics.specs.Runs.{literal_at, successor, MeetsConstraints, StartsIn, IsRun, IsInitial, IsInitialRun, ClosesAt, MeetsFairness, IsFairLasso}
 use Rattle.aig_semantics.specs.Stimuli.{simulated, FitsCircuit, HasLasso}
 use Rattle.aig_semantics.proofs.Lists.{All-left, All-right}
+use Rattle.aig_semantics.specs.Valuations.{HasOneValuation}
 use Rattle.proof_semantics.specs.Clauses.{literal_value, clauses_value}
 use Rattle.fair_semantics.specs.Skeletons.{IsSituation}
 use Rattle.cnf_unroll.specs.Numbers.{minus, literal_in_block, state_place}
 use Rattle.cnf_unroll.specs.Situations.{situation_in}
-use Rattle.cnf_unroll.proofs.BlockReading.{HasOneValuation, IsRead, nexts, sides_of, of_justice, block_read, literal_is}
+use Rattle.cnf_unroll.proofs.BlockReading.{IsRead, nexts, sides_of, of_justice, block_read, literal_is}
 use Rattle.lasso_clauses.specs.Moments.{begins, inside, closes, met, moment_base, moment_before}
 use Rattle.lasso_clauses.specs.Clauses.{loop_start, state_start, successor_start, positions_clauses}
 use Rattle.lasso_clauses.specs.Laws.{inputs_in, stimulus_in}

@@ -2,9 +2,9 @@
 use Rattle.std.proofs.Common.{◌≡◌, ℕ, zero, suc, ◌<◌, Bool, true, false, ◌&&◌, ◌||◌, List, [], ◌∷◌, ◌++◌, length, refl, sym, ap, ◌∙◌, arith}
 use Rattle.aig_semantics.specs.Circuits.{Circuit, IsChecked, fair_literals}
 use Rattle.aig_semantics.specs.Stimuli.{HasLasso}
+use Rattle.aig_semantics.specs.Valuations.{HasOneValuation}
 use Rattle.proof_semantics.specs.Clauses.{clause_value, clauses_value}
 use Rattle.cnf_unroll.specs.Laws.{IsSatisfiable}
-use Rattle.cnf_unroll.proofs.BlockReading.{HasOneValuation}
 use Rattle.cnf_unroll.proofs.Truth.{both, together}
 use Rattle.lasso_clauses.specs.Moments.{closes, moment_base}
 use Rattle.lasso_clauses.specs.Clauses.{positions_clauses, last_clause, lasso_clauses}

@@ -7,13 +7,13 @@ use Rattle.std.proofs.lemmas.List.{get_or_default}
 use Rattle.aig_semantics.specs.declared.traces.Position.{Position}
 use Rattle.aig_semantics.specs.Literals.{variable_of, variable_in}
 use Rattle.aig_semantics.specs.Circuits.{Circuit, IsChecked, defined, fair_literals}
-use Rattle.aig_semantics.specs.Valuations.{IsValuation}
+use Rattle.aig_semantics.specs.Valuations.{IsValuation, HasOneValuation}
 use Rattle.aig_semantics.specs.Runs.{literal_at, valuation_at, successor, IsRun, IsInitial, IsInitialRun, IsFairLasso, ClosesAt}
 use Rattle.proof_semantics.specs.Clauses.{literal_value, clause_value, clauses_value}
 use Rattle.fair_semantics.specs.declared.skeletons.Situation.{Situation}
 use Rattle.fair_semantics.specs.Skeletons.{IsSituation}
 use Rattle.cnf_unroll.specs.Numbers.{block_size, minus, literal_in_block, state_place, successor_place}
-use Rattle.cnf_unroll.proofs.BlockReading.{HasOneValuation, IsRead, each, map_same, map_map, latches_defined, read_in_range}
+use Rattle.cnf_unroll.proofs.BlockReading.{IsRead, each, map_same, map_map, latches_defined, read_in_range}
 use Rattle.cnf_unroll.proofs.BlockWriting.{Shows, block_value, block_shown, block_true, shown_latches, literal_shown}
 use Rattle.cnf_unroll.proofs.Truth.{together}
 use Rattle.lasso_clauses.specs.Moments.{begins, inside, closes, met, moment_size, moment_base, moment_before}

@@ -8,6 +8,7 @@ use Rattle.std.proofs.lemmas.List.{length-map, length-replicate}
 use Rattle.aig_semantics.specs.declared.traces.Position.{Position}
 use Rattle.aig_semantics.specs.Circuits.{Circuit, IsChecked, IsWithinLimits, fair_literals}
 use Rattle.aig_semantics.specs.Runs.{IsPosition, position_of, literal_at, successor, MeetsConstraints, StartsIn, IsRun, IsInitial, IsInitialRun, MeetsFairness}
+use Rattle.aig_semantics.specs.Valuations.{HasOneValuation}
 use Rattle.fair_semantics.proofs.Runs.{end_of, loop-of}
 use Rattle.live_to_safe.specs.declared.sizes.Sizes.{Sizes}
 use Rattle.live_to_safe.specs.BadRuns.{HasBadRun, HasFairLasso}
@@ -15,7 +16,7 @@ use Rattle.live_to_safe.specs.Numbers.{sizes_of, save, copy, seen, latch_gate, l
 use Rattle.live_to_safe.specs.Watching.{numbered, copy_latch, seen_latch, new_latches, bad_literal}
 use Rattle.live_to_safe.specs.Translation.{safety_circuit, safety_model}
 use Rattle.live_to_safe.proofs.Valued.{same_lists, seen_after, all_true}
-use Rattle.live_to_safe.proofs.Watched.{HasOneValuation, watch_state, joint, watch_next, step-is, bad-at, constraints-kept, constraints-back}
+use Rattle.live_to_safe.proofs.Watched.{watch_state, joint, watch_next, step-is, bad-at, constraints-kept, constraints-back}
 use Rattle.live_to_safe.proofs.Lassos.{same_lists-self, same_lists-equal, length-seen_after, seen_after-off, last_split, Soon, soon_on, soon_back, soon_none, soon_all, soon_fair, fair_soon, EndsBad, ends-cons, ends-last, last-ends, some-run, ends-some, drop-seam, closes-behind, any_one, Begin, begin-length, begin-append, begin-split, begin-zero, zero-begins}
 
 same_append : (xs ys zs : List Bool) → xs ≡ ys → xs ++ zs ≡ ys ++ zs

@@ -6,6 +6,7 @@ use Rattle.std.proofs.lemmas.List.Elements.{All-nil, All-append, All-weaker}
 use Rattle.aig_semantics.specs.declared.limits.TheConstants.{MAX_VARIABLE}
 use Rattle.aig_semantics.specs.Literals.{variable_of}
 use Rattle.aig_semantics.specs.Circuits.{Circuit, IsChecked, IsWithinLimits, AreDefined, defined, used, fair_literals}
+use Rattle.aig_semantics.specs.Valuations.{HasOneValuation}
 use Rattle.circuit.specs.declared.checking.Kept.{Kept}
 use Rattle.circuit.specs.Keeping.{IsKeptOf}
 use Rattle.circuit.specs.Sections.{circuit_of, used_by, AreInRange}
@@ -20,7 +21,6 @@ use Rattle.live_to_safe.specs.Translation.{safety_circuit, safety_model}
 use Rattle.live_to_safe.specs.Ends.{IsTranslatable}
 use Rattle.live_to_safe.specs.Steps.{safety_parts}
 use Rattle.live_to_safe.proofs.Defining.{safety_is_model, fair_all, old_latches_read}
-use Rattle.live_to_safe.proofs.Watched.{HasOneValuation}
 use Rattle.live_to_safe.proofs.Exact.{exact}
 
 pub fits : (c : Circuit) (j : ℕ) (z : Sizes) → z ≡ sizes_of c j → IsTranslatable c j → greatest z ≤ MAX_VARIABLE

@@ -1,5 +1,5 @@
 -- One position of the translation: the circuit's own, and what is watched at it.
-use Rattle.std.proofs.Common.{◌≡◌, ℕ, zero, suc, ◌+◌, ◌*◌, ◌<◌, ◌≤◌, ◌↔◌, Bool, true, false, not, cond, ◌&&◌, ◌||◌, List, [], ◌∷◌, ◌++◌, map, length, get_or, take, drop, refl, sym, ap, ◌∙◌, inl, inr, arith, length-append, take_at, drop_at, get_or-take, length-take-le}
+use Rattle.std.proofs.Common.{◌≡◌, ℕ, zero, suc, ◌+◌, ◌*◌, ◌<◌, ◌≤◌, Bool, true, false, not, cond, ◌&&◌, ◌||◌, List, [], ◌∷◌, ◌++◌, map, length, get_or, take, drop, refl, sym, ap, ◌∙◌, inl, inr, arith, length-append, take_at, drop_at, get_or-take, length-take-le}
 use Rattle.std.specs.List.{All}
 use Rattle.std.proofs.lemmas.Bool.{cases_lt}
 use Rattle.std.proofs.lemmas.List.{map-append, length-map, get_or_past}
@@ -9,7 +9,7 @@ use Rattle.aig_semantics.specs.declared.parts.Gate.{Gate}
 use Rattle.aig_semantics.specs.declared.traces.Position.{Position}
 use Rattle.aig_semantics.specs.Literals.{variable_of, is_negated, literal_by, variable_in}
 use Rattle.aig_semantics.specs.Circuits.{Circuit, IsChecked, IsWithinLimits, fair_literals}
-use Rattle.aig_semantics.specs.Valuations.{conjunction, valuation, IsValuation}
+use Rattle.aig_semantics.specs.Valuations.{conjunction, valuation, IsValuation, HasOneValuation}
 use Rattle.aig_semantics.specs.Runs.{IsPosition, position_of, valuation_at, literal_at, successor, MeetsConstraints}
 use Rattle.aig_semantics.proofs.Lists.{All-left, All-right}
 use Rattle.circuit.proofs.Counting.{All-unmap}
@@ -21,12 +21,6 @@ use Rattle.live_to_safe.proofs.Numbering.{numbered-length}
 use Rattle.live_to_safe.proofs.Reading.{IsRead}
 use Rattle.live_to_safe.proofs.Defining.{new_or_old, fair_all, own_uses, old_read, old_latches_read}
 use Rattle.live_to_safe.proofs.Valued.{positive-value, negative-value, same_lists, seen_after, all_true, saving-is, idle-is, copies-next, seens-next, bad-is}
-
--- the law that a checked circuit has one valuation
-abbrev pub HasOneValuation : Circuit → Type 0
-HasOneValuation c =
-    (latches inputs values : List Bool) → length latches ≡ length c.latches → length inputs ≡ length c.inputs
-    → (IsValuation c latches inputs values ↔ (values ≡ valuation c latches inputs))
 
 -- ---- lists
 

@@ -7,6 +7,7 @@ use Rattle.aig_semantics.specs.declared.parts.Latch.{Latch}
 use Rattle.aig_semantics.specs.declared.traces.Position.{Position}
 use Rattle.aig_semantics.specs.Circuits.{Circuit, IsChecked, IsWithinLimits, fair_literals}
 use Rattle.aig_semantics.specs.Runs.{IsPosition, position_of, valuation_at, literal_at, successor, MeetsConstraints, StartsIn, IsRun, AgreesWith, IsInitial, IsInitialRun}
+use Rattle.aig_semantics.specs.Valuations.{HasOneValuation}
 use Rattle.fair_semantics.specs.Rounds.{HasRounds}
 use Rattle.live_to_safe.specs.Watching.{numbered, zero_latch}
 use Rattle.round_monitor.specs.declared.sizes.Sizes.{Sizes}
@@ -17,7 +18,6 @@ use Rattle.round_monitor.specs.Monitor.{monitor_circuit}
 use Rattle.circuit.specs.RoundsAlong.{none_seen, ends_with, seen_next, more_if, rounds_along}
 use Rattle.round_monitor.proofs.Lists.{cons-same, get_or-behind}
 use Rattle.round_monitor.proofs.Numbering.{latches-length}
-use Rattle.round_monitor.proofs.Extending.{HasOneValuation}
 use Rattle.round_monitor.proofs.Watched.{tally, tally-zero, tally-true, tally-told, watch_state, joint, next-is, kept, back}
 use Rattle.circuit.proofs.RoundsAlong.{length-seen_next, rounds-fewer, counted}
 

@@ -1,6 +1,6 @@
 -- A circuit with latches and gates more, numbered behind its own variables: it is checked, and it values what the circuit
 -- itself has as the circuit does.
-use Rattle.std.proofs.Common.{◌≡◌, ◌≢◌, ℕ, ◌+◌, ◌*◌, ◌<◌, ◌≤◌, ◌⊎◌, ◌↔◌, Bool, false, not, cond, ◌&&◌, get_or, List, [], ◌∷◌, ◌++◌, map, length, take, refl, sym, ap, ◌∙◌, subst, inl, inr, arith, length-append, get_or-take, length-take-le}
+use Rattle.std.proofs.Common.{◌≡◌, ◌≢◌, ℕ, ◌+◌, ◌*◌, ◌<◌, ◌≤◌, ◌⊎◌, Bool, false, not, cond, ◌&&◌, get_or, List, [], ◌∷◌, ◌++◌, map, length, take, refl, sym, ap, ◌∙◌, subst, inl, inr, arith, length-append, get_or-take, length-take-le}
 use Rattle.std.specs.List.{All, AllPairs, Contains, range_with_len}
 use Rattle.std.proofs.lemmas.Bool.{cases_lt}
 use Rattle.std.proofs.lemmas.List.{map-append, length-map, get_or_default, get_or_past}
@@ -10,7 +10,7 @@ use Rattle.aig_semantics.specs.declared.parts.Gate.{Gate}
 use Rattle.aig_semantics.specs.declared.traces.Position.{Position}
 use Rattle.aig_semantics.specs.Literals.{variable_of, is_negated, literal_by, variable_in}
 use Rattle.aig_semantics.specs.Circuits.{Circuit, IsChecked, IsWithinLimits, Reads, ReadsThrough, IsOnCycle, defined, used, fair_literals}
-use Rattle.aig_semantics.specs.Valuations.{conjunction, valuation, IsValuation}
+use Rattle.aig_semantics.specs.Valuations.{conjunction, valuation, IsValuation, HasOneValuation}
 use Rattle.aig_semantics.specs.Runs.{IsPosition, position_of, valuation_at, literal_at, successor, MeetsConstraints}
 use Rattle.aig_semantics.proofs.Lists.{All-left, All-right}
 use Rattle.circuit.specs.declared.parts.Parts.{Parts}
@@ -20,12 +20,6 @@ use Rattle.circuit.proofs.Counting.{count, Contains-from_count, count-differ, Al
 use Rattle.circuit.proofs.Ranges.{UsesAll-from, All-used}
 use Rattle.round_monitor.proofs.Lists.{map_agrees, split_same, range-apart, range-contains, range-all, count-append}
 use Rattle.round_monitor.proofs.Reading.{IsRead, IsBefore, ReadsBefore}
-
--- the law that a checked circuit has one valuation
-abbrev pub HasOneValuation : Circuit → Type 0
-HasOneValuation c =
-    (latches inputs values : List Bool) → length latches ≡ length c.latches → length inputs ≡ length c.inputs
-    → (IsValuation c latches inputs values ↔ (values ≡ valuation c latches inputs))
 
 -- the circuit with these latches and gates more, and without properties
 abbrev pub extended : Circuit → ℕ → List Latch → List Gate → Circuit

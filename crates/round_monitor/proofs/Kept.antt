@@ -6,6 +6,7 @@ use Rattle.std.proofs.lemmas.List.Elements.{All-nil, All-append, All-weaker}
 use Rattle.aig_semantics.specs.declared.limits.TheConstants.{MAX_VARIABLE}
 use Rattle.aig_semantics.specs.Literals.{variable_of}
 use Rattle.aig_semantics.specs.Circuits.{Circuit, IsChecked, IsWithinLimits, AreDefined, defined, used, fair_literals}
+use Rattle.aig_semantics.specs.Valuations.{HasOneValuation}
 use Rattle.circuit.specs.declared.checking.Kept.{Kept}
 use Rattle.circuit.specs.Keeping.{IsKeptOf}
 use Rattle.circuit.specs.Sections.{circuit_of, used_by, AreInRange}
@@ -18,7 +19,7 @@ use Rattle.round_monitor.specs.Numbers.{sizes_of, greatest}
 use Rattle.round_monitor.specs.Monitor.{monitor_circuit, monitor_model}
 use Rattle.round_monitor.specs.Ends.{IsMonitorable}
 use Rattle.round_monitor.specs.Steps.{monitor_parts}
-use Rattle.round_monitor.proofs.Extending.{HasOneValuation, fair_all}
+use Rattle.round_monitor.proofs.Extending.{fair_all}
 use Rattle.round_monitor.proofs.Watched.{monitor-is_model}
 use Rattle.round_monitor.proofs.Exact.{watches, exact}
 

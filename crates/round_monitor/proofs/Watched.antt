@@ -9,7 +9,7 @@ use Rattle.aig_semantics.specs.declared.traces.Position.{Position}
 use Rattle.aig_semantics.specs.declared.limits.TheConstants.{MAX_VARIABLE}
 use Rattle.aig_semantics.specs.Literals.{literal_by, literal_in, variable_in}
 use Rattle.aig_semantics.specs.Circuits.{Circuit, IsChecked, IsWithinLimits, fair_literals}
-use Rattle.aig_semantics.specs.Valuations.{conjunction}
+use Rattle.aig_semantics.specs.Valuations.{conjunction, HasOneValuation}
 use Rattle.aig_semantics.specs.Runs.{IsPosition, position_of, valuation_at, literal_at, successor, MeetsConstraints}
 use Rattle.aiger_grammar.specs.Models.{IsModel}
 use Rattle.aiger_grammar.proofs.Ranges.{range_append}
@@ -25,7 +25,7 @@ use Rattle.circuit.specs.RoundsAlong.{ends_with, seen_next, more_if, none_seen}
 use Rattle.round_monitor.proofs.Lists.{numbered-length, map_numbered, numbered_agrees, split_same, cons-same}
 use Rattle.round_monitor.proofs.Numbering.{latch_vars, latches-length, gate_vars, gate_count, greatest-is}
 use Rattle.round_monitor.proofs.Reading.{IsBefore, ReadsBefore, new_gates_read, new_latches_read}
-use Rattle.round_monitor.proofs.Extending.{HasOneValuation, IsOwn, own_read, fair_all, all-known, is-checked, watch-is, zero-is, new-meet, literal-is, step-is, constraints-kept, constraints-back}
+use Rattle.round_monitor.proofs.Extending.{IsOwn, own_read, fair_all, all-known, is-checked, watch-is, zero-is, new-meet, literal-is, step-is, constraints-kept, constraints-back}
 use Rattle.round_monitor.proofs.Valued.{positive-value, negative-value, raised, seens-next, counters-next}
 
 -- ---- counters after rounds

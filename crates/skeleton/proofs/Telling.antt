@@ -3,6 +3,7 @@ use Rattle.std.proofs.Common.{◌≡◌, ℕ, suc, ◌-◌, ◌<◌, Bool, true,
 use Rattle.std.proofs.lemmas.Bool.{true≢false, false_from_ne_true}
 use Rattle.std.proofs.lemmas.List.{length-map}
 use Rattle.aig_semantics.specs.Circuits.{Circuit, IsChecked}
+use Rattle.aig_semantics.specs.Valuations.{HasOneValuation}
 use Rattle.proof_semantics.specs.declared.literals.Lit.{Lit}
 use Rattle.proof_semantics.specs.Clauses.{clauses_value, cube_value, values_of, is_part}
 use Rattle.proof_semantics.specs.Proofs.{Refutes}
@@ -13,7 +14,6 @@ use Rattle.fair_semantics.specs.Entries.{Entry, numbered}
 use Rattle.cnf_unroll.specs.Numbers.{number, state_place}
 use Rattle.cnf_unroll.specs.Obligations.{skeleton_clauses}
 use Rattle.cnf_unroll.specs.Situations.{situations_in}
-use Rattle.cnf_unroll.proofs.BlockReading.{HasOneValuation}
 use Rattle.cnf_unroll.proofs.SkeletonLaws.{skeleton_of_model, model_of_skeleton}
 use Rattle.cdcl.specs.Solving.{HasNoModel}
 use Rattle.cdcl.specs.UnitClauses.{unit_clauses}

@@ -1,10 +1,10 @@
 -- The slice has a fair lasso exactly where the circuit has one of the property.
 use Rattle.std.specs.Prelude.{ℕ, ◌<◌, ◌↔◌, Bool, length}
 use Rattle.aig_semantics.specs.Circuits.{Circuit}
+use Rattle.aig_semantics.specs.Valuations.{HasOneValuation}
 use Rattle.cone.specs.Cones.{IsClosed}
 use Rattle.live_to_safe.specs.BadRuns.{HasFairLasso}
 use Rattle.slice.specs.Slicing.{sliced_circuit}
-use Rattle.slice.proofs.Valued.{HasOneValuation}
 use Rattle.slice.proofs.Running.{from_circuit}
 use Rattle.slice.proofs.Laps.{from_slice}
 

@@ -5,6 +5,7 @@ use Rattle.std.specs.List.{Contains, filter_map}
 use Rattle.std.proofs.lemmas.List.Elements.{All-nil, All-append}
 use Rattle.aig_semantics.specs.Literals.{variable_of}
 use Rattle.aig_semantics.specs.Circuits.{Circuit, IsChecked, AreDefined, defined, used}
+use Rattle.aig_semantics.specs.Valuations.{HasOneValuation}
 use Rattle.circuit.specs.declared.checking.Kept.{Kept}
 use Rattle.circuit.specs.declared.parts.Parts.{Parts}
 use Rattle.circuit.specs.Keeping.{IsKeptOf}
@@ -18,7 +19,6 @@ use Rattle.live_to_safe.specs.BadRuns.{HasFairLasso}
 use Rattle.slice.specs.Symbols.{symbol_left}
 use Rattle.slice.specs.Slicing.{sliced_circuit, sliced_model, IsSlice}
 use Rattle.slice.specs.Steps.{sliced_parts}
-use Rattle.slice.proofs.Valued.{HasOneValuation}
 use Rattle.slice.proofs.Defining.{slice_is_model}
 use Rattle.slice.proofs.Exact.{exact}
 

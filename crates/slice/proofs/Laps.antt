@@ -10,13 +10,14 @@ use Rattle.aig_semantics.specs.declared.parts.Reset.TheVariants.{Zero, One, Free
 use Rattle.aig_semantics.specs.declared.traces.Position.{Position}
 use Rattle.aig_semantics.specs.Circuits.{Circuit, fair_literals}
 use Rattle.aig_semantics.specs.Runs.{IsPosition, position_of, literal_at, successor, MeetsConstraints, StartsIn, IsRun, AgreesWith, IsInitial, IsInitialRun, ClosesAt, MeetsFairness}
+use Rattle.aig_semantics.specs.Valuations.{HasOneValuation}
 use Rattle.fair_semantics.proofs.Runs.{end_of, loop-of}
 use Rattle.cone.specs.Cones.{IsClosed}
 use Rattle.live_to_safe.specs.BadRuns.{HasFairLasso}
 use Rattle.slice.specs.Slicing.{sliced_circuit}
 use Rattle.slice.proofs.Picking.{spread, length-spread, pick-spread, spread-zip}
 use Rattle.slice.proofs.Repeating.{steps, steps-kept, ComesBack, comes_back}
-use Rattle.slice.proofs.Valued.{HasOneValuation, state_left, left_of, fair-in, successor-is, constraints-back}
+use Rattle.slice.proofs.Valued.{state_left, left_of, fair-in, successor-is, constraints-back}
 use Rattle.slice.proofs.Running.{run-positions, end-left, any-back}
 
 -- ---- runs one behind the other

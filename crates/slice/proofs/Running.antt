@@ -9,12 +9,13 @@ use Rattle.aig_semantics.specs.declared.traces.Position.{Position}
 use Rattle.aig_semantics.specs.Literals.{variable_of}
 use Rattle.aig_semantics.specs.Circuits.{Circuit, fair_literals}
 use Rattle.aig_semantics.specs.Runs.{IsPosition, literal_at, successor, StartsIn, IsRun, AgreesWith, IsInitialRun}
+use Rattle.aig_semantics.specs.Valuations.{HasOneValuation}
 use Rattle.fair_semantics.proofs.Runs.{end_of, run-of}
 use Rattle.cone.specs.Cones.{IsClosed}
 use Rattle.live_to_safe.specs.BadRuns.{HasFairLasso}
 use Rattle.slice.specs.Slicing.{sliced_circuit}
 use Rattle.slice.proofs.Picking.{pick-zip}
-use Rattle.slice.proofs.Valued.{HasOneValuation, state_left, left_of, fair-in, literal-is, successor-is, constraints-left}
+use Rattle.slice.proofs.Valued.{state_left, left_of, fair-in, literal-is, successor-is, constraints-left}
 
 -- ---- lists
 

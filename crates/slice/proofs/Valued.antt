@@ -1,5 +1,5 @@
 -- A variable of the cone has the same value in the slice: one position, with its values beside what is left.
-use Rattle.std.proofs.Common.{◌≡◌, ℕ, zero, suc, ◌+◌, ◌↔◌, Bool, true, false, not, cond, ◌&&◌, List, [], ◌∷◌, ◌++◌, map, length, get_or, refl, sym, ap, ◌∙◌, subst, inl, inr, arith}
+use Rattle.std.proofs.Common.{◌≡◌, ℕ, zero, suc, ◌+◌, Bool, true, false, not, cond, ◌&&◌, List, [], ◌∷◌, ◌++◌, map, length, get_or, refl, sym, ap, ◌∙◌, subst, inl, inr, arith}
 use Rattle.std.specs.Prelude.{IsTrue, slice_index_or}
 use Rattle.std.specs.List.{All, Contains, filter}
 use Rattle.std.proofs.lemmas.Bool.{cases_Bool}
@@ -9,18 +9,12 @@ use Rattle.aig_semantics.specs.declared.parts.Gate.{Gate}
 use Rattle.aig_semantics.specs.declared.traces.Position.{Position}
 use Rattle.aig_semantics.specs.Literals.{variable_of, is_negated, literal_by, variable_in, literal_in}
 use Rattle.aig_semantics.specs.Circuits.{Circuit, defined, fair_literals}
-use Rattle.aig_semantics.specs.Valuations.{conjunction, valuation, IsValuation}
+use Rattle.aig_semantics.specs.Valuations.{conjunction, IsValuation, HasOneValuation}
 use Rattle.aig_semantics.specs.Runs.{IsPosition, position_of, valuation_at, literal_at, successor, MeetsConstraints}
 use Rattle.aig_semantics.proofs.Lists.{All-left, All-right}
 use Rattle.cone.specs.Cones.{IsClosed}
 use Rattle.slice.specs.Slicing.{sliced_circuit}
 use Rattle.slice.proofs.Picking.{pick, pick-map, length-pick, map-filter, contains-filter}
-
--- the law that a checked circuit has one valuation
-abbrev pub HasOneValuation : Circuit → Type 0
-HasOneValuation c =
-    (latches inputs values : List Bool) → length latches ≡ length c.latches → length inputs ≡ length c.inputs
-    → (IsValuation c latches inputs values ↔ (values ≡ valuation c latches inputs))
 
 -- ---- values
 

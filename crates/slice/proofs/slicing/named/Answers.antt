@@ -1,6 +1,6 @@
 use Rattle.std.proofs.Common.{subst}
 use Rattle.aig_semantics.specs.Literals.{variable_in}
-use Rattle.slice.proofs.Valued.{HasOneValuation}
+use Rattle.aig_semantics.specs.Valuations.{HasOneValuation}
 use Rattle.slice.proofs.Kept.{kept_model, kept_exact}
 use Rattle.slice.proofs.slicing.named.Goals as goal
 
