@@ -1,6 +1,6 @@
--- What a question to a solver with a budget of conflicts (MiniSat: Eén, Sörensson, 2003) leaves of a meter, and how
--- one ends that has no answer.
-use Rattle.std.specs.Prelude.{◌≡◌, ◌≤◌, Some}
+-- What a question to a solver with a budget of conflicts (MiniSat: Eén, Sörensson, 2003) leaves of a meter, how one ends
+-- that has no answer, and where a budget is spent.
+use Rattle.std.specs.Prelude.{◌≡◌, ◌≤◌, ◌⊎◌, Some}
 use Rattle.edge.specs.Units.{Spendings}
 use Rattle.edge.specs.declared.metering.Counted.TheVariants.{Conflicts}
 use Rattle.edge.specs.declared.solve_end.SolveEnd.{SolveEnd}
@@ -19,3 +19,7 @@ pub record CountsConflicts (old new : Spendings) : Type 0 where
   pub step_limit : new.step_limit ≡ old.step_limit
   pub steps : new.steps ≡ old.steps
   pub conflicts : old.conflicts ≤ new.conflicts
+
+-- the count of conflicts, or that of steps, equals its limit
+abbrev pub IsSpent : Spendings → Type 0
+IsSpent spent = (spent.conflict_limit ≡ Some spent.conflicts) ⊎ (spent.step_limit ≡ Some spent.steps)

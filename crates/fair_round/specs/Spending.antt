@@ -1,13 +1,10 @@
 -- What a round spends: conflicts and steps, counted by the meter of its worker.
-use Rattle.std.specs.Prelude.{◌≡◌, ℕ, ◌+◌, ◌*◌, ◌^◌, ◌⊎◌, Some}
+use Rattle.std.specs.Prelude.{ℕ, ◌+◌, ◌*◌, ◌^◌}
 use Rattle.edge.specs.Units.{Spendings}
+use Rattle.edge.specs.Ends.{IsSpent}
 use Rattle.ic3_semantics.specs.Searching.{CountsUpTo}
 use Rattle.fair_round.specs.declared.stopping.Stop.{Stop}
 use Rattle.fair_round.specs.declared.stopping.Stop.TheVariants as stops
-
--- the count of conflicts, or that of steps, equals its limit
-abbrev pub IsSpent : Spendings → Type 0
-IsSpent spent = (spent.conflict_limit ≡ Some spent.conflicts) ⊎ (spent.step_limit ≡ Some spent.steps)
 
 -- Spent comes where a count equals its limit.
 abbrev pub IsStop : Spendings → Stop → Type 0

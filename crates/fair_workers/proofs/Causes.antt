@@ -7,9 +7,9 @@ use Rattle.std.proofs.lemmas.List.{length-map}
 use Rattle.std.proofs.lemmas.List.Elements.{All-nil, All-map, All-head, All-tail, All-cons}
 use Rattle.aig_semantics.specs.Circuits.{Circuit}
 use Rattle.edge.specs.Units.{Spendings}
+use Rattle.edge.specs.Ends.{IsSpent}
 use Rattle.wall_store.specs.Boards.{BoardState}
 use Rattle.wall_store.specs.Events.{IsOpen, IsSettled}
-use Rattle.fair_round.specs.Spending.{IsSpent}
 use Rattle.fair_workers.specs.declared.ending.WorkerEnd.{WorkerEnd}
 use Rattle.search_reports.specs.declared.limits.Report.{Report}
 use Rattle.fair_workers.specs.declared.working.Phase.{Phase}

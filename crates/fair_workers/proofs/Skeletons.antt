@@ -11,6 +11,7 @@ use Rattle.aig_semantics.specs.declared.traces.Position.{Position}
 use Rattle.aig_semantics.specs.Circuits.{Circuit, fair_literals}
 use Rattle.aig_semantics.specs.Runs.{successor}
 use Rattle.edge.specs.Units.{Spendings}
+use Rattle.edge.specs.Ends.{IsSpent}
 use Rattle.fair_semantics.specs.declared.skeletons.Situation.{Situation}
 use Rattle.fair_semantics.specs.declared.skeletons.Skeleton.{Skeleton}
 use Rattle.fair_semantics.specs.Allowing.{allow}
@@ -21,7 +22,6 @@ use Rattle.entry.specs.CheckedEntries.{CheckedEntry}
 use Rattle.entry.specs.declared.origins.Origin.{Origin}
 use Rattle.entry.specs.declared.origins.Origin.TheVariants.{Given, Worker as FoundBy}
 use Rattle.wall_store.specs.Boards.{BoardState, plain, Allow, FromWorker, IsFind, most_entries}
-use Rattle.fair_round.specs.Spending.{IsSpent}
 use Rattle.search_reports.specs.declared.limits.Report.{Report}
 use Rattle.fair_workers.specs.Runs.{Task, IsFull, IsReport, round_workers}
 use Rattle.fair_workers.specs.Laws.{skeleton_lists, NoReportWithoutLimits}

@@ -3,10 +3,10 @@ use Rattle.std.specs.Prelude.{◌≡◌, ℕ, ◌<◌, ◌≤◌, Bool, false, L
 use Rattle.std.specs.List.{All, list_any}
 use Rattle.aig_semantics.specs.Circuits.{Circuit}
 use Rattle.edge.specs.Units.{Spendings}
+use Rattle.edge.specs.Ends.{IsSpent}
 use Rattle.lasso_bmc.specs.Searching.{HasNoneWithin}
 use Rattle.wall_store.specs.Boards.{BoardState}
 use Rattle.wall_store.specs.Events.{IsSettled}
-use Rattle.fair_round.specs.Spending.{IsSpent}
 use Rattle.fair_workers.specs.declared.working.Phase.{Phase}
 use Rattle.fair_workers.specs.declared.working.Phase.TheVariants as phases
 use Rattle.fair_workers.specs.declared.ending.WorkerEnd.{WorkerEnd}

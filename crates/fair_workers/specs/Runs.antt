@@ -6,11 +6,12 @@ use Rattle.std.specs.List.{All, AllPairs}
 use Rattle.aig_semantics.specs.Circuits.{Circuit, fair_literals}
 use Rattle.fair_semantics.specs.declared.skeletons.Skeleton.{Skeleton}
 use Rattle.edge.specs.Units.{Spendings, IsWithin, limit_of}
+use Rattle.edge.specs.Ends.{IsSpent}
 use Rattle.entry.specs.CheckedEntries.{CheckedEntry}
 use Rattle.skeleton.specs.Finding.{IsAllowed}
 use Rattle.wall_store.specs.Boards.{BoardState, IsBoard, FromWorker, AscendBy, plain, most_entries, properties_of}
 use Rattle.wall_store.specs.Events.{IsOpen, IsSettled}
-use Rattle.fair_round.specs.Spending.{IsSpent, path_steps}
+use Rattle.fair_round.specs.Spending.{path_steps}
 use Rattle.lasso_bmc.specs.Searching.{HasNoneWithin}
 use Rattle.search_reports.specs.declared.limits.Limits.{Limits}
 use Rattle.search_reports.specs.declared.limits.Report.{Report}

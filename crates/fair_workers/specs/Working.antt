@@ -4,7 +4,7 @@ use Rattle.aig_semantics.specs.declared.traces.Lasso.{Lasso}
 use Rattle.aig_semantics.specs.Circuits.{Circuit}
 use Rattle.aig_semantics.specs.Stimuli.{IsFairLassoOf}
 use Rattle.edge.specs.Units.{Spendings}
-use Rattle.edge.specs.Ends.{CountsConflicts}
+use Rattle.edge.specs.Ends.{CountsConflicts, IsSpent}
 use Rattle.edge.specs.declared.solve_end.SolveEnd.{SolveEnd}
 use Rattle.entry.specs.CheckedEntries.{GoesOnFrom}
 use Rattle.fair_semantics.specs.Entries.{Entry}
@@ -13,7 +13,7 @@ use Rattle.skeleton.specs.Finding.{Asking, IsAllowed}
 use Rattle.wall_store.specs.declared.outcomes.Posted.{Posted}
 use Rattle.wall_store.specs.declared.outcomes.Posted.TheVariants as posts
 use Rattle.wall_store.specs.Boards.{most_entries, plain}
-use Rattle.fair_round.specs.Spending.{IsSpent, path_steps}
+use Rattle.fair_round.specs.Spending.{path_steps}
 use Rattle.lasso_bmc.specs.declared.deepening.Deepening.{Deepening}
 use Rattle.lasso_bmc.specs.Growing.{positions_in, IsGrown}
 use Rattle.lasso_bmc.specs.Searching.{HasNoneWithin}

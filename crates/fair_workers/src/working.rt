@@ -3,12 +3,12 @@
 ghost use Rattle.std.specs.Prelude.{◌≡◌, ◌+◌, ◌^◌, ◌<◌, ◌≤◌, max, true, None, length, IfOk, IfErr, IfSome};
 ghost use Rattle.std.specs.Arc.{arc_value};
 ghost use Rattle.aig_semantics.specs.Circuits.{fair_literals};
-ghost use Rattle.edge.specs.Ends.{CountsConflicts};
+ghost use Rattle.edge.specs.Ends.{CountsConflicts, IsSpent};
 ghost use Rattle.entry.specs.CheckedEntries.{viewed};
 ghost use Rattle.entry.specs.Laws.{IsGoodList};
 ghost use Rattle.skeleton.specs.Finding.{IsFound};
 ghost use Rattle.wall_store.specs.Boards.{plain};
-ghost use Rattle.fair_round.specs.Spending.{Asks, IsSpent, IsStop};
+ghost use Rattle.fair_round.specs.Spending.{Asks, IsStop};
 ghost use Rattle.fair_round.specs.Deeds.{IsDeed, IsPosting, IsTrueBehind};
 ghost use Rattle.fair_workers.specs.Runs.{round_workers, AreLimits, ServesOne};
 ghost use Rattle.fair_workers.specs.Working.{is_running, is_refused, is_round, phase_after, phase_finished, phase_passed, serving, asked, asked_last, searches_in, AreRoundsOf, Begins, IsAllowing, IsWorker, Turns, Thinks};

@@ -1,8 +1,9 @@
 -- What is decided of a property and k rounds (k-liveness; Claessen, Sörensson, 2012), and why nothing is.
-use Rattle.std.specs.Prelude.{◌≡◌, ◌⊎◌, ℕ, Some}
+use Rattle.std.specs.Prelude.{◌≡◌, ℕ}
 use Rattle.aig_semantics.specs.Circuits.{Circuit}
 use Rattle.aig_semantics.specs.Runs.{IsInitialRun}
 use Rattle.edge.specs.Units.{Spendings}
+use Rattle.edge.specs.Ends.{IsSpent}
 use Rattle.fair_semantics.specs.Rounds.{HasRounds}
 use Rattle.round_monitor.specs.Counting.{HasRunOfRounds}
 use Rattle.round_monitor.specs.Ends.{IsMonitorable, IsTooLarge}
@@ -16,10 +17,6 @@ use Rattle.k_live.specs.declared.ends.RoundsEnd.TheVariants.{Unsettled, TooLarge
 abbrev pub Decides : Circuit → ℕ → ℕ → Rounds → Type 0
 Decides c j k (Reached run) = IsInitialRun c run × HasRounds c j k run
 Decides c j k (Fewer entries refutation) = HasRunOfRounds c j k → ⊥
-
--- the count of conflicts or that of steps equals its limit
-abbrev pub IsSpent : Spendings → Type 0
-IsSpent meter = (meter.conflict_limit ≡ Some meter.conflicts) ⊎ (meter.step_limit ≡ Some meter.steps)
 
 -- why a search decides nothing
 abbrev pub EndsSearch : Spendings → RoundsEnd → Type 0

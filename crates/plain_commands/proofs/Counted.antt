@@ -7,6 +7,7 @@ use Rattle.aig_semantics.specs.Circuits.{Circuit}
 use Rattle.aiger_grammar.specs.Models.{Model}
 use Rattle.circuit.specs.declared.faults.ModelFault.{ModelFault}
 use Rattle.edge.specs.Units.{Spendings, limit_of}
+use Rattle.edge.specs.Ends.{IsSpent}
 use Rattle.round_monitor.specs.Numbers.{sizes_of, greatest}
 use Rattle.round_monitor.specs.Ends.{IsMonitorable}
 use Rattle.sheet_answers.specs.declared.ends.Judged.{Judged}
@@ -20,7 +21,7 @@ use Rattle.round_answers.specs.Texts.{MayBeAsked}
 use Rattle.round_answers.specs.Answers.{IsGoodAbout, ShowsRounds}
 use Rattle.round_answers.specs.Writing.{IsSo, is_reached}
 use Rattle.fair_semantics.specs.Rounds.{HasRounds}
-use Rattle.k_live.specs.Deciding.{Decides, IsSpent, EndsRounds as EndsSearch}
+use Rattle.k_live.specs.Deciding.{Decides, EndsRounds as EndsSearch}
 use Rattle.k_live.specs.declared.ends.RoundsEnd.TheVariants as ends
 use Rattle.command_lines.specs.declared.commands.counting.RoundsRequest.{RoundsRequest}
 use Rattle.plain_commands.specs.declared.status.Status.{Status}

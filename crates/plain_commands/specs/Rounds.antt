@@ -3,11 +3,11 @@
 use Rattle.std.specs.Prelude.{◌≡◌, ◌⊎◌, ◌≤◌, ℕ, Bool, List, length, Option}
 use Rattle.aig_semantics.specs.Circuits.{Circuit}
 use Rattle.edge.specs.Units.{Spendings, limit_of}
+use Rattle.edge.specs.Ends.{IsSpent}
 use Rattle.round_monitor.specs.Numbers.{sizes_of, greatest}
 use Rattle.round_monitor.specs.Ends.{IsMonitorable, IsTooLarge}
 use Rattle.sheet_answers.specs.declared.ends.Judged.{Judged}
 use Rattle.round_answers.specs.Answers.{IsGoodAbout, ShowsRounds}
-use Rattle.k_live.specs.Deciding.{IsSpent}
 use Rattle.command_lines.specs.declared.commands.counting.RoundsRequest.{RoundsRequest}
 use Rattle.plain_commands.specs.declared.status.Status.{Status}
 use Rattle.plain_commands.specs.declared.status.Status.TheVariants as statuses
