@@ -1,21 +1,9 @@
 -- What questions leave of a meter, one after another.
-use Rattle.std.proofs.Common.{◌≡◌, ℕ, zero, suc, ◌+◌, ◌-◌, ◌≤◌, List, length, refl, ap, ◌∙◌, arith, length-append}
+use Rattle.std.proofs.Common.{◌≡◌, ℕ, zero, suc, ◌+◌, ◌-◌, ◌≤◌, List, length, ap, ◌∙◌, arith, length-append}
 use Rattle.edge.specs.Faults.{one_more}
 use Rattle.edge.specs.Units.{Spendings}
-use Rattle.edge.specs.Ends.{CountsConflicts}
 use Rattle.proof_semantics.specs.declared.literals.Lit.{Lit}
 use Rattle.cdcl.specs.Solving.{more_conflicts, with_conflicts, Learns}
-
-pub counts_none : (a : Spendings) → CountsConflicts a a
-counts_none a = record { conflict_limit = refl; step_limit = refl; steps = refl; conflicts = omega arith }
-
-pub counts_on : (a b c : Spendings) → CountsConflicts a b → CountsConflicts b c → CountsConflicts a c
-counts_on a b c first second = record {
-  conflict_limit = second.conflict_limit ∙ first.conflict_limit;
-  step_limit = second.step_limit ∙ first.step_limit;
-  steps = second.steps ∙ first.steps;
-  conflicts = omega arith;
-}
 
 more_on : (count m n : ℕ) → more_conflicts (more_conflicts count m) n ≡ more_conflicts count (m + n)
 more_on count m zero = let e : m ≡ m + 0 = omega arith in ap (more_conflicts count) e

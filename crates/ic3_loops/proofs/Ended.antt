@@ -34,17 +34,6 @@ memory_end meter r made = subst (IsReachEnd meter) (sym made) tt
 
 -- ---- counts
 
-pub counts_none : (a : Spendings) → CountsConflicts a a
-counts_none a = record { conflict_limit = refl; step_limit = refl; steps = refl; conflicts = omega arith }
-
-pub counts_on : (a b c : Spendings) → CountsConflicts a b → CountsConflicts b c → CountsConflicts a c
-counts_on a b c first second = record {
-  conflict_limit = second.conflict_limit ∙ first.conflict_limit;
-  step_limit = second.step_limit ∙ first.step_limit;
-  steps = second.steps ∙ first.steps;
-  conflicts = omega arith;
-}
-
 pub up_to_none : (most : ℕ) (a : Spendings) → CountsUpTo most a a
 up_to_none most a = record { conflict_limit = refl; step_limit = refl; conflicts = omega arith; steps = omega arith; bound = omega arith }
 

@@ -2,8 +2,9 @@ use Rattle.std.proofs.Common.{◌+◌, ◌<◌, ◌++◌, [], ◌∷◌, length,
 use Rattle.std.proofs.lemmas.List.{length-append}
 use Rattle.proof_semantics.specs.Clauses.{IsUnsatisfiable}
 use Rattle.proof_semantics.specs.Proofs.{Refutes}
+use Rattle.edge.proofs.Ends.{counts_on}
 use Rattle.cnf_unroll.specs.Obligations.{units, broken_literals}
-use Rattle.certify.proofs.Ends.{counts_on, learned_on}
+use Rattle.certify.proofs.Ends.{learned_on}
 use Rattle.certify.proofs.Unbroken.{broken_at, pushed_each}
 use Rattle.certify.proofs.proving.proofs_by.Goals as goal
 

@@ -1,7 +1,7 @@
 use Rattle.std.proofs.Common.{◌∙◌}
+use Rattle.edge.proofs.Ends.{counts_on}
 use Rattle.entry.specs.CheckedEntries.{viewed}
 use Rattle.ic3_closing.proofs.Asked.{one_more}
-use Rattle.ic3_closing.proofs.Ends.{counts_on}
 use Rattle.ic3_closing.proofs.standing.are_unbroken.Goals as goal
 
 pub loop-clause-preserved : goal.loop-clause-preserved

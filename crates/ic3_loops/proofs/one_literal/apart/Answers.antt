@@ -1,7 +1,7 @@
 use Rattle.std.proofs.Common.{subst, ap, ◌∙◌}
+use Rattle.edge.proofs.Ends.{counts_on}
 use Rattle.ic3_semantics.specs.Stepping.{Stepping}
 use Rattle.ic3_loops.specs.Single.{IsSingle}
-use Rattle.ic3_loops.proofs.Ended.{counts_on}
 use Rattle.ic3_loops.proofs.one_literal.apart.Goals as goal
 
 pub held-requires : goal.held-requires

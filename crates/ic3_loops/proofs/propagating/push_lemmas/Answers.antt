@@ -1,10 +1,11 @@
 use Rattle.std.proofs.Common.{◌-◌, refl, sym, subst, arith}
+use Rattle.edge.proofs.Ends.{counts_none, counts_on}
 use Rattle.ic3_loops.specs.Sound.{AreStuck}
 use Rattle.ic3_loops.specs.Propagating.{StayStuck}
 use Rattle.ic3_loops.specs.Witnessing.{AreWitnesses}
 use Rattle.ic3_loops.proofs.Stuck.{stuck_more}
 use Rattle.ic3_loops.proofs.Narrower.{narrower_none, narrower_on}
-use Rattle.ic3_loops.proofs.Ended.{counts_none, counts_on, keeps_on}
+use Rattle.ic3_loops.proofs.Ended.{keeps_on}
 use Rattle.ic3_loops.proofs.propagating.push_lemmas.Goals as goal
 
 pub loop-level-init : goal.loop-level-init

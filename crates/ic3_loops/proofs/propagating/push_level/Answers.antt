@@ -1,9 +1,10 @@
 use Rattle.std.proofs.Common.{◌≡◌, ◌+◌, ◌-◌, refl, sym, subst, arith}
+use Rattle.edge.proofs.Ends.{counts_none, counts_on}
 use Rattle.ic3_loops.specs.Propagating.{IsTried, StayStuck, StuckFrom}
 use Rattle.ic3_loops.specs.Witnessing.{AreWitnesses}
 use Rattle.ic3_loops.proofs.Stuck.{none_tried, stay_on, all_stuck_here}
 use Rattle.ic3_loops.proofs.Narrower.{narrower_none, narrower_on}
-use Rattle.ic3_loops.proofs.Ended.{counts_none, counts_on, keeps_on}
+use Rattle.ic3_loops.proofs.Ended.{keeps_on}
 use Rattle.ic3_loops.proofs.propagating.push_level.Goals as goal
 
 pub places-init : goal.places-init

@@ -1,7 +1,8 @@
 use Rattle.std.proofs.Common.{refl, sym, subst}
+use Rattle.edge.proofs.Ends.{counts_none, counts_on}
 use Rattle.ic3_loops.specs.Witnessing.{AreWitnesses}
 use Rattle.ic3_loops.proofs.Narrower.{narrower_none, narrower_on}
-use Rattle.ic3_loops.proofs.Ended.{counts_none, counts_on, keeps_on}
+use Rattle.ic3_loops.proofs.Ended.{keeps_on}
 use Rattle.ic3_loops.proofs.pushing.push_own.Goals as goal
 
 pub places-init : goal.places-init

@@ -1,7 +1,7 @@
 use Rattle.std.proofs.Common.{length, refl, sym, subst, ◌∙◌, rules, arith}
+use Rattle.edge.proofs.Ends.{counts_on}
 use Rattle.ic3_semantics.specs.Stepping.{Stepping, IsOver}
 use Rattle.ic3_loops.specs.Blocking.{NoneEnters}
-use Rattle.ic3_loops.proofs.Ended.{counts_on}
 use Rattle.ic3_loops.proofs.shortening.highest.Goals as goal
 
 pub none_enters-requires : goal.none_enters-requires
