@@ -5,5 +5,6 @@ pub mod Lists
 pub mod Runs
 pub mod Certified
 pub mod Initial
+pub mod States
 pub mod Rounds
 pub mod Examples

@@ -1,102 +1,17 @@
 -- Rounds of runs: each begins in a state in which no earlier one began, or a part of the run is a lasso. The states of
 -- the rounds so far are a test, and how many states pass it is counted.
-use Rattle.std.proofs.Common.{◌≡◌, ℕ, zero, suc, ◌+◌, ◌-◌, ◌*◌, ◌^◌, ◌<◌, ◌≤◌, Bool, true, false, cond, ◌||◌, List, [], ◌∷◌, ◌++◌, length, drop, refl, sym, ap, ◌∙◌, subst, inl, inr, Some, arith, append_assoc, length-append}
+use Rattle.std.proofs.Common.{◌≡◌, ℕ, zero, suc, ◌+◌, ◌-◌, ◌^◌, ◌<◌, ◌≤◌, Bool, true, false, ◌||◌, List, [], ◌∷◌, ◌++◌, length, refl, sym, ap, ◌∙◌, subst, inl, inr, Some, arith, append_assoc, length-append}
 use Rattle.std.specs.Prelude.{slice_get, IsTrue}
-use Rattle.std.specs.List.{All, Any}
-use Rattle.std.proofs.Math.Nat.{pow-suc}
+use Rattle.std.specs.List.{Any}
 use Rattle.std.proofs.Math.Seq.{drop-append_seam}
 use Rattle.std.proofs.lemmas.Bool.{false≢true, cases_Bool, or_left, or_right}
-use Rattle.std.proofs.lemmas.List.{append-nil}
-use Rattle.std.proofs.lemmas.List.Elements.{All-weaker, Contains-append_left, Contains-append_right}
+use Rattle.std.proofs.lemmas.List.Elements.{All-weaker, Contains-append_left}
 use Rattle.aig_semantics.specs.declared.traces.Position.{Position}
 use Rattle.aig_semantics.specs.Circuits.{Circuit, fair_literals}
-use Rattle.aig_semantics.specs.Runs.{literal_at, successor, StartsIn, IsRun, IsInitial, IsInitialRun, ClosesAt, MeetsFairness, IsFairLasso}
-use Rattle.proof_semantics.specs.Clauses.{bool_eq}
-use Rattle.fair_semantics.specs.Rounds.{IsRound, HasRounds, HasFewRounds}
+use Rattle.aig_semantics.specs.Runs.{literal_at, successor, StartsIn, IsRun, IsInitialRun, ClosesAt, MeetsFairness, IsFairLasso}
+use Rattle.fair_semantics.specs.Rounds.{HasRounds, HasFewRounds}
 use Rattle.fair_semantics.specs.Laws.{NoLassoMeansFewRounds}
-
--- ---- how many states pass a test
-
-abbrev count : ℕ → (List Bool → Bool) → ℕ
-count zero test = cond (test []) 1 0
-count (suc n) test = count n (λ s. test (true ∷ s)) + count n (λ s. test (false ∷ s))
-
-one-less : (a b : Bool) → (a ≡ true → b ≡ true) → cond a 1 0 ≤ cond b 1 0
-one-less true true h = omega arith
-one-less true false h = absurd (false≢true (h refl))
-one-less false true h = omega arith
-one-less false false h = omega arith
-
-count-within : (n : ℕ) (f g : List Bool → Bool) → ((s : List Bool) → f s ≡ true → g s ≡ true) → count n f ≤ count n g
-count-within zero f g h = one-less (f []) (g []) (h [])
-count-within (suc n) f g h =
-    let yes = count-within n (λ s. f (true ∷ s)) (λ s. g (true ∷ s)) (λ s. h (true ∷ s)) in
-    let not_so = count-within n (λ s. f (false ∷ s)) (λ s. g (false ∷ s)) (λ s. h (false ∷ s)) in
-    omega arith
-
-count-less : (n : ℕ) (f g : List Bool → Bool) → ((s : List Bool) → f s ≡ true → g s ≡ true)
-    → (s : List Bool) → length s ≡ n → f s ≡ false → g s ≡ true → count n f + 1 ≤ count n g
-count-less zero f g h [] size out within = rw (out, within) (omega arith)
-count-less zero f g h (b ∷ s) size out within = absurd (omega arith)
-count-less (suc n) f g h [] size out within = absurd (omega arith)
-count-less (suc n) f g h (true ∷ s) size out within =
-    let yes = count-less n (λ s. f (true ∷ s)) (λ s. g (true ∷ s)) (λ s. h (true ∷ s)) s (omega arith) out within in
-    let not_so = count-within n (λ s. f (false ∷ s)) (λ s. g (false ∷ s)) (λ s. h (false ∷ s)) in
-    omega arith
-count-less (suc n) f g h (false ∷ s) size out within =
-    let yes = count-within n (λ s. f (true ∷ s)) (λ s. g (true ∷ s)) (λ s. h (true ∷ s)) in
-    let not_so = count-less n (λ s. f (false ∷ s)) (λ s. g (false ∷ s)) (λ s. h (false ∷ s)) s (omega arith) out within in
-    omega arith
-
-count-all : (n : ℕ) → count n (λ s. true) ≡ 2 ^ n
-count-all zero = refl
-count-all (suc n) =
-    let h = count-all n in
-    let e : 2 ^ suc n ≡ 2 ^ n * 2 = pow-suc 2 n in
-    omega arith
-
-count-most : (n : ℕ) (test : List Bool → Bool) → count n test ≤ 2 ^ n
-count-most n test =
-    let h = count-within n test (λ s. true) (λ s e. refl) in
-    omega (arith, h, count-all n)
-
--- ---- the same state
-
-same : List Bool → List Bool → Bool
-same [] [] = true
-same [] (b ∷ t) = false
-same (a ∷ s) [] = false
-same (a ∷ s) (b ∷ t) = cond (bool_eq a b) (same s t) false
-
-bool_same : (a b : Bool) → bool_eq a b ≡ true → a ≡ b
-bool_same true true e = refl
-bool_same true false e = absurd (false≢true e)
-bool_same false true e = absurd (false≢true e)
-bool_same false false e = refl
-
-bool_itself : (a : Bool) → bool_eq a a ≡ true
-bool_itself true = refl
-bool_itself false = refl
-
-cond_true : (x y : Bool) → cond x y false ≡ true → (x ≡ true) × (y ≡ true)
-cond_true true y e = (refl, e)
-cond_true false y e = absurd (false≢true e)
-
-same_is : (s t : List Bool) → same s t ≡ true → s ≡ t
-unfolding same
-same_is [] [] e = refl
-same_is [] (b ∷ t) e = absurd (false≢true e)
-same_is (a ∷ s) [] e = absurd (false≢true e)
-same_is (a ∷ s) (b ∷ t) e =
-    let parts = cond_true (bool_eq a b) (same s t) e in
-    let first : a ≡ b = bool_same a b parts.0 in
-    let others : s ≡ t = same_is s t parts.1 in
-    λ i. first i ∷ others i
-
-same_itself : (s : List Bool) → same s s ≡ true
-unfolding same
-same_itself [] = refl
-same_itself (a ∷ s) = ap (λ x. cond x (same s s) false) (bool_itself a) ∙ same_itself s
+use Rattle.fair_semantics.proofs.States.{count, count-less, count-most, same, same_is, same_itself}
 
 -- ---- parts of runs
 

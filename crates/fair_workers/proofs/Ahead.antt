@@ -6,6 +6,7 @@ use Rattle.std.proofs.lemmas.List.{get_or_default}
 use Rattle.std.proofs.lemmas.Bool.{false≢true, both_ways, not-true, not_from_true, not_from_false, false_from_ne_true, cases_eq, cases_lt, eq-eqb, eqb-true, leb-true, le-leb, lt-leb, ltb-true, lt-ltb, or_cases, or_left, or_right, and_parts, and_from, and_left, and_right}
 use Rattle.aig_semantics.specs.Circuits.{Circuit, fair_literals}
 use Rattle.edge.specs.Units.{Spendings}
+use Rattle.fair_semantics.proofs.States.{one-less}
 use Rattle.fair_workers.specs.declared.working.Phase.{Phase}
 use Rattle.fair_workers.specs.declared.working.Phase.TheVariants as phases
 use Rattle.fair_workers.specs.Runs.{last_turns, most_situations}
@@ -81,12 +82,6 @@ last-of-two properties two = one (length properties) two
     one n two = grind (arith)
 
 -- ---- counting
-
-one-less : (a b : Bool) → (a ≡ true → b ≡ true) → cond a 1 0 ≤ cond b 1 0
-one-less true true h = omega arith
-one-less true false h = absurd (false≢true (h refl))
-one-less false true h = omega arith
-one-less false false h = omega arith
 
 one-most : (a : Bool) → cond a 1 0 ≤ 1
 one-most true = omega arith

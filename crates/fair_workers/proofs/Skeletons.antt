@@ -1,8 +1,7 @@
 -- How many entries a list can have that each exclude a skeleton which those before them allow.
-use Rattle.std.proofs.Common.{◌≡◌, ℕ, zero, suc, ◌+◌, ◌-◌, ◌*◌, ◌^◌, ◌<◌, ◌≤◌, max, min, Bool, true, false, cond, List, [], ◌∷◌, ◌++◌, inl, inr, Some, None, length, get_or, take, drop, refl, sym, ap, ap₂, ◌∙◌, subst, arith}
+use Rattle.std.proofs.Common.{◌≡◌, ℕ, zero, suc, ◌+◌, ◌-◌, ◌*◌, ◌^◌, ◌<◌, ◌≤◌, max, min, Bool, true, false, List, [], ◌∷◌, ◌++◌, inl, inr, Some, None, length, get_or, take, drop, refl, sym, ap, ap₂, ◌∙◌, subst, arith}
 use Rattle.std.specs.Prelude.{Contains}
 use Rattle.std.specs.List.{All, Any}
-use Rattle.std.proofs.Math.Nat.{pow-suc}
 use Rattle.std.proofs.Math.Seq.{take-append_seam, drop-append_seam}
 use Rattle.std.proofs.lemmas.Bool.{false≢true}
 use Rattle.std.proofs.lemmas.List.{append-nil, append_assoc, length-append, length-map, map-append}
@@ -18,6 +17,7 @@ use Rattle.fair_semantics.specs.Allowing.{allow}
 use Rattle.fair_semantics.specs.Entries.{Entry, numbered}
 use Rattle.fair_semantics.specs.Skeletons.{states_of, places, IsSituation, IsSkeleton, excludes}
 use Rattle.fair_semantics.proofs.Staying.{front_allows}
+use Rattle.fair_semantics.proofs.States.{count, count-within, count-less, count-most}
 use Rattle.entry.specs.CheckedEntries.{CheckedEntry}
 use Rattle.entry.specs.declared.origins.Origin.{Origin}
 use Rattle.entry.specs.declared.origins.Origin.TheVariants.{Given, Worker as FoundBy}
@@ -30,50 +30,7 @@ use Rattle.shared_lists.proofs.LentBoards.{not-excluded}
 
 -- ---- counting lists of values
 
--- how many lists of n values pass the test
-abbrev count : ℕ → (List Bool → Bool) → ℕ
-count zero test = cond (test []) 1 0
-count (suc n) test = count n (λ s. test (true ∷ s)) + count n (λ s. test (false ∷ s))
-
-one-less : (a b : Bool) → (a ≡ true → b ≡ true) → cond a 1 0 ≤ cond b 1 0
-one-less true true h = omega arith
-one-less true false h = absurd (false≢true (h refl))
-one-less false true h = omega arith
-one-less false false h = omega arith
-
-count-within : (n : ℕ) (f g : List Bool → Bool) → ((s : List Bool) → f s ≡ true → g s ≡ true) → count n f ≤ count n g
-count-within zero f g h = one-less (f []) (g []) (h [])
-count-within (suc n) f g h =
-    let yes = count-within n (λ s. f (true ∷ s)) (λ s. g (true ∷ s)) (λ s. h (true ∷ s)) in
-    let not_so = count-within n (λ s. f (false ∷ s)) (λ s. g (false ∷ s)) (λ s. h (false ∷ s)) in
-    omega arith
-
-count-less : (n : ℕ) (f g : List Bool → Bool) → ((s : List Bool) → f s ≡ true → g s ≡ true)
-    → (s : List Bool) → length s ≡ n → f s ≡ false → g s ≡ true → count n f + 1 ≤ count n g
-count-less zero f g h [] size out within = rw (out, within) (omega arith)
-count-less zero f g h (b ∷ s) size out within = absurd (omega arith)
-count-less (suc n) f g h [] size out within = absurd (omega arith)
-count-less (suc n) f g h (true ∷ s) size out within =
-    let yes = count-less n (λ s. f (true ∷ s)) (λ s. g (true ∷ s)) (λ s. h (true ∷ s)) s (omega arith) out within in
-    let not_so = count-within n (λ s. f (false ∷ s)) (λ s. g (false ∷ s)) (λ s. h (false ∷ s)) in
-    omega arith
-count-less (suc n) f g h (false ∷ s) size out within =
-    let yes = count-within n (λ s. f (true ∷ s)) (λ s. g (true ∷ s)) (λ s. h (true ∷ s)) in
-    let not_so = count-less n (λ s. f (false ∷ s)) (λ s. g (false ∷ s)) (λ s. h (false ∷ s)) s (omega arith) out within in
-    omega arith
-
-count-all : (n : ℕ) → count n (λ s. true) ≡ 2 ^ n
-count-all zero = refl
-count-all (suc n) =
-    let h = count-all n in
-    let e : 2 ^ suc n ≡ 2 ^ n * 2 = pow-suc 2 n in
-    omega arith
-
-count-most : (n : ℕ) (test : List Bool → Bool) → count n test ≤ 2 ^ n
-count-most n test =
-    let h = count-within n test (λ s. true) (λ s e. refl) in
-    omega (arith, h, count-all n)
-
+-- where one passes the test some do
 count-some : (n : ℕ) (test : List Bool → Bool) (s : List Bool) → length s ≡ n → test s ≡ true → 1 ≤ count n test
 count-some n test s size passes =
     let h = count-less n (λ t. false) test (λ t e. absurd (false≢true e)) s size refl passes in
