@@ -274,9 +274,6 @@ module _ (c : Circuit) (start : List Bool) (inputs : List (List Bool)) (from : �
   abbrev run : List Position
   run = simulated c start inputs
 
-  last_place : ℕ
-  last_place = length inputs - 1
-
   abbrev position_at : ℕ → Position
   position_at n = position_of (state_at c start inputs n) (get_or inputs n [])
 

@@ -377,9 +377,6 @@ module _ (c : Circuit) (before progress : List Progress) (path order : List Gate
   number-waits : (k : ℕ) (d : Gate) (next : IsNext progress gate (Begin k)) → progress_at progress (get_or c.gates k d).var ≡ Waiting k
   number-waits k d next = ap (λ u. progress_at progress u) (number-is k d next) ∙ next.2
 
-  pub number-inside : (k : ℕ) (d : Gate) → IsNext progress gate (Begin k) → (get_or c.gates k d).var < length progress
-  number-inside k d next = inside-waiting progress (get_or c.gates k d).var k (number-waits k d next)
-
   number-read : (k : ℕ) (d : Gate) (next : IsNext progress gate (Begin k)) → (j : ℕ) (e : Gate) → suc j ≡ length path → HasRightSide (get_or path j e) (get_or c.gates k d).var
   number-read k d next j e end =
       let at : get_or path j e ≡ gate =
@@ -407,12 +404,6 @@ module _ (c : Circuit) (before progress : List Progress) (path order : List Gate
       let member : Contains c.gates gate' = Contains-get_or c.gates k d (number-below k next) in
       subst (λ p. sum_by steps_left p < sum_by steps_left progress) (sym e)
       (begun-steps c progress path order on.search k gate' member (number-waits k d next))
-
-  pub last-inside : gate.var < length progress
-  last-inside = closed_inside_of
-    where
-      closed_inside_of : gate.var < length progress
-      closed_inside_of = inside-open progress gate.var (subst (λ x. progress_at progress x.var ≡ Open) (get_or_push front gate gate (length front) refl) (split_search.path_open (length front) gate (omega (arith, length_push front gate))))
 
   pub goes-on_closed : AreSettled progress gate → (progress' : List Progress) (path' order' : List Gate) → progress' ≡ set progress gate.var Done → path' ≡ front → order' ≡ order ++ gate ∷ [] → IsGoingOn c before progress' path' order'
   goes-on_closed settled progress' path' order' e f h =

@@ -59,14 +59,6 @@ use-ends before places n us clauses behind ends e f =
           (ends-at before places n us behind k below));
     }
 
--- one use more
-pub ends-next : (before : List (List Lit)) (clauses : List (List Lit)) (places : List (List ℕ)) (n : Numbering) (u : Numbered) (us : List Numbered)
-    → clauses ≡ before ++ use_clauses places n u.entry u.entry.kind
-    → use_ends (length before) places n (u ∷ us) ≡ length before ∷ use_ends (length clauses) places (after_use places n u u.entry.kind) us
-ends-next before clauses places n u us e =
-    ap (λ m. length before ∷ use_ends m places (after_use places n u u.entry.kind) us)
-    (sym (ap length e ∙ length-append before (use_clauses places n u.entry u.entry.kind)))
-
 -- ---- the parts of a block
 
 flat-parts : {X Y : Type 0} (f : X → List Y) (i : ℕ) (xs : List X) → flat_map f xs ≡ flat_map f (take i xs) ++ flat_map f (drop i xs)

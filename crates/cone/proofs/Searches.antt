@@ -12,7 +12,7 @@ use Rattle.aig_semantics.proofs.Lists.{All-left, All-right}
 use Rattle.circuit.proofs.Counting.{All-unmap, All-parts}
 use Rattle.circuit.proofs.Searching.{last-split}
 use Rattle.cone.specs.declared.tables.Reads.{Reads}
-use Rattle.cone.specs.Cones.{judged_literals, IsClosed, IsCone, AreMarksOf}
+use Rattle.cone.specs.Cones.{judged_literals, IsClosed, AreMarksOf}
 use Rattle.cone.specs.Finding.{reads_at, reads_of_gate, reads_of_latch, AreIn, IsTable, IsSettled, IsSearch, KeepsMarks, IsAsked, IsPut, IsPutWhere, steps_left}
 
 -- ---- marks
@@ -122,12 +122,6 @@ module _ (c : Circuit) (j : ℕ) (table : List (Option Reads)) where
 
   all-asked : All (λ literal. IsAsked c j (variable_of literal)) (judged_literals c j)
   all-asked = λ k d below keep closed. closed.judged k d below
-
-  pub property-asked : (literals : List ℕ) → literals ≡ get_or c.justice j [] → All (λ literal. IsAsked c j (variable_of literal)) literals
-  property-asked literals e =
-      subst (λ ls. All (λ literal. IsAsked c j (variable_of literal)) ls) (sym e)
-      (All-left (λ literal. IsAsked c j (variable_of literal)) (get_or c.justice j []) c.fairness
-      (All-left (λ literal. IsAsked c j (variable_of literal)) (fair_literals c j) c.constraints all-asked))
 
   pub fairness-asked : (literals : List ℕ) → literals ≡ c.fairness → All (λ literal. IsAsked c j (variable_of literal)) literals
   fairness-asked literals e =
@@ -258,13 +252,6 @@ module _ (c : Circuit) (j : ℕ) (table : List (Option Reads)) (limits : IsWithi
   put-inside : (marks : List Bool) (stack hand : List ℕ) (v : ℕ) → IsSearch c j table marks stack hand → IsAsked c j v → v < length marks
   put-inside marks stack hand v s asked = omega (arith, asked-inside c j limits v asked, s.size)
 
-  pub putting-first : (marks : List Bool) (stack literals : List ℕ) → IsSearch c j table marks stack [] → IsPutting c j table marks literals marks stack 0
-  putting-first marks stack literals s = record {
-    search = s;
-    keeps = λ v h. h;
-    marked = λ k d below. absurd (omega arith);
-  }
-
   module _ (before marks : List Bool) (stack literals : List ℕ) (i d : ℕ) (p : IsPutting c j table before literals marks stack i) (asked : All (λ literal. IsAsked c j (variable_of literal)) literals) (lt : i < length literals) where
     abbrev literal_here : ℕ
     literal_here = get_or literals i d
@@ -354,9 +341,6 @@ module _ (c : Circuit) (j : ℕ) (table : List (Option Reads)) (limits : IsWithi
   pub follows-nothing : reads_at table v ≡ None → IsSearch c j table marks rest []
   follows-nothing at = let-go marks rest popped (λ reads is. absurd (none-some reads (sym at ∙ is)))
 
-  pub nearer-nothing : steps_left marks rest < steps_left marks stack
-  nearer-nothing = shorter
-
   module _ (reads : Reads) (at : reads_at table v ≡ Some reads) where
     asked-first : IsAsked c j (variable_of reads.first)
     asked-first = λ keep closed. (t.kept v reads at keep closed (s.kept keep closed v marked-now)).0
@@ -376,9 +360,6 @@ module _ (c : Circuit) (j : ℕ) (table : List (Option Reads)) (limits : IsWithi
       second-inside = put-inside c j table limits marks1 stack1 (v ∷ []) (variable_of reads.second) after-first asked-second
 
       module _ (marks2 : List Bool) (stack2 : List ℕ) (second : IsPut (variable_of reads.second) marks1 stack1 marks2 stack2) where
-        keeps-first : KeepsMarks marks marks1
-        keeps-first = put-keeps (variable_of reads.first) marks rest marks1 stack1 (variable_in marks (variable_of reads.first)) first
-
         keeps-second : KeepsMarks marks1 marks2
         keeps-second = put-keeps (variable_of reads.second) marks1 stack1 marks2 stack2 (variable_in marks1 (variable_of reads.second)) second
 
@@ -397,9 +378,6 @@ module _ (c : Circuit) (j : ℕ) (table : List (Option Reads)) (limits : IsWithi
         follows =
             let-go marks2 stack2 after-second
             (λ other is. subst (λ r. AreIn (variable_in marks2) r) (same_Some reads other (sym at ∙ is)) both-marked)
-
-        pub follows-keeps : KeepsMarks marks marks2
-        follows-keeps = λ u h. keeps-second u (keeps-first u h)
 
         pub nearer : steps_left marks2 stack2 < steps_left marks stack
         nearer =

@@ -11,26 +11,9 @@ unrolled ob i n [] d below = absurd (omega arith)
 unrolled ob zero n (proof ∷ proofs) d below = refl
 unrolled ob (suc i) n (proof ∷ proofs) d below = unrolled ob i n proofs d (omega arith)
 
-none-passes : (i : ℕ) (r : Option (ℕ × LratFault)) (rest : Option EntryFault) → clause_fault i r None ≡ None → clause_fault i r rest ≡ rest
-none-passes i None rest h = refl
-none-passes i (Some found) rest h = absurd (cc)
-
 some-stays : (i : ℕ) (r : Option (ℕ × LratFault)) (rest : Option EntryFault) (fault : EntryFault) → clause_fault i r None ≡ Some fault → clause_fault i r rest ≡ Some fault
 some-stays i None rest fault h = absurd (cc)
 some-stays i (Some found) rest fault h = h
-
-pub step_none : (ob : ℕ → List (List Lit)) (i : ℕ) (proofs : List (List (List ℕ))) (d : List (List ℕ)) (given : List (List Lit)) (whole : Option EntryFault)
-    → i < length proofs → given ≡ ob i → None ≡ clause_fault i (proof_fault given (get_or proofs i d)) None
-    → proofs_fault ob i (drop i proofs) ≡ whole → proofs_fault ob (i + 1) (drop (i + 1) proofs) ≡ whole
-step_none ob i proofs d given whole below same passed h =
-    let here : clause_fault i (proof_fault (ob i) (get_or proofs i d)) None ≡ None =
-    subst (λ clauses. clause_fault i (proof_fault clauses (get_or proofs i d)) None ≡ None) same (sym passed)
-    in
-    let rest : proofs_fault ob (i + 1) (drop (suc i) proofs) ≡ whole =
-    sym (none-passes i (proof_fault (ob i) (get_or proofs i d)) (proofs_fault ob (i + 1) (drop (suc i) proofs)) here) ∙ sym (unrolled ob i i proofs d below) ∙ h
-    in
-    let next : suc i ≡ i + 1 = omega arith in
-    subst (λ k. proofs_fault ob (i + 1) (drop k proofs) ≡ whole) next rest
 
 pub step_some : (ob : ℕ → List (List Lit)) (i : ℕ) (proofs : List (List (List ℕ))) (d : List (List ℕ)) (given : List (List Lit)) (whole : Option EntryFault) (fault : EntryFault)
     → i < length proofs → given ≡ ob i → Some fault ≡ clause_fault i (proof_fault given (get_or proofs i d)) None

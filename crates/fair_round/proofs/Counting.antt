@@ -41,19 +41,6 @@ conflicts-alone m x y h = record {
 pub conflicts-first : (m : ℕ) (x y z : Spendings) → CountsConflicts x y → CountsUpTo m y z → CountsUpTo m x z
 conflicts-first m x y z first second = counts-then 0 m m x y z (conflicts-alone 0 x y first) second (omega arith)
 
-pub conflicts-last : (m : ℕ) (x y z : Spendings) → CountsUpTo m x y → CountsConflicts y z → CountsUpTo m x z
-conflicts-last m x y z first second = counts-then m 0 m x y z first (conflicts-alone 0 y z second) (omega arith)
-
--- what a search has left bounds what follows
-pub paid-then : (a b : ℕ) (x y z : Spendings) → CountsUpTo a x y → y.steps + b ≤ x.steps + a → CountsUpTo b y z → CountsUpTo a x z
-paid-then a b x y z first paid second = record {
-  conflict_limit = second.conflict_limit ∙ first.conflict_limit;
-  step_limit = second.step_limit ∙ first.step_limit;
-  conflicts = omega (arith, first.conflicts, second.conflicts);
-  steps = omega (arith, first.steps, second.steps);
-  bound = omega (arith, paid, second.bound);
-}
-
 -- ---- searches
 
 -- one search, whose steps are bounded
@@ -77,15 +64,6 @@ pub asks-then : (n a b m : ℕ) (x y z : Spendings) → Asks n a x y → Asks n 
 asks-then n a b m x y z first second all =
     counts-then (a * path_steps n) (b * path_steps n) (m * path_steps n) x y z first second (sums-more a b m (path_steps n) (mul-le-mul_right (path_steps n) all))
 
-pub asks-within : (n a m : ℕ) (x y : Spendings) → Asks n a x y → a ≤ m → Asks n m x y
-asks-within n a m x y h all = record {
-  conflict_limit = h.conflict_limit;
-  step_limit = h.step_limit;
-  conflicts = h.conflicts;
-  steps = h.steps;
-  bound = omega (arith, h.bound, mul-le-mul_right (path_steps n) all);
-}
-
 -- ---- through the searches that are left
 
 through-more : (v w m n k r : ℕ) → v ≤ w → (m + k) * r ≤ n * r → v + (m + k) * r ≤ w + n * r
@@ -106,13 +84,6 @@ steps-kept u w m n r most turn before = omega (arith, turn, before)
 -- behind the last search of a turn
 pub steps-over : (u m r most : ℕ) → u + (m + 0) * r ≤ most → u + m * r ≤ most
 steps-over u m r most h = subst (λ (n : ℕ). u + n * r ≤ most) (let e : m + 0 ≡ m = omega arith in e) h
-
--- at first
-pub steps-first : (s n k r : ℕ) → s ≡ 0 → n ≤ k + 1 → s + n * r ≤ (k + 1) * r
-steps-first s n k r none few = first s n (k + 1) r none (mul-le-mul_right r few)
-  where
-    first : (s n m r : ℕ) → s ≡ 0 → n * r ≤ m * r → s + n * r ≤ m * r
-    first s n m r none all = omega (arith, none, all)
 
 -- at last
 pub steps-last : (s n r most : ℕ) → s + n * r ≤ most → s ≤ most

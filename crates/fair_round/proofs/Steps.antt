@@ -23,7 +23,6 @@ use Rattle.fair_semantics.specs.Validity.{set_behind, IsValid}
 use Rattle.entry.specs.Proved.{holds_initial}
 use Rattle.cnf_unroll.specs.Laws.{AreOver}
 use Rattle.lasso_join.specs.Fitting.{LeadsTo, IsStemTo, Fit}
-use Rattle.lasso_join.proofs.Joined.{some-situation}
 use Rattle.ic3_semantics.specs.declared.questions.Start.TheVariants.{Initial, State}
 use Rattle.ic3_semantics.specs.declared.questions.Goal.{Goal}
 use Rattle.ic3_semantics.specs.declared.questions.Reached.{Reached}
@@ -285,9 +284,6 @@ fairness-in_range c k fairness limits e below =
 
 -- ---- the walk
 
-pub walked-none : (c : Circuit) (situations : List Situation) → AreWalked c situations 0 []
-walked-none c situations = record { count = refl; lead = λ i below. absurd (omega arith) }
-
 pub walked-on : (c : Circuit) (j : ℕ) (view : List Entry) (situations : List Situation) (k n : ℕ) (pieces : List (List Position))
     (before : List Position) (to : Situation) → 0 < k → k < length situations → n ≡ k → AreWalked c situations (k - 1) pieces
     → Moves c view j situations k before to → AreWalked c (set situations k to) n (pieces ++ before ∷ [])
@@ -380,6 +376,3 @@ pub way-part : (c : Circuit) (view : List Entry) (xs ys : List Situation) (way :
 way-part c view xs ys way positions same e h =
     let there = subst (λ (zs : List Situation). IsWay c view (get_or (successors zs) (length zs - 1) []) (get_or (states zs) 0 []) zs way) same h in
     subst (IsWay c view (get_or (successors xs) (length xs - 1) []) (get_or (states xs) 0 []) xs) e there
-
-pub some-in : (c : Circuit) (j : ℕ) (view : List Entry) (xs ys : List Situation) → IsAllowed c j view (skeleton_of xs) → ys ≡ xs → 0 < length ys
-some-in c j view xs ys h e = omega (arith, some-situation c j (skeleton_of xs) h.skeleton, ap length e)

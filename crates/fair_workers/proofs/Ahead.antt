@@ -18,9 +18,6 @@ use Rattle.fair_workers.specs.Working.{count, is_ahead, is_running, left, search
 pub first-in : (j : ℕ) (js : List ℕ) → Contains (j ∷ js) j
 first-in j js = (0, omega arith, refl)
 
-pub next-in : (i : ℕ) (js : List ℕ) (j : ℕ) → Contains js j → Contains (i ∷ js) j
-next-in i js j h = (suc h.0, (let below : h.0 < length js = h.1 in omega arith), h.2)
-
 member-at : (x : ℕ) (xs : List ℕ) (j k : ℕ) → k < length (x ∷ xs) → get_or (x ∷ xs) k j ≡ j → (x ≡ j) ⊎ Contains xs j
 member-at x xs j zero below same = inl same
 member-at x xs j (suc k) below same = inr (k, (omega arith), same)

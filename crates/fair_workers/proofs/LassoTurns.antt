@@ -52,21 +52,6 @@ pub up-to-more : {T E : Type 0} (r : Result T E) (c : Circuit) (j done : ℕ) (d
 up-to-more (Ok x) c j done d e up grown more = record { grown = grown; positions = more ∙ ap (λ (n : ℕ). n + 1) up.positions }
 up-to-more (Err x) c j done d e up grown more = tt
 
-pub one-done : (c : Circuit) (j : ℕ) (s t : LassoSearch) → IsSearchOf c j s → s.done < s.depth → t.depth ≡ s.depth → t.done ≡ s.done + 1
-    → HasNoneWithin c j (s.done + 1) → IsSearchOf c j t
-one-done c j s t is less depth done none = record {
-  short = (let short = is.short in omega (arith, short, depth));
-  within = omega (arith, less, depth, done);
-  none = subst (λ (n : ℕ). HasNoneWithin c j n) (sym done) none;
-}
-
-pub same-done : (c : Circuit) (j : ℕ) (s t : LassoSearch) → IsSearchOf c j s → t.depth ≡ s.depth → t.done ≡ s.done → IsSearchOf c j t
-same-done c j s t is depth done = record {
-  short = (let short = is.short in omega (arith, short, depth));
-  within = (let within = is.within in omega (arith, within, depth, done));
-  none = subst (λ (n : ℕ). HasNoneWithin c j n) (sym done) is.none;
-}
-
 -- behind simulation all positions of the depth are left
 pub simulated-behind : (c : Circuit) (j after : ℕ) (s : LassoSearch) → IsBefore c j after s → s.depth - s.done ≤ after → IsBehind c j after s
 simulated-behind c j after s is last = record { solver = is.solver; all = all-left s.done after s.depth is.most last }

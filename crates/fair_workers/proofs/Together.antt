@@ -4,7 +4,7 @@ use Rattle.std.specs.Prelude.{Option, Contains, ◌==◌, is_some, IfSome}
 use Rattle.std.specs.List.{All, sum_by}
 use Rattle.std.proofs.Math.Seq.{map-set_same}
 use Rattle.std.proofs.lemmas.Bool.{false≢true, cases_lt, eq-eqb, ne_eqb}
-use Rattle.std.proofs.lemmas.List.{get_or-map, get_or_past, get_or_append_left, get_or-set_same, get_or-set_other, get_or-replicate, length-set, length-map, length-append, append-nil, append_assoc, map-append, map-set, take_all, take-append-le, drop_all, drop-append-le}
+use Rattle.std.proofs.lemmas.List.{get_or-map, get_or_append_left, get_or-set_same, get_or-set_other, get_or-replicate, length-set, length-map, length-append, append-nil, append_assoc, map-append, map-set, take_all, take-append-le, drop_all, drop-append-le}
 use Rattle.std.proofs.Math.Seq.{get_or-append_seam}
 use Rattle.std.proofs.lemmas.List.Sums.{sum_by-cons}
 use Rattle.std.proofs.lemmas.List.Elements.{All-nil, All-push, All-set, All-map, All-head, All-tail, All-append, All-weaker}
@@ -51,17 +51,6 @@ own-fresh b w turns fresh =
 authors-fresh : (limits : Limits) (b : BoardState) → length b.entries ≡ b.given → All (IsByRoundWorker limits) (drop b.given b.entries)
 authors-fresh limits b fresh =
     subst (All (IsByRoundWorker limits)) (sym (drop_all b.given b.entries (omega (arith, fresh)))) (All-nil (IsByRoundWorker limits))
-
-pub workers-none : (limits : Limits) (b : BoardState) → length b.entries ≡ b.given → AreWorkers limits b []
-workers-none limits b fresh = record {
-  numbers = λ k below. absurd (omega arith);
-  each = All-nil (IsBoardWorker b);
-  kinds = All-nil (λ w. IsNumbered limits w.number w.worker.lasso_search);
-  within = All-nil (λ w. IsWithLimits limits w.worker.meter);
-  steps = All-nil (KeepsWithin limits b);
-  own = λ w. own-fresh b w (turns_at [] w) fresh;
-  authors = authors-fresh limits b fresh;
-}
 
 pub workers-push : (limits : Limits) (b : BoardState) (workers : List BoardWorker) (w : BoardWorker) → AreWorkers limits b workers
     → w.number ≡ length workers → IsBoardWorker b w → IsNumbered limits w.number w.worker.lasso_search → IsWithLimits limits w.worker.meter → KeepsWithin limits b w
@@ -192,16 +181,6 @@ sparing-first limits b m is below grows whole begins none =
 
 pub runs-here : (workers : List BoardWorker) (k : ℕ) (w : BoardWorker) → k < length workers → is_running (get_or workers k w).worker.phase ≡ runs_at workers k
 runs-here workers k w below = ap is_running (sym (get_or-map (λ (v : BoardWorker). v.worker.phase) workers k w phases.Closed below))
-
-pub runs-past : (workers : List BoardWorker) (k : ℕ) → length workers ≤ k → runs_at workers k ≡ false
-runs-past workers k past = ap is_running (get_or_past (map (λ (v : BoardWorker). v.worker.phase) workers) k phases.Closed (omega (arith, length-map workers (λ (v : BoardWorker). v.worker.phase))))
-
-pub runs-inside : (workers : List BoardWorker) (k : ℕ) → runs_at workers k ≡ true → k < length workers
-runs-inside workers k h =
-    elim (cases_lt k (length workers)) [
-      | inl below ↦ below
-      | inr past ↦ absurd (false≢true (sym (runs-past workers k past) ∙ h))
-    ]
 
 -- ---- a turn
 

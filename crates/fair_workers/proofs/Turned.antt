@@ -2,7 +2,7 @@
 use Rattle.std.proofs.Common.{◌≡◌, ℕ, max, min, ◌+◌, ◌-◌, ◌*◌, ◌^◌, ◌<◌, ◌≤◌, Bool, true, false, cond, ◌⊎◌, inl, inr, List, [], ◌∷◌, ◌++◌, length, get_or, refl, sym, ap, ◌∙◌, subst, arith}
 use Rattle.std.specs.Prelude.{◌==◌, nat_lt, Option, Some, None, Result, Ok, Err, Contains, IfSome, IfOk}
 use Rattle.std.specs.List.{Any, AllPairs}
-use Rattle.std.proofs.lemmas.Bool.{false≢true, both_ways, cases_lt, eqb-true, eqb-false, ltb-true, ltb-false}
+use Rattle.std.proofs.lemmas.Bool.{both_ways, cases_lt, eqb-true, eqb-false, ltb-true, ltb-false}
 use Rattle.std.proofs.lemmas.List.{length-append, map-append, append_assoc, append-nil}
 use Rattle.std.proofs.Math.Nat.{mul-le-mul_right}
 use Rattle.aig_semantics.specs.Circuits.{Circuit, fair_literals}
@@ -27,7 +27,7 @@ use Rattle.fair_workers.specs.declared.working.Phase.TheVariants as phases
 use Rattle.fair_workers.specs.declared.working.Worker.{Worker}
 use Rattle.fair_workers.specs.Working.{left, left_in, left_to, left_at_first, searches_in, searches_left_in, searches_left_to, search_steps, steps_through, room_of, ahead_of, is_running, phase_after, phase_finished, phase_passed, serving, asked, asked_last, AreRoundsOf, IsAtLimit, IsAllowing, IsStuck, IsPast, ServesLast, IsIn, IsOfKind, IsWorker, StaysOfKind, Turns, Thinks, first_left, is_deep, is_round}
 use Rattle.fair_workers.specs.declared.lasso_search.LassoSearch.{LassoSearch}
-use Rattle.fair_workers.proofs.WorkerKinds.{same-kind, round-kind, round-runs, kind-thinks}
+use Rattle.fair_workers.proofs.WorkerKinds.{same-kind, round-kind, round-runs}
 use Rattle.fair_workers.proofs.Ahead.{Stay, was-open, only-in, none-above, are-two, last-of-two, some-in, ahead-on, looks-ahead, asks-ahead, full-ahead, last-looks-ahead, passed-ahead, passed-out, finished-ahead, finished-out, settled-out, serves-searches, serves-last, ahead-within, ahead-less, searches-some, looks-some, running-left, ended-left, ended-searches, turn-searches, situations-within}
 use Rattle.fair_round.proofs.Counting.{steps-fewer, steps-behind}
 
@@ -84,10 +84,6 @@ served-on k l circuit properties h =
 
 no-shorter : (k l : Known) → SeesMore k l → length k.list ≤ length l.list
 no-shorter k l sees = omega (arith, ap length sees.list.1, length-append k.list sees.list.0)
-
--- where no more may come, nothing comes
-pub full-stays : (k l : Known) → SeesMore k l → IsAtLimit k → IsAtLimit l
-full-stays k l sees full = omega (arith, no-shorter k l sees, sees.within, sees.keeps.limit, full)
 
 none-more : (xs : List CheckedEntry) → length xs ≡ 0 → xs ≡ []
 none-more [] e = refl
@@ -669,37 +665,6 @@ pub one-more-in : (k : Known) (w : Worker) (p : Phase) → IsWorker k w → w.ph
 one-more-in k w p is phase running = one-more-turn k w is (runs-in w.phase p phase running)
 
 -- ---- thinking
-
-phase-thinks : (j : ℕ) (k : Known) (a b : Spendings) (p : Phase) → is_running p ≡ true → IsIn j k a p → IsIn j k b p
-phase-thinks j k a b phases.Asks running h = h
-phase-thinks j k a b phases.Looks running h = h
-phase-thinks j k a b phases.Searches running h = h
-phase-thinks j k a b (phases.AsksLast from) running h = h
-phase-thinks j k a b phases.LooksLast running h = h
-phase-thinks j k a b phases.SearchesLast running h = h
-phase-thinks j k a b (phases.AsksDeeper after) running h = h
-phase-thinks j k a b (phases.Deepens after) running h = h
-phase-thinks j k a b phases.Closed running h = h
-phase-thinks j k a b phases.Full running h = h
-phase-thinks j k a b phases.Spent running h = absurd (false≢true running)
-phase-thinks j k a b phases.Deep running h = absurd (false≢true running)
-phase-thinks j k a b phases.Refused running h = absurd (false≢true running)
-
-pub thinks_worker : (searches : ℕ) (k : Known) (w v : Worker) → IsWorker k w → Thinks searches k w v → is_running w.phase ≡ true → IsWorker k v
-thinks_worker searches k w v is t running = record {
-  served = is.served;
-  rounds = t.rounds;
-  phase = subst (λ (m : ℕ). IsIn m k v.meter v.phase) (sym t.property)
-      (subst (IsIn w.property k v.meter) (sym t.phase) (phase-thinks w.property k w.meter v.meter w.phase running is.phase));
-  short = is.short;
-  kind = subst (λ (m : ℕ). IsOfKind m k v.meter v.phase v.lasso_search) (sym t.property)
-      (subst (λ p. IsOfKind w.property k v.meter p v.lasso_search) (sym t.phase)
-      (subst (λ (o : Option LassoSearch). IsOfKind w.property k v.meter w.phase o) (sym t.lasso_search)
-      (kind-thinks w.property k w.meter v.meter w.phase w.lasso_search running is.kind)));
-  turns = subst (λ (m : ℕ). k.turns + left_in k m v.phase ≤ first_left k v.lasso_search) (sym t.property)
-      (subst (λ p. k.turns + left_in k w.property p ≤ first_left k v.lasso_search) (sym t.phase)
-      (subst (λ (o : Option LassoSearch). k.turns + left_to k w ≤ first_left k o) (sym t.lasso_search) is.turns));
-}
 
 searches-same : (k : Known) (w v : Worker) → v.property ≡ w.property → v.phase ≡ w.phase → searches_left_to k v ≡ searches_left_to k w
 searches-same k w v property phase =

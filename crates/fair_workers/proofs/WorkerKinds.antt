@@ -82,26 +82,6 @@ kind-stays j k l m p None circuit properties given list is = is
 kind-stays j k l m p (Some s) circuit properties given list is =
     (seeks-on j k l s circuit properties given list is.0, subst (λ (c : Circuit). IsDeepIn c j m s p) (sym circuit) is.1)
 
--- what is spent counts at the end alone
-deep-thinks : (c : Circuit) (j : ℕ) (a b : Spendings) (s : LassoSearch) (p : Phase) → is_running p ≡ true → IsDeepIn c j a s p → IsDeepIn c j b s p
-deep-thinks c j a b s phases.Asks running h = h
-deep-thinks c j a b s phases.Looks running h = h
-deep-thinks c j a b s phases.Searches running h = h
-deep-thinks c j a b s (phases.AsksLast from) running h = h
-deep-thinks c j a b s phases.LooksLast running h = h
-deep-thinks c j a b s phases.SearchesLast running h = h
-deep-thinks c j a b s (phases.AsksDeeper after) running h = h
-deep-thinks c j a b s (phases.Deepens after) running h = h
-deep-thinks c j a b s phases.Closed running h = h
-deep-thinks c j a b s phases.Full running h = h
-deep-thinks c j a b s phases.Spent running h = h
-deep-thinks c j a b s phases.Deep running h = absurd (false≢true running)
-deep-thinks c j a b s phases.Refused running h = h
-
-pub kind-thinks : (j : ℕ) (k : Known) (a b : Spendings) (p : Phase) (o : Option LassoSearch) → is_running p ≡ true → IsOfKind j k a p o → IsOfKind j k b p o
-kind-thinks j k a b p None running is = is
-kind-thinks j k a b p (Some s) running is = (is.0, deep-thinks k.circuit j a b s p running is.1)
-
 -- ---- numbers
 
 -- where a worker is a lasso worker, there are to be some

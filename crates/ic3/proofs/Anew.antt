@@ -86,32 +86,6 @@ implied_behind lemmas place other lemma by behind below is h = λ level state me
     let there : f by ≡ true = ap f is ∙ all_behind f lemmas (place + 1) other by (omega arith) below met in
     and_from (f lemma) true (met_by lemma by level state parts.0 parts.1 there) refl
 
--- a state that meets what follows meets the lemma
-absorbed : (a b c : Bool) → (b ≡ true → (c && true) ≡ true) → (a && b) ≡ (a && (c && b))
-absorbed a true true h = refl
-absorbed a false true h = refl
-absorbed a false false h = refl
-absorbed a true false h = absurd (false≢true (h refl))
-
-pub held_by_later : (lemmas : List Lemma) (i : ℕ) (lemma : Lemma) (begun s : Questions) → i < length lemmas
-    → lemma ≡ get_or lemmas i lemma → IsImpliedBehind lemmas i lemma → IsHeldUpTo lemmas i begun s → IsHeldUpTo lemmas (i + 1) begun s
-held_by_later lemmas i lemma begun s below is implied held = record {
-  kept = held.kept;
-  same =
-      λ level state.
-      let f : Lemma → Bool = λ x. nat_lt x.level level || clause_value (values_of state) x.clause in
-      let rest : drop i lemmas ≡ lemma ∷ drop (i + 1) lemmas =
-      drop_more lemmas i lemma below ∙ ap (λ x. x ∷ drop (i + 1) lemmas) (sym is)
-      in
-      list_all-append f held.kept (drop (i + 1) lemmas)
-      ∙ (absorbed (list_all f held.kept) (list_all f (drop (i + 1) lemmas)) (f lemma) (implied level state)
-      ∙ (ap (λ xs. list_all f held.kept && list_all f xs) (sym rest)
-      ∙ (sym (list_all-append f held.kept (drop i lemmas))
-      ∙ held.same level state)));
-  among = held.among;
-  holds = held.holds;
-}
-
 -- ---- a lemma that comes
 
 over_push : (n : ℕ) (front : List Lemma) (last : Lemma) → AllByRecursion (λ x. IsOver n x.clause) front → IsOver n last.clause

@@ -35,7 +35,7 @@ use Rattle.ic3_questions.proofs.BaseLaws.{base_read}
 use Rattle.ic3.specs.SteppingInside.{IsHeldBy, IsHeldWith, ModelInto, ModelGoal, question_clause, IsTold, TriedInto, TellsTried, TriedGoal, TellsTriedGoal}
 use Rattle.ic3_questions.specs.ReadVariables.{is_read}
 use Rattle.ic3.specs.declared.stepping_questions.Questions.{Questions}
-use Rattle.ic3.proofs.FoundLaws.{denied_there, over_place, not_true, frame_read, found_missing}
+use Rattle.ic3.proofs.FoundLaws.{denied_there, over_place, frame_read, found_missing}
 use Rattle.ic3.proofs.GoalLaws.{says_read, goal_none}
 
 -- the position that an assignment gives has a value for each latch and input
@@ -45,14 +45,6 @@ position_sizes c v p is = (
   ap (λ q. length q.latches) is ∙ (length-map (state_place c 0) v ∙ state_length c 0),
   ap (λ q. length q.inputs) is ∙ length-map c.inputs (λ i. v (number 0 i)),
 )
-
--- what is tried of cubes that are to be avoided
-pub all_false : (f : List Lit → Bool) (cubes : List (List Lit)) → list_all (λ cube. not (f cube)) cubes ≡ true
-    → All (λ cube. f cube ≡ false) cubes
-all_false f [] h = All-nil (λ cube. f cube ≡ false)
-all_false f (cube ∷ cubes) h =
-    let parts = and_parts (not (f cube)) (list_all (λ x. not (f x)) cubes) h in
-    All-cons (λ x. f x ≡ false) cube cubes (not_true (f cube) parts.0) (all_false f cubes parts.1)
 
 -- what is tried of constraints
 all_true : (f : ℕ → Bool) (literals : List ℕ) → list_all f literals ≡ true → All (λ literal. f literal ≡ true) literals

@@ -4,7 +4,6 @@ use Rattle.std.specs.List.{All}
 use Rattle.std.proofs.lemmas.Bool.{or_left, or_right}
 use Rattle.std.proofs.lemmas.List.{take_more}
 use Rattle.std.proofs.lemmas.List.Elements.{All-nil, All-cons}
-use Rattle.aig_semantics.specs.Runs.{successor}
 use Rattle.proof_semantics.specs.declared.literals.Lit.{Lit}
 use Rattle.proof_semantics.specs.Clauses.{lit_eq, has_literal, literal_value, cube_value, values_of}
 use Rattle.proof_semantics.proofs.LiteralLaws.{lit_eq-same, cube_value-push}
@@ -15,7 +14,7 @@ use Rattle.ic3_frames.proofs.Rooms.{frames-take, lemmas-make-none}
 use Rattle.ic3_semantics.specs.declared.lemmas.Lemma.{Lemma}
 use Rattle.ic3_semantics.specs.Stepping.{meets_from, IsOver}
 use Rattle.ic3_semantics.specs.Searching.{Question}
-use Rattle.ic3_loops.specs.Sound.{IsStartCube, has_one_of, IsSound, Agree}
+use Rattle.ic3_loops.specs.Sound.{has_one_of, Agree}
 use Rattle.ic3_loops.proofs.Sounds.{Levels, allowed_before, lemma_holds, all-with}
 
 -- The lowest of two frames has lemmas for these literals of the cube, the other none.
@@ -90,15 +89,3 @@ agree-first lemmas levels none is k s =
     empty (suc zero) = refl
     empty (suc (suc zero)) = refl
     empty (suc (suc (suc k))) = refl
-
--- With all literals the frames are sound.
-pub begun-all : (q : Question) (cube front : List Lit) (levels : Levels) → IsStartCube q cube → front ≡ cube → IsBegun q cube front levels
-    → IsSound q cube levels
-begun-all q cube front levels start is begun = record {
-  over = begun.over;
-  based = begun.based;
-  starts = λ s size h. (start.exactly s).1 (size, ap (cube_value (values_of s)) (sym is) ∙ begun.starts s h);
-  steps = λ k p below arena from.
-      let first : k + 1 ≡ 1 = omega (arith, begun.two) in
-      ap (λ clauses. allowed_by clauses (successor q.circuit p)) (ap (frame_at levels) first ∙ begun.top);
-}

@@ -1,33 +1,19 @@
 -- Ends and counts of a search, put together from those of its parts.
-use Rattle.std.proofs.Common.{◌≡◌, ℕ, suc, ◌+◌, ◌-◌, ◌*◌, ◌^◌, ◌<◌, ◌≤◌, min, [], Result, Ok, Err, Some, refl, sym, ap, subst, ◌∙◌, arith}
+use Rattle.std.proofs.Common.{◌≡◌, ℕ, suc, ◌+◌, ◌-◌, ◌*◌, ◌^◌, ◌<◌, ◌≤◌, min, [], Result, Ok, Err, refl, sym, ap, subst, ◌∙◌, arith}
 use Rattle.std.proofs.Math.Nat.{mul-suc}
 use Rattle.std.specs.Result.{OnOk}
 use Rattle.edge.specs.Faults.{one_more}
 use Rattle.edge.specs.Units.{Spendings}
-use Rattle.edge.specs.Ends.{IsEnd, CountsConflicts}
-use Rattle.edge.specs.declared.metering.Spent.{Spent}
-use Rattle.edge.specs.declared.metering.Counted.TheVariants.{Steps}
-use Rattle.edge.specs.declared.solve_end.SolveEnd.{SolveEnd}
+use Rattle.edge.specs.Ends.{CountsConflicts}
 use Rattle.edge.specs.declared.solve_end.SolveEnd.TheVariants as ends
 use Rattle.ic3_semantics.specs.declared.questions.ReachEnd.{ReachEnd}
 use Rattle.ic3_semantics.specs.declared.questions.ReachEnd.TheVariants.{Memory}
 use Rattle.ic3_frames.specs.Room.{room}
 use Rattle.ic3_frames.proofs.Rooms.{first-room}
 use Rattle.ic3_semantics.specs.Searching.{IsReachEnd, CountsSearch}
-use Rattle.ic3_semantics.specs.Ends.{end_of_kind, reach_end}
 use Rattle.ic3_semantics.specs.Stepping.{Stepping}
 use Rattle.ic3_loops.specs.Sound.{KeepsQuestion}
 use Rattle.ic3_semantics.specs.Searching.{CountsUpTo, CountsAtLeast}
-
--- The end of a solver, and that of a count of steps, as ends of a search.
-pub solver_end : (meter : Spendings) (end : SolveEnd) (r : ReachEnd) → IsEnd meter end → r ≡ reach_end end → IsReachEnd meter r
-solver_end meter (ends.Spent spent) r (limit, is) made =
-    subst (IsReachEnd meter) (sym (made ∙ ap (λ s. end_of_kind s.kind) is)) limit
-solver_end meter ends.Memory r is made = subst (IsReachEnd meter) (sym made) tt
-
-pub steps_end : (meter : Spendings) (spent : Spent) (n : ℕ) (r : ReachEnd) → meter.step_limit ≡ Some meter.steps
-    → spent ≡ record { kind = Steps; limit = n } → r ≡ end_of_kind spent.kind → IsReachEnd meter r
-steps_end meter spent n r limit is made = subst (IsReachEnd meter) (sym (made ∙ ap (λ s. end_of_kind s.kind) is)) limit
 
 pub memory_end : (meter : Spendings) (r : ReachEnd) → r ≡ Memory → IsReachEnd meter r
 memory_end meter r made = subst (IsReachEnd meter) (sym made) tt

@@ -1,22 +1,21 @@
 -- Obligations of a search: their nodes, their queue, and what becomes of one.
-use Rattle.std.proofs.Common.{◌≡◌, ℕ, zero, suc, ◌+◌, ◌-◌, ◌<◌, ◌≤◌, Bool, true, false, ◌||◌, nat_lt, List, [], ◌∷◌, ◌++◌, length, get_or, take, drop, refl, sym, ap, subst, ◌∙◌, inl, inr, arith}
+use Rattle.std.proofs.Common.{◌≡◌, ℕ, ◌+◌, ◌-◌, ◌<◌, ◌≤◌, Bool, true, ◌||◌, nat_lt, List, [], ◌∷◌, ◌++◌, length, get_or, take, drop, refl, sym, ap, subst, ◌∙◌, inl, inr, arith}
 use Rattle.std.proofs.lemmas.List.{length-append, get_or_append_left, get_or_default}
 use Rattle.std.proofs.Math.Seq.{get_or-append_seam}
 use Rattle.std.proofs.lemmas.List.Elements.{All-cons, All-append, All-take, All-drop, All-weaker}
 use Rattle.std.specs.List.{All, insert}
 use Rattle.std.specs.Prelude.{Option, None, Some}
-use Rattle.std.proofs.lemmas.Bool.{false≢true, cases_Bool, cases_lt, and_parts, and_from, or_left, or_right, or_cases, ltb-true, lt-ltb}
+use Rattle.std.proofs.lemmas.Bool.{cases_Bool, cases_lt, and_parts, and_from, or_left, or_right, or_cases, ltb-true, lt-ltb}
 use Rattle.aig_semantics.specs.declared.traces.Position.{Position}
 use Rattle.aig_semantics.specs.Circuits.{Circuit}
 use Rattle.aig_semantics.specs.Runs.{successor}
 use Rattle.proof_semantics.specs.declared.literals.Lit.{Lit}
 use Rattle.proof_semantics.specs.Clauses.{clause_value, cube_value, values_of, is_part}
 use Rattle.ic3_frames.specs.Frames.{frame_at}
-use Rattle.ic3_frames.specs.Room.{room, allowed_by}
+use Rattle.ic3_frames.specs.Room.{allowed_by}
 use Rattle.ic3_semantics.specs.declared.questions.Goal.{Goal}
 use Rattle.ic3_semantics.specs.declared.questions.Goal.TheVariants as goals
-use Rattle.ic3_semantics.specs.Arenas.{MayStart}
-use Rattle.ic3_semantics.specs.Searching.{Question, MeetsLiteral, IsPath}
+use Rattle.ic3_semantics.specs.Searching.{Question, MeetsLiteral}
 use Rattle.ic3_semantics.specs.declared.lemmas.Lemma.{Lemma}
 use Rattle.ic3_semantics.specs.Stepping.{Stepping, IsArenaStep, IsPredecessor, MeetsFrom, meets_from}
 use Rattle.ic3_generalise.proofs.Parts.{part_same}
@@ -27,23 +26,15 @@ use Rattle.ic3_loops.specs.declared.obligations.Lifted.{Lifted}
 use Rattle.ic3_loops.specs.declared.obligations.Obligation.{Obligation}
 use Rattle.ic3_loops.specs.declared.obligations.Obligations.{Obligations}
 use Rattle.ic3_loops.specs.declared.blocking.ConsecutionEnd.{ConsecutionEnd}
-use Rattle.ic3_loops.specs.Sound.{IsSound, IsStartCube, IsGoalOf, Agree}
+use Rattle.ic3_loops.specs.Sound.{IsGoalOf, Agree}
 use Rattle.ic3_loops.specs.Starting.{value_literals}
 use Rattle.ic3_loops.specs.Lifting.{IsLifted, IsGoalLifted}
 use Rattle.ic3_loops.proofs.Excluding.{part_true}
 use Rattle.ic3_loops.proofs.Sounds.{grow_on}
-use Rattle.ic3_loops.specs.Blocking.{LeadsOn, way_state, node_state, node_at, state_at, cube_at, IsNode, IsWayTo, AreNodes, IsDue, IsOpen, AreObligations, IsPutIn, IsStateFirst, IsLastFirst, IsLiteralFirst, IsFirst, IsBefore, TellsConsecution, IsKeptWith, IsBlockedAt}
+use Rattle.ic3_loops.specs.Blocking.{way_state, node_state, node_at, state_at, cube_at, IsNode, IsWayTo, AreNodes, IsDue, IsOpen, AreObligations, IsPutIn, IsStateFirst, IsLastFirst, IsLiteralFirst, IsFirst, IsBefore, TellsConsecution, IsKeptWith}
 
 abbrev Levels : Type 0
 Levels = List (List (List Lit))
-
--- ---- ways
-
--- from a start a way is a path
-start-path : (q : Question) (goal : Goal) (s : List Bool) (way : List Position) → MayStart q.circuit q.start s → LeadsOn q goal s way → IsPath q goal way
-start-path q (goals.State to) s way starts leads = record { from = s; starts = starts; leads = leads }
-start-path q (goals.Literal literal avoid) s way starts (before, last, is, meets, leads) =
-    record { before = before; last = last; is_last = is; meets = meets; path = record { from = s; starts = starts; leads = leads } }
 
 -- ---- nodes
 
@@ -85,15 +76,6 @@ module _ (q : Question) (goal : Goal) where
 
   pub node-at-is : (ns : List Node) (k : ℕ) → AreNodes q goal ns → k < length ns → IsNode q goal k ns (node_at ns k)
   node-at-is ns k are below = are k (record { cube = []; way = ways.Goal [] }) below
-
-  pub state-size : (ns : List Node) (k : ℕ) → AreNodes q goal ns → k < length ns → length (state_at ns k) ≡ length q.circuit.latches
-  state-size ns k are below = (node-at-is ns k are below).size
-
--- A way from a node whose state is a start is a path.
-pub path-is : (q : Question) (goal : Goal) (cube : List Lit) (ns : List Node) (k : ℕ) (way : List Position) → IsStartCube q cube → AreNodes q goal ns
-    → k < length ns → cube_value (values_of (state_at ns k)) cube ≡ true → LeadsOn q goal (state_at ns k) way → IsPath q goal way
-path-is q goal cube ns k way starts are below holds leads =
-    start-path q goal (state_at ns k) way ((starts.exactly (state_at ns k)).1 (state-size q goal ns k are below, holds)) leads
 
 -- ---- the queue
 
@@ -221,18 +203,6 @@ more-nodes ns new n made = let size : length new ≡ length ns + 1 = ap length m
 
 -- ---- one level down
 
--- an obligation of the lowest level that its frame allows is a start's
-pub above-lowest : (q : Question) (goal : Goal) (cube : List Lit) (levels : Levels) (top : ℕ) (ns : List Node) (o : Obligation) → IsStartCube q cube
-    → IsSound q cube levels → AreNodes q goal ns → IsOpen top levels ns o → cube_value (values_of (state_at ns o.node)) cube ≡ false → 1 ≤ o.level
-above-lowest q goal cube levels top ns o starts sound are is none = by o.level refl
-  where
-    by : (k : ℕ) → o.level ≡ k → 1 ≤ o.level
-    by zero e =
-        let s : List Bool = state_at ns o.node in
-        let from = sound.starts s (state-size q goal ns o.node are is.due.node) (subst (λ k. allowed_by (frame_at levels k) s ≡ true) e is.frame) in
-        absurd (false≢true (sym none ∙ ((starts.exactly s).0 from).1))
-    by (suc k) e = omega (arith, e)
-
 -- what is kept of one level
 pub kept-are : (q : Question) (goal : Goal) (top below : ℕ) (before after : Levels) (old new : Obligations) (at : Obligation) (found : Option Lifted)
     (outcome : ConsecutionEnd) → AreObligations q goal top old → IsDue (length old.nodes.items) top at → IsPutIn at old.queue.items new.queue.items
@@ -257,26 +227,3 @@ kept-are q goal top below before after old new at (Some l) outcome are due put (
       (more-nodes old.nodes.items new.nodes.items (record { cube = l.cube; way = ways.Step l.position at.node }) made)
       (due-put (length old.nodes.items) top at old.queue.items new.queue.items put are.due due);
 }
-
-pub gone-on : (q : Question) (top below : ℕ) (cube : List Lit) (before after : Levels) (old new : List Node) (at : Obligation) (found : Option Lifted)
-    (outcome : ConsecutionEnd) → IsDue (length old) top at → below < at.level → TellsConsecution q before after below (cube_at old at.node) found
-    → IsKeptWith old new at below found outcome → IsBlockedAt (length q.circuit.latches) top cube before after new at outcome
-gone-on q top below cube before after old new at None outcome due under is (same, e) =
-    subst (IsBlockedAt (length q.circuit.latches) top cube before after new at) (sym e) is
-gone-on q top below cube before after old new at (Some l) outcome due under (found, stay) (made, e) =
-    subst (IsBlockedAt (length q.circuit.latches) top cube before after new at) (sym e) (
-      open-new top after old new (record { cube = l.cube; way = ways.Step l.position at.node }) below made (omega (arith, due.level, under)) found.frame,
-      under,
-      stay,
-    )
-
--- less room than frames that stayed have
-pub less-on : (n : ℕ) (old same new : Levels) → same ≡ old → room n new + 1 ≤ room n same → room n new + 1 ≤ room n old
-less-on n old same new is less = subst (λ levels. room n new + 1 ≤ room n levels) is less
-
--- the frame of its level is the one behind that of the level below
-pub frame-behind : (levels : Levels) (k : ℕ) (s : List Bool) → 1 ≤ k → allowed_by (frame_at levels k) s ≡ true
-    → allowed_by (frame_at levels ((k - 1) + 1)) s ≡ true
-frame-behind levels k s some allowed =
-    let e : k ≡ (k - 1) + 1 = omega (arith, some) in
-    subst (λ j. allowed_by (frame_at levels j) s ≡ true) e allowed

@@ -1,14 +1,12 @@
 -- The cube of the starts holds exactly in them.
-use Rattle.std.proofs.Common.{◌≡◌, ℕ, suc, ◌+◌, ◌<◌, ◌≤◌, Bool, true, false, List, [], ◌∷◌, ◌++◌, length, drop, get_or, refl, sym, ap, subst, ◌∙◌, arith, append_assoc}
+use Rattle.std.proofs.Common.{◌≡◌, ℕ, suc, ◌+◌, ◌<◌, ◌≤◌, Bool, true, false, List, [], ◌∷◌, length, get_or, refl, sym, ap, subst, ◌∙◌, arith}
 use Rattle.std.proofs.lemmas.Bool.{and_parts, and_from}
-use Rattle.std.proofs.lemmas.List.{drop_more}
 use Rattle.std.proofs.lemmas.List.Elements.{All-nil, All-cons, All-append}
 use Rattle.std.proofs.lemmas.Option.{unwrap_or-slice_get}
 use Rattle.aig_semantics.specs.declared.parts.Latch.{Latch}
 use Rattle.aig_semantics.specs.declared.parts.Reset.{Reset}
 use Rattle.aig_semantics.specs.declared.parts.Reset.TheVariants.{Zero, One, Free}
 use Rattle.aig_semantics.specs.Circuits.{Circuit}
-use Rattle.proof_semantics.specs.declared.literals.Lit.{Lit}
 use Rattle.proof_semantics.specs.Clauses.{bool_eq, cube_value, values_of}
 use Rattle.proof_semantics.proofs.LiteralLaws.{bool_eq-true, bool_eq-same}
 use Rattle.fair_semantics.specs.States.{reset_literals, initial_literals}
@@ -20,26 +18,6 @@ use Rattle.ic3_semantics.specs.Stepping.{IsOver}
 use Rattle.ic3_semantics.specs.Searching.{IsStart}
 use Rattle.ic3_loops.specs.Starting.{value_literals, start_cube}
 use Rattle.ic3_loops.specs.Sound.{IsStartCube}
-
--- ---- the cube, literal by literal
-
-pub next_latch : (whole front : List Lit) (latches : List Latch) (n : ℕ) (latch : Latch) → latch ≡ get_or latches n latch → n < length latches
-    → front ++ initial_literals n (drop n latches) ≡ whole
-    → (front ++ reset_literals n latch.reset) ++ initial_literals (n + 1) (drop (n + 1) latches) ≡ whole
-next_latch whole front latches n latch is below so_far =
-    append_assoc front (reset_literals n latch.reset) (initial_literals (n + 1) (drop (n + 1) latches))
-    ∙ ap (λ l. front ++ (reset_literals n l.reset ++ initial_literals (n + 1) (drop (n + 1) latches))) is
-    ∙ ap (λ rest. front ++ initial_literals n rest) (sym (drop_more latches n latch below))
-    ∙ so_far
-
-pub next_value : (whole front : List Lit) (values : List Bool) (n : ℕ) (value : Bool) → value ≡ get_or values n value → n < length values
-    → front ++ value_literals n (drop n values) ≡ whole
-    → (front ++ record { var = n; positive = value } ∷ []) ++ value_literals (n + 1) (drop (n + 1) values) ≡ whole
-next_value whole front values n value is below so_far =
-    append_assoc front (record { var = n; positive = value } ∷ []) (value_literals (n + 1) (drop (n + 1) values))
-    ∙ ap (λ b. front ++ (record { var = n; positive = b } ∷ value_literals (n + 1) (drop (n + 1) values))) is
-    ∙ ap (λ rest. front ++ value_literals n rest) (sym (drop_more values n value below))
-    ∙ so_far
 
 -- ---- over the latches
 

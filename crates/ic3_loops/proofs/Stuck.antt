@@ -3,7 +3,7 @@ use Rattle.std.proofs.Common.{◌≡◌, ◌≢◌, ℕ, zero, suc, ◌+◌, ◌
 use Rattle.std.specs.List.{All}
 use Rattle.std.proofs.lemmas.Bool.{cases_Bool, cases_lt, false≢true, and_parts}
 use Rattle.std.proofs.lemmas.List.{length-map}
-use Rattle.std.proofs.lemmas.List.Elements.{All-nil, All-cons, All-tail, All-map, All-filter, All-weaker}
+use Rattle.std.proofs.lemmas.List.Elements.{All-nil, All-tail, All-map, All-filter, All-weaker}
 use Rattle.std.proofs.lemmas.List.Folds.{list_all-append, list_all_at}
 use Rattle.aig_semantics.specs.declared.traces.Position.{Position}
 use Rattle.aig_semantics.specs.Runs.{successor}
@@ -160,12 +160,6 @@ gone_behind P test (x ∷ xs) (suc i) below gone each =
       | inr out ↦ subst (λ b. All P (drop (suc i) (cond b (x ∷ filter test xs) (filter test xs)))) (sym out) (fewer P (filter test xs) i rest)
     ]
 
-with_place : (P : List Lit → Type 0) (xs : List (List Lit)) (i : ℕ) → i < length xs → P (get_or xs i []) → All P (drop (i + 1) xs)
-    → All P (drop i xs)
-with_place P [] i below here each = absurd (omega arith)
-with_place P (x ∷ xs) zero below here each = All-cons P x xs here each
-with_place P (x ∷ xs) (suc i) below here each = with_place P xs i (omega arith) here (next_drop P x xs i each)
-
 none_behind : (P : List Lit → Type 0) (xs : List (List Lit)) (i : ℕ) → (i < length xs → ⊥) → All P (drop i xs)
 none_behind P [] zero past = All-nil P
 none_behind P [] (suc i) past = All-nil P
@@ -175,10 +169,6 @@ none_behind P (x ∷ xs) (suc i) past = none_behind P xs i (λ below. past (omeg
 pub none_tried : (q : Question) (levels : Levels) (level place : ℕ) → (place < length (own_lemmas levels level) → ⊥)
     → StuckFrom q levels level place
 none_tried q levels level place past = none_behind (IsStuck q levels level) (own_lemmas levels level) place past
-
-pub stuck_tried : (q : Question) (levels : Levels) (level place : ℕ) → place < length (own_lemmas levels level)
-    → IsStuck q levels level (get_or (own_lemmas levels level) place []) → IsTried q levels levels level place
-stuck_tried q levels level place inside here behind = with_place (IsStuck q levels level) (own_lemmas levels level) place inside here behind
 
 pub pushed_tried : (q : Question) (old new : Levels) (level place : ℕ) → place < length (own_lemmas old level)
     → IsPushed old new level place → IsTried q old new level place

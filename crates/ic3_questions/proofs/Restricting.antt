@@ -1,5 +1,5 @@
 -- Lists of the entries that restrict the steps, made entry by entry.
-use Rattle.std.proofs.Common.{◌≡◌, ℕ, ◌+◌, true, false, List, ◌∷◌, refl}
+use Rattle.std.proofs.Common.{ℕ, List}
 use Rattle.std.specs.List.{filter}
 use Rattle.fair_semantics.specs.Entries.{Entry, Numbered, numbered_from}
 use Rattle.ic3_semantics.specs.declared.questions.Start.{Start}
@@ -8,11 +8,3 @@ use Rattle.ic3_semantics.specs.Arenas.{restricts}
 -- the entries from place m on that restrict the steps
 abbrev pub restricting_from : Start → ℕ → List Entry → List Numbered
 restricting_from start m es = filter (λ e. restricts start e.entry.kind) (numbered_from m es)
-
-pub one_restricts : (start : Start) (m : ℕ) (e : Entry) (es : List Entry) → restricts start e.kind ≡ true
-    → restricting_from start m (e ∷ es) ≡ record { number = m; entry = e } ∷ restricting_from start (m + 1) es
-one_restricts start m e es h = rw h refl
-
-pub one_not : (start : Start) (m : ℕ) (e : Entry) (es : List Entry) → restricts start e.kind ≡ false
-    → restricting_from start m (e ∷ es) ≡ restricting_from start (m + 1) es
-one_not start m e es h = rw h refl

@@ -13,33 +13,6 @@ use Rattle.lasso_clauses.specs.Clauses.{position_clauses, positions_clauses}
 use Rattle.lasso_bmc.specs.declared.deepening.Deepening.{Deepening}
 use Rattle.lasso_bmc.specs.Growing.{IsGrown, IsCompleted}
 
--- ---- one clause more
-
-taken_last : (a b x : Bool) → ((a && b) && x) ≡ ((a && (x && true)) && b)
-taken_last true true true = refl
-taken_last true true false = refl
-taken_last true false true = refl
-taken_last true false false = refl
-taken_last false b x = refl
-
-rest_last : (a b x : Bool) → ((a && b) && x) ≡ (a && (b && (x && true)))
-rest_last true true true = refl
-rest_last true true false = refl
-rest_last true false x = refl
-rest_last false b x = refl
-
-pub taken_more : (taken more rest : List (List Lit)) (clause : List Lit) → more ≡ taken ++ clause ∷ [] → (v : ℕ → Bool)
-    → ((clauses_value v taken && clauses_value v rest) && clause_value v clause) ≡ (clauses_value v more && clauses_value v rest)
-taken_more taken more rest clause e v =
-    taken_last (clauses_value v taken) (clauses_value v rest) (clause_value v clause)
-    ∙ ap (λ x. x && clauses_value v rest) (sym (list_all-append (clause_value v) taken (clause ∷ [])) ∙ ap (clauses_value v) (sym e))
-
-pub rest_more : (taken rest more : List (List Lit)) (clause : List Lit) → more ≡ rest ++ clause ∷ [] → (v : ℕ → Bool)
-    → ((clauses_value v taken && clauses_value v rest) && clause_value v clause) ≡ (clauses_value v taken && clauses_value v more)
-rest_more taken rest more clause e v =
-    rest_last (clauses_value v taken) (clauses_value v rest) (clause_value v clause)
-    ∙ ap (λ x. clauses_value v taken && x) (sym (list_all-append (clause_value v) rest (clause ∷ [])) ∙ ap (clauses_value v) (sym e))
-
 -- ---- the clauses of a position, one by one
 
 one_by_one : (a x i b : Bool) → (a && x) ≡ b → (a && (x && i)) ≡ (b && i)

@@ -161,9 +161,6 @@ pass-on l p q is h = record {
 held-on : (l : LedgerState) (p q : PassState) → IsPassOf l p → Moves p q → StaysHeld l p l q
 held-on l p q is h = record { pass = pass-on l p q is h; ledger = refl; number = h.number }
 
-pub stays-held : (l : LedgerState) (p : PassState) → IsPassOf l p → StaysHeld l p l p
-stays-held l p is = record { pass = is; ledger = refl; number = refl }
-
 moves-by : (l : LedgerState) (p q : PassState) (marks : List Marked) → Turn l p q → q.marks ≡ marks → marked marks ≡ marked p.marks
     → ((j : ℕ) → Shows p.marks j → Shows marks j) → Moves p q
 moves-by l p q marks turn same properties stay = record {

@@ -1,5 +1,5 @@
 -- What the events of a board leave of it and of a lent board, and what the worker then knows.
-use Rattle.std.proofs.Common.{◌≡◌, ◌≢◌, ℕ, zero, suc, ◌+◌, ◌<◌, ◌≤◌, ◌⊎◌, Bool, true, false, not, cond, List, [], ◌∷◌, ◌++◌, Some, None, inl, inr, length, get_or, take, drop, refl, sym, ap, ◌∙◌, subst, arith}
+use Rattle.std.proofs.Common.{◌≡◌, ◌≢◌, ℕ, zero, suc, ◌+◌, ◌<◌, ◌≤◌, Bool, true, false, not, cond, List, [], ◌∷◌, ◌++◌, Some, None, length, get_or, take, drop, refl, sym, ap, ◌∙◌, subst, arith}
 use Rattle.std.specs.Prelude.{◌==◌, Option, is_some, Contains}
 use Rattle.std.specs.List.{All, list_all}
 use Rattle.std.proofs.lemmas.Bool.{false≢true, and_parts}
@@ -27,9 +27,9 @@ use Rattle.wall_store.specs.declared.outcomes.Posted.TheVariants as posts
 use Rattle.wall_store.specs.declared.outcomes.Finished.{Finished}
 use Rattle.wall_store.specs.declared.outcomes.Finished.TheVariants as ends
 use Rattle.wall_store.specs.Boards.{BoardState, IsBoard, FromWorker, IsTrueOf, plain, Allow, properties_of, outcome_of}
-use Rattle.wall_store.specs.Events.{seen_by, list_of, shown_to, with_outcome, with_post, entries_after, IsOpen, IsSettled, IsPosted, IsPostOf, Looks, Posts, Finishes, IsNextOpen, OpensNext}
+use Rattle.wall_store.specs.Events.{seen_by, list_of, shown_to, with_outcome, with_post, entries_after, IsSettled, IsPosted, IsPostOf, Posts, Finishes}
 use Rattle.wall_store.specs.Laws.{SeenUsesStand, OutcomesStay}
-use Rattle.shared_lists.specs.Knowing.{Known, AreSettled, KeepsList, SeesMore, HasPosted, IsLastOf, HasFinished, HasAsked, IsOwn, MayPostFrom}
+use Rattle.shared_lists.specs.Knowing.{Known, AreSettled, KeepsList, SeesMore, HasPosted, IsLastOf, HasFinished, IsOwn, MayPostFrom}
 use Rattle.shared_lists.specs.declared.lending.LentBoard.{LentBoard}
 use Rattle.shared_lists.specs.Lending.{known_at, known_of, IsLent, IsOfTurn, GoesOnBy, StaysLent}
 
@@ -169,11 +169,6 @@ not-excluded view more n skeleton below h =
     ap (λ (e : Entry). not (allows_by e.kind (set_at (view ++ more) n) (places skeleton))) (entry_at-earlier view more n below)
     ∙ ap (λ (set : List Bool → Bool). not (allows_by (entry_at view n).kind set (places skeleton))) same
     ∙ ap not here
-
--- An entry that excludes a skeleton which the first ones allow stands behind these
-empty-list : {X : Type 0} (xs : List X) → length xs ≡ 0 → xs ≡ []
-empty-list [] e = refl
-empty-list (x ∷ xs) e = absurd (omega arith)
 
 grown-by : (seen n own size plain_size : ℕ) → own ≡ seen → (n < seen → ⊥) → plain_size ≡ size → n < plain_size → own < size
 grown-by seen n own size plain_size e behind same inside = grind (arith)
@@ -322,49 +317,7 @@ finish-known n turns b c j o ends.Closed inside f =
       settled = some-is (outcome_of b.served j) f.answer;
     })
 
-none-is : {X : Type 0} (o : Option X) → o ≡ None → is_some o ≡ false
-none-is o e = ap is_some e
-
-open-of : (served : List Served) (least i : ℕ) → IsNextOpen served least (Some i) → IsOpen served i
-open-of served least i (inl first) = first.open_one
-open-of served least i (inr (none, first)) = first.open_one
-
--- a property that was passed over has an outcome
-passed-over : (served : List Served) (least j i : ℕ) → IsNextOpen served least (Some j) → Contains (properties_of served) i → least ≤ i → (i < j) ⊎ (j < least)
-    → is_some (outcome_of served i) ≡ true
-passed-over served least j i (inl first) inside low (inl less) = some-is (outcome_of served i) (λ none. first.none_before i low less (inside, none))
-passed-over served least j i (inl first) inside low (inr below) = absurd (let from = first.from_on in omega (arith, from, below))
-passed-over served least j i (inr (none, first)) inside low way = some-is (outcome_of served i) (λ gone. none i low (inside, gone))
-
-asked : (n turns : ℕ) (b : BoardState) (least : ℕ) (r : Option ℕ) → IsNextOpen b.served least r
-    → HasAsked (known_at b n turns) least r (known_at b n (turns + 1))
-asked n turns b least None answer = record { keeps = kept-list n turns b b.served refl (λ i h. h); tells = settled-all b n (turns + 1) answer }
-asked n turns b least (Some i) answer =
-    let is_open : IsOpen b.served i = open-of b.served least i answer in
-    record {
-      keeps = kept-list n turns b b.served refl (λ j h. h);
-      tells = record {
-        served = is_open.0;
-        unsettled = none-is (outcome_of b.served i) is_open.1;
-        passed = λ j inside low way. passed-over b.served least i j answer inside low way;
-      };
-    }
-
-pub ask-known : (n turns : ℕ) (b c : BoardState) (least : ℕ) (r : Option ℕ) → OpensNext b least r c
-    → HasAsked (known_at b n turns) least r (known_at c n (turns + 1))
-ask-known n turns b c least r o =
-    subst (λ d. HasAsked (known_at b n turns) least r (known_at d n (turns + 1))) (sym o.after) (asked n turns b least r o.answer)
-
 -- ---- lent boards
-
-pub stays-lent : (s : LentBoard) → IsLent s → StaysLent s s
-stays-lent s is = record {
-  lent = is;
-  number = refl;
-  board = same-board s.number s.turns s.board;
-  one = omega arith;
-  paid = omega arith;
-}
 
 shown-lent : (b : BoardState) (n : ℕ) (entries more : List CheckedEntry) (s : LentBoard) → IsLent s → s.board ≡ b → s.number ≡ n
     → entries ≡ b.entries ++ more → All (IsOfTurn n s.turns) more → length more ≤ 1 → IsBoard (shown_to (record b { entries = entries }) n)
@@ -395,15 +348,6 @@ shown-lent b n entries more s is board number e found few after =
   where
     paid-by : (after before same more turns : ℕ) → after ≡ same + more → before ≡ same → more ≤ 1 → after + turns ≤ before + (turns + 1)
     paid-by after before same more turns grown is few = omega (arith, grown, is, few)
-
-pub look-lent : (s : LentBoard) (c : BoardState) (seen : ℕ) → IsLent s → IsBoard c → Looks s.board s.number seen c
-    → StaysLent s (record { board = c; number = s.number; seen = seen; turns = s.turns + 1 })
-look-lent s c seen is after h =
-    let b : BoardState = s.board in
-    let n : ℕ = s.number in
-    subst (λ (m : ℕ). StaysLent s (record { board = c; number = n; seen = m; turns = s.turns + 1 })) (sym h.answer)
-    (subst (λ (d : BoardState). StaysLent s (record { board = d; number = n; seen = length b.entries; turns = s.turns + 1 })) (sym h.after)
-    (shown-lent b n b.entries [] s is refl refl (sym (append-nil b.entries)) (All-nil (IsOfTurn n s.turns)) (omega arith) (subst IsBoard h.after after)))
 
 -- what a post adds is one entry at most, of its worker and turn
 grown-by-post : (n turn : ℕ) (entries : List CheckedEntry) (e : CheckedEntry) (r : Posted) → IsOfTurn n turn e
@@ -454,17 +398,6 @@ finish-lent s c j o r is after f =
       one = omega arith;
       paid = omega (arith, finished-list s.board c j o r f);
     }
-
-pub ask-lent : (s : LentBoard) (c : BoardState) (least : ℕ) (r : Option ℕ) → IsLent s → OpensNext s.board least r c
-    → StaysLent s (record { board = c; number = s.number; seen = s.seen; turns = s.turns + 1 })
-ask-lent s c least r is o =
-    subst (λ (d : BoardState). StaysLent s (record { board = d; number = s.number; seen = s.seen; turns = s.turns + 1 })) (sym o.after) (record {
-      lent = record { board = is.board; number = is.number; seen = is.seen };
-      number = refl;
-      board = same-board s.number s.turns s.board;
-      one = omega arith;
-      paid = omega arith;
-    })
 
 -- ---- views
 

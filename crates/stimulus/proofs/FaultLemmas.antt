@@ -1,5 +1,5 @@
 -- The first fault of a stimulus is one alone, and excludes a lasso.
-use Rattle.std.proofs.Common.{◌≡◌, ◌≢◌, ℕ, zero, suc, ◌+◌, ◌<◌, ◌≤◌, inl, inr, Bool, List, [], ◌∷◌, length, take, get_or, slice_get, subst, refl, sym, ap, ◌∙◌, Some, All, Result, Ok, Err, IfOk, arith, add-one}
+use Rattle.std.proofs.Common.{◌≡◌, ℕ, zero, suc, ◌+◌, ◌<◌, ◌≤◌, inl, inr, Bool, List, [], ◌∷◌, length, take, slice_get, subst, refl, sym, ap, ◌∙◌, Some, All, Result, Ok, Err, IfOk, arith}
 use Rattle.std.specs.Prelude.{IsOk}
 use Rattle.std.specs.List.{AllZip}
 use Rattle.std.proofs.lemmas.Bool.{cases_lt}
@@ -18,7 +18,7 @@ use Rattle.stimulus.specs.declared.ends.ReplayEnd.{ReplayEnd}
 use Rattle.stimulus.specs.declared.ends.ReplayEnd.TheVariants.{Fault, Memory}
 use Rattle.stimulus.specs.Ends.{IfFault}
 use Rattle.unless_memory.specs.Answers.{Gives, GivesSome, GivesExactlyWhere}
-use Rattle.stimulus.specs.Faults.{items_of, width_of, IsFirstMisfit, AgreesAt, IsFirstWrong, IsFirstForbidden, HasNoLasso, HasReplayFault}
+use Rattle.stimulus.specs.Faults.{IsFirstMisfit, AgreesAt, IsFirstWrong, IsFirstForbidden, HasNoLasso, HasReplayFault}
 use Rattle.stimulus.proofs.RunLemmas.{simulated-take}
 use Rattle.stimulus.proofs.TrackLemmas.{can_begin, run_of_lasso}
 
@@ -145,16 +145,6 @@ pub replays_every : (r : Result Lasso ReplayEnd) (c : Circuit) (j : ℕ) (s : St
 replays_every (Ok lasso) c j s fault k from has = inl refl
 replays_every (Err (Fault f)) c j s fault k from has = absurd (fault-no_lasso c j s f k from fault has)
 replays_every (Err Memory) c j s fault k from has = inr refl
-
--- what is found before the positions
-pub first_misfit : (c : Circuit) (s : Stimulus) (k : ℕ) → k < length s.inputs → length s.latches ≡ length c.latches
-    → ((n : ℕ) → n < k → length (get_or s.inputs n []) ≡ length c.inputs) → length (get_or s.inputs k []) ≢ length c.inputs → IsFirstMisfit c s (k + 1)
-first_misfit c s k inside latches before misfits =
-    subst (IsFirstMisfit c s) (sym (add-one k)) (record { inside = omega arith; before = fit; misfits = misfits })
-  where
-    fit : (n : ℕ) → n < suc k → length (get_or (items_of s) n []) ≡ width_of c n
-    fit zero below = latches
-    fit (suc n) below = before n (omega arith)
 
 pub initial_from : (c : Circuit) (values : List Bool) → length values ≡ length c.latches → ((n : ℕ) → n < length c.latches → AgreesAt c values n) → IsInitial c values
 initial_from c values e may = all_from c.latches values e (λ n l v inside at on. may n inside l v at on)

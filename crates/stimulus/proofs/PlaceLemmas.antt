@@ -2,7 +2,6 @@
 use Rattle.std.proofs.Common.{◌≡◌, ◌≢◌, ℕ, zero, suc, ◌+◌, ◌^◌, ◌<◌, ◌≤◌, ◌⊎◌, inl, inr, Bool, true, false, List, [], ◌∷◌, ◌++◌, length, subst, refl, sym, ap, ◌∙◌, Option, Some, None, unwrap_or, slice_get, if◌then◌else◌, arith}
 use Rattle.std.specs.Bool.{nat_eq}
 use Rattle.std.proofs.lemmas.Option.{slice_get_within, same_Some}
-use Rattle.std.proofs.Math.Pow.{pow_mono}
 use Rattle.std.proofs.lemmas.Map.Lookups.{exact_bytes}
 use Rattle.std.specs.declared.cmp.Ordering.{Ordering}
 use Rattle.std.specs.declared.cmp.Ordering.TheVariants.{Less, Equal, Greater}
@@ -167,14 +166,6 @@ pub record IsPacking (key : List ℕ) (byte count : ℕ) (rest state : List Bool
   pub whole : key ++ packed_behind byte count rest ≡ packed state
   pub small : byte < 2 ^ count
   pub few : count < 8
-
-byte_limit : (byte count : ℕ) → byte < 2 ^ count → count < 8 → byte < 128
-byte_limit byte count h few = let most : 2 ^ count ≤ 2 ^ 7 = pow_mono {i = count} {j = 7} (omega arith) in omega arith
-
--- a byte has room for one more value
-pub room : (byte count : ℕ) (value : Bool) → byte < 2 ^ count → count < 8 → with_bit byte value < 256
-room byte count false h few = omega (arith, byte_limit byte count h few)
-room byte count true h few = omega (arith, byte_limit byte count h few)
 
 -- ---- a place that is inserted
 

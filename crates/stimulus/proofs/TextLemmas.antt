@@ -1,8 +1,6 @@
 -- What lines of stimuli spell, and which of them is the first that is none.
-use Rattle.std.proofs.Common.{◌≡◌, ℕ, suc, ◌+◌, ◌<◌, ◌≤◌, inl, inr, Bool, true, false, List, [], ◌∷◌, ◌++◌, map, length, get_or, subst, refl, sym, ap, ◌∙◌, Some, None, IsSome, IsTrue, All, Result, Ok, Err, IfOk, arith}
-use Rattle.std.proofs.lemmas.Bool.{false≢true}
-use Rattle.std.proofs.lemmas.List.{append-nil}
-use Rattle.std.proofs.lemmas.List.Elements.{All-head, All-tail, All-cons, All-nil, All-weaker, All-get_or}
+use Rattle.std.proofs.Common.{◌≡◌, ℕ, suc, ◌+◌, ◌≤◌, inl, inr, Bool, true, false, List, [], ◌∷◌, ◌++◌, map, length, subst, refl, sym, ap, ◌∙◌, Some, IsSome, IsTrue, All, Result, Ok, Err, IfOk, arith}
+use Rattle.std.proofs.lemmas.List.Elements.{All-head, All-tail, All-cons, All-nil, All-weaker}
 use Rattle.stimulus.specs.declared.ends.ReplayFault.{ReplayFault}
 use Rattle.stimulus.specs.declared.ends.ReplayFault.TheVariants.{Shape}
 use Rattle.stimulus.specs.declared.ends.ReplayEnd.{ReplayEnd}
@@ -28,10 +26,6 @@ present-apart (u ∷ a) [] e = cc
 present-apart (u ∷ a) (v ∷ b) e =
     let first = Somes-apart u v (cc) in
     let others = present-apart a b (cc) in cc
-
--- a character whose value is not there is in no line of values
-pub no_value : (line : List ℕ) (i : ℕ) → i < length line → value_of (get_or line i 0) ≡ None → All (λ character. IsSome (value_of character)) line → ⊥
-no_value line i inside none h = false≢true (subst (λ o. IsSome o) none (All-get_or (λ character. IsSome (value_of character)) line i 0 inside h))
 
 -- a line that spells values
 spells_some : (line : List ℕ) (values : List Bool) → map value_of line ≡ map Some values → All (λ character. IsSome (value_of character)) line
@@ -101,12 +95,6 @@ first_bad bytes rest line later rows number h next bad = record {
   bad = bad;
   place = h.counted;
 }
-
-pub all_read : (bytes rest : List ℕ) (rows : List (List Bool)) (number : ℕ) → rest ≡ [] → LinesRead bytes rest rows number
-    → (row_values (kept_lines (lines_of bytes)) ≡ present rows) × (number ≡ length (lines_of bytes) + 1)
-all_read bytes rest rows number ends h =
-    let lines : lines_of bytes ≡ h.front = h.split ∙ ap (λ x. h.front ++ lines_of x) ends ∙ append-nil h.front in
-    (ap (λ x. row_values (kept_lines x)) lines ∙ h.spelled, h.counted ∙ ap (λ x. length x + 1) (sym lines))
 
 -- ---- the faults of a text
 

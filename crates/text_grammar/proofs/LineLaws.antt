@@ -4,7 +4,7 @@ use Rattle.std.specs.List.{join_with_byte, onto_first, All}
 use Rattle.std.proofs.lemmas.List.Elements.{All-cons, All-head, All-tail, All-nil}
 use Rattle.text_grammar.specs.Pieces.{Lacks, cut_at}
 use Rattle.text_grammar.specs.Lines.{unended_line, lines_of_pieces, lines_of, ended_lines}
-use Rattle.text_grammar.specs.Laws.{FirstLine, LastLine, NoLine, LinesLackLineFeed, ReadsWrittenLines, LinesAreText}
+use Rattle.text_grammar.specs.Laws.{FirstLine, LastLine, LinesLackLineFeed, ReadsWrittenLines, LinesAreText}
 use Rattle.text_grammar.proofs.PieceLaws.{joins_pieces, pieces_lack_byte, cuts_first, cuts_none}
 
 -- the pieces are a first one and others
@@ -38,9 +38,6 @@ unended_is (b ∷ bytes) some = refl
 
 pub last_line : LastLine
 last_line bytes lacks some = ap lines_of_pieces (cuts_none 10 bytes lacks) ∙ unended_is bytes some
-
-pub no_line : NoLine
-no_line = refl
 
 unended_lacks : (piece : List ℕ) → Lacks piece 10 → All (λ line. Lacks line 10) (unended_line piece)
 unended_lacks [] lacks = All-nil _

@@ -21,11 +21,6 @@ pub all_append : (P : Face → Type 0) (fs gs : List Face) → AllByRecursion P 
 all_append P [] gs a b = b
 all_append P (f ∷ fs) gs a b = (a.0, all_append P fs gs a.1 b)
 
-pub among_map : {P Q : Face → Type 0} (fs : List Face) → ((f : Face) → P f → Q f) → AmongThem P fs → AmongThem Q fs
-among_map [] h a = absurd a
-among_map (f ∷ fs) h (inl p) = inl (h f p)
-among_map (f ∷ fs) h (inr a) = inr (among_map fs h a)
-
 pub among_left : (P : Face → Type 0) (fs gs : List Face) → AmongThem P fs → AmongThem P (fs ++ gs)
 among_left P [] gs a = absurd a
 among_left P (f ∷ fs) gs (inl p) = inl p

@@ -8,7 +8,7 @@ use Rattle.atomic_table.specs.Seated.{TableId}
 use Rattle.wall_store.specs.declared.outcomes.Outcome.{Outcome}
 use Rattle.wall_store.specs.Boards.{BoardState, IsBoard}
 use Rattle.wall_ledger.specs.Passes.{PassState, LedgerState, GoesOn}
-use Rattle.wall_ledger.specs.Turns.{HasWon, WonBy, AreAll, AreOf, IsClosed}
+use Rattle.wall_ledger.specs.Turns.{HasWon, WonBy, AreAll, IsClosed}
 use Rattle.wall_ledger.specs.Tickets.{IsLast}
 use Rattle.wall_ledger.specs.Rules.{Face, Fits, AmongThem, HasNumber, Kept}
 use Rattle.wall_ledger.specs.declared.pass.Hand.{Hand}
@@ -97,9 +97,6 @@ first_and_rest (p ∷ ps) d below = refl
 
 pub some_pass : (l : LedgerState) (ps : List PassState) → 1 ≤ l.workers → AreAll l ps → 0 < length ps
 some_pass l ps staffed all = let a = all 0 (omega arith) in let b = a.2 in omega arith
-
-pub home_locks : (l : LedgerState) (ps : List PassState) → AreOf l ps → All (λ p. p.home.lock ≡ l.home.lock) ps
-home_locks l ps own = λ k d below. ap (λ h. h.lock) (own k d below)
 
 pub locks_rest : (lock : TableId) (ps : List PassState) → All (λ p. p.home.lock ≡ lock) ps → All (λ p. p.home.lock ≡ lock) (remove ps 0)
 locks_rest lock [] own = own

@@ -1,5 +1,5 @@
 -- Turns of a pass in memory, by what happens in them.
-use Rattle.std.proofs.Common.{Global, ◌≡◌, ℕ, ◌+◌, ◌<◌, ◌≤◌, inl, inr, true, List, map, length, vec_capacity, refl, sym, ap, ◌∙◌, subst, arith}
+use Rattle.std.proofs.Common.{Global, ◌≡◌, ℕ, ◌+◌, ◌≤◌, inr, true, List, map, length, vec_capacity, refl, sym, ap, ◌∙◌, subst, arith}
 use Rattle.std.specs.Prelude.{Option, Some, None, ◌==◌}
 use Rattle.std.specs.List.{Contains}
 use Rattle.std.specs.Arc.{arc_value}
@@ -12,9 +12,8 @@ use Rattle.entry.specs.CheckedEntries.{CheckedEntry}
 use Rattle.wall_store.specs.declared.outcomes.Outcome.{Outcome}
 use Rattle.wall_store.specs.declared.outcomes.Finished.{Finished}
 use Rattle.wall_store.specs.declared.outcomes.Finished.TheVariants as ends
-use Rattle.wall_store.specs.Boards.{BoardState, IsBoard, IsSoundList, IsTrueOf, properties_of, found_by}
+use Rattle.wall_store.specs.Boards.{BoardState, IsBoard, IsSoundList, properties_of, found_by}
 use Rattle.wall_store.specs.Events.{seen_by, shown_to, Looks, Finishes, OpensNext}
-use Rattle.wall_store.specs.Laws.{OutcomesStay}
 use Rattle.wall_store.proofs.Ascending.{ascend_later}
 use Rattle.wall_ledger.specs.declared.marks.PassMark.{PassMark}
 use Rattle.wall_ledger.specs.declared.pass.Hand.{Hand}
@@ -36,9 +35,6 @@ module _ (m : Hand) (h : HasTurn m) (mirror : (l : List CheckedEntry) × IsMirro
   pub owned_in : IsOwned (board_in m) (face_in m) m.number
   owned_in = at_number (face_in m) m.number (IsOwned (board_in m) (face_in m)) mirror.1.number h.told.owned
 
-  pub below_workers : m.number < (board_in m).workers
-  below_workers = owned_in.below
-
   pub from_first : IsFrom m.first.value.value (board_in m)
   from_first = subst (λ (z : BoardState). IsFrom z (board_in m)) mirror.1.first h.told.origin
 
@@ -47,12 +43,6 @@ module _ (m : Hand) (h : HasTurn m) (mirror : (l : List CheckedEntry) × IsMirro
 
   pub kinds_in : marked_properties (face_in m).marks ≡ properties_of (board_in m).served
   kinds_in = mirror.1.kinds ∙ sym h.told.origin.properties
-
-  pub true_there : (j : ℕ) (o : Outcome) → IsTrueOf m.first.value.value.circuit (face_in m).list j o → OutcomesStay (board_in m).circuit
-      → IsTrueOf (board_in m).circuit (board_in m).entries j o
-  true_there j o is stay = let s = h.told.list in
-      subst (λ (l : List CheckedEntry). IsTrueOf (board_in m).circuit l j o) (sym s.1)
-      (stay (face_in m).list s.0 j o (subst (λ (c : Circuit). IsTrueOf c (face_in m).list j o) (sym from_first.circuit) is))
 
   -- ---- memory as it is at the end
 
@@ -295,9 +285,6 @@ was_refused lock f = record {
   marks = refl;
   turns = inr refl;
 }
-
-pub kept_all : (p : PassState) → IsRefused p p
-kept_all p = record { home = refl; number = refl; kept = record { list = refl; stamp = refl }; marks = refl; turns = inl refl }
 
 -- ---- handles that were copied, in the turn
 

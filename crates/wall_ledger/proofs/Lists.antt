@@ -2,11 +2,6 @@
 use Rattle.std.proofs.Common.{◌≡◌, ℕ, suc, ◌+◌, ◌-◌, ◌≤◌, List, [], ◌∷◌, ◌++◌, map, length, take, drop, refl, sym, ap, ◌∙◌, arith, append-nil}
 use Rattle.std.proofs.lemmas.List.{take_all, length-append, length-map}
 
-pub starts_short : {A B : Type 0} (f : A → B) (xs ys : List A) (rest : List B) → map f ys ≡ map f xs ++ rest → length xs ≤ length ys
-starts_short f xs ys rest e =
-    let a : length (map f ys) ≡ length (map f xs) + length rest = ap length e ∙ length-append (map f xs) rest in
-    let b = length-map xs f in let c = length-map ys f in omega arith
-
 -- the elements that are missing of a list, behind those that are there
 pub missing : {A B : Type 0} (f : A → B) (xs ys : List A) (rest : List B) → map f ys ≡ map f xs ++ rest
     → map f xs ++ map f (take (length ys - length xs) (drop (length xs) ys)) ≡ map f ys

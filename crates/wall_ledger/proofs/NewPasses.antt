@@ -19,7 +19,7 @@ use Rattle.wall_ledger.specs.declared.pass.Hand.{Hand}
 use Rattle.wall_ledger.specs.Passes.{blank, won, Marked, PassState, LedgerState, AreMarksOf, new_pass, new_passes}
 use Rattle.wall_ledger.specs.Turns.{HasWon, IsBegun}
 use Rattle.wall_ledger.specs.Tickets.{Forks, idle}
-use Rattle.wall_ledger.specs.Rules.{Face, added, Chart, Fits, Kept, fresh, fresh_from, blank_marks, first_faces}
+use Rattle.wall_ledger.specs.Rules.{Face, Chart, Fits, Kept, fresh, fresh_from, blank_marks, first_faces}
 use Rattle.wall_ledger.specs.Seats.{tail_of, head_of, unseated, IsStart}
 use Rattle.wall_ledger.specs.Shows.{mark_shown, blank_shown}
 use Rattle.wall_ledger.specs.Hands.{head_or, face_in, pass_of, state_of, ledger_of, IsMirror, IsResting}
@@ -74,9 +74,6 @@ pub unseated_step : (first : BoardState) (k : ℕ) → k < first.workers → uns
 unseated_step first k below =
     let e : first.workers - k ≡ suc (first.workers - (k + 1)) = omega arith in
     from_one first (blank_marks first) k (first.workers - k) (first.workers - (k + 1)) e
-
-pub unseated_all : (first : BoardState) → first_faces first ≡ unseated first 0
-unseated_all first = let e : first.workers ≡ first.workers - 0 = omega arith in ap (fresh_from first (blank_marks first) 0) e
 
 pub cut_off : (key first : BoardState) (seat k : ℕ) (v : List Face) → k < first.workers → v ≡ unseated first k → Forks (Kept key) seat v (tail_of v) (head_of v)
 cut_off key first seat k v below is =
@@ -214,9 +211,6 @@ new_more l n zero = ap (λ (k : ℕ). new_pass l k ∷ []) (omega arith)
 new_more l n (suc more) =
     ap (λ (ps : List PassState). new_pass l n ∷ ps)
     (new_more l (n + 1) more ∙ ap (λ (k : ℕ). new_passes l (n + 1) more ++ new_pass l k ∷ []) (omega arith))
-
-pub start_added : (b : BoardState) → IsStart b → added b ≡ 0
-start_added b start = let e = start.count in omega arith
 
 pub begun : (lock : TableId) (key : BoardState) (c : Circuit) (js : List ℕ) (w more : ℕ) (es : List CheckedEntry) → key ≡ first_board c js w more es
     → IsBegun c js w more es (ledger_of lock key) (new_passes (ledger_of lock key) 0 w)

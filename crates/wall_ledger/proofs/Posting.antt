@@ -171,12 +171,6 @@ appended_added x y w n e board is =
 pub few_added : (y : BoardState) → IsBoard y → added y < 18446744073709551616
 few_added y board = let a = board.within in let b : y.limit ≤ 65536 = board.limit in omega arith
 
-pub same_added : (x y : BoardState) (w : ℕ) (e : CheckedEntry) (r : Posted) → IsRefused r → y ≡ shown_to (with_post x e r) w → added y ≡ added x
-same_added x y w e posts.Closed h is = ap added is
-same_added x y w e posts.Full h is = ap added is
-same_added x y w e (posts.Stale n) h is = ap added is
-same_added x y w e (posts.Appended n) h is = absurd h
-
 pub room_there : (m : Hand) (w : ℕ) (e : CheckedEntry) (r : Posted) (y : BoardState) → HasTurn m → IsMirror m (board_in m).entries (face_in m)
     → Posts (board_in m) w e r y → (length m.entries.items < vec_capacity m.entries) ⊎ IsRefused r
 room_there m w e r y h now event = go r event.answer

@@ -69,15 +69,6 @@ pub opened_shows : (marks : List Marked) (least : ℕ) (r : Option ℕ)
 opened_shows marks least None = closing_shows (λ i. true) marks
 opened_shows marks least (Some j) = closing_shows (is_passed least j) marks
 
-shown_same : (m : Marked) (b : Bool) (marks : List Marked) (j : ℕ) → shown_of marks j ≡ shown_at (map mark_shown marks) j
-    → (if b then shown_by m.mark else shown_of marks j) ≡ (if b then shown_by m.mark else shown_at (map mark_shown marks) j)
-shown_same m true marks j e = refl
-shown_same m false marks j e = e
-
-pub shown_shows : (marks : List Marked) (j : ℕ) → shown_of marks j ≡ shown_at (map mark_shown marks) j
-shown_shows [] j = refl
-shown_shows (m ∷ marks) j = shown_same m (m.property == j) marks j (shown_shows marks j)
-
 pub shown_of_marks : (ms : List Marked) (j : ℕ) → shown_at (map mark_shown ms) j ≡ shown_of ms j
 shown_of_marks [] j = refl
 shown_of_marks (m ∷ ms) j = ap (λ z. if m.property == j then shown_by m.mark else z) (shown_of_marks ms j)
