@@ -23,7 +23,7 @@ pub(crate) fn obligation_text(
     requires { HasObligation circuit.now (entries_of list.now) e i }
     ensures { IfOk result (λ text. StandsForObligation circuit.now (entries_of list.now) e i text.items) }
 {
-    let _ = circuit.max();
+    let _limits = circuit.max();
     let at = &list[e];
     let uses = used(alloc, list, at.uses.as_slice())?;
     let free = after_step(circuit, uses.as_slice())?;
@@ -52,7 +52,7 @@ pub(crate) fn skeleton_text(
     requires over { EntriesAreOver circuit.now (entries_of list.now) }
     ensures { IfOk result (λ text. StandsForSkeleton circuit.now j (entries_of list.now) uses.now text.items) }
 {
-    let _ = circuit.max();
+    let _limits = circuit.max();
     let uses = used(alloc, list, uses)?;
     let free = after_skeleton(circuit, j, uses.as_slice())?;
     let clauses = skeleton_cnf(alloc, circuit, j, uses.as_slice())?;

@@ -108,7 +108,7 @@ pub fn property_of(circuit: &Circuit, number: u64) -> Option<u32>
     ensures none { IfNone result (length circuit.now.justice ≤ number) }
 {
     // A circuit is within the limits, so each of its properties has a number of 32 bits.
-    let _within_limits = circuit.max();
+    let _limits = circuit.max();
     if number >= circuit.property_count() as u64 {
         return None;
     }

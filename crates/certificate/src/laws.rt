@@ -57,7 +57,7 @@ pub fn written_stimuli_are_good(c: &Circuit)
 pub fn written_certificates_are_good(c: &Circuit)
     ensures { WrittenCertificatesAreGood c.now }
 {
-    let _within_limits = c.max();
+    let _limits = c.max();
 }
 
 /// What `load` holds of an answer, and what `print` writes of it: the text is good for what is accepted where this is held;

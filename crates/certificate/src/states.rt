@@ -16,7 +16,7 @@ use std::alloc::{AllocError, Global};
 fn literal_at_state(c: &Circuit, literal: Lit) -> Lit
     ensures { result ≡ literal_at_place (state_place c.now 0) literal }
 {
-    let _within_limits = c.max();
+    let _limits = c.max();
     let var = match c.latches().get(literal.var as usize) {
         Some(latch) => 1 + latch.var,
         None => 0,

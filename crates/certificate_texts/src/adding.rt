@@ -56,7 +56,7 @@ fn latch_variable(c: &Circuit, n: u64) -> u64
     ensures variable { result ≡ variable_of_latch (slice_get c.now.latches n) }
     ensures small { result < 2 ^ 32 }
 {
-    let _within_limits = c.max();
+    let _limits = c.max();
     match latch_at(c, n) {
         Some(latch) => latch.var,
         None => 0,

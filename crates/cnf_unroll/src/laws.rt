@@ -10,7 +10,7 @@ pub fn blocks_are_situations(c: &Circuit)
     ensures read { ModelsAreSituations c.now }
     ensures written { SituationsAreModels c.now }
 {
-    let _checked = c.max();
+    let _limits = c.max();
     one_valuation(c);
 }
 
@@ -19,7 +19,7 @@ pub fn blocks_are_situations(c: &Circuit)
 pub fn obligations_tell(c: &Circuit)
     ensures { ObligationsTell c.now }
 {
-    let _checked = c.max();
+    let _limits = c.max();
     one_valuation(c);
 }
 
@@ -27,7 +27,7 @@ pub fn obligations_tell(c: &Circuit)
 pub fn skeleton_clauses_tell(c: &Circuit)
     ensures { SkeletonClausesTell c.now }
 {
-    let _checked = c.max();
+    let _limits = c.max();
     one_valuation(c);
 }
 
@@ -36,5 +36,5 @@ pub fn skeleton_clauses_tell(c: &Circuit)
 pub fn closed_uses_are_understood(c: &Circuit)
     ensures { ClosedUsesAreUnderstood c.now }
 {
-    let _checked = c.max();
+    let _limits = c.max();
 }

@@ -106,7 +106,7 @@ fn ask_once(
 }
 
 // Asks for positions more while they are due.
-fn go_on(
+fn ask_while_due(
     alloc: Global,
     c: &Circuit,
     j: u32,
@@ -144,7 +144,7 @@ pub(crate) fn deepened(
 {
     use_first(alloc, c, j, bounded, meter)?;
     match &mut bounded.begun {
-        Some(begun) => go_on(alloc, c, j, begun, meter),
+        Some(begun) => ask_while_due(alloc, c, j, begun, meter),
         None => Ok(None),
     }
 }

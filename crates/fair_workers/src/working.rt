@@ -262,7 +262,7 @@ fn serve(worker: &mut Worker, j: u32, phase: Phase)
 }
 
 // Goes on behind the answer to its question.
-fn go_on(worker: &mut Worker, told: Option<u32>)
+fn serve_told(worker: &mut Worker, told: Option<u32>)
     ensures { worker.new ≡ asked told worker.old }
 {
     match told {
@@ -272,7 +272,7 @@ fn go_on(worker: &mut Worker, told: Option<u32>)
 }
 
 // The same where the list is full: it went through the properties below `from`.
-fn go_on_last(worker: &mut Worker, from: u32, told: Option<u32>)
+fn serve_told_last(worker: &mut Worker, from: u32, told: Option<u32>)
     ensures { worker.new ≡ asked_last from told worker.old }
 {
     match told {
@@ -296,7 +296,7 @@ pub(crate) fn ask<L: SharedList>(worker: &mut Worker, shared: &mut L)
     ensures turns { Turns 0 (L.known shared.old) worker.old (L.known shared.new) worker.new }
 {
     let told = shared.next_open(worker.property);
-    go_on(worker, told);
+    serve_told(worker, told);
 }
 
 /// Asks for an open property that it did not go through since the list is full.
@@ -308,7 +308,7 @@ pub(crate) fn ask_last<L: SharedList>(worker: &mut Worker, from: u32, shared: &m
     ensures turns { Turns 0 (L.known shared.old) worker.old (L.known shared.new) worker.new }
 {
     let told = shared.next_open(from);
-    go_on_last(worker, from, told);
+    serve_told_last(worker, from, told);
 }
 
 /// Looks, to search then.

@@ -120,7 +120,7 @@ pub(crate) fn questions_of(
       start = start.now;
     }) avoid.now)) }
 {
-    let _greatest = c.max();
+    let _limits = c.max();
     one_valuation(c);
     let here = state_place(alloc, c)?;
     let next = successor_place(alloc, c)?;

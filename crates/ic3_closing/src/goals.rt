@@ -116,7 +116,7 @@ fn misses_literal(
     if !is_read(c, literal / 2) {
         return Ok(false);
     }
-    let _greatest = c.max();
+    let _limits = c.max();
     one_valuation(c);
     let mut solver = solver_from(alloc, c, view, start, clauses, avoid)?;
     let refused = is_refused(alloc, &mut solver, &[literal_in_block(literal)], meter);

@@ -95,7 +95,7 @@ fn put_counted<S: StepSolver>(
     ensures end { IfErr result (IsReachEnd meter.new) }
 {
     let level = one_more(from)?;
-    let _ = steps_of(meter);
+    let _small = steps_of(meter);
     meter.lemma(&frames.at(level), &lemma, state)?;
     put_lemma(starts, level, lemma, steps, frames)?;
     Ok(level)

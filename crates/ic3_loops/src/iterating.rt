@@ -166,7 +166,7 @@ fn open_frame<S: StepSolver>(
     ensures counted { CountsUpTo (room (length (S.seen _steps.now).question.circuit.latches) frames.old) meter.old meter.new }
     ensures end { IfErr result (IsReachEnd meter.new) }
 {
-    let _ = steps_of(meter);
+    let _small = steps_of(meter);
     frames.count_frame(meter)?;
     frames.add_frame()?;
     Ok(())

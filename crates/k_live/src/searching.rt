@@ -28,7 +28,7 @@ pub(crate) fn searched(alloc: Global, t: &Circuit, meter: &mut Meter) -> Result<
     ensures counted { CountsSearch (length t.now.latches) meter.old meter.new }
 {
     good_lists_grow(t);
-    let _within_limits = t.max();
+    let _limits = t.max();
     let goal = Goal::Literal {
         literal: next_of_last(t),
         avoid: &[],

@@ -10,6 +10,6 @@ pub fn lasso_clauses_tell(c: &Circuit)
     ensures tell { LassoClausesTell c.now }
     ensures models { ModelsAreLassos c.now }
 {
-    let _checked = c.max();
+    let _limits = c.max();
     one_valuation(c);
 }

@@ -52,7 +52,7 @@ fn translated(alloc: Global, c: &Circuit, j: usize, z: Sizes) -> Result<Model, A
     ensures model { IfOk result (λ m. m ≡ safety_model c.now j) }
     ensures exact { IfOk result (λ m. HasBadRun m ↔ HasFairLasso c.now j) }
 {
-    let _ = c.max();
+    let _limits = c.max();
     let parts = parts_of(alloc, c, j, z)?;
     let kept = kept_of(alloc, parts)?;
     Ok(named(alloc, c, j, kept))
@@ -114,7 +114,7 @@ fn named(alloc: Global, c: &Circuit, j: usize, kept: Kept) -> Model
     ensures model { result ≡ safety_model c.now j }
     ensures exact { HasBadRun result ↔ HasFairLasso c.now j }
 {
-    let _ = c.max();
+    let _limits = c.max();
     one_valuation(c);
     one_valuation(&kept.circuit);
     let names = Names {

@@ -66,7 +66,7 @@ fn monitored(alloc: Global, circuit: &Circuit, k: u32, property: u32) -> Result<
     match monitor(alloc, circuit, property, k) {
         Ok(model) => {
             let t = model.circuit();
-            let _within_limits = t.max();
+            let _limits = t.max();
             good_lists_grow(t);
             Ok(State::Chosen(Asked { k, property }, model))
         }

@@ -11,6 +11,6 @@ use entry::good_lists_grow;
 pub fn full_runs_are_refuted(t: &Circuit)
     ensures { RefutesFullRuns t.now }
 {
-    let _within_limits = t.max();
+    let _limits = t.max();
     good_lists_grow(t);
 }

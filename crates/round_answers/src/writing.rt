@@ -73,7 +73,7 @@ fn fewer_text(
     ensures good { IfOk result (λ text. k ≤ MAX_ROUNDS → AreFull (monitor_circuit c.now j k) entries.now refutation.now → IsGoodAbout c.now text.items j k false) }
 {
     let model = monitor_of(alloc, c, j, k)?;
-    let _within_limits = model.circuit().max();
+    let _limits = model.circuit().max();
     let answer = printed_over(alloc, model, j, entries, refutation)?;
     with_first_line(alloc, k, answer.as_slice())
 }
@@ -208,7 +208,7 @@ fn latch_variable(t: &Circuit, n: u64) -> u64
     ensures variable { result ≡ variable_of_latch (slice_get t.now.latches n) }
     ensures small { result < 2 ^ 32 }
 {
-    let _within_limits = t.max();
+    let _limits = t.max();
     match latch_at(t, n) {
         Some(latch) => latch.var,
         None => 0,

@@ -56,7 +56,7 @@ fn monitored(alloc: Global, c: &Circuit, j: usize, k: u32, z: Sizes) -> Result<M
     ensures watches { IfOk result (λ m. WatchesRounds c.now j k m.circuit) }
     ensures exact { IfOk result (λ m. HasFullRun m.circuit ↔ HasRunOfRounds c.now j k) }
 {
-    let _ = c.max();
+    let _limits = c.max();
     let parts = parts_of(alloc, c, j, k, z)?;
     let kept = kept_of(alloc, parts)?;
     Ok(named(alloc, c, j, k, kept))
@@ -119,7 +119,7 @@ fn named(alloc: Global, c: &Circuit, j: usize, k: u32, kept: Kept) -> Model
     ensures watches { WatchesRounds c.now j k result.circuit }
     ensures exact { HasFullRun result.circuit ↔ HasRunOfRounds c.now j k }
 {
-    let _ = c.max();
+    let _limits = c.max();
     one_valuation(c);
     one_valuation(&kept.circuit);
     let names = Names {

@@ -98,7 +98,7 @@ pub(crate) fn total(circuit: &Circuit, t: Counts) -> u32
     ensures is { result ≡ total t }
     ensures limit { length circuit.now.justice ≤ 4294967295 }
 {
-    let _within_limits = circuit.max();
+    let _limits = circuit.max();
     t.lassos + t.holds + t.unknown
 }
 

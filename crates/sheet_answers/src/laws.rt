@@ -22,5 +22,5 @@ pub fn good_sheets_are_true(c: &Circuit)
 pub fn written_sheets_are_good(c: &Circuit)
     ensures { WrittenSheetsAreGood c.now }
 {
-    let _within_limits = c.max();
+    let _limits = c.max();
 }

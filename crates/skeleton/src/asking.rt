@@ -55,7 +55,7 @@ fn found_of(
     requires answer { IsRefuted (skeleton_clauses c.now j (numbered (viewed view.now))) [] solver.now.values answer }
     ensures { IfOk result (IsFound c.now j (viewed view.now)) }
 {
-    let _checked = c.max();
+    let _limits = c.max();
     one_valuation(c);
     match answer {
         Refuted::Sat => Ok(Found::Skeleton(skeleton_in(alloc, c, j, solver)?)),
@@ -130,7 +130,7 @@ fn first_of(
     requires answer { IsAsked (skeleton_clauses c.now j (numbered (viewed view.now))) assumptions.now solver.now.values answer }
     ensures { IfOk result (IsFirst c.now j (viewed view.now) state.now) }
 {
-    let _checked = c.max();
+    let _limits = c.max();
     one_valuation(c);
     match answer {
         Asked::Sat => Ok(First::Skeleton(skeleton_in(alloc, c, j, solver)?)),
@@ -206,7 +206,7 @@ fn valued_of(
     requires answer { IsAsked (skeleton_clauses c.now j (numbered (viewed view.now))) assumptions.now solver.now.values answer }
     ensures { IfOk result (λ found. IfSome found (IsAllowed c.now j (viewed view.now))) }
 {
-    let _checked = c.max();
+    let _limits = c.max();
     one_valuation(c);
     match answer {
         Asked::Sat => Ok(Some(skeleton_in(alloc, c, j, solver)?)),

@@ -46,7 +46,7 @@ fn sliced(alloc: Global, m: &Model, j: u32) -> Result<Model, AllocError>
     ensures exact { IfOk result (λ s. HasFairLasso s.circuit 0 ↔ HasFairLasso m.now.circuit j) }
 {
     let c = m.circuit();
-    let _ = c.max();
+    let _limits = c.max();
     let cone = cone_of(alloc, c, j)?;
     let symbols = symbols_in(alloc, m, j, &cone)?;
     let parts = parts_of(alloc, c, j as usize, &cone)?;
@@ -78,7 +78,7 @@ fn named(m: &Model, j: u32, cone: &Cone, kept: Kept, symbols: Items<Symbol>) -> 
     ensures exact { HasFairLasso result.circuit 0 ↔ HasFairLasso m.now.circuit j }
 {
     let c = m.circuit();
-    let _ = c.max();
+    let _limits = c.max();
     one_valuation(c);
     one_valuation(&kept.circuit);
     let names = Names {

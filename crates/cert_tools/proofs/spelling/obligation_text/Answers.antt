@@ -28,7 +28,7 @@ pub overflow_sub-greatest : goal.overflow_sub-greatest
 overflow_sub-greatest c =
     let list : List Listed = c.args.list.now in
     let us = lent_all c.in_ok-uses.uses in
-    let low = step_above c.args.circuit.now us (entries_of list) c.as_slice.result.now c.max.ensures.checked c.max.ensures.limits c.requires.over c.in_ok-uses.ensures in
+    let low = step_above c.args.circuit.now us (entries_of list) c.as_slice.result.now c.max-limits.ensures.checked c.max-limits.ensures.limits c.requires.over c.in_ok-uses.ensures in
     let free : c.in_ok-free.free ≡ (after_step c.args.circuit.now us).free = c.in_ok-free.ensures ∙ ap (λ xs. (after_step c.args.circuit.now (lent_all xs)).free) c.as_slice-2.ensures in
     omega (arith, low, free)
 
@@ -46,5 +46,5 @@ returns c =
     c.as_slice-5.ensures ∙ c.in_ok-clauses.ensures
     ∙ ap₂ (λ xs (os : List Use). obligation_clauses circuit (lent_all xs) os at.set c.args.i) c.as_slice-3.ensures same_own in
     IfOk-weaker c.dimacs_text.result _ _
-    (λ text spelled. spelled_obligation circuit list c.args.e c.args.i at us own c.in_ok-free.free c.as_slice-5.result.now text.items c.max.ensures.checked c.max.ensures.limits c.requires.over is
+    (λ text spelled. spelled_obligation circuit list c.args.e c.args.i at us own c.in_ok-free.free c.as_slice-5.result.now text.items c.max-limits.ensures.checked c.max-limits.ensures.limits c.requires.over is
     c.as_slice.ensures c.in_ok-uses.ensures free clauses spelled) c.dimacs_text.ensures

@@ -11,7 +11,7 @@ use Rattle.cert_tools.proofs.spelling.skeleton_text.Goals as goal
 pub overflow_sub-greatest : goal.overflow_sub-greatest
 overflow_sub-greatest c =
     let us = lent_all c.in_ok-uses.uses in
-    let low = skeleton_above c.args.circuit.now c.args.j us (entries_of c.args.list.now) c.args.uses.now c.max.ensures.checked c.max.ensures.limits c.requires.over c.in_ok-uses.ensures in
+    let low = skeleton_above c.args.circuit.now c.args.j us (entries_of c.args.list.now) c.args.uses.now c.max-limits.ensures.checked c.max-limits.ensures.limits c.requires.over c.in_ok-uses.ensures in
     let free : c.in_ok-free.free ≡ (after_skeleton c.args.circuit.now c.args.j us).free =
     c.in_ok-free.ensures ∙ ap (λ xs. (after_skeleton c.args.circuit.now c.args.j (lent_all xs)).free) c.as_slice.ensures in
     omega (arith, low, free)
@@ -25,5 +25,5 @@ returns c =
     let clauses : c.as_slice-3.result.now ≡ skeleton_clauses circuit c.args.j us =
     c.as_slice-3.ensures ∙ c.in_ok-clauses.ensures ∙ ap (λ xs. skeleton_clauses circuit c.args.j (lent_all xs)) c.as_slice-2.ensures in
     IfOk-weaker c.dimacs_text.result _ _
-    (λ text spelled. spelled_skeleton circuit c.args.j list c.args.uses.now us c.in_ok-free.free c.as_slice-3.result.now text.items c.max.ensures.checked c.max.ensures.limits c.requires.over
+    (λ text spelled. spelled_skeleton circuit c.args.j list c.args.uses.now us c.in_ok-free.free c.as_slice-3.result.now text.items c.max-limits.ensures.checked c.max-limits.ensures.limits c.requires.over
     c.in_ok-uses.ensures free clauses spelled) c.dimacs_text.ensures

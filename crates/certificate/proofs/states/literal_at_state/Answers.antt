@@ -7,7 +7,7 @@ pub overflow_add-var : goal.overflow_add-var
 overflow_add-var c =
     let bound =
     subst (λ latches. All (λ latch. latch.var < 2 ^ 32) latches) (sym c.latches.ensures)
-    (latches_bound c.args.c.now c.max-within_limits.ensures.checked c.max-within_limits.ensures.limits)
+    (latches_bound c.args.c.now c.max-limits.ensures.checked c.max-limits.ensures.limits)
     in
     let found = c.in-Some.ensures.lookup in
     let here = bound c.args.literal.var c.in-Some.latch.now found.3.0 in

@@ -4,6 +4,6 @@ use Rattle.cnf_unroll.proofs.laws.obligations_tell.Goals as goal
 pub returns : goal.returns
 returns c =
     λ us e i known there. (
-      obligation_read c.args.c.now c.max-checked.ensures.checked c.one_valuation.ensures us e i known there,
-      obligation_written c.args.c.now c.max-checked.ensures.checked c.one_valuation.ensures us e i known there,
+      obligation_read c.args.c.now c.max-limits.ensures.checked c.one_valuation.ensures us e i known there,
+      obligation_written c.args.c.now c.max-limits.ensures.checked c.one_valuation.ensures us e i known there,
     )

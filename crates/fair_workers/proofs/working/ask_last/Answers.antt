@@ -13,5 +13,5 @@ returns-clause-turns g c =
     let k = g.L.SharedList.known c.args.shared.now in
     let l = g.L.SharedList.known c.next_open-told.new.self in
     let w = c.args.worker.now in
-    subst (λ v. Turns 0 k w l v) (sym c.go_on_last.ensures)
+    subst (λ v. Turns 0 k w l v) (sym c.serve_told_last.ensures)
     (ask-last-turn k l w c.args.from c.next_open-told.result c.requires.worker c.requires.phase c.next_open-told.ensures.asked)

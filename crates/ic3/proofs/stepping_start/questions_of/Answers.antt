@@ -24,7 +24,7 @@ returns c =
       held = 0;
       implying = c.new.result;
     })
-    c.max-greatest.ensures.checked c.one_valuation.ensures c.requires.view c.requires.avoid
+    c.max-limits.ensures.checked c.one_valuation.ensures c.requires.view c.requires.avoid
     c.in_ok-here.ensures c.in_ok-next.ensures c.requires.free grows
     (has.all
     ∙ ap₂ (λ g place. has.front ++ map (λ cube. guarded g (denied_at place cube)) c.args.avoid.now) c.in_ok-guard.ensures

@@ -16,7 +16,7 @@ returns-clause-misses c =
     (meets_clauses c.args.clauses.now))
     (goal_missed c.args.c.now (viewed c.args.view.now) c.args.start.now c.args.literal c.args.avoid.now c.args.clauses.now (goal_set c.args.clauses.now c.args.avoid.now)
     (c.literal_in_block.result ∷ []) c.in_ok-solver.solver.added
-    c.max-greatest.ensures.checked c.one_valuation.ensures c.requires.view
+    c.max-limits.ensures.checked c.one_valuation.ensures c.requires.view
     (read_from c.args.c.now _ (sym c.is_read.ensures ∙ c.if-not-is_read.false))
     c.requires.avoid c.requires.over refl c.in_ok-solver.ensures
     (ap (λ l. l ∷ []) c.literal_in_block.ensures))

@@ -32,14 +32,14 @@ pub returns-in_err-add_frame-clause-counted : goal.returns-in_err-add_frame-clau
 returns-in_err-add_frame-clause-counted g c =
     counted (g.S.StepSolver.seen c.args._steps.now).question c.args._starts.now c.args.frames.now c.args.meter.now c.count_frame.new.meter c.requires.search.starts c.requires.search.sound
     c.requires.stuck c.requires.differ
-    (one_step c.args.meter.now c.count_frame.new.meter (small c.args.meter.now.steps c.steps_of.result c.steps_of.ensures.value c.steps_of.ensures.small)
+    (one_step c.args.meter.now c.count_frame.new.meter (small c.args.meter.now.steps c.steps_of-small.result c.steps_of-small.ensures.value c.steps_of-small.ensures.small)
     c.in_ok-count_frame.ensures.counted)
 
 pub returns-clause-counted : goal.returns-clause-counted
 returns-clause-counted g c =
     counted (g.S.StepSolver.seen c.args._steps.now).question c.args._starts.now c.args.frames.now c.args.meter.now c.count_frame.new.meter c.requires.search.starts c.requires.search.sound
     c.requires.stuck c.requires.differ
-    (one_step c.args.meter.now c.count_frame.new.meter (small c.args.meter.now.steps c.steps_of.result c.steps_of.ensures.value c.steps_of.ensures.small)
+    (one_step c.args.meter.now c.count_frame.new.meter (small c.args.meter.now.steps c.steps_of-small.result c.steps_of-small.ensures.value c.steps_of-small.ensures.small)
     c.in_ok-count_frame.ensures.counted)
 
 pub returns-clause-smaller : goal.returns-clause-smaller
@@ -58,7 +58,7 @@ returns-clause-room g c =
     (opened (g.S.StepSolver.seen c.args._steps.now).question c.args._starts.now c.args.frames.now c.requires.search.starts c.requires.search.sound c.requires.stuck c.requires.differ)
     in
     let one : CountsUpTo 1 c.args.meter.now c.count_frame.new.meter =
-    one_step c.args.meter.now c.count_frame.new.meter (small c.args.meter.now.steps c.steps_of.result c.steps_of.ensures.value c.steps_of.ensures.small)
+    one_step c.args.meter.now c.count_frame.new.meter (small c.args.meter.now.steps c.steps_of-small.result c.steps_of-small.ensures.value c.steps_of-small.ensures.small)
     c.in_ok-count_frame.ensures.counted
     in
     omega (arith, less, one.bound)

@@ -7,7 +7,7 @@ use Rattle.k_live.proofs.searching.searched.Goals as goal
 
 pub reach-requires-clause-goal : goal.reach-requires-clause-goal
 reach-requires-clause-goal c =
-    (subst (λ n. n ≤ 2 * c.args.t.now.max + 1) (sym c.next_of_last.ensures) (next-low c.args.t.now c.max-within_limits.ensures.limits c.requires), All-nil _)
+    (subst (λ n. n ≤ 2 * c.args.t.now.max + 1) (sym c.next_of_last.ensures) (next-low c.args.t.now c.max-limits.ensures.limits c.requires), All-nil _)
 
 pub returns-clause-answered : goal.returns-clause-answered
 returns-clause-answered c =

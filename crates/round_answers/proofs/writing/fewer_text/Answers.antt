@@ -18,5 +18,5 @@ pub returns-clause-good : goal.returns-clause-good
 returns-clause-good c =
     let same : c.circuit.result.now ≡ monitor_circuit c.args.c.now c.args.j c.args.k = c.circuit.ensures.circuit ∙ c.in_ok-model.ensures in
     fewer_if c.with_first_line.result (λ text. text.items) c.args.c.now c.args.j c.args.k c.args.entries.now c.args.refutation.now
-    (subst IsChecked same c.max-within_limits.ensures.checked) (subst IsWithinLimits same c.max-within_limits.ensures.limits) (omega arith) c.requires.some c.requires.able
+    (subst IsChecked same c.max-limits.ensures.checked) (subst IsWithinLimits same c.max-limits.ensures.limits) (omega arith) c.requires.some c.requires.able
     (returns-clause-text c) c.with_first_line.ensures.within

@@ -4,5 +4,5 @@ use Rattle.sheet_answers.proofs.heads.total.Goals as goal
 
 pub returns-clause-limit : goal.returns-clause-limit
 returns-clause-limit c =
-    let most : length c.args.circuit.now.justice ≤ MAX_NUMBER = c.max-within_limits.ensures.limits.justice in
+    let most : length c.args.circuit.now.justice ≤ MAX_NUMBER = c.max-limits.ensures.limits.justice in
     omega (arith, most)

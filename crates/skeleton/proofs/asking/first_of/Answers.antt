@@ -14,9 +14,9 @@ returns-in_ok-skeleton_in-in-Sat c =
     let clauses = skeleton_clauses c.args.c.now c.args.j (numbered (viewed c.args.view.now)) in
     let v = assigned c.args.solver.now.values in
     let model : IsModel clauses c.args.assumptions.now v = subst (λ answer. IsAsked clauses c.args.assumptions.now c.args.solver.now.values answer) c.in-Sat.is c.requires.answer in (
-      model_allowed c.args.c.now c.max-checked.ensures.checked c.one_valuation.ensures c.args.j c.requires.property (viewed c.args.view.now) c.requires.good
+      model_allowed c.args.c.now c.max-limits.ensures.checked c.one_valuation.ensures c.args.j c.requires.property (viewed c.args.view.now) c.requires.good
           v c.in_ok-skeleton_in-in-Sat.field-0 model.clauses c.in_ok-skeleton_in-in-Sat.ensures,
-      model_begins c.args.c.now c.max-checked.ensures.checked c.one_valuation.ensures c.args.j c.requires.property (viewed c.args.view.now) c.requires.good
+      model_begins c.args.c.now c.max-limits.ensures.checked c.one_valuation.ensures c.args.j c.requires.property (viewed c.args.view.now) c.requires.good
           v c.in_ok-skeleton_in-in-Sat.field-0 c.args.state.now c.requires.state c.in_ok-skeleton_in-in-Sat.ensures
           (subst (λ assumptions. cube_value v assumptions ≡ true) c.requires.assumptions model.assumed),
     )
@@ -25,7 +25,7 @@ pub returns-in_ok-core_cube-in-Unsat : goal.returns-in_ok-core_cube-in-Unsat
 returns-in_ok-core_cube-in-Unsat c =
     let clauses = skeleton_clauses c.args.c.now c.args.j (numbered (viewed c.args.view.now)) in
     let core = subst (λ answer. IsAsked clauses c.args.assumptions.now c.args.solver.now.values answer) c.in-Unsat.is c.requires.answer in
-    core_never c.args.c.now c.max-checked.ensures.checked c.one_valuation.ensures c.args.j c.requires.property (viewed c.args.view.now) c.requires.good
+    core_never c.args.c.now c.max-limits.ensures.checked c.one_valuation.ensures c.args.j c.requires.property (viewed c.args.view.now) c.requires.good
     c.in-Unsat.core.items c.args.state.now c.args.assumptions.now c.in_ok-core_cube-in-Unsat.field-0 c.requires.state c.requires.assumptions
     (c.in_ok-core_cube-in-Unsat.ensures ∙ ap (λ lits. core_cube lits 0 c.args.assumptions.now) c.as_slice.ensures.value)
     core.among core.refused
