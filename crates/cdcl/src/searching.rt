@@ -14,10 +14,10 @@ ghost use Rattle.edge.specs.Ends.{IsEnd};
 use crate::choosing::choose;
 use crate::finding::Found;
 use crate::log::Log;
-use crate::order::Order;
 use crate::restarts::Restarts;
 use crate::returning::{above_level, level_after};
 use cdcl_learn::{learn, trace, trace_literal};
+use cdcl_order::Order;
 use cdcl_trail::Trail;
 use cnf::Lit;
 use edge::{Meter, SolveEnd};
@@ -69,7 +69,7 @@ fn settle_base(log: &Log, order: &mut Order, trail: &mut Trail) -> Result<Option
 {
     order.keep(above_level(trail, 0))?;
     trail.back_to(0);
-    order.begin(log, trail)?;
+    order.begin(log.clauses(), trail)?;
     trail.propagate(log.clauses())
 }
 
@@ -132,7 +132,7 @@ fn decide(
             return Ok(Found::Refused(traced));
         }
         let learned = learn(alloc, log.clauses(), trail, conflict)?;
-        order.bump(log.clauses(), &learned);
+        order.bump(log.clauses(), learned.hints.as_slice());
         let target = level_after(&mut restarts, trail, learned.clause.as_slice(), base);
         order.keep(above_level(trail, target))?;
         log.learn(learned, meter)?;

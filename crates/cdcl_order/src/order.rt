@@ -5,11 +5,10 @@ ghost use Rattle.std.specs.Prelude.{◌≡◌, []};
 
 use crate::first_values::FirstValues;
 use crate::heap::{Entry, Heap, SHIFT};
-use crate::log::Log;
 use crate::ranked::Ranked;
-use cdcl_learn::Learned;
-use cdcl_trail::{Table, Trail};
+use cdcl_trail::Trail;
 use cnf::{Clause, Db, Lit, Var};
+use packed_literals::Table;
 use std::alloc::{AllocError, Global};
 
 /// The weight of the first conflict.
@@ -20,11 +19,11 @@ const GREAT_WEIGHT: u64 = 1 << 40;
 
 /// A variable that may be decided.
 #[derive(Clone, Copy)]
-pub(crate) struct Candidate {
+pub struct Candidate {
     /// Its literal that was true last, or the one to begin with where none was.
-    pub(crate) literal: Lit,
+    pub literal: Lit,
     /// The place of a clause that has the variable.
-    pub(crate) clause: usize,
+    pub clause: usize,
 }
 
 // How active a variable is, and the last conflict that it was met in, or 0.
@@ -41,7 +40,7 @@ struct Rank {
 /// order, or they are new, in a binary heap; of two that are as active the smaller variable comes
 /// first, which in a circuit's clauses is what the other one is computed from.
 #[derive(Drop)]
-pub(crate) struct Order {
+pub struct Order {
     alloc: Global,
     numbers: Table<usize>,
     candidates: Vec<Candidate>,
@@ -56,7 +55,7 @@ pub(crate) struct Order {
 
 impl Order {
     /// No variable; each one that comes is decided with its value of these at first. Takes no memory.
-    pub(crate) fn new(alloc: Global, first_values: FirstValues) -> Order
+    pub fn new(alloc: Global, first_values: FirstValues) -> Order
         ensures { result.candidates.items ≡ [] }
     {
         Order {
@@ -75,8 +74,8 @@ impl Order {
 
     /// Meets the variables of the clauses that are new, and lets them be decided. Where the list is put
     /// in order anew, those that have a value go: no search takes it back.
-    pub(crate) fn begin(&mut self, log: &Log, trail: &Trail) -> Result<(), AllocError> {
-        let clauses = log.clauses().as_slice();
+    pub fn begin(&mut self, db: &Db, trail: &Trail) -> Result<(), AllocError> {
+        let clauses = db.as_slice();
         for place in self.met..clauses.len() {
             if let Some(clause) = clauses.get(place) {
                 self.meet(clause.as_slice(), place)?;
@@ -117,7 +116,7 @@ impl Order {
     }
 
     /// The most active variable without a value; one of the heap leaves it. Takes no memory.
-    pub(crate) fn take(&mut self, trail: &Trail) -> Option<Candidate> {
+    pub fn take(&mut self, trail: &Trail) -> Option<Candidate> {
         self.heap.drop_valued(trail);
         let number = match self.heap.first() {
             Some(top) if self.is_before_ranked(&top, trail) => self.heap.take()?.number,
@@ -138,7 +137,7 @@ impl Order {
     }
 
     /// Keeps the values of literals that are taken back, and lets their variables be decided.
-    pub(crate) fn keep(&mut self, literals: &[Lit]) -> Result<(), AllocError> {
+    pub fn keep(&mut self, literals: &[Lit]) -> Result<(), AllocError> {
         for literal in literals {
             let Some(number) = self.numbers.get(literal.var) else {
                 continue;
@@ -167,8 +166,8 @@ impl Order {
 
     /// Makes the variables more active that a learned clause comes from: those of the clauses that
     /// its hints name.
-    pub(crate) fn bump(&mut self, db: &Db, learned: &Learned) {
-        for number in learned.hints.as_slice() {
+    pub fn bump(&mut self, db: &Db, hints: &[u64]) {
+        for number in hints {
             if let Some(clause) = db.get(*number) {
                 self.bump_clause(clause);
             }
