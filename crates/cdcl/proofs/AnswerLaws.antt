@@ -20,18 +20,18 @@ use Rattle.cdcl.specs.declared.asking.Refuted.{Refuted}
 use Rattle.cdcl.specs.declared.asking.Refuted.TheVariants as refuted
 use Rattle.cdcl.specs.declared.finding.Found.{Found}
 use Rattle.cdcl.specs.declared.finding.Found.TheVariants.{Satisfied, Refused}
-use Rattle.cdcl.specs.LoggedClauses.{LoggedClauses, added_of, IsLog}
+use Rattle.cdcl_log.specs.LoggedClauses.{LoggedClauses, added_of, IsLog}
 use Rattle.cdcl.specs.Finding.{Satisfies, Refuses, IsSearchResult, IsAskedFrom, MayRefuse, IsRefutedFrom}
 use Rattle.cdcl.specs.Refuting.{IsRefuted}
-use Rattle.cdcl.specs.UnitClauses.{unit_clauses}
+use Rattle.cdcl_log.specs.UnitClauses.{unit_clauses}
 use Rattle.cdcl.proofs.UnitLaws.{model_of_units}
 use Rattle.cdcl.specs.Searching.{AreTrue}
 use Rattle.cdcl.specs.Solving.{IsModel, HasNoModel}
-use Rattle.cdcl.proofs.LoggedLaws.{numbered_true}
+use Rattle.cdcl_log.proofs.LoggedLaws.{numbered_true}
 use Rattle.cdcl.proofs.ProgressLaws.{added_all}
 use Rattle.cdcl.proofs.SearchLaws.{model_holds}
 use Rattle.cdcl_learn.proofs.LiteralTraceLaws.{true_stands}
-use Rattle.cdcl.proofs.WritingLaws.{part_negations, core_holds}
+use Rattle.cdcl.proofs.RefusalLaws.{part_negations, core_holds}
 
 -- the assignment gives each variable its value on the trail
 pub assigned_is : (steps : List Step) (n : ℕ) → unwrap_or (value_of steps n) false ≡ assigned (literals_of steps) n

@@ -1,19 +1,18 @@
 -- Laws of the way back to a level of a trail.
 use Rattle.std.proofs.Math.Dec.{leb}
-use Rattle.std.proofs.Common.{◌≡◌, ℕ, zero, suc, ◌+◌, ◌-◌, ◌<◌, ◌≤◌, true, false, ◌&&◌, ◌||◌, eqb, List, [], ◌∷◌, ◌++◌, Option, Some, None, refl, ap, sym, subst, ◌∙◌, inl, inr, arith}
-use Rattle.std.specs.Prelude.{slice_get, is_none}
+use Rattle.std.proofs.Common.{◌≡◌, ℕ, ◌+◌, ◌-◌, ◌<◌, ◌≤◌, true, false, ◌&&◌, ◌||◌, eqb, List, [], ◌∷◌, ◌++◌, Option, Some, None, refl, ap, sym, subst, ◌∙◌, inl, inr, arith}
+use Rattle.std.specs.Prelude.{is_none}
 use Rattle.std.proofs.lemmas.Bool.{false≢true, and_parts, and_from, or_cases, or_left, or_right, cond-true, cond-false, le-leb, leb-true}
-use Rattle.std.proofs.lemmas.Option.{none-some}
 use Rattle.proof_semantics.specs.Clauses.{lit_eq, has_literal}
 use Rattle.proof_semantics.specs.declared.literals.Lit.{Lit}
 use Rattle.proof_semantics.proofs.LiteralLaws.{lit_eq-true}
 use Rattle.cdcl_trail.specs.Trails.{Step, opened_by, step_of, value_of, level, level_of, up_to_level, up_to_variable}
 use Rattle.cdcl_trail.specs.Propagation.{is_false, is_falsified, is_unit_for, is_unit, is_complete, IsForced, HaveReasons}
-use Rattle.cnf.specs.Clauses.{clause_numbered}
 use Rattle.cdcl_trail.proofs.TrailLaws.{either, not-false, or_both}
 use Rattle.cdcl_trail.proofs.ScanLaws.{all_has, any_gives, untrue, no_value}
 use Rattle.cdcl_learn.specs.Learning.{is_assumed}
 use Rattle.cdcl_learn.proofs.LiteralTraceLaws.{first_reasons}
+use Rattle.cdcl_log.proofs.LoggedLaws.{numbered_more}
 
 abbrev Has : List Lit → Lit → Type 0
 Has lits a = has_literal lits a ≡ true
@@ -141,20 +140,6 @@ early_step k (x ∷ xs) v s is e =
     ]
 
 -- Reasons.
-
-get_more : (xs ys : List (List Lit)) (i : ℕ) (c : List Lit) → slice_get xs i ≡ Some c → slice_get (xs ++ ys) i ≡ Some c
-get_more [] ys i c e = absurd (none-some c e)
-get_more (x ∷ xs) ys zero c e = e
-get_more (x ∷ xs) ys (suc i) c e = get_more xs ys i c e
-
-pub numbered_more : (clauses more : List (List Lit)) (n : ℕ) (c : List Lit) → clause_numbered clauses n ≡ Some c → clause_numbered (clauses ++ more) n ≡ Some c
-numbered_more clauses more n c e =
-    elim (either (eqb n 0)) [
-      | inl zeroth ↦ absurd (none-some c (sym (cond-true (eqb n 0) None (slice_get clauses (n - 1)) zeroth) ∙ e))
-      | inr some ↦
-          cond-false (eqb n 0) None (slice_get (clauses ++ more) (n - 1)) some
-          ∙ get_more clauses more (n - 1) c (sym (cond-false (eqb n 0) None (slice_get clauses (n - 1)) some) ∙ e)
-    ]
 
 forced_more : (clauses more : List (List Lit)) (before : List Step) (step : Step) → IsForced clauses before step → IsForced (clauses ++ more) before step
 forced_more clauses more before step f = record {

@@ -21,10 +21,10 @@ use Rattle.cdcl_trail.proofs.PassLaws.{held_at}
 use Rattle.cdcl_trail.proofs.GuardLaws.{true_settles}
 use Rattle.cdcl.specs.Counting.{IsRefutedAtOnce, IsNoLimit}
 use Rattle.cdcl.specs.Resting.{ComesToRest, IsRested, IsLimitedAtRest}
-use Rattle.cdcl.specs.LoggedClauses.{LoggedClauses, added_of, learned_of}
+use Rattle.cdcl_log.specs.LoggedClauses.{LoggedClauses, added_of, learned_of}
 use Rattle.edge.specs.declared.solve_end.SolveEnd.{SolveEnd}
 use Rattle.cdcl.specs.Searching.{IsDeciding}
-use Rattle.cdcl.specs.UnitClauses.{unit_clauses}
+use Rattle.cdcl_log.specs.UnitClauses.{unit_clauses}
 use Rattle.cdcl.proofs.BackLaws.{cut_behind}
 use Rattle.cdcl.proofs.ProgressLaws.{added_all, learned_all}
 

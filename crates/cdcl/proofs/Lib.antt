@@ -1,12 +1,8 @@
-pub mod LoggedLaws
 pub mod RoomLaws
 pub mod ProgressLaws
-pub mod SpellingLaws
-pub mod IdLaws
-pub mod WritingLaws
-pub mod PuttingLaws
+pub mod RefusalLaws
 pub mod SearchLaws
-pub mod CoverLaws
+pub mod ValueLaws
 pub mod FullLaws
 pub mod BackLaws
 pub mod AboveLaws

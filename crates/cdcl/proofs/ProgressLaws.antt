@@ -15,12 +15,12 @@ use Rattle.edge.specs.Ends.{CountsConflicts}
 use Rattle.cdcl_learn.specs.declared.learning.Learned.{Learned}
 use Rattle.cdcl_trail.proofs.TrailLaws.{or_both, or_neither}
 use Rattle.cdcl.specs.Counting.{IsRefutedAtOnce}
-use Rattle.cdcl.specs.LoggedClauses.{LoggedClauses, with_added, with_learned, added_in, learned_in, added_of, learned_of, IsLog}
+use Rattle.cdcl_log.specs.LoggedClauses.{LoggedClauses, with_added, with_learned, added_in, learned_in, added_of, learned_of, IsLog}
 use Rattle.cdcl.specs.Room.{clause_room, literal_variables, variables_in}
 use Rattle.cdcl.specs.Searching.{is_over, are_over, IsNewClause}
 use Rattle.cdcl.specs.Solving.{Solving, IsNewImplicate, AreLearned, Learns, IsBounded, more_conflicts, with_conflicts}
 use Rattle.cdcl.specs.Progress.{growth, IsSearched, AreIrredundant, IsSolverLog}
-use Rattle.cdcl.proofs.LoggedLaws.{hinted_implied, learned-IsLog}
+use Rattle.cdcl_log.proofs.LoggedLaws.{hinted_implied, learned-IsLog}
 use Rattle.cdcl.proofs.RoomLaws.{room_falls, room_small, over_append, all_over, own_over}
 
 -- Results.

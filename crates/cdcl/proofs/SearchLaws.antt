@@ -20,7 +20,7 @@ use Rattle.cdcl_trail.specs.Trails.{opened_by, level}
 use Rattle.cdcl_trail.specs.Propagation.{HaveReasons}
 use Rattle.cdcl_learn.specs.Learning.{is_assumed}
 use Rattle.cdcl.proofs.BackLaws.{no_assumed}
-use Rattle.cdcl.proofs.CoverLaws.{over_push}
+use Rattle.cdcl_log.proofs.CoverLaws.{over_push}
 
 abbrev Has : List Lit → Lit → Type 0
 Has lits a = has_literal lits a ≡ true

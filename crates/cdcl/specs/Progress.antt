@@ -3,7 +3,7 @@ use Rattle.std.specs.Prelude.{◌≡◌, ℕ, ◌+◌, ◌-◌, ◌≤◌, true,
 use Rattle.edge.specs.Units.{Spendings}
 use Rattle.proof_semantics.specs.Clauses.{is_subsumed, has_opposites}
 use Rattle.proof_semantics.specs.declared.literals.Lit.{Lit}
-use Rattle.cdcl.specs.LoggedClauses.{LoggedClauses, IsLog, added_of, learned_of}
+use Rattle.cdcl_log.specs.LoggedClauses.{LoggedClauses, IsLog, added_of, learned_of}
 use Rattle.cdcl.specs.Room.{clause_room}
 use Rattle.cdcl_trail.specs.Watched.{TrailState}
 use Rattle.cdcl.specs.Searching.{is_over, are_over, IsHeld}

@@ -4,7 +4,7 @@ use Rattle.proof_semantics.specs.Clauses.{clauses_value}
 use Rattle.proof_semantics.specs.Proofs.{Refutes}
 use Rattle.proof_semantics.specs.declared.literals.Lit.{Lit}
 use Rattle.cdcl.specs.Asking.{assigned}
-use Rattle.cdcl.specs.UnitClauses.{unit_clauses}
+use Rattle.cdcl_log.specs.UnitClauses.{unit_clauses}
 use Rattle.cdcl.specs.declared.asking.Refuted.{Refuted}
 use Rattle.cdcl.specs.declared.asking.Refuted.TheVariants.{Sat, Unsat}
 

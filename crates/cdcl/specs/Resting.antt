@@ -6,7 +6,7 @@ use Rattle.proof_semantics.specs.declared.literals.Lit.{Lit}
 use Rattle.cdcl_trail.specs.Trails.{Step}
 use Rattle.cdcl_trail.specs.Propagation.{is_true, is_complete}
 use Rattle.cdcl.specs.Counting.{IsNoLimit}
-use Rattle.cdcl.specs.LoggedClauses.{LoggedClauses}
+use Rattle.cdcl_log.specs.LoggedClauses.{LoggedClauses}
 
 -- Under some steps each of the literals is true and no clause is unit or false.
 pub record ComesToRest (clauses : List (List Lit)) (lits : List Lit) : Type 0 where

@@ -10,7 +10,7 @@ use Rattle.cdcl_trail.specs.Watched.{Extends, TrailState}
 use Rattle.cdcl_learn.specs.Learning.{is_assumed}
 use Rattle.cnf.specs.Clauses.{clause_numbered}
 use Rattle.cdcl_learn.specs.declared.learning.Learned.{Learned}
-pub use Rattle.cdcl.specs.Variables.{is_over, are_over}
+pub use Rattle.cdcl_log.specs.Variables.{is_over, are_over}
 
 -- the variable is that of a literal of the clause
 abbrev pub has_variable : List Lit → ℕ → Bool

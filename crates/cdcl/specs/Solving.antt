@@ -8,7 +8,7 @@ use Rattle.proof_semantics.specs.Clauses.{negation, is_part, clauses_value, cube
 use Rattle.proof_semantics.specs.Proofs.{start, clause_at, judge_all, Refutes}
 use Rattle.proof_semantics.specs.declared.literals.Lit.{Lit}
 use Rattle.cdcl.specs.Counting.{IsRefutedAtOnce}
-use Rattle.cdcl.specs.Variables.{is_over, are_over}
+use Rattle.cdcl_log.specs.Variables.{is_over, are_over}
 use Rattle.cdcl.specs.declared.solving.Answer.{Answer}
 use Rattle.cdcl.specs.declared.solving.Answer.TheVariants.{Sat, Unsat}
 

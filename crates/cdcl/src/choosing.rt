@@ -5,7 +5,7 @@ ghost use Rattle.cdcl_trail.specs.Propagation.{is_complete, is_true, is_falsifie
 ghost use Rattle.cdcl_trail.specs.Trails.{value_of, literals_of};
 ghost use Rattle.cdcl.specs.Searching.{IsUndecided, IsOpenIn, HasNoOther, has_variable, is_satisfied, is_over};
 
-use crate::log::Log;
+use cdcl_log::Log;
 use cdcl_order::{Candidate, Order};
 use cdcl_trail::Trail;
 use cnf::{Clause, Lit, Var};

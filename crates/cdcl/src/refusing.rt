@@ -2,14 +2,13 @@
 ghost use Rattle.std.specs.Prelude.{◌≡◌, IfOk, map};
 ghost use Rattle.cdcl.specs.Searching.{IsHinted, NegatesOnly};
 ghost use Rattle.proof_semantics.specs.Clauses.{negation};
-ghost use Rattle.cdcl.specs.LoggedClauses.{IsLog, added_of};
+ghost use Rattle.cdcl_log.specs.LoggedClauses.{IsLog, added_of};
 ghost use Rattle.proof_semantics.specs.Lines.{AreSized};
 ghost use Rattle.cdcl.specs.Solving.{IsAnswer};
 
-use crate::log::Log;
 use crate::solving::Answer;
-use crate::writing::proof_of;
 use cdcl_learn::Learned;
+use cdcl_log::{Log, proof_of};
 use cnf::Lit;
 use std::alloc::{AllocError, Global};
 

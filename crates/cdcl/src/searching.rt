@@ -4,7 +4,7 @@ ghost use Rattle.proof_semantics.specs.Clauses.{has_opposites};
 ghost use Rattle.cdcl_trail.specs.Trails.{level};
 ghost use Rattle.cdcl_trail.specs.Watched.{Extends};
 ghost use Rattle.cdcl.specs.Resting.{IsLimitedAtRest, IsRested};
-ghost use Rattle.cdcl.specs.LoggedClauses.{IsLog};
+ghost use Rattle.cdcl_log.specs.LoggedClauses.{IsLog};
 ghost use Rattle.cdcl.specs.Finding.{IsSearchResult};
 ghost use Rattle.proof_semantics.specs.Lines.{AreSized};
 ghost use Rattle.cdcl.specs.Progress.{IsSearched};
@@ -13,10 +13,10 @@ ghost use Rattle.edge.specs.Ends.{IsEnd};
 
 use crate::choosing::choose;
 use crate::finding::Found;
-use crate::log::Log;
 use crate::restarts::Restarts;
 use crate::returning::{above_level, level_after};
 use cdcl_learn::{learn, trace, trace_literal};
+use cdcl_log::Log;
 use cdcl_order::Order;
 use cdcl_trail::Trail;
 use cnf::Lit;
@@ -135,7 +135,7 @@ fn decide(
         order.bump(log.clauses(), learned.hints.as_slice());
         let target = level_after(&mut restarts, trail, learned.clause.as_slice(), base);
         order.keep(above_level(trail, target))?;
-        log.learn(learned, meter)?;
+        log.learn(learned.clause, learned.hints, meter)?;
         trail.back_to(target);
     }
 }

@@ -6,16 +6,16 @@ ghost use Rattle.cdcl.specs.Adding.{AddsFirst};
 ghost use Rattle.cdcl.specs.Asking.{IsAsked, assigned};
 ghost use Rattle.cdcl.specs.Counting.{IsNoLimit, IsRefutedAtOnce};
 ghost use Rattle.cdcl.specs.Refuting.{IsRefuted};
-ghost use Rattle.cdcl.specs.UnitClauses.{unit_clauses};
+ghost use Rattle.cdcl_log.specs.UnitClauses.{unit_clauses};
 ghost use Rattle.cdcl.specs.Solving.{IsAnswer, IsBounded, Learns, with_conflicts};
 ghost use Rattle.proof_semantics.specs.Clauses.{has_opposites};
 
 use crate::answering::{search_answer, search_asked};
 use crate::asking::{Asked, Refuted};
 use crate::conditions::are_sized;
-use crate::log::Log;
 use crate::refuting::search_refuted;
 use crate::solving::Answer;
+use cdcl_log::Log;
 use cdcl_order::{FirstValues, Order};
 use cdcl_trail::Trail;
 use cnf::{Clause, Lit, Var};
@@ -36,7 +36,7 @@ pub struct Solver {
 
 impl Model for Solver {
     ghost use Rattle.cdcl.specs.Solving.{Solving};
-    ghost use Rattle.cdcl.specs.LoggedClauses.{added_of, learned_of};
+    ghost use Rattle.cdcl_log.specs.LoggedClauses.{added_of, learned_of};
     ghost use Rattle.cdcl.specs.Progress.{IsStanding};
     ghost use Rattle.cdcl_trail.specs.Trails.{literals_of};
 

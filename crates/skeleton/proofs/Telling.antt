@@ -16,7 +16,7 @@ use Rattle.cnf_unroll.specs.Obligations.{skeleton_clauses}
 use Rattle.cnf_unroll.specs.Situations.{situations_in}
 use Rattle.cnf_unroll.proofs.SkeletonLaws.{skeleton_of_model, model_of_skeleton}
 use Rattle.cdcl.specs.Solving.{HasNoModel}
-use Rattle.cdcl.specs.UnitClauses.{unit_clauses}
+use Rattle.cdcl_log.specs.UnitClauses.{unit_clauses}
 use Rattle.entry.specs.Proved.{IsGoodRefutation}
 use Rattle.entry.specs.Laws.{IsGoodList}
 use Rattle.skeleton.specs.Finding.{IsAllowed, AllowsNone, first_state, BeginsNone}

@@ -5,7 +5,7 @@ ghost use Rattle.proof_semantics.specs.Lines.{AreSized};
 ghost use Rattle.cdcl.specs.Counting.{IsNoLimit, IsRefutedAtOnce};
 ghost use Rattle.cdcl.specs.Solving.{Learns, with_conflicts};
 ghost use Rattle.proof_semantics.specs.Clauses.{has_opposites};
-ghost use Rattle.cdcl.specs.UnitClauses.{unit_clauses};
+ghost use Rattle.cdcl_log.specs.UnitClauses.{unit_clauses};
 
 use cdcl::{Answer, Asked, Refuted, Solver};
 use cnf::Lit;

@@ -1,6 +1,6 @@
 use Rattle.std.proofs.Common.{sym, subst}
 use Rattle.proof_semantics.specs.Clauses.{values_of}
-use Rattle.cdcl.specs.LoggedClauses.{added_of}
+use Rattle.cdcl_log.specs.LoggedClauses.{added_of}
 use Rattle.cdcl.specs.Finding.{IsSearchResult}
 use Rattle.cdcl.specs.Searching.{AreTrue}
 use Rattle.cdcl.specs.Solving.{IsModel}

@@ -1,6 +1,6 @@
 use Rattle.std.proofs.Common.{sym, subst}
 use Rattle.cdcl.specs.Asking.{IsCore}
-use Rattle.cdcl.specs.LoggedClauses.{added_of}
+use Rattle.cdcl_log.specs.LoggedClauses.{added_of}
 use Rattle.cdcl.proofs.AnswerLaws.{asked_from}
 use Rattle.cdcl.proofs.OppositeLaws.{opposites_core}
 use Rattle.cdcl.proofs.answering.search_asked.Goals as goal

@@ -1,5 +1,5 @@
 use Rattle.std.proofs.Common.{sym, ◌∙◌}
-use Rattle.cdcl.proofs.CoverLaws.{full_satisfied}
+use Rattle.cdcl.proofs.ValueLaws.{full_satisfied}
 use Rattle.cdcl.proofs.choosing.is_full.Goals as goal
 
 pub returns-in-Some : goal.returns-in-Some

@@ -1,9 +1,9 @@
 use Rattle.std.proofs.Common.{◌++◌, [], map, ap, subst, ◌∙◌}
 use Rattle.std.proofs.lemmas.List.{append-nil}
 use Rattle.proof_semantics.specs.Clauses.{negation}
-use Rattle.cdcl.specs.LoggedClauses.{added_of}
-use Rattle.cdcl.specs.Writing.{Proves}
-use Rattle.cdcl.proofs.WritingLaws.{refusal_from}
+use Rattle.cdcl_log.specs.LoggedClauses.{added_of}
+use Rattle.cdcl_log.specs.Writing.{Proves}
+use Rattle.cdcl.proofs.RefusalLaws.{refusal_from}
 use Rattle.cdcl.proofs.refusing.refusal.Goals as goal
 
 pub returns : goal.returns

@@ -1,8 +1,8 @@
 use Rattle.std.proofs.Common.{◌≡◌, ◌++◌, ◌∷◌, [], length, map, None, sym, subst}
 use Rattle.proof_semantics.specs.Propagation.{hints_fault}
 use Rattle.cnf.specs.Clauses.{clause_numbered}
-use Rattle.cdcl.specs.UnitClauses.{unit_clauses}
-use Rattle.cdcl.specs.WithUnits.{unit_number}
+use Rattle.cdcl_log.specs.UnitClauses.{unit_clauses}
+use Rattle.cdcl.specs.UnitNumbers.{unit_number}
 use Rattle.cdcl.proofs.UnitLaws.{opposite_units}
 use Rattle.cdcl.proofs.refuting.opposites_refuted.Goals as goal
 

@@ -1,5 +1,5 @@
 use Rattle.std.proofs.Common.{sym}
-use Rattle.cdcl.specs.LoggedClauses.{added_of}
+use Rattle.cdcl_log.specs.LoggedClauses.{added_of}
 use Rattle.cdcl.proofs.AnswerLaws.{may_refuse, refuted_from}
 use Rattle.cdcl.proofs.refuting.search_refuted.Goals as goal
 

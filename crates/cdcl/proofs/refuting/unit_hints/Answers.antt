@@ -1,7 +1,7 @@
 use Rattle.std.proofs.Common.{◌+◌, ◌∷◌, [], ◌++◌, map, take, false, sym, ap, ◌∙◌}
 use Rattle.std.proofs.lemmas.List.{map_more}
 use Rattle.proof_semantics.specs.declared.literals.Lit.{Lit}
-use Rattle.cdcl.specs.WithUnits.{unit_number}
+use Rattle.cdcl.specs.UnitNumbers.{unit_number}
 use Rattle.cdcl.proofs.refuting.unit_hints.Goals as goal
 
 abbrev no_literal : Lit

@@ -1,5 +1,5 @@
 use Rattle.std.proofs.Common.{◌≡◌, take, map}
-use Rattle.cdcl.specs.WithUnits.{unit_number}
+use Rattle.cdcl.specs.UnitNumbers.{unit_number}
 use Rattle.cdcl.proofs.refuting.unit_hints.Given as goal
 
 abbrev pub invariant-loop-literal : goal.invariant-loop-literal

@@ -4,7 +4,7 @@ use Rattle.proof_semantics.specs.Clauses.{is_subsumed}
 use Rattle.cdcl_trail.specs.Trails.{level, lower_steps}
 use Rattle.cdcl_trail.specs.Propagation.{is_complete, Propagates, IsReasonedTrail}
 use Rattle.cdcl_trail.specs.Watched.{Extends, TrailState}
-use Rattle.cdcl.specs.LoggedClauses.{LoggedClauses}
+use Rattle.cdcl_log.specs.LoggedClauses.{LoggedClauses}
 use Rattle.cdcl.specs.Room.{clause_room, literal_variables, variables_in}
 use Rattle.cdcl.specs.Searching.{IsDeciding, IsHeld, IsHinted, IsBackLevel, count_open}
 use Rattle.cdcl.proofs.RoomLaws.{all_over, own_over}

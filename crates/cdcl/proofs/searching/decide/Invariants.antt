@@ -1,7 +1,7 @@
 use Rattle.std.proofs.Common.{ℕ, List, length}
 use Rattle.cdcl_trail.specs.Watched.{Extends}
 use Rattle.cdcl.specs.Resting.{IsRested}
-use Rattle.cdcl.specs.LoggedClauses.{IsLog}
+use Rattle.cdcl_log.specs.LoggedClauses.{IsLog}
 use Rattle.cdcl.specs.Progress.{IsSearched}
 use Rattle.cdcl.specs.Room.{clause_room}
 use Rattle.cdcl.specs.Searching.{IsDeciding, count_open}

@@ -1,9 +1,9 @@
 use Rattle.std.proofs.Common.{◌++◌, ◌∷◌, [], ap, sym, subst, ◌∙◌}
-use Rattle.cdcl.specs.LoggedClauses.{learned_of}
+use Rattle.cdcl_log.specs.LoggedClauses.{learned_of}
 use Rattle.cdcl.specs.Progress.{IsStanding}
 use Rattle.cdcl.specs.Solving.{Solving}
 use Rattle.cdcl.proofs.solver.Solver.add.Goals as goal
-use Rattle.cdcl.proofs.LoggedLaws.{added-IsLog}
+use Rattle.cdcl_log.proofs.LoggedLaws.{added-IsLog}
 use Rattle.cdcl.proofs.WayLaws.{held_more}
 use Rattle.cdcl.proofs.ProgressLaws.{on_either, on_ok, kept_added}
 

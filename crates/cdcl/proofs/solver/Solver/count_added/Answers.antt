@@ -1,6 +1,6 @@
 use Rattle.std.proofs.Common.{length, ap, ◌∙◌}
 use Rattle.cdcl.specs.Solving.{Solving}
-use Rattle.cdcl.proofs.IdLaws.{counted_added}
+use Rattle.cdcl_log.proofs.IdLaws.{counted_added}
 use Rattle.cdcl.proofs.solver.Solver.count_added.Goals as goal
 
 pub returns : goal.returns

@@ -1,6 +1,0 @@
-use Rattle.std.proofs.Common.{◌≡◌, take, true}
-use Rattle.cdcl.specs.Variables.{is_over}
-use Rattle.cdcl.proofs.cover.Cover.has_all.Given as goal
-
-abbrev pub invariant-loop-literal : goal.invariant-loop-literal
-invariant-loop-literal l = is_over l.self (take l.literal-index l.lits) ≡ true

@@ -1,9 +1,0 @@
-use Rattle.std.proofs.Common.{◌≡◌, take, true}
-use Rattle.cdcl.specs.Variables.{is_over, HasAll}
-use Rattle.cdcl.proofs.cover.Cover.meet.Given as goal
-
-abbrev pub invariant-loop-literal : goal.invariant-loop-literal
-invariant-loop-literal l = record {
-  over : is_over l.self (take l.literal-index l.clause) ≡ true;
-  stays : HasAll l.initial.self l.self;
-}

@@ -1,8 +1,0 @@
-use Rattle.cdcl.specs.IdsOf.{id_in}
-use Rattle.cdcl.proofs.SpellingLaws.{hint_more}
-use Rattle.cdcl.proofs.spelling.push_hints.Goals as goal
-
-pub loop-hint-preserved : goal.loop-hint-preserved
-loop-hint-preserved c =
-    hint_more (id_in c.args.ids.now) c.args.out.now.items c.loop-hint.out.items c.push_literal.new.out.items c.args.hints.now c.loop-hint.hint-index 0 c.hint_of.result
-    c.loop-hint-test.true c.loop-hint.invariant c.hint_of.ensures c.in_ok-push_literal.ensures

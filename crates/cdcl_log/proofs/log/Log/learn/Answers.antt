@@ -1,0 +1,23 @@
+use Rattle.std.proofs.Common.{[], ◌∷◌, ◌++◌, ap, ◌∙◌}
+use Rattle.cdcl_log.proofs.CoverLaws.{are_over_kept, are_over_next}
+use Rattle.cdcl_log.proofs.IdLaws.{counted_kept, counted_some}
+use Rattle.cdcl_log.proofs.log.Log.learn.Goals as goal
+
+pub invariant_of-self : goal.invariant_of-self
+invariant_of-self c = (
+  are_over_kept c.self.inside.cover c.make_room.new.cover c.self.inside.db.clauses c.make_room.new.db.clauses c.make_room.ensures.stays c.self.invariant.0 c.make_room.ensures.clauses,
+  counted_kept c.make_room.ensures.sources c.make_room.ensures.ids c.self.invariant.1,
+)
+
+pub invariant_of-self-in_err-conflict : goal.invariant_of-self-in_err-conflict
+invariant_of-self-in_err-conflict c = (
+  are_over_kept c.self.inside.cover c.make_room.new.cover c.self.inside.db.clauses c.make_room.new.db.clauses c.make_room.ensures.stays c.self.invariant.0 c.make_room.ensures.clauses,
+  counted_kept c.make_room.ensures.sources c.make_room.ensures.ids c.self.invariant.1,
+)
+
+pub invariant_of-self-2 : goal.invariant_of-self-2
+invariant_of-self-2 c = (
+  are_over_next c.self.inside.cover c.make_room.new.cover c.self.inside.db.clauses c.push_reserved.new.self.clauses c.args.taught c.as_slice.result.now c.make_room.ensures.stays
+      c.self.invariant.0 c.as_slice.ensures c.in_ok-make_room.ensures.over (c.push_reserved.ensures.clauses ∙ ap (λ cs. cs ++ c.args.taught ∷ []) c.make_room.ensures.clauses),
+  counted_some c.args.hints c.make_room.ensures.sources c.make_room.ensures.ids c.push_reserved-2.ensures.items c.push_reserved-3.ensures.items c.self.invariant.1,
+)
