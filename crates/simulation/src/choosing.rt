@@ -1,17 +1,16 @@
 //! What simulation chooses: the shortest of the lassos that it sees, or of each batch a run with many states. The main call
 //! is `choose`.
 
-use crate::batches::{Batch, RunLoop, Supply, run_batch};
 use crate::drawn_states::DrawnStates;
-use crate::draws::{Draws, mixed};
-use crate::parts::{Part, part_of};
 use crate::repeating::{Bounds, whole_stimulus};
-use crate::tasks::{Task, fair_literals};
-use crate::words::{RUNS, bit_of, word_at};
 use circuit::{Circuit, Reset, Stimulus};
 use cone::cone_of;
 use edge::Meter;
 use items::Items;
+use run_batches::{
+    Batch, Draws, Part, RUNS, RunLoop, Supply, Task, bit_of, fair_literals, mixed, part_of,
+    run_batch, word_at,
+};
 use std::alloc::{AllocError, Global};
 use std::mem;
 

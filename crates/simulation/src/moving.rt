@@ -1,7 +1,7 @@
 //! What does not do the same in two repetitions of a loop. The main call is `moving_part`.
 
-use crate::parts::{Part, PlacedLatch};
 use circuit::Gate;
+use run_batches::{Part, PlacedLatch};
 use std::alloc::{AllocError, Global};
 
 /// How often gates and latches are gone through, at most, until no more variable is marked.

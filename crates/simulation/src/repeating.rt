@@ -4,10 +4,10 @@
 //! loop, and after the first repetitions only that is evaluated which depends on latches that are not back (`moving`).
 
 use crate::moving::moving_part;
-use crate::parts::{Part, whole};
 use circuit::{Circuit, Stimulus, literal_value};
 use edge::Meter;
 use items::Items;
+use run_batches::{Part, whole};
 use std::alloc::{AllocError, Global};
 use std::mem;
 

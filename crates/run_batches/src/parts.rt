@@ -5,24 +5,24 @@ use std::alloc::{AllocError, Global};
 
 /// An input: its place in the circuit's list, counted from 0, and its variable.
 #[derive(Clone, Copy)]
-pub(crate) struct PlacedInput {
-    pub(crate) place: usize,
-    pub(crate) var: u64,
+pub struct PlacedInput {
+    pub place: usize,
+    pub var: u64,
 }
 
 /// A latch, and its place in the circuit's list, counted from 0.
 #[derive(Clone, Copy)]
-pub(crate) struct PlacedLatch {
-    pub(crate) place: usize,
-    pub(crate) latch: Latch,
+pub struct PlacedLatch {
+    pub place: usize,
+    pub latch: Latch,
 }
 
 /// Inputs, latches and gates of a circuit, the gates in an order in which they can be evaluated.
 #[derive(Drop)]
-pub(crate) struct Part {
-    pub(crate) inputs: Vec<PlacedInput>,
-    pub(crate) latches: Vec<PlacedLatch>,
-    pub(crate) gates: Vec<Gate>,
+pub struct Part {
+    pub inputs: Vec<PlacedInput>,
+    pub latches: Vec<PlacedLatch>,
+    pub gates: Vec<Gate>,
 }
 
 // Whether a variable is marked. One past the end is not.
@@ -64,7 +64,7 @@ fn gates_in(alloc: Global, c: &Circuit, marks: &[bool]) -> Result<Vec<Gate>, All
 }
 
 /// The part of a circuit whose variables are marked, where `marks` has the mark of variable `v` at place `v`.
-pub(crate) fn part_of(alloc: Global, c: &Circuit, marks: &[bool]) -> Result<Part, AllocError> {
+pub fn part_of(alloc: Global, c: &Circuit, marks: &[bool]) -> Result<Part, AllocError> {
     Ok(Part {
         inputs: inputs_in(alloc, c, marks)?,
         latches: latches_in(alloc, c, marks)?,
@@ -73,7 +73,7 @@ pub(crate) fn part_of(alloc: Global, c: &Circuit, marks: &[bool]) -> Result<Part
 }
 
 /// The whole circuit.
-pub(crate) fn whole(alloc: Global, c: &Circuit) -> Result<Part, AllocError> {
+pub fn whole(alloc: Global, c: &Circuit) -> Result<Part, AllocError> {
     let marks = vec![in alloc; true; c.max() as usize + 1]?;
     part_of(alloc, c, &marks)
 }

@@ -19,19 +19,19 @@ const MOST_KEPT: usize = 1_000_000;
 /// What inputs are drawn from; how many more words may be evaluated, about; and for each position of each batch the word of
 /// the runs whose states are reached there, and the words of the latches.
 #[derive(Drop)]
-pub(crate) struct Supply {
-    pub(crate) draws: Draws,
-    pub(crate) words_left: u64,
-    pub(crate) states: Vec<u64>,
+pub struct Supply {
+    pub draws: Draws,
+    pub words_left: u64,
+    pub states: Vec<u64>,
 }
 
 /// A loop of a run, of its cone alone: the state after `count` positions is that of position `from`, counted from 0, and
 /// each literal of the property and of fairness is true at a position between.
 #[derive(Clone, Copy)]
-pub(crate) struct RunLoop {
-    pub(crate) run: u32,
-    pub(crate) from: u64,
-    pub(crate) count: u64,
+pub struct RunLoop {
+    pub run: u32,
+    pub from: u64,
+    pub count: u64,
 }
 
 /// The runs of a batch. Each word has a bit for each run; lists of words have the order of the cone's lists.
@@ -43,14 +43,14 @@ pub(crate) struct RunLoop {
 /// - `depths`: for each run how many positions it has up to the last that has a new state, with this one;
 /// - `found`: the first loop.
 #[derive(Drop)]
-pub(crate) struct Batch {
+pub struct Batch {
     going: u64,
-    pub(crate) starts: Vec<u64>,
+    pub starts: Vec<u64>,
     state: Vec<u64>,
-    pub(crate) inputs: Vec<u64>,
+    pub inputs: Vec<u64>,
     last_true: Vec<u64>,
-    pub(crate) depths: Vec<u64>,
-    pub(crate) found: Option<RunLoop>,
+    pub depths: Vec<u64>,
+    pub found: Option<RunLoop>,
 }
 
 /// What the evaluation of a batch writes to: the words of all variables, and of the inputs with their levels; the keys of
@@ -293,7 +293,7 @@ fn fill(
 }
 
 /// A batch of at most so many positions, up to the first loop. The error is want of memory, or a bell that is rung.
-pub(crate) fn run_batch(
+pub fn run_batch(
     alloc: Global,
     task: &Task<'_>,
     supply: &mut Supply,
