@@ -3,6 +3,7 @@ use Rattle.std.proofs.Common.{◌≡◌, ◌⊎◌, ◌<◌, ◌≤◌, ◌+◌,
 use Rattle.std.specs.Prelude.{Option, min, slice_get, if◌then◌else◌}
 use Rattle.std.proofs.Math.Nat.{min-le_left}
 use Rattle.std.proofs.Math.Seq.{take-append_seam}
+use Rattle.std.proofs.lemmas.List.Elements.{All-weaker}
 use Rattle.aig_semantics.specs.declared.traces.Lasso.{Lasso as LassoOf}
 use Rattle.aig_semantics.specs.Circuits.{Circuit}
 use Rattle.aig_semantics.specs.Stimuli.{IsFairLassoOf}
@@ -41,7 +42,7 @@ use Rattle.wall_store.specs.declared.outcomes.Outcome.{Outcome}
 use Rattle.wall_store.specs.declared.outcomes.Outcome.TheVariants as outcomes
 use Rattle.wall_store.specs.Boards.{BoardState, most_entries, plain, outcome_of}
 use Rattle.search_reports.specs.declared.limits.Report.{Report}
-use Rattle.fair_workers.specs.Runs.{IsReport}
+use Rattle.fair_workers.specs.Runs.{IsReport, IsSpentOn}
 use Rattle.command_lines.specs.declared.commands.solving.SolveRequest.{SolveRequest}
 use Rattle.command_lines.specs.declared.commands.counting.RoundsRequest.{RoundsRequest}
 use Rattle.command_lines.specs.declared.commands.bounding.ShortestRequest.{ShortestRequest}
@@ -156,6 +157,9 @@ reported model answer request report text gives =
 of_task : (c : Circuit) (request : SolveRequest) (given : List CheckedEntry) (report : Report) → IsReport (task_of c request given) report → IsAsAsked request report
 of_task c request given report r = record {
   workers = r.spent.count;
+  spent = All-weaker (λ s. IsSpentOn (task_of c request given) s)
+      (λ s. (s.conflict_limit ≡ limit_of request.conflicts) × (s.step_limit ≡ limit_of request.steps))
+      (λ s is. (is.limits.conflicts, is.limits.steps)) report.workers r.spent.each;
   lassos = λ one. by request.all one r.depths.count;
   none = λ each. none_by request.all each r.depths.count;
   depth = r.depth;
@@ -231,39 +235,59 @@ certified : (model : Option (List ℕ)) (answer : Option (Option (List ℕ))) (r
 certified model answer request n entries text gives =
     certified_as request.all model answer request n entries text (done_by_solving model answer request (dones.Holds n entries) text gives)
 
-pub certificates_are_asked : CertificatesAreAsked
-certificates_are_asked held model text request n entries gives = by (certified (held model) None request n entries text gives)
-  where
-    by : (n ≡ request.property) × OfSomeText (held model) (Holds None request n entries text) → (n ≡ request.property) × (entries ≤ request.skeletons)
-    by (same, (bytes, may, (m, form, (good, spelled, given, none, within, first)))) =
-        (same, omega (arith, within, min-le_left (length given + request.skeletons) most_entries, ap (λ (es : List CheckedEntry). length es) none))
+-- where no answer is named, there are at most as many entries as were asked for
+few : (answer : Option (Option (List ℕ))) (request : SolveRequest) (n entries : ℕ) (text bytes : List ℕ) → Holds answer request n entries text bytes
+    → answer ≡ None → entries ≤ request.skeletons
+few None request n entries text bytes (m, form, (good, spelled, given, none, within, first)) unnamed =
+    omega (arith, within, min-le_left (length given + request.skeletons) most_entries, ap (λ (es : List CheckedEntry). length es) none)
+few (Some told) request n entries text bytes holds unnamed = absurd (cc unnamed)
 
-sheet_as : (all : Bool) (model : Option (List ℕ)) (request : SolveRequest) (lassos holds unknown entries : ℕ) (text : List ℕ)
-    → Solves all model None request (statuses.Done (dones.All lassos holds unknown entries)) text → (unknown ≡ 0) × (entries ≤ request.skeletons)
-sheet_as false model request lassos holds unknown entries text (inl (accepted.Lasso n positions from, e, property, of)) = absurd (cc e)
-sheet_as false model request lassos holds unknown entries text (inl (accepted.Holds n count, e, property, of)) = absurd (cc e)
-sheet_as false model request lassos holds unknown entries text (inr ((report, e, of), t)) = absurd (cc e)
-sheet_as true model request lassos holds unknown entries text
-    (inl (counts, count, e, (bytes, may, (m, form, (sheet, closed, given, none, b, answered, same, of))))) =
+unnamed_told : (held : List ℕ → Option (List ℕ)) (resume : Option (List ℕ)) → resume ≡ None → told_of held resume ≡ None
+unnamed_told held None none = refl
+unnamed_told held (Some name) none = absurd (cc none)
+
+pub certificates_are_asked : CertificatesAreAsked
+certificates_are_asked held model text request resume n entries gives =
+    let of : (n ≡ request.property) × OfSomeText (held model) (Holds (told_of held resume) request n entries text) =
+    certified (held model) (told_of held resume) request n entries text gives in
+    (of.0, λ none. few (told_of held resume) request n entries text of.1.0 of.1.2 (unnamed_told held resume none))
+
+counted : (answer : Option (Option (List ℕ))) (request : SolveRequest) (counts : Counts) (count : ℕ) (text bytes : List ℕ)
+    → OfAnswer OfSomeText answer (λ claimed. OfModel bytes (λ c. IsSheetBy c claimed request counts count text))
+    → (counts.unknown ≡ 0) × (answer ≡ None → count ≤ request.skeletons)
+counted None request counts count text bytes (m, form, (sheet, closed, given, none, b, answered, same, of)) = (
+  closed,
+  λ unnamed. omega (
+    arith,
+    same,
+    answered.board.board.within,
+    answered.board.limit,
+    min-le_left (length given + request.skeletons) most_entries,
+    ap (λ (es : List CheckedEntry). length es) none,
+  ),
+)
+counted (Some told) request counts count text bytes (claimed, may, (m, form, (sheet, closed, given, begins, b, answered, same, of))) =
+    (closed, λ unnamed. absurd (cc unnamed))
+
+sheet_as : (all : Bool) (model : Option (List ℕ)) (answer : Option (Option (List ℕ))) (request : SolveRequest) (lassos holds unknown entries : ℕ) (text : List ℕ)
+    → Solves all model answer request (statuses.Done (dones.All lassos holds unknown entries)) text
+    → (unknown ≡ 0) × (answer ≡ None → entries ≤ request.skeletons)
+sheet_as false model answer request lassos holds unknown entries text (inl (accepted.Lasso n positions from, e, property, of)) = absurd (cc e)
+sheet_as false model answer request lassos holds unknown entries text (inl (accepted.Holds n count, e, property, of)) = absurd (cc e)
+sheet_as false model answer request lassos holds unknown entries text (inr ((report, e, of), t)) = absurd (cc e)
+sheet_as true model answer request lassos holds unknown entries text (inl (counts, count, e, (bytes, may, of))) =
     let many : entries ≡ count = cc e in
-    let left : unknown ≡ counts.unknown = cc e in (
-      left ∙ closed,
-      omega (
-        arith,
-        many,
-        same,
-        answered.board.board.within,
-        answered.board.limit,
-        min-le_left (length given + request.skeletons) most_entries,
-        ap (λ (es : List CheckedEntry). length es) none,
-      ),
-    )
-sheet_as true model request lassos holds unknown entries text (inr (report, e, of)) = absurd (cc e)
+    let left : unknown ≡ counts.unknown = cc e in
+    let is : (counts.unknown ≡ 0) × (answer ≡ None → count ≤ request.skeletons) = counted answer request counts count text bytes of in
+    (left ∙ is.0, λ unnamed. subst (λ (n : ℕ). n ≤ request.skeletons) (sym many) (is.1 unnamed))
+sheet_as true model answer request lassos holds unknown entries text (inr (report, e, of)) = absurd (cc e)
 
 pub sheets_are_asked : SheetsAreAsked
-sheets_are_asked held model text request lassos holds unknown entries gives =
-    sheet_as request.all (held model) request lassos holds unknown entries text
-    (done_by_solving (held model) None request (dones.All lassos holds unknown entries) text gives)
+sheets_are_asked held model text request resume lassos holds unknown entries gives =
+    let is : (unknown ≡ 0) × (told_of held resume ≡ None → entries ≤ request.skeletons) =
+    sheet_as request.all (held model) (told_of held resume) request lassos holds unknown entries text
+    (done_by_solving (held model) (told_of held resume) request (dones.All lassos holds unknown entries) text gives) in
+    (is.0, λ none. is.1 (unnamed_told held resume none))
 
 pub certificates_begin : CertificatesBeginAsAsked
 certificates_begin held model name claimed text request n entries told gives =

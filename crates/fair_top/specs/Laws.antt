@@ -1,5 +1,6 @@
--- The laws of single commands: what their statuses and texts say of what was asked for.
+-- Laws of what commands give: that it is of what was asked for, and that it is true or accepted.
 use Rattle.std.specs.Prelude.{◌≡◌, ◌⊎◌, ◌+◌, ◌-◌, ◌<◌, ◌≤◌, ◌++◌, min, ℕ, true, false, List, length, take, codes, Option, None, Some}
+use Rattle.std.specs.List.{All}
 use Rattle.aig_semantics.specs.declared.traces.Lasso.{Lasso}
 use Rattle.aig_semantics.specs.Circuits.{Circuit}
 use Rattle.aig_semantics.specs.Stimuli.{IsFairLassoOf}
@@ -50,10 +51,12 @@ OpenDepthsAreAsked =
     → CommandGives held (Shortest model request) (statuses.OpenDepth most spent) text
     → (spent.conflict_limit ≡ limit_of request.conflicts) × (most < request.depth)
 
--- A report is one of so many workers, and as great a depth, as were asked for, and its list may grow by as many entries; as many
--- of the workers are lasso workers as were asked for, but never all, and none where all properties were.
+-- A report is one of so many workers, and as great a depth, as were asked for; what each worker spent was counted against the
+-- limits that were; and its list may grow by as many entries, up to 65,536 in all. As many of the workers are lasso workers as
+-- were asked for, but never all, and none where all properties were.
 pub record IsAsAsked (request : SolveRequest) (report : Report) : Type 0 where
   pub workers : length report.workers ≡ request.workers
+  pub spent : All (λ s. (s.conflict_limit ≡ limit_of request.conflicts) × (s.step_limit ≡ limit_of request.steps)) report.workers
   pub lassos : request.all ≡ false → length report.depths ≡ min request.lassos (request.workers - 1)
   pub none : request.all ≡ true → length report.depths ≡ 0
   pub depth : report.depth ≡ request.depth
@@ -68,16 +71,16 @@ ReportsAreAsked =
 -- `solve`: a certificate is for the property that was asked for, and, where no answer is named, has no more entries than were.
 abbrev pub CertificatesAreAsked : Type 0
 CertificatesAreAsked =
-    (held : List ℕ → Option (List ℕ)) (model text : List ℕ) (request : SolveRequest) (n entries : ℕ)
-    → CommandGives held (Solve model request None) (statuses.Done (done.Holds n entries)) text
-    → (n ≡ request.property) × (entries ≤ request.skeletons)
+    (held : List ℕ → Option (List ℕ)) (model text : List ℕ) (request : SolveRequest) (resume : Option (List ℕ)) (n entries : ℕ)
+    → CommandGives held (Solve model request resume) (statuses.Done (done.Holds n entries)) text
+    → (n ≡ request.property) × (resume ≡ None → entries ≤ request.skeletons)
 
 -- `solve --all`: a sheet without a report has no open block, and, where no answer is named, no more entries than were asked for.
 abbrev pub SheetsAreAsked : Type 0
 SheetsAreAsked =
-    (held : List ℕ → Option (List ℕ)) (model text : List ℕ) (request : SolveRequest) (lassos holds unknown entries : ℕ)
-    → CommandGives held (Solve model request None) (statuses.Done (done.All lassos holds unknown entries)) text
-    → (unknown ≡ 0) × (entries ≤ request.skeletons)
+    (held : List ℕ → Option (List ℕ)) (model text : List ℕ) (request : SolveRequest) (resume : Option (List ℕ)) (lassos holds unknown entries : ℕ)
+    → CommandGives held (Solve model request resume) (statuses.Done (done.All lassos holds unknown entries)) text
+    → (unknown ≡ 0) × (resume ≡ None → entries ≤ request.skeletons)
 
 -- MODEL is a model's text, and this is so of its circuit
 abbrev pub OfCircuit : Option (List ℕ) → (Circuit → Type 0) → Type 0
@@ -90,7 +93,7 @@ ReportsBeginAsAsked =
     → CommandGives held (Solve model request (Some name)) (statuses.Unknown report) text
     → OfCircuit (held model) (λ c. (given : List Entry) × Lists c claimed given × (take report.board.given report.board.entries ≡ list_of c given))
 
--- And a certificate has them in front, and behind them no more than were asked for.
+-- And a certificate has them in front, and its status tells at most as many more as were asked for.
 abbrev pub CertificatesBeginAsAsked : Type 0
 CertificatesBeginAsAsked =
     (held : List ℕ → Option (List ℕ)) (model name claimed text : List ℕ) (request : SolveRequest) (n entries : ℕ) → held name ≡ Some claimed
@@ -108,7 +111,8 @@ WavesAreAsked =
 
 -- What is true.
 
--- `demo`: the verdict in the summary is 1 where a fair lasso was found, and 0 where a refutation was.
+-- `demo`: where a board has an outcome, the verdict in the summary is 1 and there is a fair lasso, or it is 0 and there is a good
+-- refutation over the list.
 abbrev pub SummariesAreTrue : Type 0
 SummariesAreTrue =
     (held : List ℕ → Option (List ℕ)) (request : DemoRequest) (board : BoardState) (text : List ℕ)
@@ -125,7 +129,7 @@ VerdictsAreAccepted =
     → held answer ≡ Some text → CommandGives held (Solve model request resume) (statuses.Done said) text
     → CommandGives held (Check model answer) (statuses.Done said) (text_of (statuses.Done said))
 
--- `check` accepts what `solve --all` prints with a report, as a sheet of as many entries as its list has.
+-- `check` accepts what `solve --all` prints with a report, where a shelf holds it, as a sheet of as many entries as its list has.
 abbrev pub OpenSheetsAreAccepted : Type 0
 OpenSheetsAreAccepted =
     (held : List ℕ → Option (List ℕ)) (model answer text : List ℕ) (request : SolveRequest) (resume : Option (List ℕ)) (report : Report)

@@ -18,8 +18,9 @@ pub fn runs_agree(c: &Circuit)
     good_answers_agree(c);
 }
 
-/// What a command answers is of what was asked for: the limits of a search that is cut short, the workers, depth and list of a
-/// report, the entries of a certificate and of a sheet, the property of a dump; and the verdict that `demo` sums up is true.
+/// What a command answers is of what was asked for: the limits of a search that is cut short; the workers, lasso workers, depth
+/// and list of a report; the property of a certificate, and, where no answer is named, the number of entries of it and of a sheet;
+/// the entries of a named answer; the property of a dump. And the verdict that `demo` sums up is true.
 pub fn answers_are_as_asked()
     ensures rounds { OpenRoundsAreAsked }
     ensures shortest { OpenDepthsAreAsked }
