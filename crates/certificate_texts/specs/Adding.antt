@@ -1,4 +1,4 @@
--- Scaffolding of inner functions: lines that are added to a text.
+-- Lines that are added to a text.
 use Rattle.std.specs.Prelude.{◌≡◌, ℕ, List, [], ◌∷◌, ◌++◌, codes}
 use Rattle.text_grammar.specs.Lines.{ended_lines}
 use Rattle.certificate_lines.specs.declared.words.Version.TheVariants.{Two}

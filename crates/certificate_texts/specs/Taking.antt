@@ -1,4 +1,4 @@
--- Scaffolding of inner functions: a certificate as it is taken out of the lines of an answer that was accepted.
+-- A certificate as it is taken out of lines that begin with one.
 use Rattle.std.specs.Prelude.{◌≡◌, ℕ, zero, suc, ◌^◌, List, [], ◌∷◌, Option, Some, None, Result, Ok, Err, option_map, option_and_then, if◌then◌else◌, nat_lt}
 use Rattle.fair_semantics.specs.declared.entries.Use.{Use}
 use Rattle.certificate_lines.specs.declared.uses.WrittenUse.{WrittenUse}
@@ -29,11 +29,12 @@ unfoldable pub many : {A : Type 0} → Taker A → ℕ → Taker (List A)
 many take zero lines = Some ([], lines)
 many take (suc n) lines = take lines >>= λ x after. many take n after >>= λ xs rest. Some (x ∷ xs, rest)
 
--- the call answered, seen by view, what is taken, or was refused memory
+-- why nothing was taken: memory was refused, or there is none
 abbrev pub FailsAs : {Y : Type 0} → TakeEnd → Option Y → Type 0
 FailsAs ends.Memory taken = Unit {0}
 FailsAs ends.Form taken = taken ≡ None
 
+-- the call answered, seen by view, what is taken, or why nothing was
 abbrev pub Takes : {X Y : Type 0} → (X → Y) → Result X TakeEnd → Option Y → Type 0
 Takes view (Ok x) taken = taken ≡ Some (view x)
 Takes view (Err end) taken = FailsAs end taken

@@ -35,7 +35,7 @@ pub fn add_uses(text: &mut Vec<u8>, uses: &[Use]) -> Result<(), AllocError>
     Ok(())
 }
 
-/// Adds the status, the property and the version.
+/// Adds the status 0, the line of the property and that of version 2.
 pub fn add_head(text: &mut Vec<u8>, j: u32) -> Result<(), AllocError>
     ensures { OnOk result (Adds text.old.items text.new.items (head_lines j)) }
 {

@@ -1,4 +1,4 @@
-//! The text of an answer with a certificate, written as its lines were read. The main call is `print_certificate`.
+//! The text of an answer with a certificate, in version 2. The main call is `print_certificate`.
 
 ghost use Rattle.std.specs.Prelude.{◌≡◌, map, flat_map, IfOk, OnOk};
 ghost use Rattle.certificate_lines.specs.Clauses.{clause_text};

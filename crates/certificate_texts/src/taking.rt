@@ -1,4 +1,4 @@
-//! The certificate of an answer that was accepted, taken out of its lines. The main call is `take_certificate`.
+//! A certificate, taken out of the lines of an answer. The main call is `take_certificate`.
 
 ghost use Rattle.std.specs.Prelude.{◌≡◌, ◌<◌, ◌≤◌, ◌^◌, option_and_then};
 ghost use Rattle.certificate_lines.specs.Words.{word_line_of};

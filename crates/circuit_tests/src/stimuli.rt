@@ -304,13 +304,13 @@ fn replays_of_others() -> &'static [Replay] {
         (&STEM, 0, "1\n\n\n\n", Err(ReplayFault::NoFairLoop)),
         (&STEM, 0, "0\n\n\n\n", Err(ReplayFault::NotInitial(0))),
         (&FALLS, 0, "1\n\n\n\n", Ok((2, 1))),
-        (&CALM, 0, "0\n0\n0\n", Ok((1, 0))),
     ]
 }
 
 // Of a latch that takes the value of the input.
-fn replays_of_both() -> &'static [Replay] {
+fn replays_of_a_follower() -> &'static [Replay] {
     &[
+        (&CALM, 0, "0\n0\n0\n", Ok((1, 0))),
         (&CALM, 0, "0\n0\n1\n", Ok((1, 0))),
         (&CALM, 0, "1\n0\n0\n", Ok((2, 1))),
         (&CALM, 0, "1\n0\n1\n", Err(ReplayFault::Constraint(1))),
@@ -336,7 +336,7 @@ fn wrong_replays(alloc: Global) -> [Option<usize>; 3] {
     [
         wrong_replay(alloc, replays_of_one_latch()),
         wrong_replay(alloc, replays_of_others()),
-        wrong_replay(alloc, replays_of_both()),
+        wrong_replay(alloc, replays_of_a_follower()),
     ]
 }
 

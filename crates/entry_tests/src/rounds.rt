@@ -77,7 +77,7 @@ fn judged(alloc: Global, model: &str, text: &str) -> Result<Judged, JudgeEnd> {
     judged
 }
 
-// Texts that are accepted, and what they show.
+/// A model, a text that is accepted, and what it shows.
 type Accepting = (&'static str, &'static str, Judged);
 
 const ACCEPTED: [Accepting; 4] = [
@@ -150,6 +150,7 @@ fn refused_rows() -> &'static [Refused] {
     &REFUSED
 }
 
+// More of them: of a run, its end, an entry, a refutation, and of no text.
 const LATER: [Refused; 10] = [
     (
         TOGGLE,

@@ -409,8 +409,8 @@ fn the_square_in_each_order(rt: HostRuntime) -> Result<(), Fail> {
     Ok(())
 }
 
-// Whether one solver after another is right of the steps by each call, of those under any assumptions by `ask`, and of
-// the numbers that are not held.
+// Whether the steps are answered as they must be by each call, those under any assumptions by `ask`, and numbers that are not
+// held are refused.
 fn are_right(alloc: Global) -> Result<[bool; 3], AllocError> {
     Ok([
         is_case_right(alloc, &WAYS, Case::Steps(steps()))?,

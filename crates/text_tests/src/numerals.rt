@@ -101,7 +101,7 @@ fn wrong_line() -> Option<usize> {
     None
 }
 
-// The calls on texts that are known, in functions without a contract: no clause of them is wanted here.
+// Whether a text is cut so, and a line so into fields.
 fn is_cut_so(text: &[u8], wanted: Option<(&[u8], &[u8])>) -> bool {
     cut_line(text) == wanted
 }

@@ -24,6 +24,7 @@ pub struct ShortestRequest {
     pub depth: u32,
 }
 
+/// The command `shortest`, with its arguments.
 pub(crate) fn shortest_command<'a>(alloc: Global) -> Result<Command<'a>, AllocError>
     ensures shape { IfOk result (λ command. app_of command ≡ shortest_command) }
     ensures local { IfOk result (λ command. (fields_of command).has_globals ≡ false) }

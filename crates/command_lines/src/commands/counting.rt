@@ -28,6 +28,7 @@ pub struct RoundsRequest {
     pub steps: u64,
 }
 
+/// The command `rounds`, with its arguments.
 pub(crate) fn rounds_command<'a>(alloc: Global) -> Result<Command<'a>, AllocError>
     ensures shape { IfOk result (λ command. app_of command ≡ rounds_command) }
     ensures local { IfOk result (λ command. (fields_of command).has_globals ≡ false) }

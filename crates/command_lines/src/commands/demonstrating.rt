@@ -22,6 +22,7 @@ pub struct DemoRequest {
     pub size: u64,
 }
 
+/// The command `demo`, with its arguments.
 pub(crate) fn demo_command<'a>(alloc: Global) -> Result<Command<'a>, AllocError>
     ensures shape { IfOk result (λ command. app_of command ≡ demo_command) }
     ensures local { IfOk result (λ command. (fields_of command).has_globals ≡ false) }

@@ -27,6 +27,7 @@ pub struct ExportRequest {
     pub lrat: bool,
 }
 
+/// The command `export`, with its arguments.
 pub(crate) fn export_command<'a>(alloc: Global) -> Result<Command<'a>, AllocError>
     ensures shape { IfOk result (λ command. app_of command ≡ export_command) }
     ensures local { IfOk result (λ command. (fields_of command).has_globals ≡ false) }

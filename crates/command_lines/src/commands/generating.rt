@@ -36,7 +36,7 @@ pub enum GenKind {
     Scramble,
 }
 
-/// KIND is tested by the program itself, see `kind_of`.
+/// The command `gen`, with its arguments. KIND is tested by the program itself, see `kind_of`.
 pub(crate) fn gen_command<'a>(alloc: Global) -> Result<Command<'a>, AllocError>
     ensures shape { IfOk result (λ command. app_of command ≡ gen_command) }
     ensures local { IfOk result (λ command. (fields_of command).has_globals ≡ false) }

@@ -48,6 +48,7 @@ pub const DEFAULTS: SolveRequest = SolveRequest {
     all: false,
 };
 
+/// The command `solve`, with its arguments.
 pub(crate) fn solve_command<'a>(alloc: Global) -> Result<Command<'a>, AllocError>
     ensures shape { IfOk result (λ command. app_of command ≡ solve_command) }
     ensures local { IfOk result (λ command. (fields_of command).has_globals ≡ false) }

@@ -13,6 +13,7 @@ use crate::words::{for_model_and_answer, number_or, value_of, with_number_option
 use clap::{ArgMatches, Command};
 use std::alloc::{AllocError, Global};
 
+/// The command `wave`, with its arguments.
 pub(crate) fn wave_command<'a>(alloc: Global) -> Result<Command<'a>, AllocError>
     ensures shape { IfOk result (λ command. app_of command ≡ wave_command) }
     ensures local { IfOk result (λ command. (fields_of command).has_globals ≡ false) }
