@@ -129,7 +129,7 @@ decisions-preserved c =
     let next = searched_more c.args.assumptions.now c.args.log.now c.decisions.log c.learn-in-decisions.new.self c.args.meter.now c.decisions.meter c.learn-in-decisions.new.meter
     c.in_ok-learned.learned c.decisions.invariant.log c.requires.sizes says c.in_ok-learn.ensures.clauses c.in_ok-learn.ensures.sources c.in_ok-learn.ensures.counted
     c.decisions.invariant.searched (unrefuted_above c.decisions.log c.args.assumptions.now c.level-base.result c.propagate.new.self.steps way above) in
-    let back = subst (λ xs. IsBackLevel c.propagate.new.self.steps xs c.level-base.result c.level_after-target.result) c.as_slice-2.ensures c.level_after-target.ensures in
+    let back = subst (λ xs. IsBackLevel c.propagate.new.self.steps xs c.level-base.result c.level_after-target.result) c.as_slice-in-decisions.ensures c.level_after-target.ensures in
     record {
       log = next.0;
       searched = next.1;
