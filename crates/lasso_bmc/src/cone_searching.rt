@@ -1,5 +1,5 @@
 //! The search over a cone, which is asked for one position more at a time. The main call is `deepen_cone`.
-ghost use Rattle.std.specs.Prelude.{◌≡◌, ◌×◌, ◌+◌, ◌<◌, ◌≤◌, ◌^◌, length, None, IfOk, IfErr, IfSome, OnOk};
+ghost use Rattle.std.specs.Prelude.{◌≡◌, ◌+◌, ◌<◌, ◌≤◌, ◌^◌, length, None, IfOk, IfErr, IfSome, OnOk};
 ghost use Rattle.aig_semantics.specs.Stimuli.{IsFairLassoOf};
 ghost use Rattle.edge.specs.Ends.{CountsConflicts, IsEnd};
 ghost use Rattle.lasso_bmc.specs.Searching.{IsSearched};
