@@ -189,7 +189,7 @@ fn run_task<R: Threads + Wait + Sync, G: Gate>(run: &Run<'_, R, G>) -> Result<Re
 /// says.
 ///
 /// A worker that is refused memory ends, be it at its start, and the others go on. All outcomes come before want of memory,
-/// and that before a report without one of them (clauses of the inner `told`, and none of this call). `Spent` comes only
+/// and that before a report without one of them (clauses of the inner `ended`, and none of this call). `Spent` comes only
 /// where a property has no outcome, and either the list is full and its entries allow a skeleton of each such property, or
 /// each worker has spent its conflicts or its steps, a lasso worker its conflicts or its depth.
 /// Whatever their limit is, no worker takes more steps than `most_steps` says; so a limit above that is never spent. In

@@ -161,9 +161,10 @@ impl Search {
 
     /// A path from the start to the goal by steps that the entries of the view allow; or, exactly where there is none, a
     /// closed set. From the initial states reach entries alone restrict the steps. The steps that a question counts are
-    /// taken from those that are left, and each frame that it opens beyond two is counted; its frames exclude what they
-    /// excluded, and are no fewer. Each error but that of memory comes where the meter's count of its kind is at its
-    /// limit; after an error the frames are lost, and the next question begins new ones.
+    /// taken from those that are left, and each frame that it opens beyond the first two is counted, while the count is
+    /// below its greatest value; its frames exclude what they excluded, and are no fewer. Each error but that of memory
+    /// comes where the meter's count of its kind is at its limit; after an error the frames are lost, and the next question
+    /// begins new ones.
     pub fn reach(
         &mut self,
         alloc: Global,

@@ -68,7 +68,7 @@ fn parts_of(alloc: Global, c: &Circuit, j: u32) -> Result<Parts, AllocError> {
     parts
 }
 
-// The circuit, where it has a property: that of `_c`.
+// The circuit, where it has a property. That `_c` has property `_j` is handed on.
 fn with_property(kept: Kept, _c: &Circuit, _j: u32) -> Option<Circuit>
     requires { _j < length _c.now.justice }
     ensures some { IfSome result (λ part. 0 < length part.justice) }

@@ -52,7 +52,7 @@ pub trait SharedList {
         ensures err { OnErr result (KeepsList (known self.old) (known self.new)) }
         ensures on { goes_on self.old self.new };
 
-    /// Posts an entry of the worker, which then sees the whole list: its last entry is the one that was appended. The answers
+    /// Posts an entry of the worker, which then sees the whole list: where it was appended, it is the last entry. The answers
     /// are those of `Board::post`.
     fn post(&mut self, entry: &Arc<Checked>) -> Result<Posted, AllocError>
         requires kept { is_kept self.old }
