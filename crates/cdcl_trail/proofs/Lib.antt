@@ -2,7 +2,6 @@ pub mod TrailLaws
 pub mod ScanLaws
 pub mod PassLaws
 pub mod PrefixLaws
-pub mod ListLaws
 pub mod GuardLaws
 pub mod StoreLaws
 pub mod FixedLaws

@@ -10,11 +10,12 @@ use Rattle.clause_arena.specs.Lending.{lent}
 use Rattle.proof_semantics.specs.Clauses.{bool_eq, lit_eq, negation}
 use Rattle.proof_semantics.specs.declared.literals.Lit.{Lit}
 use Rattle.proof_semantics.proofs.LiteralLaws.{lit_eq-true, bool_eq-same, not-not}
+use Rattle.packed_literals.specs.Lists.{IsIn, list_for}
+use Rattle.packed_literals.proofs.ListLaws.{get_in_append}
 use Rattle.cdcl_trail.specs.Trails.{Step, step, literals_of, step_of, once}
 use Rattle.cdcl_trail.specs.Propagation.{is_value, is_true, is_false, is_fixed, is_falsified, IsForced, AreForced, Propagates, IsConflict}
 use Rattle.cdcl_trail.specs.Measure.{unsatisfied}
 use Rattle.cdcl_trail.specs.Guards.{IsDone, AreDone, AreGuarded, AreSure, IsFront, KeepsGuards}
-use Rattle.cdcl_trail.specs.Lists.{IsIn, list_for}
 use Rattle.cdcl_trail.specs.Storing.{held, IsStored, IsRewatched, IsPairAt, Covers}
 use Rattle.cdcl_trail.specs.Visiting.{IsVisited, IsVisiting, IsSettling, AreSettling, IsSettled}
 use Rattle.cdcl_trail.specs.declared.pairs.Pair.{Pair}
@@ -22,7 +23,6 @@ use Rattle.cdcl_trail.specs.declared.watching.Watching.{Watching}
 use Rattle.cdcl_trail.proofs.TrailLaws.{either, not-true}
 use Rattle.cdcl_trail.proofs.PassLaws.{propagates_none, propagates_more, propagates_one, forced_at, held_at, unit_counts, numbered_at}
 use Rattle.cdcl_trail.proofs.PrefixLaws.{true_more}
-use Rattle.cdcl_trail.proofs.ListLaws.{get_in_append}
 use Rattle.cdcl_trail.proofs.FixedLaws.{fixed_true}
 use Rattle.cdcl_trail.proofs.GuardLaws.{front_same, keeps_same, keeps_more, guarded_more, guarded_next, sure_more}
 

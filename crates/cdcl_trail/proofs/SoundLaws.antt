@@ -6,6 +6,7 @@ use Rattle.std.specs.Option.{unwrap_or}
 use Rattle.std.proofs.lemmas.Bool.{false≢true, cond-true, cond-false, leb-true, le-leb}
 use Rattle.std.proofs.lemmas.Option.{none-some, slice_get_within}
 use Rattle.proof_semantics.specs.declared.literals.Lit.{Lit}
+use Rattle.packed_literals.proofs.ListLaws.{get_push}
 use Rattle.cdcl_trail.specs.Trails.{Step, assumed, opened_by, level, up_to_level}
 use Rattle.cdcl_trail.specs.Propagation.{is_true, is_fixed, Propagates}
 use Rattle.cdcl_trail.specs.Guards.{AreSure, IsFront, KeepsGuards}
@@ -16,7 +17,6 @@ use Rattle.cdcl_trail.specs.declared.watching.Watching.{Watching}
 use Rattle.cdcl_trail.proofs.TrailLaws.{either, cut_step, cut_last, cut_nothing, level_push}
 use Rattle.cdcl_trail.proofs.PassLaws.{propagates_level}
 use Rattle.cdcl_trail.proofs.PrefixLaws.{cut_at_level}
-use Rattle.cdcl_trail.proofs.ListLaws.{get_push}
 use Rattle.cdcl_trail.proofs.GuardLaws.{guarded_more, sure_more}
 use Rattle.cdcl_trail.proofs.StoreLaws.{covered_grow}
 use Rattle.cdcl_trail.proofs.FixedLaws.{cut_front, covers_front}

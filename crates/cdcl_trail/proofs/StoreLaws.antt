@@ -11,13 +11,13 @@ use Rattle.proof_semantics.specs.declared.literals.Lit.{Lit}
 use Rattle.proof_semantics.proofs.LiteralLaws.{lit_eq-true, lit_eq-same}
 use Rattle.clause_arena.specs.Lending.{IsRefOf, lent, StaysLent}
 use Rattle.clause_arena.specs.declared.Ref.{Ref}
+use Rattle.packed_literals.specs.Lists.{IsIn, IsWithout, list_for}
+use Rattle.packed_literals.specs.declared.lists.Lists.{Lists}
+use Rattle.packed_literals.proofs.ListLaws.{get_in_append, get_last, get_push, get_set, get_set_other, in_push, in_more, place_either, length_last}
 use Rattle.cdcl_trail.specs.Guards.{IsPairOf, IsSingle}
-use Rattle.cdcl_trail.specs.Lists.{IsIn, IsWithout, list_for}
 use Rattle.cdcl_trail.specs.Storing.{Stores, IsCovered, AreCovered, KeepsLists, AreListed, IsOther, has_more_singles}
-use Rattle.cdcl_trail.specs.declared.lists.Lists.{Lists}
 use Rattle.cdcl_trail.specs.declared.pairs.Pair.{Pair}
 use Rattle.cdcl_trail.proofs.TrailLaws.{either}
-use Rattle.cdcl_trail.proofs.ListLaws.{get_in_append, get_last, get_push, get_set, get_set_other, in_push, in_more, place_either, length_last}
 
 -- the same under other names
 pub stores_same : (a b : List Lit) (p q : List Ref) (r t : List (Option Pair)) (m n : List ℕ) → b ≡ a → q ≡ p → t ≡ r → n ≡ m

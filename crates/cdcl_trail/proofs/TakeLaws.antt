@@ -9,6 +9,7 @@ use Rattle.std.proofs.lemmas.List.{append-nil, append_assoc}
 use Rattle.std.proofs.lemmas.Option.{none-some, same_Some, slice_get_within}
 use Rattle.clause_arena.specs.Lending.{lent}
 use Rattle.proof_semantics.specs.declared.literals.Lit.{Lit}
+use Rattle.packed_literals.proofs.ListLaws.{get_push, below_push, get_set, get_set_other, place_either, length_last}
 use Rattle.cdcl_trail.specs.Trails.{Step, up_to_level}
 use Rattle.cdcl_trail.specs.Propagation.{is_fixed, is_falsified, is_unit, is_complete, Propagates, IsConflict}
 use Rattle.cdcl_trail.specs.Guards.{IsGuarded, AreGuarded, AreSure, IsFront, KeepsGuards}
@@ -20,7 +21,6 @@ use Rattle.cdcl_trail.specs.Watched.{Extends, AreWatchedWell, HasTwo, IsWatchedA
 use Rattle.cdcl_trail.specs.declared.pairs.Pair.{Pair}
 use Rattle.cdcl_trail.specs.declared.tracks.Reached.{Reached}
 use Rattle.cdcl_trail.specs.declared.watching.Watching.{Watching}
-use Rattle.cdcl_trail.proofs.ListLaws.{get_push, below_push, get_set, get_set_other, place_either, length_last}
 use Rattle.cdcl_trail.proofs.GuardLaws.{guarded_fewer, guarded_late, front_same, pair_settles, true_settles, keeps_same, take_whole}
 use Rattle.cdcl_trail.proofs.FixedLaws.{cut_front, covers_front}
 use Rattle.cdcl_trail.proofs.SoundLaws.{sound_settled, sure_rewatched}

@@ -11,11 +11,11 @@ use Rattle.std.proofs.lemmas.Bool.Decides.{leb_tells}
 use Rattle.std.proofs.Math.Dec.{leb}
 use Rattle.proof_semantics.specs.declared.literals.Lit.{Lit}
 use Rattle.cdcl_trail.specs.Trails.{Step, step, assumed, opened_by, literals_of, reasons_in, step_of, value_of, reason_in, reason_of, level, up_to_variable, level_of, up_to_level, once}
-use Rattle.cdcl_trail.specs.DenseOf.{told}
-use Rattle.cdcl_trail.specs.ValuesOf.{value_told}
 use Rattle.cdcl_trail.specs.AssignmentOf.{steps_from, place_in, reason_at, count_assumed, levels_from, state_of, IsTabulated}
 use Rattle.cdcl_trail.specs.declared.assignment.Assignment.TheInside.{Inside}
 use Rattle.packed_literals.proofs.NamingLaws.{place_cases, no_place_cases, swap_cond, map_cond, apart_at}
+use Rattle.packed_literals.specs.DenseOf.{told}
+use Rattle.packed_literals.specs.ValuesOf.{value_told}
 
 pub either : (b : Bool) → (b ≡ true) ⊎ (b ≡ false)
 either true = inl refl

@@ -10,10 +10,11 @@ use Rattle.std.proofs.lemmas.Option.{none-some, same_Some}
 use Rattle.proof_semantics.specs.Clauses.{lit_eq, has_literal}
 use Rattle.proof_semantics.specs.declared.literals.Lit.{Lit}
 use Rattle.proof_semantics.proofs.LiteralLaws.{lit_eq-true, lit_eq-same, bool_eq-same}
+use Rattle.packed_literals.specs.Lists.{list_for}
+use Rattle.packed_literals.proofs.ListLaws.{get_set, get_set_other, place_either}
 use Rattle.cdcl_trail.specs.Trails.{Step, step, forced, value_of}
 use Rattle.cdcl_trail.specs.Propagation.{is_value, is_true, is_false, is_fixed, is_falsified, is_unit_for}
 use Rattle.cdcl_trail.specs.Guards.{IsPairOf, IsSingle, IsGuarded, IsDone, IsFront, KeepsGuards}
-use Rattle.cdcl_trail.specs.Lists.{list_for}
 use Rattle.cdcl_trail.specs.Looking.{IsReplacement}
 use Rattle.cdcl_trail.specs.Looking.{StandsBeside}
 use Rattle.cdcl_trail.specs.Storing.{held, IsStored, IsRewatched, IsPairAt, IsOther, Covers, AreCovered}
@@ -26,7 +27,6 @@ use Rattle.cdcl_trail.proofs.TrailLaws.{either, or_neither}
 use Rattle.cdcl_trail.proofs.ScanLaws.{all_has}
 use Rattle.cdcl_trail.proofs.PassLaws.{step_comes, no_step, propagates_none, propagates_one, forced_at}
 use Rattle.cdcl_trail.proofs.PrefixLaws.{all_from}
-use Rattle.cdcl_trail.proofs.ListLaws.{get_set, get_set_other, place_either}
 use Rattle.cdcl_trail.proofs.GuardLaws.{guarded_moved, guarded_swap, keeps_same}
 use Rattle.cdcl_trail.proofs.ScanLaws.{one_value}
 use Rattle.cdcl_trail.proofs.StoreLaws.{lit_apart, stores_same, covered_unlisted}

@@ -2,8 +2,8 @@
 use Rattle.std.specs.Prelude.{◌≡◌, ℕ, ◌+◌, true, List, [], ◌∷◌, length, Option, None, Some, if◌then◌else◌, ◌==◌, slice_get}
 use Rattle.std.specs.Option.{option_map, option_flatten}
 use Rattle.proof_semantics.specs.declared.literals.Lit.{Lit}
-use Rattle.cdcl_trail.specs.DenseOf.{told}
-use Rattle.cdcl_trail.specs.ValuesOf.{value_told}
+use Rattle.packed_literals.specs.DenseOf.{told}
+use Rattle.packed_literals.specs.ValuesOf.{value_told}
 use Rattle.cdcl_trail.specs.Trails.{Step, Steps, step, opened_by, once, level, value_of}
 use Rattle.cdcl_trail.specs.declared.assignment.Assignment.TheInside.{Inside}
 

@@ -1,10 +1,7 @@
 pub mod Trails
 pub mod Propagation
 pub mod Guards
-pub mod DenseOf
-pub mod ValuesOf
 pub mod AssignmentOf
-pub mod Lists
 pub mod Looking
 pub mod Measure
 pub mod Storing

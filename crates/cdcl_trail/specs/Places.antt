@@ -1,7 +1,7 @@
 -- What is told of variables, by what is told of their numbers.
 use Rattle.std.specs.Prelude.{ℕ, Option, None, Some}
 use Rattle.packed_literals.specs.Naming.{place_among}
-use Rattle.cdcl_trail.specs.DenseOf as dense
+use Rattle.packed_literals.specs.DenseOf as dense
 use Rattle.cdcl_trail.specs.declared.places.Places.{Places}
 
 abbrev pub told_by : (ℕ → Option ℕ) → Option ℕ → Option ℕ

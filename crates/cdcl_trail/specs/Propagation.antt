@@ -1,15 +1,11 @@
 -- Unit propagation under a trail. After MiniSat (Eén, Sörensson, 2003).
-use Rattle.std.specs.Prelude.{◌≡◌, ℕ, Bool, true, false, not, ◌&&◌, ◌||◌, List, [], ◌∷◌, ◌++◌, Option, None, Some, is_some, ◌⊎◌}
+use Rattle.std.specs.Prelude.{◌≡◌, ℕ, Bool, true, not, ◌&&◌, ◌||◌, List, [], ◌∷◌, ◌++◌, None, Some, is_some, ◌⊎◌}
 use Rattle.std.specs.List.{list_any, list_all}
-use Rattle.proof_semantics.specs.Clauses.{bool_eq, lit_eq, has_literal}
+use Rattle.proof_semantics.specs.Clauses.{lit_eq, has_literal}
 use Rattle.proof_semantics.specs.declared.literals.Lit.{Lit}
 use Rattle.cnf.specs.Clauses.{clause_numbered}
+pub use Rattle.packed_literals.specs.ValuesOf.{is_value}
 use Rattle.cdcl_trail.specs.Trails.{Step, value_of, up_to_level}
-
--- there is a value, and it is this one
-abbrev pub is_value : Option Bool → Bool → Bool
-is_value None b = false
-is_value (Some value) b = bool_eq value b
 
 abbrev pub is_true : List Step → Lit → Bool
 is_true steps a = is_value (value_of steps a.var) a.positive

@@ -3,9 +3,9 @@ use Rattle.std.specs.Prelude.{◌≡◌, ◌⊎◌, ℕ, Bool, true, List, [], �
 use Rattle.proof_semantics.specs.declared.literals.Lit.{Lit}
 use Rattle.clause_arena.specs.Lending.{IsRefOf, lent}
 use Rattle.clause_arena.specs.declared.Ref.{Ref}
+use Rattle.packed_literals.specs.Lists.{IsIn, list_for}
+use Rattle.packed_literals.specs.declared.lists.Lists.{Lists}
 use Rattle.cdcl_trail.specs.Guards.{IsPairOf, IsSingle}
-use Rattle.cdcl_trail.specs.Lists.{IsIn, list_for}
-use Rattle.cdcl_trail.specs.declared.lists.Lists.{Lists}
 use Rattle.cdcl_trail.specs.declared.pairs.Pair.{Pair}
 use Rattle.cdcl_trail.specs.declared.watching.Watching.{Watching}
 

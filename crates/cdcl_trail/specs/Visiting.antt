@@ -3,10 +3,10 @@ use Rattle.std.specs.Prelude.{◌≡◌, ◌⊎◌, ℕ, suc, ◌<◌, ◌≤◌
 use Rattle.std.specs.List.{list_any}
 use Rattle.proof_semantics.specs.Clauses.{lit_eq}
 use Rattle.proof_semantics.specs.declared.literals.Lit.{Lit}
+use Rattle.packed_literals.specs.Lists.{IsWithout, list_for}
 use Rattle.cdcl_trail.specs.Trails.{Step, forced}
 use Rattle.cdcl_trail.specs.Propagation.{is_true, is_fixed, is_falsified, is_unit_for, IsConflict, Propagates}
 use Rattle.cdcl_trail.specs.Guards.{IsDone, AreGuarded, AreSure, KeepsGuards}
-use Rattle.cdcl_trail.specs.Lists.{IsWithout, list_for}
 use Rattle.cdcl_trail.specs.Storing.{held, IsRewatched, IsPairAt, IsOther, Covers}
 use Rattle.cdcl_trail.specs.declared.pairs.Pair.{Pair}
 use Rattle.cdcl_trail.specs.declared.propagation.Visited.{Visited}

@@ -1,15 +1,13 @@
 //! The literals that are true, in the order in which they came. The main type is `Assignment`.
 ghost use Rattle.std.specs.Prelude.{◌≡◌, ◌≤◌, ◌<◌, ℕ, [], ◌∷◌, ◌++◌, IsTrue, IsSome, OnOk, OnErr, Option, Some, None, length, take, if◌then◌else◌, ◌==◌, slice_get};
 ghost use Rattle.std.specs.Option.{unwrap_or};
+ghost use Rattle.packed_literals.specs.DenseOf.{told, HasRoom};
+ghost use Rattle.packed_literals.specs.ValuesOf.{value_told, HasValueRoom};
 ghost use Rattle.cdcl_trail.specs.Trails.{Step, step, opened_by, assumed, literals_of, reasons_in, step_of, value_of, reason_of, level, level_of, up_to_level, once};
 ghost use Rattle.cdcl_trail.specs.AssignmentOf.{reason_at, place_in};
-ghost use Rattle.cdcl_trail.specs.DenseOf.{told, HasRoom};
-ghost use Rattle.cdcl_trail.specs.ValuesOf.{value_told, HasValueRoom};
 ghost use Rattle.cdcl_trail.specs.Propagation.{is_value};
 
-use crate::dense::Dense;
-use crate::values::Values;
-use packed_literals::Packed;
+use packed_literals::{Dense, Packed, Values};
 use std::alloc::{AllocError, Global};
 use std::marker::Model;
 

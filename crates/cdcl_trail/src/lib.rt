@@ -16,15 +16,12 @@
 
 mod assignment;
 mod choosing;
-mod dense;
-mod lists;
 mod looking;
 mod pairs;
 mod places;
 mod propagation;
 mod tracks;
 mod trail;
-mod values;
 mod watching;
 
 pub use packed_literals::Table;

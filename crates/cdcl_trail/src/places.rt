@@ -2,9 +2,8 @@
 ghost use Rattle.std.specs.Prelude.{◌≡◌};
 ghost use Rattle.cdcl_trail.specs.Places.{told};
 
-use crate::dense::Dense;
 use cnf::Var;
-use packed_literals::Names;
+use packed_literals::{Dense, Names};
 
 /// Where variables stand among the literals of a trail, as a trail lends it.
 #[derive(Clone, Copy)]

@@ -2,8 +2,8 @@
 //! which leave the forced literals in the assignment. A clause that is true on level 0 leaves the
 //! list in which it is met.
 ghost use Rattle.std.specs.Prelude.{◌≡◌, ◌≤◌, ◌<◌, ◌+◌, IfOk, IfSome, None, Some, IsTrue, true, length, slice_get};
+ghost use Rattle.packed_literals.specs.Lists.{list_for};
 ghost use Rattle.cdcl_trail.specs.Guards.{IsSingle, AreGuarded, AreSure, AreDone, KeepsGuards};
-ghost use Rattle.cdcl_trail.specs.Lists.{list_for};
 ghost use Rattle.cdcl_trail.specs.Propagation.{is_false, is_true, is_fixed, IsConflict, Propagates};
 ghost use Rattle.cdcl_trail.specs.Storing.{held, IsStored, IsRewatched, Covers};
 ghost use Rattle.cdcl_trail.specs.Trails.{literals_of, once};

@@ -1,8 +1,8 @@
 //! A trail over numbers of variables. The main type is `Tracks`.
 ghost use Rattle.std.specs.Prelude.{◌≡◌, ◌≤◌, ◌<◌, ◌+◌, ◌-◌, ◌↔◌, ℕ, [], ◌∷◌, ◌++◌, IsTrue, IsSome, IfOk, IfSome, OnOk, OnErr, None, length, slice_get};
+ghost use Rattle.packed_literals.specs.DenseOf.{told};
 ghost use Rattle.cdcl_trail.specs.Trails.{assumed, literals_of, reasons_in, value_of, reason_of, level, level_of, up_to_level, once};
 ghost use Rattle.cdcl_trail.specs.AssignmentOf.{place_in};
-ghost use Rattle.cdcl_trail.specs.DenseOf.{told};
 ghost use Rattle.cdcl_trail.specs.Propagation.{is_complete, IsConflict, Propagates};
 ghost use Rattle.cdcl_trail.specs.Renaming.{ArePaired};
 ghost use Rattle.cdcl_trail.specs.Watched.{AreWatchedWell, KeepWatch, IsWatchable, IsWatchedAt};
@@ -11,10 +11,9 @@ ghost use Rattle.std.specs.Option.{unwrap_or};
 
 use crate::assignment::Assignment;
 use crate::choosing::{latest_pair, lesser, pair_false_from};
-use crate::dense::Dense;
 use crate::propagation::{settle_singles, settle_steps};
 use crate::watching::Watching;
-use packed_literals::Packed;
+use packed_literals::{Dense, Packed};
 use std::alloc::{AllocError, Global};
 use std::marker::Model;
 

@@ -3,15 +3,14 @@
 ghost use Rattle.std.specs.Prelude.{◌≡◌, ◌+◌, ◌<◌, ℕ, Bool, [], ◌∷◌, ◌++◌, OnOk, OnErr, IfSome, IfNone, Some, None, length, slice_get, slice_set, option_copied, false, List, vec_len, vec_capacity};
 ghost use Rattle.proof_semantics.specs.Clauses.{lit_eq};
 ghost use Rattle.proof_semantics.specs.declared.literals.Lit.{Lit};
+ghost use Rattle.packed_literals.specs.Lists.{IsWithout, list_for};
 ghost use Rattle.cdcl_trail.specs.declared.pairs.Pair.{Pair};
 ghost use Rattle.cdcl_trail.specs.Guards.{IsPairOf, IsSingle};
-ghost use Rattle.cdcl_trail.specs.Lists.{IsWithout, list_for};
 ghost use Rattle.cdcl_trail.specs.Storing.{held, IsStored, IsRewatched, IsPairAt, IsOther, IsAsBefore, has_more_singles, KeepsLists, AreListed, Covers, KeepsCover};
 
-use crate::lists::Lists;
 use crate::pairs::Pair;
 use clause_arena::{Arena, Ref};
-use packed_literals::Packed;
+use packed_literals::{Lists, Packed};
 use std::alloc::{AllocError, Global};
 
 /// The clauses that were taken over: where their literals stand in the arena, at which two literals

@@ -1,2 +1,3 @@
 pub mod PackingLaws
 pub mod NamingLaws
+pub mod ListLaws

@@ -1,7 +1,7 @@
 use Rattle.std.proofs.Common.{◌≡◌, ◌+◌, true, List, Some, arith, refl, ap, sym, subst, ◌∙◌}
 use Rattle.std.proofs.lemmas.Option.{slice_get_within, same_Some}
+use Rattle.packed_literals.specs.Lists.{list_for}
 use Rattle.cdcl_trail.specs.Guards.{IsPairOf, IsDone}
-use Rattle.cdcl_trail.specs.Lists.{list_for}
 use Rattle.cdcl_trail.specs.Propagation.{is_true, is_fixed}
 use Rattle.cdcl_trail.specs.declared.pairs.Pair.{Pair}
 use Rattle.proof_semantics.specs.declared.literals.Lit.{Lit}

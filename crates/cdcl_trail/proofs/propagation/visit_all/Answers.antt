@@ -1,6 +1,6 @@
 use Rattle.std.proofs.Common.{length, ap, sym, subst, ◌∙◌}
 use Rattle.std.proofs.lemmas.Option.{slice_get_within}
-use Rattle.cdcl_trail.specs.Lists.{list_for}
+use Rattle.packed_literals.specs.Lists.{list_for}
 use Rattle.cdcl_trail.specs.Storing.{held}
 use Rattle.cdcl_trail.specs.Visiting.{VisitSays}
 use Rattle.cdcl_trail.proofs.GuardLaws.{false_front}

@@ -1,5 +1,5 @@
 use Rattle.std.proofs.Common.{◌-◌, length}
-use Rattle.cdcl_trail.specs.Lists.{list_for}
+use Rattle.packed_literals.specs.Lists.{list_for}
 use Rattle.cdcl_trail.specs.Visiting.{IsVisiting}
 use Rattle.cdcl_trail.proofs.propagation.visit_all.Given as goal
 

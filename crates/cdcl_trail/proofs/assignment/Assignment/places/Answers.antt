@@ -1,6 +1,6 @@
 use Rattle.std.proofs.Common.{◌≡◌, ℕ, ap, sym, subst, ◌∙◌}
+use Rattle.packed_literals.specs.DenseOf.{told}
 use Rattle.cdcl_trail.specs.AssignmentOf.{place_in}
-use Rattle.cdcl_trail.specs.DenseOf.{told}
 use Rattle.cdcl_trail.specs.Trails.{Steps, literals_of}
 use Rattle.cdcl_trail.proofs.TrailLaws.{literals_beside}
 use Rattle.cdcl_trail.proofs.assignment.Assignment.places.Goals as goal

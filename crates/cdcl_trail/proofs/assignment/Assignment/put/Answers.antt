@@ -1,5 +1,5 @@
 use Rattle.std.proofs.Common.{◌≡◌, ◌+◌, ◌++◌, ◌∷◌, [], Some, None, length, cond, eqb, ap, sym, subst, ◌∙◌, arith}
-use Rattle.cdcl_trail.specs.DenseOf.{told}
+use Rattle.packed_literals.specs.DenseOf.{told}
 use Rattle.cdcl_trail.specs.Trails.{Steps, step, value_of}
 use Rattle.cdcl_trail.specs.AssignmentOf.{state_of}
 use Rattle.cdcl_trail.proofs.TrailLaws.{pushed, pushed_steps, level_length, length_beside, opened_small}

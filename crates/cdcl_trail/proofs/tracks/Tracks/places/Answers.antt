@@ -1,6 +1,6 @@
 use Rattle.std.proofs.Common.{◌≡◌, ℕ, subst}
+use Rattle.packed_literals.specs.DenseOf.{told}
 use Rattle.cdcl_trail.specs.AssignmentOf.{place_in}
-use Rattle.cdcl_trail.specs.DenseOf.{told}
 use Rattle.cdcl_trail.specs.Trails.{literals_of}
 use Rattle.cdcl_trail.specs.Watched.{TrailState}
 use Rattle.cdcl_trail.proofs.tracks.Tracks.places.Goals as goal

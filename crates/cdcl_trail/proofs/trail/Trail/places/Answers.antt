@@ -1,6 +1,6 @@
 use Rattle.std.proofs.Common.{◌≡◌, ℕ, ap, subst, ◌∙◌}
 use Rattle.packed_literals.specs.Naming.{place_among}
-use Rattle.cdcl_trail.specs.DenseOf as dense
+use Rattle.packed_literals.specs.DenseOf as dense
 use Rattle.cdcl_trail.specs.AssignmentOf.{place_in}
 use Rattle.cdcl_trail.specs.Places.{told_by, told}
 use Rattle.cdcl_trail.specs.Trails.{literals_of}

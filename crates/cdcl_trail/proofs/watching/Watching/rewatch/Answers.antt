@@ -1,7 +1,7 @@
 use Rattle.std.proofs.Common.{Some, arith, refl, ap, ◌∙◌}
 use Rattle.std.specs.Prelude.{slice_get}
 use Rattle.std.proofs.lemmas.Option.{slice_get_within}
-use Rattle.cdcl_trail.specs.Lists.{list_for}
+use Rattle.packed_literals.specs.Lists.{list_for}
 use Rattle.cdcl_trail.proofs.StoreLaws.{add_keeps, stores_moved, covered_moved, covered_lists, entry_stays, lit_apart}
 use Rattle.cdcl_trail.proofs.watching.Watching.rewatch.Goals as goal
 

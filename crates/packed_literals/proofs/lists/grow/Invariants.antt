@@ -1,6 +1,6 @@
 use Rattle.std.proofs.Common.{◌≡◌, ℕ, ◌+◌, ◌-◌, length}
-use Rattle.cdcl_trail.specs.Lists.{list_at}
-use Rattle.cdcl_trail.proofs.lists.grow.Given as goal
+use Rattle.packed_literals.specs.Lists.{list_at}
+use Rattle.packed_literals.proofs.lists.grow.Given as goal
 
 abbrev pub invariant-lists : goal.invariant-lists
 invariant-lists l = (v : ℕ) → list_at l.rows.items v ≡ list_at l.initial.rows.items v

@@ -1,7 +1,7 @@
 -- What is told of numbers, in a list by the numbers.
 use Rattle.std.specs.Prelude.{ℕ, ◌<◌, List, Option, None, length, slice_get}
 use Rattle.std.specs.Option.{unwrap_or}
-use Rattle.cdcl_trail.specs.declared.dense.Dense.{Dense}
+use Rattle.packed_literals.specs.declared.dense.Dense.{Dense}
 
 -- what stands at a place; nothing past the end
 abbrev pub thing_at : {T : Type 0} → List (Option T) → ℕ → Option T

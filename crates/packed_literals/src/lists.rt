@@ -2,7 +2,7 @@
 ghost use Rattle.std.specs.Prelude.{◌≡◌, ◌<◌, ℕ, [], ◌∷◌, ◌++◌, OnOk, OnErr, length, slice_get, false};
 ghost use Rattle.proof_semantics.specs.Clauses.{lit_eq};
 ghost use Rattle.proof_semantics.specs.declared.literals.Lit.{Lit};
-ghost use Rattle.cdcl_trail.specs.Lists.{IsWithout, list_at, list_for};
+ghost use Rattle.packed_literals.specs.Lists.{IsWithout, list_at, list_for};
 
 use packed_literals::Packed;
 use std::alloc::{AllocError, Global};

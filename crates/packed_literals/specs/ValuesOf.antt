@@ -1,8 +1,14 @@
 -- The values of variables, in a list of bytes by their numbers.
 use Rattle.std.specs.Prelude.{ℕ, ◌<◌, Bool, true, false, List, length, Option, None, Some, slice_get}
-use Rattle.cdcl_trail.specs.declared.values.Byte.{Byte}
-use Rattle.cdcl_trail.specs.declared.values.Byte.TheVariants.{Nothing, False, True}
-use Rattle.cdcl_trail.specs.declared.values.Values.{Values}
+use Rattle.proof_semantics.specs.Clauses.{bool_eq}
+use Rattle.packed_literals.specs.declared.values.Byte.{Byte}
+use Rattle.packed_literals.specs.declared.values.Byte.TheVariants.{Nothing, False, True}
+use Rattle.packed_literals.specs.declared.values.Values.{Values}
+
+-- there is a value, and it is this one
+abbrev pub is_value : Option Bool → Bool → Bool
+is_value None b = false
+is_value (Some value) b = bool_eq value b
 
 -- the value that a byte stands for; none past the end
 abbrev pub value_in : Option Byte → Option Bool

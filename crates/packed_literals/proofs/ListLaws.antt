@@ -8,7 +8,7 @@ use Rattle.proof_semantics.specs.Clauses.{lit_eq}
 use Rattle.proof_semantics.specs.declared.literals.Lit.{Lit}
 use Rattle.proof_semantics.proofs.LiteralLaws.{lit_eq-same}
 use Rattle.packed_literals.specs.Packing.{literal, code_of}
-use Rattle.cdcl_trail.specs.Lists.{IsIn, IsWithout}
+use Rattle.packed_literals.specs.Lists.{IsIn, IsWithout}
 
 pub get_in_append : {A : Type 0} (xs ys : List A) (i : ℕ) (x : A) → slice_get xs i ≡ Some x → slice_get (xs ++ ys) i ≡ Some x
 get_in_append [] ys i x e = absurd (none-some x e)

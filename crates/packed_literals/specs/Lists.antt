@@ -1,9 +1,9 @@
--- Scaffolding of inner functions. The lists of clauses that watch a literal.
+-- The lists of clauses that watch a literal.
 use Rattle.std.specs.Prelude.{◌≡◌, ℕ, suc, ◌<◌, List, [], length, slice_get, Option, None, Some, ◌⊎◌}
 use Rattle.std.specs.Global.{Vec}
 use Rattle.proof_semantics.specs.declared.literals.Lit.{Lit}
 use Rattle.packed_literals.specs.Packing.{code_of}
-use Rattle.cdcl_trail.specs.declared.lists.Lists.{Lists}
+use Rattle.packed_literals.specs.declared.lists.Lists.{Lists}
 
 -- the list has the number somewhere
 abbrev pub IsIn : List ℕ → ℕ → Type 0

@@ -1,7 +1,6 @@
 //! The values of variables that are numbered as they come. The main type is `Values`.
 ghost use Rattle.std.specs.Prelude.{◌≡◌, ◌<◌, ℕ, OnOk, None, Some, length, if◌then◌else◌, ◌==◌};
-ghost use Rattle.cdcl_trail.specs.Propagation.{is_value};
-ghost use Rattle.cdcl_trail.specs.ValuesOf.{value_in, value_at, value_told, HasValueRoom};
+ghost use Rattle.packed_literals.specs.ValuesOf.{is_value, value_in, value_at, value_told, HasValueRoom};
 
 use std::alloc::{AllocError, Global};
 

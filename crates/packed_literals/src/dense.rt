@@ -1,6 +1,6 @@
 //! What is told of variables, by their numbers. The main type is `Dense`.
 ghost use Rattle.std.specs.Prelude.{◌≡◌, ◌<◌, ℕ, OnOk, None, Some, length, if◌then◌else◌, ◌==◌};
-ghost use Rattle.cdcl_trail.specs.DenseOf.{thing_at, told, HasRoom};
+ghost use Rattle.packed_literals.specs.DenseOf.{thing_at, told, HasRoom};
 
 use std::alloc::{AllocError, Global};
 

@@ -1,7 +1,7 @@
 use Rattle.std.proofs.Common.{◌<◌, ◌≤◌, length, subst}
 use Rattle.std.proofs.lemmas.Option.{slice_get-get_or}
-use Rattle.cdcl_trail.proofs.ListLaws.{without_inner, without_last}
-use Rattle.cdcl_trail.proofs.lists.take_out.Goals as goal
+use Rattle.packed_literals.proofs.ListLaws.{without_inner, without_last}
+use Rattle.packed_literals.proofs.lists.take_out.Goals as goal
 
 pub returns-then-place-as_slice : goal.returns-then-place-as_slice
 returns-then-place-as_slice c =
