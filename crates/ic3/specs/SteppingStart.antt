@@ -1,10 +1,10 @@
 -- The clauses that the solver of a search begins with (scaffolding).
-use Rattle.std.specs.Prelude.{◌≡◌, ℕ, ◌+◌, Bool, true, List, [], ◌∷◌, ◌++◌, length, drop}
+use Rattle.std.specs.Prelude.{◌≡◌, ℕ, List, [], ◌++◌, length, drop}
 use Rattle.std.specs.List.{AllByRecursion}
 use Rattle.aig_semantics.specs.Circuits.{Circuit}
 use Rattle.fair_semantics.specs.Entries.{Entry}
 use Rattle.proof_semantics.specs.declared.literals.Lit.{Lit}
-use Rattle.ic3_semantics.specs.Stepping.{Stepping, meets_from, IsOver}
+use Rattle.ic3_semantics.specs.Stepping.{Stepping, IsOver}
 use Rattle.ic3_semantics.specs.declared.lemmas.Lemma.{Lemma}
 use Rattle.ic3_semantics.specs.declared.questions.Start.{Start}
 use Rattle.ic3.specs.SteppingInside.{Grows, MeetAlike, IsHeldBy}
@@ -27,12 +27,6 @@ HoldsAll lemmas old new =
     (st : Stepping) → IsHeldBy st old
     → AllByRecursion (λ lemma. IsOver (length st.question.circuit.latches) lemma.clause) lemmas
     → IsHeldBy (record { question = st.question; avoid = st.avoid; lemmas = st.lemmas ++ lemmas }) new
-
--- A state that meets the lemmas behind a place from a level on meets this one.
-abbrev pub IsImpliedBehind : List Lemma → ℕ → Lemma → Type 0
-IsImpliedBehind lemmas place lemma =
-    (level : ℕ) (state : List Bool) → meets_from (drop (place + 1) lemmas) level state ≡ true
-    → meets_from (lemma ∷ []) level state ≡ true
 
 -- Of the lemmas before a place some came; together with those from the place on they say what all say.
 pub record IsHeldUpTo (lemmas : List Lemma) (place : ℕ) (old new : Questions) : Type 0 where

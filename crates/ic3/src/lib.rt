@@ -11,14 +11,12 @@
 //! | `Steps` | the solver of one step that a search asks; public for its tests |
 //!
 //! The search is told in `ic3_loops`, over any solver of one step; here is the solver: `steps`, with `cone` (which clauses
-//! of the circuit it has), `renewing` (it is made anew), `implying` (without which lemmas) and `trying` (its steps are
-//! tried on all). What is asked and answered is defined in `ic3_semantics`, and in `Searches` of `specs/`; the rest of
-//! `specs/` is scaffolding.
+//! of the circuit it has), `renewing` (it is made anew) and `trying` (its steps are tried on all). What is asked and
+//! answered is defined in `ic3_semantics`, and in `Searches` of `specs/`; the rest of `specs/` is scaffolding.
 #![tactic(auto)]
 
 mod asking_again;
 mod cone;
-mod implying;
 mod renewing;
 mod searching;
 mod stepping_clauses;

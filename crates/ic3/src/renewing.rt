@@ -7,12 +7,12 @@ ghost use Rattle.ic3.specs.SteppingStart.{HoldsAll, IsHeldUpTo, stepping_of};
 ghost use Rattle.ic3.specs.declared.stepping_questions.Questions.{Questions};
 
 use crate::cone::Cone;
-use crate::implying::{implying_places, is_implied_by};
 use crate::stepping_questions::{Questions, hold_clause};
 use crate::stepping_start::questions_of;
 use circuit::Circuit;
 use cnf::{Cube, Db};
 use entry::Checked;
+use ic3_frames::{implying_places, is_implied_by};
 use ic3_semantics::{Lemma, Start};
 use std::alloc::{AllocError, Global};
 use std::sync::Arc;

@@ -5,3 +5,4 @@ pub mod Counting
 pub mod Rooms
 pub mod Steps
 pub mod SignatureLaws
+pub mod ImplyingLaws

@@ -42,7 +42,7 @@ has-adds-nothing v (x ∷ xs) c there =
     ]
 
 -- what does not stay beside a lemma follows from it
-part-implies : (v : ℕ → Bool) (c d : List Lit) → is_part c d ≡ true → clause_value v c ≡ true → clause_value v d ≡ true
+pub part-implies : (v : ℕ → Bool) (c d : List Lit) → is_part c d ≡ true → clause_value v c ≡ true → clause_value v d ≡ true
 part-implies v [] d part holds = absurd (false≢true holds)
 part-implies v (a ∷ c) d part holds =
     let parts = and_parts (has_literal d a) (is_part c d) part in

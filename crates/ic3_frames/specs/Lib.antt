@@ -5,3 +5,4 @@ pub mod Lent
 pub mod Room
 pub mod Meaning
 pub mod Signatures
+pub mod Implying

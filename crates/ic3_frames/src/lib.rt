@@ -15,6 +15,8 @@
 //! | `equal_pair` | a level whose frame has the same lemmas as the next |
 //! | `count_frame` | counts the step of a frame that is to be opened |
 //! | `signature_of` | a number whose bits tell of most clauses that they are no part of another |
+//! | `implying_places` | chooses for each lemma of a list a later one that implies it, or none |
+//! | `is_implied_by` | whether a lemma of a list, behind a place, implies another |
 //! | `frames_grow` | nothing: the laws of what frames mean |
 //! | `steps_take_room` | nothing: the laws of the room that bounds the steps of a search |
 //!
@@ -23,10 +25,12 @@
 
 mod activities;
 mod frames;
+mod implying;
 mod laws;
 mod levels;
 mod signatures;
 
 pub use frames::{FrameAt, Frames};
+pub use implying::{implying_places, is_implied_by};
 pub use laws::{frames_grow, steps_take_room};
 pub use signatures::signature_of;

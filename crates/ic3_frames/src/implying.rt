@@ -2,10 +2,10 @@
 //! which chooses and has no contract, and `is_implied_by`, which judges what was chosen.
 ghost use Rattle.std.specs.Prelude.{◌≡◌, ◌<◌, ◌&&◌, true, nat_le, length};
 ghost use Rattle.proof_semantics.specs.Clauses.{is_part};
-ghost use Rattle.ic3.specs.SteppingStart.{IsImpliedBehind};
+ghost use Rattle.ic3_frames.specs.Implying.{IsImpliedBehind};
 
+use crate::signatures::signature_of;
 use cnf::{Lit, subset};
-use ic3_frames::signature_of;
 use ic3_semantics::Lemma;
 use std::alloc::{AllocError, Global};
 
@@ -109,7 +109,7 @@ fn implying_place(
 
 /// For each lemma the place of a later one that implies it, or its own. The lemmas are over so many latches. For the first
 /// of them `known` has what was found before; those that were implied are so still.
-pub(crate) fn implying_places(
+pub fn implying_places(
     alloc: Global,
     lemmas: &[Lemma],
     latches: usize,
@@ -138,7 +138,7 @@ fn implies(by: &Lemma, lemma: &Lemma) -> bool
 }
 
 /// Whether the other lemma is one behind this place and implies the lemma.
-pub(crate) fn is_implied_by(lemmas: &[Lemma], place: usize, lemma: &Lemma, other: usize) -> bool
+pub fn is_implied_by(lemmas: &[Lemma], place: usize, lemma: &Lemma, other: usize) -> bool
     ensures { result ≡ true → IsImpliedBehind lemmas.now place lemma.now }
 {
     if other <= place || lemmas.len() <= other {

@@ -1,6 +1,6 @@
 use Rattle.std.proofs.Common.{sym, ◌∙◌, arith}
-use Rattle.ic3.proofs.Anew.{implied_behind}
-use Rattle.ic3.proofs.implying.is_implied_by.Goals as goal
+use Rattle.ic3_frames.proofs.ImplyingLaws.{implied_behind}
+use Rattle.ic3_frames.proofs.implying.is_implied_by.Goals as goal
 
 pub returns : goal.returns
 returns c = λ h.
