@@ -1,9 +1,9 @@
 -- What a trial tells.
-use Rattle.std.proofs.Common.{◌≡◌, ℕ, suc, ◌+◌, ◌-◌, ◌<◌, map, Bool, true, false, not, List, [], ◌∷◌, ◌++◌, length, take, drop, get_or, Option, Some, None, Result, Ok, Err, IfOk, IfSome, refl, sym, ap, subst, ◌∙◌, arith, append_assoc}
-use Rattle.std.specs.List.{All, list_all, flat_map}
+use Rattle.std.proofs.Common.{◌≡◌, ℕ, suc, ◌+◌, ◌<◌, map, Bool, true, false, not, List, [], ◌∷◌, ◌++◌, length, drop, get_or, Option, Some, None, Result, Ok, Err, IfOk, IfSome, refl, sym, ap, subst, ◌∙◌, arith, append_assoc}
+use Rattle.std.specs.List.{All, list_all}
 use Rattle.std.proofs.lemmas.Bool.{and_parts}
 use Rattle.std.proofs.lemmas.List.Elements.{All-nil, All-cons}
-use Rattle.std.proofs.lemmas.List.{length-map, length-drop, take_all, get_or_append_left}
+use Rattle.std.proofs.lemmas.List.{length-map, get_or_append_left}
 use Rattle.std.proofs.lemmas.Option.{unwrap_or-slice_get}
 use Rattle.std.proofs.Math.Seq.{drop-append_seam}
 use Rattle.aig_semantics.specs.declared.traces.Position.{Position}
@@ -17,8 +17,7 @@ use Rattle.edge.specs.declared.solve_end.SolveEnd.{SolveEnd}
 use Rattle.fair_semantics.specs.declared.skeletons.Situation.{Situation}
 use Rattle.fair_semantics.specs.Skeletons.{IsSituation}
 use Rattle.cnf_unroll.specs.Numbers.{block_size, block_places, number, state_place, set_at_place, clause_at_place, literal_in_block}
-use Rattle.cnf_unroll.specs.Blocks.{unit_clause, latch_clauses, step_clauses}
-use Rattle.cnf_unroll.specs.Layout.{BeginWith, before_constraints, before_latch}
+use Rattle.cnf_unroll.specs.Blocks.{step_clauses}
 use Rattle.cnf_unroll.specs.Obligations.{units, after_step}
 use Rattle.cnf_unroll.specs.Uses.{free_from, named_sides, uses_clauses}
 use Rattle.cnf_unroll.specs.Situations.{situation_in}
@@ -55,13 +54,6 @@ all_true f (literal ∷ literals) h =
 
 -- ---- the clauses of the block
 
--- those before the latch behind the last are all
-pub whole_block : (c : Circuit) (i n : ℕ) → i ≡ length c.latches → BeginWith (step_clauses c) (before_latch c i) n → n ≡ length (step_clauses c)
-whole_block c i n all h =
-    h.count
-    ∙ ap (λ latches. length (before_constraints c ++ map (unit_clause 0) c.constraints ++ flat_map (latch_clauses c 0) latches))
-    (take_all i c.latches (omega (arith, all)))
-
 in_front : (a b c d : List (List Lit)) → ((a ++ b) ++ c) ++ d ≡ a ++ (b ++ (c ++ d))
 in_front a b c d = append_assoc (a ++ b) c d ∙ append_assoc a b (c ++ d)
 
@@ -79,11 +71,6 @@ base_is q =
     (uses_clauses (block_places q.circuit 0) (free_from (block_size q.circuit + 1)) (restricting q.start q.view))
     (units (named_sides (after_step q.circuit (restricting q.start q.view)).sides (own_uses q.view q.start)))
     (set_at_place (state_place q.circuit 0) [])
-
--- the rest of a list as a slice
-pub slice_behind : (v : ℕ → Bool) (clauses : List (List Lit)) (n : ℕ)
-    → clauses_value v (take (length clauses - n) (drop n clauses)) ≡ clauses_value v (drop n clauses)
-slice_behind v clauses n = ap (clauses_value v) (take_all (length clauses - n) (drop n clauses) (omega (arith, length-drop n clauses)))
 
 -- ---- a position that stood up to the trial
 

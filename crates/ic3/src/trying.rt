@@ -2,15 +2,12 @@
 //! values are those of its gates and next states, so of the base the constraints and the clauses of the entries are tried
 //! alone; that its state meets the lemmas is told by the solver, which has a clause for each. The main calls are
 //! `try_predecessor` and `try_goal`.
-ghost use Rattle.std.specs.Prelude.{◌≡◌, ◌+◌, not, true, false, drop, map, length, IfOk, IfErr, IfSome};
+ghost use Rattle.std.specs.Prelude.{◌≡◌, not, true, length, IfOk, IfErr, IfSome};
 ghost use Rattle.std.specs.List.{list_all};
-ghost use Rattle.aig_semantics.specs.Literals.{literal_in};
-ghost use Rattle.aig_semantics.specs.Runs.{IsPosition, valuation_at};
-ghost use Rattle.proof_semantics.specs.Clauses.{clauses_value, cube_value, values_of};
+ghost use Rattle.proof_semantics.specs.Clauses.{cube_value, values_of};
 ghost use Rattle.edge.specs.Ends.{CountsConflicts, IsEnd};
 ghost use Rattle.cdcl.specs.Asking.{assigned};
 ghost use Rattle.cnf_unroll.specs.Numbers.{state_place, successor_place};
-ghost use Rattle.cnf_unroll.specs.Blocks.{step_clauses};
 ghost use Rattle.cnf_unroll.specs.Situations.{situation_in};
 ghost use Rattle.ic3_semantics.specs.Stepping.{IsOver};
 ghost use Rattle.ic3.specs.SteppingInside.{Keeps, AnswersFrom, Completes, IsTold, TriedInto, TellsTried, TriedGoal, TellsTriedGoal};
@@ -19,35 +16,13 @@ use crate::stepping_questions::{
     Questions, ask_from, ask_goal, ask_into, part_at, position_of, retire,
 };
 use cdcl::Asked;
-use circuit::{Circuit, Position, eval_into, literal_value, next_into};
-use cnf::{Clause, Cube, Db, holds};
-use cnf_unroll::before_latch;
+use circuit::{Circuit, Position, literal_value};
+use cnf::{Cube, Db};
 use edge::{Meter, SolveEnd};
 use ic3_loops::holds_in;
-use ic3_questions::literal_in_block;
+use ic3_questions::{literal_in_block, next_state, stands, valuation, values_in};
 use ic3_semantics::Found;
-use items::Items;
 use std::alloc::{AllocError, Global};
-
-// The circuit's values at a position.
-fn valuation(alloc: Global, c: &Circuit, p: &Position) -> Result<Items<bool>, AllocError>
-    requires { IsPosition c.now p.now }
-    ensures values { IfOk result (λ values. values ≡ valuation_at c.now p.now) }
-    ensures size { IfOk result (λ values. length values ≡ c.now.max + 1) }
-{
-    let mut values = vec![in alloc; false; c.max() as usize + 1]?;
-    eval_into(c, p.latches.as_slice(), p.inputs.as_slice(), &mut values);
-    Ok(Items::from_vec(values))
-}
-
-// The latches' next values, where the variables have these.
-fn next_state(alloc: Global, c: &Circuit, values: &[bool]) -> Result<Items<bool>, AllocError>
-    ensures { IfOk result (λ state. state ≡ map (λ latch. literal_in values.now latch.next) c.now.latches) }
-{
-    let mut state = vec![in alloc; false; c.latches().len()]?;
-    next_into(c, values, &mut state);
-    Ok(Items::from_vec(state))
-}
 
 // Values for the numbers behind those of variables: next values of latches, and what the solver tells of the others. They
 // are tried, so no contract rests on them.
@@ -85,78 +60,6 @@ fn completed(
     out.extend_from_slice(values)?;
     out.extend_from_slice(&rest)?;
     Ok(out)
-}
-
-fn value_in(values: &[bool], number: u64) -> bool
-    ensures { result ≡ values_of values.now number }
-{
-    values.get(number as usize).copied().unwrap_or(false)
-}
-
-fn values_in(alloc: Global, values: &[bool], place: &[u64]) -> Result<Items<bool>, AllocError>
-    ensures { IfOk result (λ out. out ≡ map (values_of values.now) place.now) }
-{
-    let mut out = Items::new(alloc);
-    for number in place {
-        out.push(value_in(values, *number))?;
-    }
-    Ok(out)
-}
-
-// How many clauses of the base are those of the block.
-fn block_len(c: &Circuit) -> usize
-    ensures { result ≡ length (step_clauses c.now) }
-{
-    before_latch(c, c.latches().len())
-}
-
-fn all_hold(clauses: &[Clause], values: &[bool]) -> bool
-    ensures { result ≡ clauses_value (values_of values.now) clauses.now }
-{
-    clauses.iter().all(|clause| holds(clause, values))
-}
-
-// Whether the clauses from a place on hold.
-fn hold_from(base: &Db, place: usize, values: &[bool]) -> bool
-    ensures { result ≡ true → clauses_value (values_of values.now) (drop place base.now.clauses) ≡ true }
-{
-    let clauses = base.as_slice();
-    if clauses.len() < place {
-        return false;
-    }
-    all_hold(&clauses[place..], values)
-}
-
-fn are_true(values: &[bool], literals: &[u64]) -> bool
-    ensures { result ≡ list_all (literal_in values.now) literals.now }
-{
-    literals
-        .iter()
-        .all(|literal| literal_value(values, *literal))
-}
-
-fn are_same(values: &[bool], others: &[bool]) -> bool
-    ensures { result ≡ true → values.now ≡ others.now }
-{
-    values == others
-}
-
-// Whether an assignment tells these next values of latches, and makes the clauses of entries true; and the constraints are
-// true.
-fn stands(
-    c: &Circuit,
-    base: &Db,
-    values: &[bool],
-    next: &[bool],
-    told: &[bool],
-    all: &[bool],
-) -> bool
-    ensures next { result ≡ true → told.now ≡ next.now }
-    ensures constraints { result ≡ true → list_all (literal_in values.now) c.now.constraints ≡ true }
-    ensures entries { result ≡ true
-        → clauses_value (values_of all.now) (drop (length (step_clauses c.now)) base.now.clauses) ≡ true }
-{
-    are_same(told, next) && are_true(values, c.constraints()) && hold_from(base, block_len(c), all)
 }
 
 // Whether constraints are true, and the clauses of entries hold, where the variables and the latches' next values are these.

@@ -2,3 +2,4 @@ pub mod Sides
 pub mod BaseLaws
 pub mod Restricting
 pub mod ReadVariables
+pub mod TrialLaws

@@ -1,7 +1,7 @@
 use Rattle.std.proofs.Common.{◌≡◌, true, drop, sym, subst, ◌∙◌}
 use Rattle.proof_semantics.specs.Clauses.{clauses_value, values_of}
-use Rattle.ic3.proofs.TriedLaws.{slice_behind}
-use Rattle.ic3.proofs.trying.hold_from.Goals as goal
+use Rattle.ic3_questions.proofs.TrialLaws.{slice_behind}
+use Rattle.ic3_questions.proofs.trials.hold_from.Goals as goal
 
 pub returns : goal.returns
 returns c = λ h.

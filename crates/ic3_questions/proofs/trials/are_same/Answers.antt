@@ -2,7 +2,7 @@ use Rattle.std.proofs.Common.{◌≡◌, sym, ◌∙◌, rules}
 use Rattle.std.specs.Cmp.{booleans_Decides}
 use Rattle.std.specs.Cmp.Lexicographic.{pointwise, pointwise_decides}
 use Rattle.std.proofs.Math.Bool.{beq}
-use Rattle.ic3.proofs.trying.are_same.Goals as goal
+use Rattle.ic3_questions.proofs.trials.are_same.Goals as goal
 
 pub returns : goal.returns
 returns c = λ h.
