@@ -66,6 +66,18 @@ kept_inner xs place last n y here j e =
       | inr at_last ↦ inr (place, get_set xs place last y here ∙ ap (λ k. Some k) (sym at_last.1))
     ]
 
+only_inner : (xs : List ℕ) (place last n y : ℕ) → slice_get xs place ≡ Some y → IsIn (set xs place last) n → IsIn (xs ++ last ∷ []) n
+only_inner xs place last n y here e =
+    elim (place_either place e.0) [
+      | inl same ↦
+          let there : slice_get (set xs place last) place ≡ Some n =
+          subst (λ k. slice_get (set xs place last) k ≡ Some n) (sym same) e.1
+          in
+          let is : last ≡ n = same_Some last n (sym (get_set xs place last y here) ∙ there) in
+          subst (IsIn (xs ++ last ∷ [])) is (in_push xs last)
+      | inr apart ↦ (e.0, get_in_append xs (last ∷ []) e.0 n (sym (get_set_other xs place e.0 last apart) ∙ e.1))
+    ]
+
 pub below_push : {A : Type 0} (xs : List A) (y : A) (j : ℕ) → j < length xs → slice_get (xs ++ y ∷ []) j ≡ slice_get xs j
 below_push [] y j under = absurd (omega arith)
 below_push (x ∷ xs) y zero under = refl
@@ -76,6 +88,7 @@ without_inner list rest place last y is here = subst (λ xs. IsWithout xs place 
   shorter = ap suc (length-set rest place last) ∙ sym (length_last rest last);
   below = λ j under. get_set_other rest place j last (λ e. omega (arith, e, under)) ∙ sym (below_push rest last j (omega (arith, under, slice_get_within rest place y here)));
   kept = λ n e. kept_inner rest place last n y here e.0 e.1;
+  only = λ n e. only_inner rest place last n y here e;
 })
 
 -- the last element goes
@@ -90,6 +103,7 @@ without_last list rest place last is within past =
         | inl before ↦ inr (e.0, before)
         | inr at_last ↦ inl (ap (slice_get (rest ++ last ∷ [])) (at ∙ sym at_last.0) ∙ e.1)
       ];
+      only = λ n e. in_more rest (last ∷ []) n e;
     })
 
 -- Rows of lists.

@@ -14,6 +14,7 @@ pub record IsWithout (list : List ℕ) (place : ℕ) (rest : List ℕ) : Type 0 
   pub shorter : suc (length rest) ≡ length list
   pub below : (j : ℕ) → j < place → slice_get rest j ≡ slice_get list j
   pub kept : (n : ℕ) → IsIn list n → (slice_get list place ≡ Some n) ⊎ IsIn rest n
+  pub only : (n : ℕ) → IsIn rest n → IsIn list n
 
 abbrev pub items_of : Option (Vec ℕ) → List ℕ
 items_of None = []
