@@ -19,7 +19,7 @@ use cdcl::Asked;
 use circuit::{Circuit, Position, literal_value};
 use cnf::{Cube, Db};
 use edge::{Meter, SolveEnd};
-use ic3_loops::holds_in;
+use ic3_generalise::holds_in;
 use ic3_questions::{literal_in_block, next_state, stands, valuation, values_in};
 use ic3_semantics::Found;
 use std::alloc::{AllocError, Global};

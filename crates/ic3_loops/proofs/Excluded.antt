@@ -1,28 +1,25 @@
 -- Cubes that no step enters, and their parts.
-use Rattle.std.proofs.Common.{◌≡◌, ℕ, zero, suc, ◌<◌, Bool, true, false, ◌&&◌, ◌||◌, not, cond, List, [], ◌∷◌, length, get_or, inl, inr, refl, sym, ap, subst, ◌∙◌, arith}
-use Rattle.std.specs.Prelude.{Option, None, Some, Result, Ok, Err, IsSome, IfSome, IfOk, OnOk, filter, ◌↔◌}
-use Rattle.std.proofs.lemmas.Bool.{or_left, or_right, or_cases, false≢true, cases_Bool}
+use Rattle.std.proofs.Common.{◌≡◌, ℕ, ◌<◌, Bool, true, false, ◌&&◌, not, List, [], ◌∷◌, length, inl, inr, refl, sym, ap, subst, ◌∙◌, arith}
+use Rattle.std.specs.Prelude.{Option, None, Some, Result, Ok, Err, IsSome, IfSome, IfOk, OnOk, ◌↔◌}
+use Rattle.std.proofs.lemmas.Bool.{or_left, or_right, false≢true, cases_Bool}
 use Rattle.std.proofs.lemmas.Result.{IfOk-weaker}
 use Rattle.std.proofs.lemmas.List.Elements.{All-head, All-tail}
 use Rattle.aig_semantics.specs.Runs.{successor}
 use Rattle.proof_semantics.specs.declared.literals.Lit.{Lit}
-use Rattle.proof_semantics.specs.Clauses.{lit_eq, negation, literal_value, clause_value, cube_value, values_of, has_literal, is_part}
-use Rattle.proof_semantics.proofs.LiteralLaws.{lit_eq-same, lit_eq-true, negation_twice, literal_value-negation}
+use Rattle.proof_semantics.specs.Clauses.{negation, literal_value, clause_value, cube_value, values_of, has_literal, is_part}
+use Rattle.proof_semantics.proofs.LiteralLaws.{literal_value-negation}
 use Rattle.edge.specs.Units.{Spendings}
 use Rattle.edge.specs.Ends.{CountsConflicts}
 use Rattle.ic3_frames.specs.Frames.{frame_at, with_lemma}
 use Rattle.ic3_frames.specs.Room.{allowed_by}
 use Rattle.ic3_frames.proofs.Meaning.{with-within}
-use Rattle.ic3_generalise.proofs.Parts.{part_has, part_from, part_same}
 use Rattle.ic3_semantics.specs.Stepping.{Stepping, IsMissing, IsOver}
-use Rattle.ic3_loops.specs.Starting.{value_literals}
+use Rattle.ic3_generalise.specs.Cubes.{value_literals, misses_starts, IsBased}
 use Rattle.ic3_semantics.specs.Searching.{CountsUpTo}
 use Rattle.ic3_loops.specs.Propagating.{Narrows}
-use Rattle.ic3_loops.specs.Starting.{misses_starts}
-use Rattle.ic3_loops.specs.Generalizing.{IsExcluded, IsOpposed, IsBased, IsAsked}
-use Rattle.ic3_loops.specs.Generalizing.{with_literal as with_kept}
+use Rattle.ic3_loops.specs.Generalizing.{IsExcluded, IsAsked}
 use Rattle.ic3_loops.proofs.Ended.{up_to_on, up_to_conflicts}
-use Rattle.ic3_loops.proofs.Excluding.{part_true, part_over, any_of, own_literal}
+use Rattle.ic3_loops.proofs.Excluding.{part_true, part_over, own_literal}
 use Rattle.ic3_loops.proofs.Sounds.{allowed_before}
 
 abbrev Levels : Type 0
@@ -43,73 +40,7 @@ state-misses (l ∷ starts) s over h =
           (own_literal s (negation l) (All-head (λ a. a.var < length s) l starts over) (literal_value-negation (values_of s) l ∙ ap not fails))
     ]
 
--- ---- literals that a filter keeps
-
-step_has : (a c : Lit) (rest xs : List Lit) (t : Bool) → (has_literal rest a ≡ true → has_literal xs a ≡ true)
-    → has_literal (cond t (c ∷ rest) rest) a ≡ true → has_literal (c ∷ xs) a ≡ true
-step_has a c rest xs false on has = or_right (lit_eq a c) (has_literal xs a) (on has)
-step_has a c rest xs true on has =
-    elim (or_cases (lit_eq a c) (has_literal rest a) has) [
-      | inl here ↦ or_left (lit_eq a c) (has_literal xs a) here
-      | inr later ↦ or_right (lit_eq a c) (has_literal xs a) (on later)
-    ]
-
-filter_has : (test : Lit → Bool) (xs : List Lit) (a : Lit) → has_literal (filter test xs) a ≡ true → has_literal xs a ≡ true
-filter_has test [] a has = has
-filter_has test (c ∷ xs) a has = step_has a c (filter test xs) xs (test c) (filter_has test xs a) has
-
-here_step : (a c : Lit) (rest : List Lit) (t : Bool) → t ≡ true → lit_eq a c ≡ true → has_literal (cond t (c ∷ rest) rest) a ≡ true
-here_step a c rest true e same = or_left (lit_eq a c) (has_literal rest a) same
-here_step a c rest false e same = absurd (false≢true e)
-
-later_step : (a c : Lit) (rest : List Lit) (t : Bool) → has_literal rest a ≡ true → has_literal (cond t (c ∷ rest) rest) a ≡ true
-later_step a c rest true has = or_right (lit_eq a c) (has_literal rest a) has
-later_step a c rest false has = has
-
-has_filter : (test : Lit → Bool) (xs : List Lit) (a : Lit) → has_literal xs a ≡ true → test a ≡ true → has_literal (filter test xs) a ≡ true
-has_filter test [] a has holds = has
-has_filter test (c ∷ xs) a has holds =
-    elim (or_cases (lit_eq a c) (has_literal xs a) has) [
-      | inl same ↦ here_step a c (filter test xs) (test c) (ap test (sym (lit_eq-true a c same)) ∙ holds) same
-      | inr later ↦ later_step a c (filter test xs) (test c) (has_filter test xs a later holds)
-    ]
-
 -- ---- parts that miss the starts
-
-pub based-part : (starts cube part : List Lit) → is_part part cube ≡ true → misses_starts starts part ≡ true → IsBased starts cube part part
-based-part starts cube part among misses = record { among = among; holds = part_same part; misses = misses }
-
-pub based-with : (starts cube part : List Lit) (l : Lit) → is_part part cube ≡ true → IsOpposed starts cube l
-    → IsBased starts cube part (with_kept cube part l)
-based-with starts cube part l among opposed =
-    let test : Lit → Bool = λ a. has_literal part a || lit_eq a l in
-    let has : has_literal (filter test cube) l ≡ true =
-    has_filter test cube l opposed.own (or_right (has_literal part l) (lit_eq l l) (lit_eq-same l))
-    in
-    record {
-      among = part_from (filter test cube) cube (filter_has test cube);
-      holds =
-          part_from part (filter test cube)
-          (λ a mine. has_filter test cube a (part_has part cube a among mine) (or_left (has_literal part a) (lit_eq a l) mine));
-      misses =
-          any_of (λ m. has_literal (filter test cube) (negation m)) starts (negation l) opposed.against
-          (subst (λ x. has_literal (filter test cube) x ≡ true) (sym (negation_twice l)) has);
-    }
-
-pub based-whole : (starts cube part : List Lit) → is_part part cube ≡ true → misses_starts starts cube ≡ true → IsBased starts cube part cube
-based-whole starts cube part among misses = record { among = part_same cube; holds = among; misses = misses }
-
--- a literal of the cube whose negation is one of the starts'
-pub opposed-is : (starts cube : List Lit) (i : ℕ) (l : Lit) → i < length cube → l ≡ get_or cube i l → has_literal starts (negation l) ≡ true
-    → IsOpposed starts cube l
-opposed-is starts cube i l below is against =
-    record { own = subst (λ x. has_literal cube x ≡ true) (sym is) (has_at cube i l below); against = against }
-  where
-    has_at : (lits : List Lit) (k : ℕ) (d : Lit) → k < length lits → has_literal lits (get_or lits k d) ≡ true
-    has_at [] k d below = absurd (omega arith)
-    has_at (a ∷ lits) zero d below = or_left (lit_eq a a) (has_literal lits a) (lit_eq-same a)
-    has_at (a ∷ lits) (suc k) d below =
-        or_right (lit_eq (get_or lits k d) a) (has_literal lits (get_or lits k d)) (has_at lits k d (omega arith))
 
 -- What no step enters from outside the cube, none enters from outside a longer part.
 pub excluded-based : (starts : List Lit) (st : Stepping) (level : ℕ) (cube part based : List Lit) → IsOver (length st.question.circuit.latches) cube

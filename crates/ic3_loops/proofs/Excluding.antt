@@ -1,6 +1,5 @@
 -- Cubes that exclude the state of an obligation.
 use Rattle.std.proofs.Common.{◌≡◌, ℕ, zero, suc, ◌+◌, ◌<◌, ◌≤◌, Bool, true, false, ◌||◌, not, List, [], ◌∷◌, map, length, refl, sym, ap, subst, ◌∙◌, ◌⊎◌, inl, inr, arith}
-use Rattle.std.specs.List.{list_any}
 use Rattle.std.proofs.lemmas.Bool.{and_parts, and_from, or_left, or_right, false≢true, cases_Bool}
 use Rattle.std.proofs.lemmas.List.Elements.{All-nil, All-cons, All-head, All-tail}
 use Rattle.proof_semantics.specs.declared.literals.Lit.{Lit}
@@ -11,7 +10,7 @@ use Rattle.ic3_frames.specs.Room.{room, allowed_by}
 use Rattle.ic3_frames.proofs.Rooms.{lemmas-take}
 use Rattle.ic3_frames.proofs.Meaning.{with-above}
 use Rattle.aig_semantics.specs.Runs.{successor}
-use Rattle.ic3_loops.specs.Starting.{value_literals, misses_starts}
+use Rattle.ic3_generalise.specs.Cubes.{value_literals, misses_starts}
 use Rattle.ic3_semantics.specs.Stepping.{Stepping, IsOver}
 use Rattle.edge.specs.Units.{Spendings}
 use Rattle.edge.specs.Ends.{CountsConflicts}
@@ -75,13 +74,6 @@ twice [] = refl
 twice (l ∷ lits) = ap (λ x. x ∷ map negation (map negation lits)) (negation_twice l) ∙ ap (λ rest. l ∷ rest) (twice lits)
 
 -- ---- cubes against a state
-
-pub any_of : (test : Lit → Bool) (lits : List Lit) (a : Lit) → has_literal lits a ≡ true → test a ≡ true → list_any test lits ≡ true
-any_of test [] a has holds = absurd (false≢true has)
-any_of test (l ∷ lits) a has holds = elim (cases_Bool (lit_eq a l)) [
-  | inl same ↦ or_left (test l) (list_any test lits) (ap test (sym (lit_eq-true a l same)) ∙ holds)
-  | inr other ↦ or_right (test l) (list_any test lits) (any_of test lits a (sym (ap (λ t. t || has_literal lits a) other) ∙ has) holds)
-]
 
 -- the lemma of a cube against a state is false in it,
 pub excluded-is : (s : List Bool) (cube : List Lit) → is_part cube (value_literals 0 s) ≡ true → clause_value (values_of s) (map negation cube) ≡ false

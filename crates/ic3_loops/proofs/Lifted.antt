@@ -21,8 +21,7 @@ use Rattle.ternary.specs.Cubes.{IsOverLatches, LiesIn, KeepsTrue}
 use Rattle.ic3_generalise.proofs.Parts.{part_has, part_on, part_same}
 use Rattle.ic3_semantics.specs.declared.questions.Start.{Start}
 use Rattle.ic3_semantics.specs.Stepping.{IsOver}
-use Rattle.ic3_loops.specs.Starting.{value_literals, misses_starts}
-use Rattle.ic3_loops.specs.Generalizing.{IsBased}
+use Rattle.ic3_generalise.specs.Cubes.{value_literals, misses_starts, IsBased}
 use Rattle.ic3_loops.specs.Lifting.{IsIn, opposite, next_at, next_literal, AreTrue, IsLifted, EndsIn, MissesEach, IsApart, IsGoalLifted}
 use Rattle.ic3_loops.proofs.Excluded.{state-misses}
 use Rattle.ic3_loops.proofs.Excluding.{part_true, own_literal}

@@ -9,7 +9,7 @@ use Rattle.ic3_frames.proofs.Rooms.{lemmas-make-none}
 use Rattle.ic3_semantics.specs.Searching.{Question}
 use Rattle.ic3_semantics.specs.Stepping.{Stepping}
 use Rattle.ic3_loops.specs.Sound.{IsSearch, KeepsQuestion, has_one_of}
-use Rattle.ic3_loops.specs.Starting.{misses_starts}
+use Rattle.ic3_generalise.specs.Cubes.{misses_starts}
 use Rattle.ic3_loops.specs.Propagating.{IsNarrower}
 use Rattle.ic3_loops.proofs.Sounds.{Levels}
 use Rattle.ic3_loops.proofs.Stuck.{narrow_on}

@@ -27,7 +27,7 @@ use Rattle.ic3_loops.specs.declared.obligations.Obligation.{Obligation}
 use Rattle.ic3_loops.specs.declared.obligations.Obligations.{Obligations}
 use Rattle.ic3_loops.specs.declared.blocking.ConsecutionEnd.{ConsecutionEnd}
 use Rattle.ic3_loops.specs.Sound.{IsGoalOf, Agree}
-use Rattle.ic3_loops.specs.Starting.{value_literals}
+use Rattle.ic3_generalise.specs.Cubes.{value_literals}
 use Rattle.ic3_loops.specs.Lifting.{IsLifted, IsGoalLifted}
 use Rattle.ic3_loops.proofs.Excluding.{part_true}
 use Rattle.ic3_loops.proofs.Sounds.{grow_on}

@@ -16,7 +16,8 @@ use Rattle.ic3_semantics.specs.declared.questions.Start.{Start}
 use Rattle.ic3_semantics.specs.declared.questions.Start.TheVariants.{Initial, State}
 use Rattle.ic3_semantics.specs.Stepping.{IsOver}
 use Rattle.ic3_semantics.specs.Searching.{IsStart}
-use Rattle.ic3_loops.specs.Starting.{value_literals, start_cube}
+use Rattle.ic3_generalise.specs.Cubes.{value_literals}
+use Rattle.ic3_loops.specs.Starting.{start_cube}
 use Rattle.ic3_loops.specs.Sound.{IsStartCube}
 
 -- ---- over the latches

@@ -40,7 +40,7 @@ use Rattle.ic3_loops.specs.declared.obligations.Way.{Way}
 use Rattle.ic3_loops.specs.declared.obligations.Way.TheVariants as ways
 use Rattle.ic3_loops.specs.Lifting.{IsIn, BreaksToo, EndsAs, MayEnd}
 use Rattle.ic3_loops.specs.Blocking.{LeadsOn, way_state, node_at, state_at, cube_at, IsNode, IsWayTo, AreNodes, CanGo, IsGoneAlong}
-use Rattle.ic3_loops.specs.Starting.{value_literals}
+use Rattle.ic3_generalise.specs.Cubes.{value_literals}
 use Rattle.ic3_loops.proofs.Excluding.{part_true}
 use Rattle.ic3_loops.proofs.Obliging.{node-is, node-at-is}
 use Rattle.ic3_loops.proofs.Starts.{state_has, own_true, same_values}

@@ -23,7 +23,7 @@ use Rattle.ic3_loops.specs.declared.blocking.ConsecutionEnd.{ConsecutionEnd}
 use Rattle.ic3_loops.specs.declared.blocking.ConsecutionEnd.TheVariants.{Start, Before, Excluded}
 use Rattle.ic3_semantics.specs.Searching.{Question, IsPath, Leads, MeetsLiteral, Misses}
 use Rattle.ic3_semantics.specs.Stepping.{Stepping, IsArenaStep, IsPredecessor, MeetsFrom}
-use Rattle.ic3_loops.specs.Starting.{value_literals}
+use Rattle.ic3_generalise.specs.Cubes.{value_literals}
 use Rattle.ic3_loops.specs.Lifting.{IsLifted, IsGoalLifted}
 
 -- The positions lead from the state to the goal.

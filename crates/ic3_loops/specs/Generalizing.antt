@@ -1,10 +1,10 @@
 -- Cubes whose negation may become a lemma (scaffolding): no step enters them from a frame, and they miss the starts (IC3:
 -- Bradley, 2011).
-use Rattle.std.specs.Prelude.{◌≡◌, ℕ, ◌+◌, ◌<◌, ◌≤◌, true, ◌||◌, List, length, filter, Option, Some, None}
+use Rattle.std.specs.Prelude.{◌≡◌, ℕ, ◌+◌, ◌<◌, ◌≤◌, true, List, length, Option, Some, None}
 use Rattle.proof_semantics.specs.declared.literals.Lit.{Lit}
-use Rattle.proof_semantics.specs.Clauses.{lit_eq, negation, has_literal, is_part}
+use Rattle.proof_semantics.specs.Clauses.{is_part}
 use Rattle.ic3_semantics.specs.Stepping.{Stepping, IsOver}
-use Rattle.ic3_loops.specs.Starting.{misses_starts}
+use Rattle.ic3_generalise.specs.Cubes.{misses_starts}
 use Rattle.ic3_loops.specs.Blocking.{NoneEnters}
 
 -- A cube over the latches that misses the starts, and that no step from the frame of the level enters.
@@ -12,21 +12,6 @@ pub record IsExcluded (starts : List Lit) (st : Stepping) (level : ℕ) (cube : 
   pub over : IsOver (length st.question.circuit.latches) cube
   pub misses : misses_starts starts cube ≡ true
   pub none : NoneEnters st level cube
-
--- a literal of the cube whose negation is one of the starts'
-pub record IsOpposed (starts cube : List Lit) (l : Lit) : Type 0 where
-  pub own : has_literal cube l ≡ true
-  pub against : has_literal starts (negation l) ≡ true
-
--- the literals of a cube that stand in a part of it, or are this one
-abbrev pub with_literal : List Lit → List Lit → Lit → List Lit
-with_literal cube part l = filter (λ a. has_literal part a || lit_eq a l) cube
-
--- A part of the cube that holds a given part, and misses the starts.
-pub record IsBased (starts cube part based : List Lit) : Type 0 where
-  pub among : is_part based cube ≡ true
-  pub holds : is_part part based ≡ true
-  pub misses : misses_starts starts based ≡ true
 
 -- what is told of a cube: a part of it that is excluded as it is, or that it is not
 abbrev pub IsAsked : List Lit → Stepping → ℕ → List Lit → Option (List Lit) → Type 0

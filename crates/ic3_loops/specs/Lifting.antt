@@ -15,7 +15,7 @@ use Rattle.ic3_semantics.specs.declared.questions.Start.{Start}
 use Rattle.ic3_semantics.specs.declared.questions.Start.TheVariants.{Initial, State}
 use Rattle.ic3_semantics.specs.Arenas.{in_arena}
 use Rattle.ic3_semantics.specs.Stepping.{IsOver}
-use Rattle.ic3_loops.specs.Starting.{value_literals, misses_starts}
+use Rattle.ic3_generalise.specs.Cubes.{value_literals, misses_starts}
 
 -- the state has a value for each latch, and makes the cube true
 pub record IsIn (c : Circuit) (cube : List Lit) (s : List Bool) : Type 0 where

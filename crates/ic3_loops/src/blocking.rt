@@ -9,15 +9,13 @@ ghost use Rattle.ic3_frames.specs.Frames.{frame_at};
 ghost use Rattle.ic3_frames.specs.Room.{room, allowed_by};
 ghost use Rattle.ic3_semantics.specs.Searching.{IsReachEnd};
 ghost use Rattle.ic3_semantics.specs.Stepping.{IsOver, IsPredecessor};
-ghost use Rattle.ic3_loops.specs.Starting.{value_literals};
+ghost use Rattle.ic3_generalise.specs.Cubes.{value_literals, IsBased};
 ghost use Rattle.ic3_loops.specs.Sound.{IsSearch, IsGoalOf, IsBlocked, KeepsQuestion, Agree};
 ghost use Rattle.ic3_semantics.specs.Searching.{CountsUpTo};
 ghost use Rattle.ic3_loops.specs.Propagating.{Narrows};
-ghost use Rattle.ic3_loops.specs.Generalizing.{IsBased};
 ghost use Rattle.ic3_loops.specs.Keeping.{Keeps, Bounds};
 ghost use Rattle.ic3_loops.specs.Blocking.{AreObligations, IsOpen, IsBefore, TellsConsecution, IsPutIn, IsKeptWith, IsBlockedAt, IsChained, IsBlockedNext};
 
-use crate::cubes::{based, holds_in, misses_starts, state_cube};
 use crate::generalizing::generalize;
 use crate::lifting::lift_step;
 use crate::obligations::{
@@ -29,6 +27,7 @@ use circuit::Position;
 use cnf::Cube;
 use edge::{Meter, SolveEnd};
 use ic3_frames::Frames;
+use ic3_generalise::{based, holds_in, misses_starts, state_cube};
 use ic3_semantics::{Found, Goal, ReachEnd};
 use items::Items;
 use std::alloc::{AllocError, Global};

@@ -1,20 +1,18 @@
 //! Cubes that no step enters become lemmas, with fewer literals and as high as they are seen to hold. The main call is
 //! `generalize`.
-ghost use Rattle.std.specs.Prelude.{◌≡◌, ◌+◌, ◌<◌, ◌≤◌, ◌||◌, true, false, length, IfOk, IfErr, IfSome, OnOk};
-ghost use Rattle.proof_semantics.specs.Clauses.{clause_value, cube_value, values_of, has_literal, lit_eq, is_part};
+ghost use Rattle.std.specs.Prelude.{◌≡◌, ◌+◌, ◌<◌, ◌≤◌, true, false, length, IfOk, IfErr, OnOk};
+ghost use Rattle.proof_semantics.specs.Clauses.{clause_value, values_of, is_part};
 ghost use Rattle.edge.specs.Faults.{one_more};
 ghost use Rattle.ic3_frames.specs.Frames.{frame_at};
 ghost use Rattle.ic3_frames.specs.Room.{allowed_by};
 ghost use Rattle.ic3_semantics.specs.Searching.{IsReachEnd};
 ghost use Rattle.ic3_semantics.specs.Stepping.{IsMissing, IsOver};
-ghost use Rattle.ic3_loops.specs.Starting.{value_literals, misses_starts};
+ghost use Rattle.ic3_generalise.specs.Cubes.{value_literals, misses_starts};
 ghost use Rattle.ic3_loops.specs.Sound.{IsSearch, IsRelative, KeepsQuestion, has_one_of};
 ghost use Rattle.ic3_semantics.specs.Searching.{CountsUpTo};
 ghost use Rattle.ic3_loops.specs.Propagating.{Narrows};
 ghost use Rattle.ic3_loops.specs.Blocking.{IsStronger};
-ghost use Rattle.ic3_loops.specs.Generalizing.{IsOpposed, IsBased, with_literal};
 
-use crate::cubes::based;
 use crate::iterating::steps_of;
 use crate::lemmas::{one_more, put_lemma};
 use crate::shortening::{highest, shorten};
@@ -22,6 +20,7 @@ use crate::step_solver::StepSolver;
 use cnf::{Clause, Cube, Lit};
 use edge::{Held, Meter};
 use ic3_frames::Frames;
+use ic3_generalise::based;
 use ic3_semantics::ReachEnd;
 use std::alloc::{AllocError, Global};
 

@@ -36,7 +36,7 @@
 //!             if not, generalize the part of the cube that the solver answers, and end
 //!
 //! generalize (cube, level below):                                                  generalizing
-//!     keep a literal by which the cube misses the starts                           cubes
+//!     keep a literal by which the cube misses the starts                           based, of `ic3_generalise`
 //!     drop literals while the cube misses the starts and no step from the frame enters it         shortening, ordering
 //!     take higher frames while no step from them enters the cube                   shortening
 //!     count a step, and put the cube's negation as lemma into the level above      lemmas
@@ -56,7 +56,6 @@
 
 mod blocking;
 mod closing;
-mod cubes;
 mod ending;
 mod generalizing;
 mod iterating;
@@ -75,7 +74,6 @@ mod step_solver;
 mod witnesses;
 
 pub use closing::lemmas_from;
-pub use cubes::holds_in;
 pub use iterating::{Iterated, iterate};
 pub use one_literal::single;
 pub use opening::start_cube;

@@ -9,11 +9,11 @@ ghost use Rattle.entry.specs.CheckedEntries.{viewed};
 ghost use Rattle.ic3_semantics.specs.Stepping.{IsOver};
 ghost use Rattle.ic3_loops.specs.Lifting.{IsLifted, IsGoalLifted, IsApart, AreTrue, MissesEach, next_at, next_literal, opposite};
 
-use crate::cubes::{based, state_cube};
 use crate::ending::end_cube;
 use circuit::{Circuit, Latch, Position};
 use cnf::{Cube, Lit};
 use entry::Checked;
+use ic3_generalise::{based, state_cube};
 use ic3_semantics::Start;
 use std::alloc::{AllocError, Global};
 use std::sync::Arc;

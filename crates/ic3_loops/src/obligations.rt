@@ -10,13 +10,13 @@ ghost use Rattle.ic3_loops.specs.Sound.{IsSearch, IsGoalOf};
 ghost use Rattle.ic3_loops.specs.Lifting.{IsGoalLifted};
 ghost use Rattle.ic3_loops.specs.Blocking.{way_state, state_at, cube_at, AreNodes, IsDue, IsOpen, IsPutIn, IsFirst, IsStateFirst, IsLastFirst, IsLiteralFirst, IsNext, AreObligations, levels_left, left_above};
 
-use crate::cubes::{misses_starts, state_cube};
 use crate::lifting::lift_goal;
 use crate::step_solver::StepSolver;
 use circuit::Position;
 use cnf::Cube;
 use edge::{Held, Meter, SolveEnd};
 use ic3_frames::Frames;
+use ic3_generalise::{misses_starts, state_cube};
 use ic3_semantics::{Goal, ReachEnd};
 use items::Items;
 use std::alloc::{AllocError, Global};

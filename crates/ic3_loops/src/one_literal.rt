@@ -4,11 +4,11 @@ ghost use Rattle.std.specs.Prelude.{◌≡◌, [], IfOk, IfErr, IfSome};
 ghost use Rattle.edge.specs.Ends.{CountsConflicts, IsEnd};
 ghost use Rattle.ic3_loops.specs.Single.{IsSingle, IsSingleOf};
 
-use crate::cubes::holds_in;
 use crate::shortening::inductive_part;
 use crate::step_solver::StepSolver;
 use cnf::{Clause, Cube, Lit};
 use edge::{Meter, SolveEnd};
+use ic3_generalise::holds_in;
 use ic3_semantics::{Goal, Start};
 use std::alloc::{AllocError, Global};
 

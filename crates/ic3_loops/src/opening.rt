@@ -4,15 +4,16 @@ ghost use Rattle.ic3_frames.specs.Room.{room};
 ghost use Rattle.proof_semantics.specs.declared.literals.Lit.{Lit};
 ghost use Rattle.fair_semantics.specs.States.{reset_literals, initial_literals};
 ghost use Rattle.ic3_frames.specs.Frames.{with_lemma};
-ghost use Rattle.ic3_loops.specs.Starting.{start_cube, value_literals};
+ghost use Rattle.ic3_generalise.specs.Cubes.{value_literals};
+ghost use Rattle.ic3_loops.specs.Starting.{start_cube};
 ghost use Rattle.ic3_semantics.specs.Stepping.{IsOver};
 ghost use Rattle.ic3_loops.specs.Sound.{IsSearch, IsStartCube, KeepsQuestion, Agree};
 
-use crate::cubes::state_cube;
 use crate::step_solver::StepSolver;
 use circuit::{Circuit, Latch, Reset};
 use cnf::{Clause, Cube, Lit};
 use ic3_frames::Frames;
+use ic3_generalise::state_cube;
 use ic3_semantics::Start;
 use std::alloc::{AllocError, Global};
 

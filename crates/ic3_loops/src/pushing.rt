@@ -9,13 +9,13 @@ ghost use Rattle.ic3_loops.specs.Holding.{TellsOn};
 ghost use Rattle.ic3_loops.specs.Propagating.{IsNarrower};
 ghost use Rattle.ic3_loops.specs.Witnessing.{AreWitnesses};
 
-use crate::cubes::based;
 use crate::lemmas::{has_lemma, lemma_at, one_more, put_lemma};
 use crate::step_solver::StepSolver;
 use crate::witnesses::{Witnesses, is_stuck, keep};
 use cnf::{Clause, Cube};
 use edge::{Meter, SolveEnd};
 use ic3_frames::Frames;
+use ic3_generalise::based;
 use ic3_semantics::Found;
 use std::alloc::{AllocError, Global};
 

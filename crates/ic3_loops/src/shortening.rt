@@ -5,17 +5,16 @@ ghost use Rattle.proof_semantics.specs.Clauses.{is_part};
 ghost use Rattle.edge.specs.Ends.{CountsConflicts, IsEnd};
 ghost use Rattle.ic3_semantics.specs.Stepping.{IsOver};
 ghost use Rattle.ic3_loops.specs.Blocking.{NoneEnters};
-ghost use Rattle.ic3_loops.specs.Starting.{misses_starts};
+ghost use Rattle.ic3_generalise.specs.Cubes.{misses_starts};
 ghost use Rattle.ic3_loops.specs.Generalizing.{IsExcluded, IsAsked, IsHeldFrom};
 
-use crate::cubes::{based, misses_starts};
 use crate::lemmas::one_more;
 use crate::ordering::by_activity;
 use crate::step_solver::StepSolver;
 use cnf::Cube;
 use edge::{Meter, SolveEnd};
 use ic3_frames::Frames;
-use ic3_generalise::{Asker, generalise};
+use ic3_generalise::{Asker, based, generalise, misses_starts};
 use ic3_semantics::Found;
 use std::alloc::Global;
 

@@ -1,8 +1,7 @@
 use Rattle.std.proofs.Common.{◌≡◌, true, sym, subst}
 use Rattle.std.specs.Prelude.{IfOk}
 use Rattle.proof_semantics.specs.Clauses.{is_part}
-use Rattle.ic3_loops.specs.Starting.{value_literals, misses_starts}
-use Rattle.ic3_loops.specs.Generalizing.{IsBased}
+use Rattle.ic3_generalise.specs.Cubes.{value_literals, misses_starts, IsBased}
 use Rattle.ic3_loops.proofs.Excluded.{state-misses}
 use Rattle.ic3_loops.proofs.blocking.asked_about.Goals as goal
 

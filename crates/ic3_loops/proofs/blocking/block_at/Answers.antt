@@ -1,6 +1,6 @@
 use Rattle.std.proofs.Common.{◌≡◌, true, ◌-◌, sym, subst}
 use Rattle.proof_semantics.specs.Clauses.{is_part}
-use Rattle.ic3_loops.specs.Starting.{value_literals}
+use Rattle.ic3_generalise.specs.Cubes.{value_literals}
 use Rattle.ic3_loops.specs.Blocking.{TellsConsecution, state_at}
 use Rattle.ic3_loops.proofs.Obliging.{node-at-is, kept-are}
 use Rattle.ic3_loops.proofs.blocking.block_at.Goals as goal

@@ -2,7 +2,7 @@ use Rattle.std.proofs.Common.{◌+◌, length, sym, subst, arith}
 use Rattle.ic3_frames.specs.Room.{room}
 use Rattle.ic3_semantics.specs.Stepping.{Stepping, IsOver, IsPredecessor}
 use Rattle.ic3_loops.specs.Sound.{KeepsQuestion}
-use Rattle.ic3_loops.specs.Starting.{value_literals}
+use Rattle.ic3_generalise.specs.Cubes.{value_literals}
 use Rattle.ic3_loops.proofs.Starts.{value_over}
 use Rattle.ic3_loops.proofs.Excluding.{part_over, some-room, counted-behind}
 use Rattle.ic3_loops.proofs.blocking.consecution.Goals as goal

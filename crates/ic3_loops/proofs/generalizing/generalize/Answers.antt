@@ -5,7 +5,7 @@ use Rattle.ic3_frames.specs.Frames.{frame_at}
 use Rattle.ic3_frames.specs.Room.{allowed_by}
 use Rattle.ic3_generalise.proofs.Parts.{part_on}
 use Rattle.ic3_semantics.specs.Stepping.{Stepping, IsOver}
-use Rattle.ic3_loops.specs.Starting.{value_literals}
+use Rattle.ic3_generalise.specs.Cubes.{value_literals}
 use Rattle.ic3_loops.specs.Sound.{IsSearch, IsRelative, KeepsQuestion}
 use Rattle.ic3_loops.specs.Blocking.{IsStronger, NoneEnters}
 use Rattle.ic3_loops.specs.Generalizing.{IsExcluded}

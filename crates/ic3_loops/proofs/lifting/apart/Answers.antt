@@ -1,5 +1,5 @@
 use Rattle.std.proofs.Common.{◌≡◌, true, sym, subst, arith}
-use Rattle.ic3_loops.specs.Starting.{misses_starts}
+use Rattle.ic3_generalise.specs.Cubes.{misses_starts}
 use Rattle.ic3_loops.proofs.Lifted.{apart-none, apart-more, apart-all}
 use Rattle.ic3_loops.proofs.lifting.apart.Goals as goal
 

@@ -3,7 +3,7 @@ use Rattle.std.proofs.lemmas.List.Elements.{All-nil, All-cons}
 use Rattle.std.specs.Prelude.{IsTrue}
 use Rattle.aig_semantics.specs.Runs.{literal_at}
 use Rattle.proof_semantics.specs.Clauses.{is_part}
-use Rattle.ic3_loops.specs.Starting.{value_literals}
+use Rattle.ic3_generalise.specs.Cubes.{value_literals}
 use Rattle.entry.specs.CheckedEntries.{viewed}
 use Rattle.ic3_loops.specs.Lifting.{MissesEach}
 use Rattle.ic3_loops.proofs.Lifted.{all-missed, goal-lifted}

@@ -2,7 +2,7 @@ use Rattle.std.proofs.Common.{◌≡◌, ◌+◌, true, length, sym, subst, arit
 use Rattle.proof_semantics.specs.Clauses.{is_part}
 use Rattle.ic3_semantics.specs.Stepping.{IsOver, IsMissing}
 use Rattle.ic3_loops.specs.Sound.{IsRelative}
-use Rattle.ic3_loops.specs.Starting.{misses_starts}
+use Rattle.ic3_generalise.specs.Cubes.{misses_starts}
 use Rattle.ic3_loops.specs.Generalizing.{IsExcluded}
 use Rattle.ic3_loops.proofs.Stuck.{negation_over}
 use Rattle.ic3_loops.proofs.Excluding.{based-is, relative-is}

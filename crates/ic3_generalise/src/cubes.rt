@@ -1,14 +1,13 @@
 //! Cubes of states, and whether they miss the starts. The main call is `based`.
 ghost use Rattle.std.specs.Prelude.{◌≡◌, ◌||◌, true, IfOk, IfSome};
 ghost use Rattle.proof_semantics.specs.Clauses.{cube_value, values_of, has_literal, lit_eq, is_part};
-ghost use Rattle.ic3_loops.specs.Starting.{value_literals, misses_starts};
-ghost use Rattle.ic3_loops.specs.Generalizing.{IsOpposed, IsBased, with_literal};
+ghost use Rattle.ic3_generalise.specs.Cubes.{value_literals, misses_starts, IsOpposed, IsBased, with_literal};
 
 use cnf::{Cube, Lit};
 use std::alloc::{AllocError, Global};
 
 /// The cube of one state: all its literals.
-pub(crate) fn state_cube(alloc: Global, values: &[bool]) -> Result<Cube, AllocError>
+pub fn state_cube(alloc: Global, values: &[bool]) -> Result<Cube, AllocError>
     ensures { IfOk result (λ cube. cube ≡ value_literals 0 values.now) }
 {
     let mut cube = Cube::new(alloc);
@@ -29,7 +28,7 @@ pub fn holds_in(cube: &Cube, state: &[bool]) -> bool
 }
 
 /// Whether the cube misses the starts by one of its literals.
-pub(crate) fn misses_starts(starts: &Cube, cube: &Cube) -> bool
+pub fn misses_starts(starts: &Cube, cube: &Cube) -> bool
     ensures { result ≡ misses_starts starts.now cube.now }
 {
     starts
@@ -72,12 +71,7 @@ fn with_literal(alloc: Global, cube: &Cube, part: &Cube, literal: Lit) -> Result
 
 /// A part of a cube that misses the starts as the cube does: the given part, with a literal by which the cube misses them
 /// where the part has none.
-pub(crate) fn based(
-    alloc: Global,
-    starts: &Cube,
-    cube: &Cube,
-    part: Cube,
-) -> Result<Cube, AllocError>
+pub fn based(alloc: Global, starts: &Cube, cube: &Cube, part: Cube) -> Result<Cube, AllocError>
     requires misses { misses_starts starts.now cube.now ≡ true }
     requires among { is_part part cube.now ≡ true }
     ensures { IfOk result (IsBased starts.now cube.now part) }

@@ -1,8 +1,8 @@
 use Rattle.std.proofs.Common.{◌≡◌, sym, subst, ◌∙◌}
 use Rattle.std.proofs.lemmas.Result.{IfOk-weaker}
-use Rattle.ic3_loops.specs.Generalizing.{IsBased, with_literal}
-use Rattle.ic3_loops.proofs.Excluded.{based-part, based-with, based-whole}
-use Rattle.ic3_loops.proofs.cubes.based.Goals as goal
+use Rattle.ic3_generalise.specs.Cubes.{IsBased, with_literal}
+use Rattle.ic3_generalise.proofs.Basing.{based-part, based-with, based-whole}
+use Rattle.ic3_generalise.proofs.cubes.based.Goals as goal
 
 pub returns-then-misses_starts : goal.returns-then-misses_starts
 returns-then-misses_starts c =

@@ -1,6 +1,6 @@
 use Rattle.std.proofs.Common.{rules}
-use Rattle.ic3_loops.proofs.Excluded.{opposed-is}
-use Rattle.ic3_loops.proofs.cubes.opposed.Goals as goal
+use Rattle.ic3_generalise.proofs.Basing.{opposed-is}
+use Rattle.ic3_generalise.proofs.cubes.opposed.Goals as goal
 
 pub returns-then-contains : goal.returns-then-contains
 returns-then-contains c =
