@@ -6,3 +6,4 @@ pub mod Rooms
 pub mod Steps
 pub mod SignatureLaws
 pub mod ImplyingLaws
+pub mod Witnessing

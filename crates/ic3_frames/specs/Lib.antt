@@ -6,3 +6,4 @@ pub mod Room
 pub mod Meaning
 pub mod Signatures
 pub mod Implying
+pub mod Witnessing

@@ -16,4 +16,3 @@ pub mod Lifted
 pub mod Singles
 pub mod Kept
 pub mod Narrower
-pub mod Witnessing

@@ -17,7 +17,8 @@ use Rattle.ic3_frames.proofs.Putting.{frame-own, some-own}
 use Rattle.ic3_frames.proofs.Times.{stays-not}
 use Rattle.ic3_semantics.specs.Stepping.{Stepping, IsPredecessor, IsMissing, IsOver}
 use Rattle.ic3_semantics.specs.Searching.{Question}
-use Rattle.ic3_loops.specs.Sound.{IsSound, IsRelative, Agree, IsStuck, AreStuck}
+use Rattle.ic3_loops.specs.Sound.{IsSound, IsRelative, Agree, AreStuck}
+use Rattle.ic3_frames.specs.Witnessing.{IsStuck}
 use Rattle.ic3_loops.specs.Propagating.{AllowBelow, IsPushed, StuckFrom, IsTried, Narrows, StayStuck, AllStuck}
 use Rattle.ic3_loops.proofs.Sounds.{grow_on, all_parts, Levels}
 

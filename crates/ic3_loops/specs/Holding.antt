@@ -3,7 +3,7 @@ use Rattle.std.specs.Prelude.{ℕ, List, map, Option, Some, None}
 use Rattle.proof_semantics.specs.declared.literals.Lit.{Lit}
 use Rattle.proof_semantics.specs.Clauses.{negation}
 use Rattle.ic3_semantics.specs.Stepping.{Stepping, IsMissing}
-use Rattle.ic3_loops.specs.Sound.{IsStuck}
+use Rattle.ic3_frames.specs.Witnessing.{IsStuck}
 
 -- it does, and a part of its cube is told that no such step leads into; or it is stuck
 abbrev pub TellsOn : Stepping → List (List (List Lit)) → ℕ → List Lit → Option (List Lit) → Type 0

@@ -9,4 +9,3 @@ pub mod Iterating
 pub mod Resuming
 pub mod Single
 pub mod Keeping
-pub mod Witnessing

@@ -7,7 +7,8 @@ use Rattle.ic3_frames.specs.Frames.{frame_at, own_lemmas, put_at}
 use Rattle.ic3_frames.specs.Room.{room, allowed_by}
 use Rattle.ic3_semantics.specs.Searching.{Question}
 use Rattle.ic3_semantics.specs.Stepping.{Stepping}
-use Rattle.ic3_loops.specs.Sound.{IsSearch, KeepsQuestion, IsStuck, AreStuck}
+use Rattle.ic3_loops.specs.Sound.{IsSearch, KeepsQuestion, AreStuck}
+use Rattle.ic3_frames.specs.Witnessing.{IsStuck}
 
 -- the frames up to level k allow the states that they allowed
 abbrev pub AllowBelow : List (List (List Lit)) → List (List (List Lit)) → ℕ → Type 0

@@ -8,6 +8,7 @@ use Rattle.proof_semantics.specs.Clauses.{clause_value, cube_value, values_of, h
 use Rattle.cnf_unroll.specs.Laws.{AreOver}
 use Rattle.ic3_frames.specs.Frames.{frame_at, own_lemmas}
 use Rattle.ic3_frames.specs.Room.{allowed_by}
+use Rattle.ic3_frames.specs.Witnessing.{IsStuck}
 use Rattle.ic3_semantics.specs.declared.questions.Goal.{Goal}
 use Rattle.ic3_semantics.specs.declared.questions.Goal.TheVariants as goals
 use Rattle.ic3_semantics.specs.Arenas.{MayStart}
@@ -66,13 +67,6 @@ AvoidsAsked avoid (goals.Literal literal those) = avoid ≡ those.now
 pub record IsGoalOf (steps : Stepping) (goal : Goal) : Type 0 where
   pub of : IsGoal steps.question.circuit goal
   pub avoids : AvoidsAsked steps.avoid goal
-
--- One of the levels' lemmas is stuck: an arena step leads from its frame to a state that breaks it.
-pub record IsStuck (q : Question) (levels : List (List (List Lit))) (k : ℕ) (lemma : List Lit) : Type 0 where
-  pub step : Position
-  pub arena : IsArenaStep q step
-  pub from : allowed_by (frame_at levels k) step.latches ≡ true
-  pub breaks : clause_value (values_of (successor q.circuit step)) lemma ≡ false
 
 -- the lemmas that a level has and the next has not are stuck
 abbrev pub AreStuck : Question → List (List (List Lit)) → ℕ → Type 0

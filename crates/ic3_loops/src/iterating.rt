@@ -9,16 +9,15 @@ ghost use Rattle.ic3_loops.specs.Sound.{IsSearch, IsGoalOf, KeepsQuestion, Misse
 ghost use Rattle.ic3_semantics.specs.Searching.{CountsUpTo, CountsAtLeast};
 ghost use Rattle.ic3_loops.specs.Propagating.{Narrows, AllStuck};
 ghost use Rattle.ic3_loops.specs.Iterating.{IsIterated, TakesRoom, HasEnded};
-ghost use Rattle.ic3_loops.specs.Witnessing.{AreWitnesses};
+ghost use Rattle.ic3_frames.specs.Witnessing.{AreWitnesses};
 
 use crate::blocking::strengthen;
 use crate::propagating::propagate;
 use crate::step_solver::StepSolver;
-use crate::witnesses::{Witnesses, no_witnesses};
 use circuit::Position;
 use cnf::Cube;
 use edge::Meter;
-use ic3_frames::Frames;
+use ic3_frames::{Frames, Witnesses, no_witnesses};
 use ic3_semantics::{Goal, ReachEnd};
 use items::Items;
 use std::alloc::Global;

@@ -37,7 +37,7 @@
 //!
 //! generalize (cube, level below):                                                  generalizing
 //!     keep a literal by which the cube misses the starts                           based, of `ic3_generalise`
-//!     drop literals while the cube misses the starts and no step from the frame enters it         shortening, ordering
+//!     drop literals while the cube misses the starts and no step from the frame enters it         shortening
 //!     take higher frames while no step from them enters the cube                   shortening
 //!     count a step, and put the cube's negation as lemma into the level above      lemmas
 //!
@@ -47,7 +47,7 @@
 //!     from level 1 up, for each lemma that the next level has not:
 //!         if it holds after each step from the frame of its level, put it into the next level
 //!     (while there are two levels, for each lemma of level 0 first; from a state where the goal is a state)
-//!     (a step that showed that a lemma stays shows it still while it begins in the frame)      witnesses
+//!     (a step that showed that a lemma stays shows it still while it begins in the frame)      `is_stuck`, of `ic3_frames`
 //! ```
 //!
 //! Each step that is counted takes room, of which there is no more than (2^n + 2)^2 over n latches. `specs/` is
@@ -64,14 +64,12 @@ mod lifting;
 mod obligations;
 mod one_literal;
 mod opening;
-mod ordering;
 mod propagating;
 mod pushing;
 mod replaying;
 mod resuming;
 mod shortening;
 mod step_solver;
-mod witnesses;
 
 pub use closing::lemmas_from;
 pub use iterating::{Iterated, iterate};

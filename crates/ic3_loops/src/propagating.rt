@@ -4,15 +4,14 @@ ghost use Rattle.edge.specs.Ends.{CountsConflicts, IsEnd};
 ghost use Rattle.ic3_frames.specs.Frames.{own_lemmas};
 ghost use Rattle.ic3_loops.specs.Sound.{IsSearch, IsRelative, KeepsQuestion, AreStuck};
 ghost use Rattle.ic3_loops.specs.Propagating.{IsPushed, IsTried, IsNarrower, StayStuck, AllStuck};
-ghost use Rattle.ic3_loops.specs.Witnessing.{AreWitnesses};
+ghost use Rattle.ic3_frames.specs.Witnessing.{AreWitnesses};
 
 use crate::lemmas::{has_lemma, lemma_at, one_more};
 use crate::pushing::{push_parts, tried};
 use crate::step_solver::StepSolver;
-use crate::witnesses::{Witnesses, forget_unused};
 use cnf::{Clause, Cube};
 use edge::{Meter, SolveEnd};
-use ic3_frames::Frames;
+use ic3_frames::{Frames, Witnesses, forget_unused};
 use ic3_semantics::{Goal, Start};
 use std::alloc::{AllocError, Global};
 

@@ -7,14 +7,13 @@ ghost use Rattle.ic3_semantics.specs.Stepping.{IsOver, IsMissing};
 ghost use Rattle.ic3_loops.specs.Sound.{IsSearch, KeepsQuestion, Agree, has_one_of};
 ghost use Rattle.ic3_loops.specs.Holding.{TellsOn};
 ghost use Rattle.ic3_loops.specs.Propagating.{IsNarrower};
-ghost use Rattle.ic3_loops.specs.Witnessing.{AreWitnesses};
+ghost use Rattle.ic3_frames.specs.Witnessing.{AreWitnesses};
 
 use crate::lemmas::{has_lemma, lemma_at, one_more, put_lemma};
 use crate::step_solver::StepSolver;
-use crate::witnesses::{Witnesses, is_stuck, keep};
 use cnf::{Clause, Cube};
 use edge::{Meter, SolveEnd};
-use ic3_frames::Frames;
+use ic3_frames::{Frames, Witnesses, is_stuck, keep_witness};
 use ic3_generalise::based;
 use ic3_semantics::Found;
 use std::alloc::{AllocError, Global};
@@ -185,7 +184,7 @@ fn asked<S: StepSolver>(
     let cube = negated(alloc, lemma)?;
     match steps.predecessor_of_excluded(alloc, level, &cube, meter)? {
         Found::Step(step) => {
-            keep(known, lemma.clone()?, step)?;
+            keep_witness(known, lemma.clone()?, step)?;
             Ok(None)
         }
         Found::Missing(part) => Ok(Some(part)),

@@ -9,11 +9,10 @@ ghost use Rattle.ic3_generalise.specs.Cubes.{misses_starts};
 ghost use Rattle.ic3_loops.specs.Generalizing.{IsExcluded, IsAsked, IsHeldFrom};
 
 use crate::lemmas::one_more;
-use crate::ordering::by_activity;
 use crate::step_solver::StepSolver;
 use cnf::Cube;
 use edge::{Meter, SolveEnd};
-use ic3_frames::Frames;
+use ic3_frames::{Frames, by_activity};
 use ic3_generalise::{Asker, based, generalise, misses_starts};
 use ic3_semantics::Found;
 use std::alloc::Global;

@@ -3,7 +3,7 @@ use Rattle.ic3_frames.specs.Room.{room}
 use Rattle.ic3_semantics.specs.Searching.{Question}
 use Rattle.ic3_semantics.specs.Searching.{CountsUpTo}
 use Rattle.ic3_loops.specs.Iterating.{IsIterated}
-use Rattle.ic3_loops.specs.Witnessing.{AreWitnesses}
+use Rattle.ic3_frames.specs.Witnessing.{AreWitnesses}
 use Rattle.ic3_loops.proofs.Stuck.{narrow_on}
 use Rattle.ic3_loops.proofs.Ended.{keeps_on, up_to_none, up_to_on, least_none, least_on}
 use Rattle.ic3_loops.proofs.iterating.iterate.Goals as goal

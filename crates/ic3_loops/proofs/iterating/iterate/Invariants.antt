@@ -3,7 +3,7 @@ use Rattle.ic3_frames.specs.Room.{room}
 use Rattle.ic3_loops.specs.Sound.{IsSearch, KeepsQuestion}
 use Rattle.ic3_semantics.specs.Searching.{CountsUpTo, CountsAtLeast}
 use Rattle.ic3_loops.specs.Propagating.{Narrows}
-use Rattle.ic3_loops.specs.Witnessing.{AreWitnesses}
+use Rattle.ic3_frames.specs.Witnessing.{AreWitnesses}
 use Rattle.ic3_loops.proofs.iterating.iterate.Given as goal
 
 abbrev pub invariant-iterations : goal.invariant-iterations

@@ -1,6 +1,6 @@
 use Rattle.std.proofs.Common.{length, sym, subst, arith}
 use Rattle.std.specs.Result.{OnOk}
-use Rattle.ic3_loops.specs.Witnessing.{AreWitnesses}
+use Rattle.ic3_frames.specs.Witnessing.{AreWitnesses}
 use Rattle.ic3_loops.proofs.Ended.{on_ok, on_both, least_none, least_on}
 use Rattle.ic3_loops.proofs.Stuck.{narrow_on}
 use Rattle.ic3_loops.proofs.iterating.iteration.Goals as goal

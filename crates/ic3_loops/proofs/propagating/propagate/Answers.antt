@@ -1,7 +1,7 @@
 use Rattle.std.proofs.Common.{sym, subst}
 use Rattle.std.specs.Result.{OnOk}
 use Rattle.ic3_loops.specs.Propagating.{AllStuck}
-use Rattle.ic3_loops.specs.Witnessing.{AreWitnesses}
+use Rattle.ic3_frames.specs.Witnessing.{AreWitnesses}
 use Rattle.ic3_loops.proofs.Ended.{on_ok}
 use Rattle.ic3_loops.proofs.Narrower.{narrower_on}
 use Rattle.ic3_loops.proofs.propagating.propagate.Goals as goal

@@ -2,7 +2,7 @@ use Rattle.std.proofs.Common.{◌-◌, refl, sym, subst, arith}
 use Rattle.edge.proofs.Ends.{counts_none, counts_on}
 use Rattle.ic3_loops.specs.Sound.{AreStuck}
 use Rattle.ic3_loops.specs.Propagating.{StayStuck}
-use Rattle.ic3_loops.specs.Witnessing.{AreWitnesses}
+use Rattle.ic3_frames.specs.Witnessing.{AreWitnesses}
 use Rattle.ic3_loops.proofs.Stuck.{stuck_more}
 use Rattle.ic3_loops.proofs.Narrower.{narrower_none, narrower_on}
 use Rattle.ic3_loops.proofs.Ended.{keeps_on}

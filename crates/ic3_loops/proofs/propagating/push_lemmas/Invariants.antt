@@ -2,7 +2,7 @@ use Rattle.std.proofs.Common.{◌+◌, ◌<◌, ◌≤◌, ℕ}
 use Rattle.edge.specs.Ends.{CountsConflicts}
 use Rattle.ic3_loops.specs.Sound.{AreStuck, KeepsQuestion}
 use Rattle.ic3_loops.specs.Propagating.{IsNarrower}
-use Rattle.ic3_loops.specs.Witnessing.{AreWitnesses}
+use Rattle.ic3_frames.specs.Witnessing.{AreWitnesses}
 use Rattle.ic3_loops.proofs.propagating.push_lemmas.Given as goal
 
 abbrev pub invariant-loop-level : goal.invariant-loop-level

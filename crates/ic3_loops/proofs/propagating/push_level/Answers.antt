@@ -1,7 +1,7 @@
 use Rattle.std.proofs.Common.{◌≡◌, ◌+◌, ◌-◌, refl, sym, subst, arith}
 use Rattle.edge.proofs.Ends.{counts_none, counts_on}
 use Rattle.ic3_loops.specs.Propagating.{IsTried, StayStuck, StuckFrom}
-use Rattle.ic3_loops.specs.Witnessing.{AreWitnesses}
+use Rattle.ic3_frames.specs.Witnessing.{AreWitnesses}
 use Rattle.ic3_loops.proofs.Stuck.{none_tried, stay_on, all_stuck_here}
 use Rattle.ic3_loops.proofs.Narrower.{narrower_none, narrower_on}
 use Rattle.ic3_loops.proofs.Ended.{keeps_on}

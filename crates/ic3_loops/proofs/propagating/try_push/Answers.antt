@@ -2,7 +2,8 @@ use Rattle.std.proofs.Common.{◌+◌, [], length, map, refl, sym, subst, ◌∙
 use Rattle.std.proofs.lemmas.Bool.{false≢true}
 use Rattle.proof_semantics.specs.Clauses.{negation}
 use Rattle.ic3_semantics.specs.Stepping.{Stepping, IsOver}
-use Rattle.ic3_loops.specs.Sound.{IsSearch, IsRelative, IsStuck}
+use Rattle.ic3_loops.specs.Sound.{IsSearch, IsRelative}
+use Rattle.ic3_frames.specs.Witnessing.{IsStuck}
 use Rattle.ic3_loops.specs.Holding.{TellsOn}
 use Rattle.ic3_loops.proofs.Stuck.{all_own, missing_relative, none_tried, pushed_tried, pushed_stay}
 use Rattle.ic3_loops.proofs.Narrower.{narrower_none, narrower_same}

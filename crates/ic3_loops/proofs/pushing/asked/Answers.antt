@@ -2,8 +2,7 @@ use Rattle.std.proofs.Common.{◌≡◌, false, length, sym, ap, subst, ◌∙�
 use Rattle.proof_semantics.specs.Clauses.{clause_value, values_of}
 use Rattle.aig_semantics.specs.Runs.{successor}
 use Rattle.ic3_semantics.specs.Stepping.{Stepping, IsOver, IsFound}
-use Rattle.ic3_loops.specs.Sound.{IsStuck}
-use Rattle.ic3_loops.specs.Witnessing.{Breaks}
+use Rattle.ic3_frames.specs.Witnessing.{IsStuck, Breaks}
 use Rattle.ic3_loops.proofs.Stuck.{negation_over, found_breaks, found_stuck}
 use Rattle.ic3_loops.proofs.pushing.asked.Goals as goal
 
@@ -27,5 +26,5 @@ returns-in-Step-clause-known g c =
       next = found_breaks st c.in_ok-cube.cube c.args.lemma.now c.in-Step.step c.in_ok-cube.ensures found.inside;
     }
     in
-    c.in_ok-keep-in-Step.ensures st.question c.requires.known
+    c.in_ok-keep_witness-in-Step.ensures st.question c.requires.known
     (subst (λ x. Breaks st.question x c.in-Step.step) (sym c.in_ok-clone-in-Step.ensures) breaks)

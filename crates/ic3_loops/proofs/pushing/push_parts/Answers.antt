@@ -1,6 +1,6 @@
 use Rattle.std.proofs.Common.{refl, sym, subst}
 use Rattle.edge.proofs.Ends.{counts_none, counts_on}
-use Rattle.ic3_loops.specs.Witnessing.{AreWitnesses}
+use Rattle.ic3_frames.specs.Witnessing.{AreWitnesses}
 use Rattle.ic3_loops.proofs.Narrower.{narrower_none, narrower_on}
 use Rattle.ic3_loops.proofs.Ended.{keeps_on}
 use Rattle.ic3_loops.proofs.pushing.push_parts.Goals as goal

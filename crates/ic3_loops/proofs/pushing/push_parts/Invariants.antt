@@ -1,7 +1,7 @@
 use Rattle.edge.specs.Ends.{CountsConflicts}
 use Rattle.ic3_loops.specs.Sound.{KeepsQuestion}
 use Rattle.ic3_loops.specs.Propagating.{IsNarrower}
-use Rattle.ic3_loops.specs.Witnessing.{AreWitnesses}
+use Rattle.ic3_frames.specs.Witnessing.{AreWitnesses}
 use Rattle.ic3_loops.proofs.pushing.push_parts.Given as goal
 
 abbrev pub invariant-loop-level : goal.invariant-loop-level

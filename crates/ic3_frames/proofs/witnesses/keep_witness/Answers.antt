@@ -1,5 +1,5 @@
-use Rattle.ic3_loops.proofs.Witnessing.{breaks_more}
-use Rattle.ic3_loops.proofs.witnesses.keep.Goals as goal
+use Rattle.ic3_frames.proofs.Witnessing.{breaks_more}
+use Rattle.ic3_frames.proofs.witnesses.keep_witness.Goals as goal
 
 pub returns : goal.returns
 returns c = λ q known breaks. (

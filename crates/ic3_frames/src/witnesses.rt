@@ -2,26 +2,25 @@
 //! is `Witnesses`, and the main call `is_stuck`.
 ghost use Rattle.std.specs.Prelude.{IsTrue, IfOk, OnOk};
 ghost use Rattle.ic3_semantics.specs.Searching.{Question};
-ghost use Rattle.ic3_loops.specs.Sound.{IsStuck};
-ghost use Rattle.ic3_loops.specs.Witnessing.{Breaks, EachBreaks, AreWitnesses};
+ghost use Rattle.ic3_frames.specs.Witnessing.{IsStuck, Breaks, EachBreaks, AreWitnesses};
 
+use crate::frames::Frames;
 use circuit::Position;
 use cnf::Clause;
 use edge::Held;
-use ic3_frames::Frames;
 use indexmap::IndexMap;
 use std::alloc::{AllocError, Global};
 
 /// For lemmas a step of the arena to a state that breaks them: those that were used since the last call of `forget_unused`,
 /// and those that were used between that call and the one before.
 #[derive(Drop)]
-pub(crate) struct Witnesses {
+pub struct Witnesses {
     recent: IndexMap<Clause, Position>,
     earlier: IndexMap<Clause, Position>,
 }
 
 /// No steps. Takes no memory.
-pub(crate) fn no_witnesses(alloc: Global) -> Witnesses
+pub fn no_witnesses(alloc: Global) -> Witnesses
     ensures { (q : Question) → AreWitnesses q result }
 {
     Witnesses {
@@ -31,7 +30,7 @@ pub(crate) fn no_witnesses(alloc: Global) -> Witnesses
 }
 
 /// Forgets the steps that were not used since the last call: so many are kept as there are lemmas, or twice as many.
-pub(crate) fn forget_unused(known: &mut Witnesses)
+pub fn forget_unused(known: &mut Witnesses)
     ensures { (q : Question) → AreWitnesses q known.old → AreWitnesses q known.new }
 {
     std::mem::swap(&mut known.recent, &mut known.earlier);
@@ -39,7 +38,7 @@ pub(crate) fn forget_unused(known: &mut Witnesses)
 }
 
 /// Keeps a step that breaks a lemma. The error is want of memory.
-pub(crate) fn keep(known: &mut Witnesses, lemma: Clause, step: Position) -> Result<(), AllocError>
+pub fn keep_witness(known: &mut Witnesses, lemma: Clause, step: Position) -> Result<(), AllocError>
     ensures { OnOk result ((q : Question) → AreWitnesses q known.old → Breaks q lemma step → AreWitnesses q known.new) }
 {
     known.recent.insert(lemma, step)?;
@@ -61,13 +60,13 @@ fn use_again(known: &mut Witnesses, lemma: &Clause) -> Result<(), AllocError>
     ensures { OnOk result ((q : Question) → AreWitnesses q known.old → AreWitnesses q known.new) }
 {
     match known.earlier.swap_remove(lemma) {
-        Some(step) => keep(known, lemma.clone()?, step),
+        Some(step) => keep_witness(known, lemma.clone()?, step),
         None => Ok(()),
     }
 }
 
 /// Whether a kept step shows that a lemma of a level is stuck. The error is want of memory.
-pub(crate) fn is_stuck(
+pub fn is_stuck(
     known: &mut Witnesses,
     frames: &Frames,
     level: u64,

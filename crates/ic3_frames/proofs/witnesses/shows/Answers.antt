@@ -2,8 +2,8 @@ use Rattle.std.proofs.Common.{rules, sym, ap, ◌∙◌}
 use Rattle.std.specs.Option.{option_copied}
 use Rattle.proof_semantics.specs.Clauses.{clauses_value, values_of}
 use Rattle.ic3_frames.specs.Frames.{frame_at}
-use Rattle.ic3_loops.proofs.Witnessing.{breaks_found}
-use Rattle.ic3_loops.proofs.witnesses.shows.Goals as goal
+use Rattle.ic3_frames.proofs.Witnessing.{breaks_found}
+use Rattle.ic3_frames.proofs.witnesses.shows.Goals as goal
 
 pub returns-in-Some : goal.returns-in-Some
 returns-in-Some c = λ q each shown.

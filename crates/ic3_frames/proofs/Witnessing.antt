@@ -7,7 +7,7 @@ use Rattle.proof_semantics.specs.declared.literals.Lit.{Lit}
 use Rattle.ic3_frames.specs.Frames.{same_clause}
 use Rattle.ic3_frames.proofs.Times.{same-is}
 use Rattle.ic3_semantics.specs.Searching.{Question}
-use Rattle.ic3_loops.specs.Witnessing.{Breaks, EachBreaks}
+use Rattle.ic3_frames.specs.Witnessing.{Breaks, EachBreaks}
 
 -- one step more
 pub breaks_more : {S : Type 0} (q : Question) (old new : IndexMap (List Lit) Position S) (lemma : List Lit) (step : Position)
