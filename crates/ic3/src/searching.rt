@@ -20,7 +20,7 @@ use cnf::{Clause, Cube};
 use edge::{Meter, SolveEnd};
 use entry::Checked;
 use ic3_frames::Frames;
-use ic3_loops::{Iterated, iterate, lemmas_from, resume, single, start_cube};
+use ic3_loops::{Aim, Iterated, iterate, lemmas_from, resume, single, start_cube};
 use ic3_questions::own_uses;
 use ic3_semantics::{Goal, ReachEnd, Reached, Start};
 use items::Items;
@@ -213,7 +213,12 @@ fn by_frames(
     ensures counted { CountsUpTo (room (length asked.now.c.now.latches) frames.old) meter.old meter.new }
 {
     resume(alloc, asked.starts, steps, frames)?;
-    match iterate(alloc, asked.starts, asked.goal, steps, frames, meter)? {
+    let aim = Aim {
+        alloc,
+        starts: asked.starts,
+        goal: asked.goal,
+    };
+    match iterate(&aim, steps, frames, meter)? {
         Iterated::Path(positions) => Ok(Reached::Path(positions)),
         Iterated::Closed(level) => Ok(close(alloc, asked.view, asked.start, frames, level)?),
         Iterated::More => unreachable!(),

@@ -16,6 +16,7 @@ ghost use Rattle.ic3_loops.specs.Propagating.{Narrows};
 ghost use Rattle.ic3_loops.specs.Keeping.{Keeps, Bounds};
 ghost use Rattle.ic3_loops.specs.Blocking.{AreObligations, IsOpen, IsBefore, TellsConsecution, IsPutIn, IsKeptWith, IsBlockedAt, IsChained, IsBlockedNext};
 
+use crate::aim::Aim;
 use crate::generalizing::generalize;
 use crate::lifting::lift_step;
 use crate::obligations::{
@@ -28,7 +29,7 @@ use cnf::Cube;
 use edge::{Meter, SolveEnd};
 use ic3_frames::Frames;
 use ic3_generalise::{based, holds_in, misses_starts, state_cube};
-use ic3_semantics::{Found, Goal, ReachEnd};
+use ic3_semantics::{Found, ReachEnd};
 use items::Items;
 use std::alloc::{AllocError, Global};
 
@@ -54,41 +55,30 @@ pub(crate) enum ConsecutionEnd {
     Excluded,
 }
 
-/// Puts lemmas into the frames until the last one has no state of the goal; or answers the positions of a path. `starts`
-/// is the cube of the starts. Each lemma is counted, and takes room.
+/// Puts lemmas into the frames until the last one has no state of the goal; or answers the positions of a path. Each
+/// lemma is counted, and takes room.
 pub(crate) fn strengthen<S: StepSolver>(
-    alloc: Global,
-    starts: &Cube,
-    goal: &Goal<'_>,
+    aim: &Aim<'_, '_>,
     steps: &mut S,
     frames: &mut Frames,
     meter: &mut Meter,
 ) -> Result<Option<Items<Position>>, ReachEnd>
-    requires search { IsSearch starts.now (S.seen steps.old) frames.old }
+    requires search { IsSearch aim.now.starts.now (S.seen steps.old) frames.old }
     requires two { 2 ≤ length frames.old }
-    requires goal { IsGoalOf (S.seen steps.old) goal.now }
-    ensures blocked { IfOk result (IsBlocked (S.seen steps.old).question goal.now frames.new) }
-    ensures kept { OnOk result (Keeps starts.now (S.seen steps.old) (S.seen steps.new) frames.old frames.new
+    requires goal { IsGoalOf (S.seen steps.old) aim.now.goal.now }
+    ensures blocked { IfOk result (IsBlocked (S.seen steps.old).question aim.now.goal.now frames.new) }
+    ensures kept { OnOk result (Keeps aim.now.starts.now (S.seen steps.old) (S.seen steps.new) frames.old frames.new
         meter.old meter.new) }
     ensures bounded { Bounds (S.seen steps.old) (S.seen steps.new) frames.old meter.old meter.new }
     ensures end { IfErr result (IsReachEnd meter.new) }
 {
     let top = frames.len() - 1;
     let mut obligations = Obligations {
-        nodes: Vec::new(alloc),
-        queue: Vec::new(alloc),
+        nodes: Vec::new(aim.alloc),
+        queue: Vec::new(aim.alloc),
     };
     'obligations: loop {
-        match block_next(
-            alloc,
-            starts,
-            goal,
-            top,
-            &mut obligations,
-            steps,
-            frames,
-            meter,
-        )? {
+        match block_next(aim, top, &mut obligations, steps, frames, meter)? {
             Blocked::Path(positions) => return Ok(Some(positions)),
             Blocked::Missed => return Ok(None),
             Blocked::More => {}
@@ -99,47 +89,33 @@ pub(crate) fn strengthen<S: StepSolver>(
 // Blocks the next obligation: a path, no state of the goal in the last frame, or a lemma more. `top` is the number of the
 // last frame.
 fn block_next<S: StepSolver>(
-    alloc: Global,
-    starts: &Cube,
-    goal: &Goal<'_>,
+    aim: &Aim<'_, '_>,
     top: u64,
     obligations: &mut Obligations,
     steps: &mut S,
     frames: &mut Frames,
     meter: &mut Meter,
 ) -> Result<Blocked, ReachEnd>
-    requires search { IsSearch starts.now (S.seen steps.old) frames.old }
+    requires search { IsSearch aim.now.starts.now (S.seen steps.old) frames.old }
     requires top { top + 1 ≡ length frames.old }
-    requires goal { IsGoalOf (S.seen steps.old) goal.now }
-    requires obligations { AreObligations (S.seen steps.old).question goal.now top obligations.old }
-    ensures outcome { IfOk result (IsBlockedNext (S.seen steps.old).question goal.now top frames.old frames.new) }
-    ensures obligations { OnOk result (AreObligations (S.seen steps.old).question goal.now top obligations.new) }
-    ensures kept { OnOk result (Keeps starts.now (S.seen steps.old) (S.seen steps.new) frames.old frames.new
+    requires goal { IsGoalOf (S.seen steps.old) aim.now.goal.now }
+    requires obligations { AreObligations (S.seen steps.old).question aim.now.goal.now top obligations.old }
+    ensures outcome { IfOk result (IsBlockedNext (S.seen steps.old).question aim.now.goal.now top frames.old frames.new) }
+    ensures obligations { OnOk result (AreObligations (S.seen steps.old).question aim.now.goal.now top obligations.new) }
+    ensures kept { OnOk result (Keeps aim.now.starts.now (S.seen steps.old) (S.seen steps.new) frames.old frames.new
         meter.old meter.new) }
     ensures bounded { Bounds (S.seen steps.old) (S.seen steps.new) frames.old meter.old meter.new }
     ensures end { IfErr result (IsReachEnd meter.new) }
 {
-    match take_next(alloc, starts, goal, top, obligations, steps, frames, meter)? {
-        Some(due) => block(
-            alloc,
-            starts,
-            goal,
-            top,
-            due,
-            obligations,
-            steps,
-            frames,
-            meter,
-        ),
+    match take_next(aim, top, obligations, steps, frames, meter)? {
+        Some(due) => block(aim, top, due, obligations, steps, frames, meter),
         None => Ok(Blocked::Missed),
     }
 }
 
 // The same of the obligation that was taken.
 fn block<S: StepSolver>(
-    alloc: Global,
-    starts: &Cube,
-    goal: &Goal<'_>,
+    aim: &Aim<'_, '_>,
     top: u64,
     due: Obligation,
     obligations: &mut Obligations,
@@ -147,30 +123,20 @@ fn block<S: StepSolver>(
     frames: &mut Frames,
     meter: &mut Meter,
 ) -> Result<Blocked, ReachEnd>
-    requires search { IsSearch starts.now (S.seen steps.old) frames.old }
+    requires search { IsSearch aim.now.starts.now (S.seen steps.old) frames.old }
     requires top { top + 1 ≡ length frames.old }
-    requires obligations { AreObligations (S.seen steps.old).question goal.now top obligations.old }
+    requires obligations { AreObligations (S.seen steps.old).question aim.now.goal.now top obligations.old }
     requires due { IsOpen top frames.old obligations.old.nodes.items due }
-    ensures outcome { IfOk result (IsBlockedNext (S.seen steps.old).question goal.now top frames.old frames.new) }
-    ensures obligations { OnOk result (AreObligations (S.seen steps.old).question goal.now top obligations.new) }
-    ensures kept { OnOk result (Keeps starts.now (S.seen steps.old) (S.seen steps.new) frames.old frames.new
+    ensures outcome { IfOk result (IsBlockedNext (S.seen steps.old).question aim.now.goal.now top frames.old frames.new) }
+    ensures obligations { OnOk result (AreObligations (S.seen steps.old).question aim.now.goal.now top obligations.new) }
+    ensures kept { OnOk result (Keeps aim.now.starts.now (S.seen steps.old) (S.seen steps.new) frames.old frames.new
         meter.old meter.new) }
     ensures bounded { Bounds (S.seen steps.old) (S.seen steps.new) frames.old meter.old meter.new }
     ensures end { IfErr result (IsReachEnd meter.new) }
 {
-    match block_chain(
-        alloc,
-        starts,
-        goal,
-        top,
-        due,
-        obligations,
-        steps,
-        frames,
-        meter,
-    )? {
+    match block_chain(aim, top, due, obligations, steps, frames, meter)? {
         Some(first) => {
-            let way = way_of(alloc, goal, &obligations.nodes, first, steps)?;
+            let way = way_of(aim.alloc, aim.goal, &obligations.nodes, first, steps)?;
             Ok(Blocked::Path(way))
         }
         None => Ok(Blocked::More),
@@ -180,9 +146,7 @@ fn block<S: StepSolver>(
 // Goes from an obligation to one before it, a level at a time: to a start, and answers its node, or to a state that a
 // lemma excludes. All but a start are put into the queue.
 fn block_chain<S: StepSolver>(
-    alloc: Global,
-    starts: &Cube,
-    goal: &Goal<'_>,
+    aim: &Aim<'_, '_>,
     top: u64,
     due: Obligation,
     obligations: &mut Obligations,
@@ -190,31 +154,21 @@ fn block_chain<S: StepSolver>(
     frames: &mut Frames,
     meter: &mut Meter,
 ) -> Result<Option<u64>, ReachEnd>
-    requires search { IsSearch starts.now (S.seen steps.old) frames.old }
+    requires search { IsSearch aim.now.starts.now (S.seen steps.old) frames.old }
     requires top { top + 1 ≡ length frames.old }
-    requires obligations { AreObligations (S.seen steps.old).question goal.now top obligations.old }
+    requires obligations { AreObligations (S.seen steps.old).question aim.now.goal.now top obligations.old }
     requires due { IsOpen top frames.old obligations.old.nodes.items due }
-    ensures outcome { IfOk result (IsChained (length (S.seen steps.old).question.circuit.latches) starts.now frames.old frames.new
-        obligations.new.nodes.items) }
-    ensures obligations { OnOk result (AreObligations (S.seen steps.old).question goal.now top obligations.new) }
-    ensures kept { OnOk result (Keeps starts.now (S.seen steps.old) (S.seen steps.new) frames.old frames.new
+    ensures outcome { IfOk result (IsChained (length (S.seen steps.old).question.circuit.latches) aim.now.starts.now
+        frames.old frames.new obligations.new.nodes.items) }
+    ensures obligations { OnOk result (AreObligations (S.seen steps.old).question aim.now.goal.now top obligations.new) }
+    ensures kept { OnOk result (Keeps aim.now.starts.now (S.seen steps.old) (S.seen steps.new) frames.old frames.new
         meter.old meter.new) }
     ensures bounded { Bounds (S.seen steps.old) (S.seen steps.new) frames.old meter.old meter.new }
     ensures end { IfErr result (IsReachEnd meter.new) }
 {
     let mut at = due;
     'levels: loop {
-        match block_at(
-            alloc,
-            starts,
-            goal,
-            top,
-            at,
-            obligations,
-            steps,
-            frames,
-            meter,
-        )? {
+        match block_at(aim, top, at, obligations, steps, frames, meter)? {
             ConsecutionEnd::Start => return Ok(Some(at.node)),
             ConsecutionEnd::Before(before) => at = before,
             ConsecutionEnd::Excluded => return Ok(None),
@@ -224,9 +178,7 @@ fn block_chain<S: StepSolver>(
 
 // One level of that.
 fn block_at<S: StepSolver>(
-    alloc: Global,
-    starts: &Cube,
-    goal: &Goal<'_>,
+    aim: &Aim<'_, '_>,
     top: u64,
     at: Obligation,
     obligations: &mut Obligations,
@@ -234,25 +186,25 @@ fn block_at<S: StepSolver>(
     frames: &mut Frames,
     meter: &mut Meter,
 ) -> Result<ConsecutionEnd, ReachEnd>
-    requires search { IsSearch starts.now (S.seen steps.old) frames.old }
+    requires search { IsSearch aim.now.starts.now (S.seen steps.old) frames.old }
     requires top { top + 1 ≡ length frames.old }
-    requires obligations { AreObligations (S.seen steps.old).question goal.now top obligations.old }
+    requires obligations { AreObligations (S.seen steps.old).question aim.now.goal.now top obligations.old }
     requires due { IsOpen top frames.old obligations.old.nodes.items at }
-    ensures outcome { IfOk result (IsBlockedAt (length (S.seen steps.old).question.circuit.latches) top starts.now frames.old frames.new
-        obligations.new.nodes.items at) }
-    ensures obligations { OnOk result (AreObligations (S.seen steps.old).question goal.now top obligations.new) }
-    ensures kept { OnOk result (Keeps starts.now (S.seen steps.old) (S.seen steps.new) frames.old frames.new
+    ensures outcome { IfOk result (IsBlockedAt (length (S.seen steps.old).question.circuit.latches) top aim.now.starts.now
+        frames.old frames.new obligations.new.nodes.items at) }
+    ensures obligations { OnOk result (AreObligations (S.seen steps.old).question aim.now.goal.now top obligations.new) }
+    ensures kept { OnOk result (Keeps aim.now.starts.now (S.seen steps.old) (S.seen steps.new) frames.old frames.new
         meter.old meter.new) }
     ensures bounded { Bounds (S.seen steps.old) (S.seen steps.new) frames.old meter.old meter.new }
     ensures end { IfErr result (IsReachEnd meter.new) }
 {
     let state = state_at(&obligations.nodes, at.node);
-    if holds_in(starts, state) {
+    if holds_in(aim.starts, state) {
         return Ok(ConsecutionEnd::Start);
     }
     let below = at.level - 1;
     let cube = cube_at(&obligations.nodes, at.node);
-    let found = consecution(alloc, starts, below, state, cube, steps, frames, meter)?;
+    let found = consecution(aim, below, state, cube, steps, frames, meter)?;
     Ok(keep(obligations, at, below, found)?)
 }
 
@@ -280,8 +232,7 @@ fn keep(
 // Whether no step leads into a node whose state is no start, from the frame below its own: a step, lifted, or a lemma that
 // excludes the state.
 fn consecution<S: StepSolver>(
-    alloc: Global,
-    starts: &Cube,
+    aim: &Aim<'_, '_>,
     below: u64,
     state: &[bool],
     cube: &Cube,
@@ -289,27 +240,25 @@ fn consecution<S: StepSolver>(
     frames: &mut Frames,
     meter: &mut Meter,
 ) -> Result<Option<Lifted>, ReachEnd>
-    requires search { IsSearch starts.now (S.seen steps.old) frames.old }
+    requires search { IsSearch aim.now.starts.now (S.seen steps.old) frames.old }
     requires level { below + 1 < length frames.old }
     requires size { length state.now ≡ length (S.seen steps.old).question.circuit.latches }
     requires frame { allowed_by (frame_at frames.old (below + 1)) state.now ≡ true }
-    requires outside { cube_value (values_of state.now) starts.now ≡ false }
+    requires outside { cube_value (values_of state.now) aim.now.starts.now ≡ false }
     requires part { is_part cube.now (value_literals 0 state.now) ≡ true }
     ensures outcome { IfOk result (TellsConsecution (S.seen steps.old).question frames.old frames.new below cube.now) }
-    ensures kept { OnOk result (Keeps starts.now (S.seen steps.old) (S.seen steps.new) frames.old frames.new
+    ensures kept { OnOk result (Keeps aim.now.starts.now (S.seen steps.old) (S.seen steps.new) frames.old frames.new
         meter.old meter.new) }
     ensures bounded { Bounds (S.seen steps.old) (S.seen steps.new) frames.old meter.old meter.new }
     ensures end { IfErr result (IsReachEnd meter.new) }
 {
-    let asked = asked_about(alloc, starts, state, cube)?;
-    match steps.predecessor(alloc, below, &asked, meter)? {
+    let asked = asked_about(aim.alloc, aim.starts, state, cube)?;
+    match steps.predecessor(aim.alloc, below, &asked, meter)? {
         Found::Step(position) => Ok(Some(from_start(
-            alloc, starts, below, cube, &asked, position, steps, frames, meter,
+            aim, below, cube, &asked, position, steps, frames, meter,
         )?)),
         Found::Missing(part) => {
-            generalize(
-                alloc, starts, below, state, &asked, part, steps, frames, meter,
-            )?;
+            generalize(aim, below, state, &asked, part, steps, frames, meter)?;
             Ok(None)
         }
     }
@@ -336,8 +285,7 @@ fn asked_about(
 // The position of a step that was found, lifted. Where its cube meets the starts, that of a step from a start, if the
 // solver finds one.
 fn from_start<S: StepSolver>(
-    alloc: Global,
-    starts: &Cube,
+    aim: &Aim<'_, '_>,
     below: u64,
     into: &Cube,
     asked: &Cube,
@@ -355,14 +303,16 @@ fn from_start<S: StepSolver>(
     ensures counted { CountsConflicts meter.old meter.new }
     ensures end { IfErr result (IsEnd meter.new) }
 {
-    let found = lifted(alloc, into, asked, below, below, position, steps, frames)?;
-    if misses_starts(starts, &found.cube) {
+    let found = lifted(
+        aim.alloc, into, asked, below, below, position, steps, frames,
+    )?;
+    if misses_starts(aim.starts, &found.cube) {
         return Ok(found);
     }
-    match steps.predecessor(alloc, 0, asked, meter) {
+    match steps.predecessor(aim.alloc, 0, asked, meter) {
         Ok(Found::Step(first)) => {
             drop(found);
-            Ok(lifted(alloc, into, asked, 0, below, first, steps, frames)?)
+            Ok(lifted(aim.alloc, into, asked, 0, below, first, steps, frames)?)
         }
         Ok(Found::Missing(_)) => Ok(found),
         Err(end) => {

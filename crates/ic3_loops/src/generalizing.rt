@@ -13,23 +13,22 @@ ghost use Rattle.ic3_semantics.specs.Searching.{CountsUpTo};
 ghost use Rattle.ic3_loops.specs.Propagating.{Narrows};
 ghost use Rattle.ic3_loops.specs.Blocking.{IsStronger};
 
+use crate::aim::Aim;
 use crate::iterating::steps_of;
 use crate::lemmas::{one_more, put_lemma};
 use crate::shortening::{highest, shorten};
 use crate::step_solver::StepSolver;
-use cnf::{Clause, Cube, Lit};
+use cnf::{Clause, Cube};
 use edge::{Held, Meter};
 use ic3_frames::Frames;
 use ic3_generalise::based;
 use ic3_semantics::ReachEnd;
-use std::alloc::{AllocError, Global};
 
 /// Puts a lemma against the state of an obligation into the frame of a level, from the one above `below` on, as high as
 /// it is seen to hold, and counts it; answers the level. The state lies in the cube, which misses the starts. No step
 /// leads from the frame `below` into `part`, a part of the cube, of which literals are dropped while that stays so.
 pub(crate) fn generalize<S: StepSolver>(
-    alloc: Global,
-    starts: &Cube,
+    aim: &Aim<'_, '_>,
     below: u64,
     state: &[bool],
     cube: &Cube,
@@ -38,14 +37,14 @@ pub(crate) fn generalize<S: StepSolver>(
     frames: &mut Frames,
     meter: &mut Meter,
 ) -> Result<u64, ReachEnd>
-    requires search { IsSearch starts.now (S.seen steps.old) frames.old }
+    requires search { IsSearch aim.now.starts.now (S.seen steps.old) frames.old }
     requires level { below + 1 < length frames.old }
     requires size { length state.now ≡ length (S.seen steps.old).question.circuit.latches }
     requires frame { allowed_by (frame_at frames.old (below + 1)) state.now ≡ true }
     requires among { is_part cube.now (value_literals 0 state.now) ≡ true }
-    requires misses { misses_starts starts.now cube.now ≡ true }
+    requires misses { misses_starts aim.now.starts.now cube.now ≡ true }
     requires missing { IsMissing (S.seen steps.old) below cube.now part }
-    ensures search { OnOk result (IsSearch starts.now (S.seen steps.new) frames.new) }
+    ensures search { OnOk result (IsSearch aim.now.starts.now (S.seen steps.new) frames.new) }
     ensures level { IfOk result (λ level. (below + 1 ≤ level) × (level < length frames.old)) }
     ensures excluded { IfOk result (λ level. allowed_by (frame_at frames.new level) state.now ≡ false) }
     ensures stronger { IfOk result (λ level.
@@ -57,11 +56,11 @@ pub(crate) fn generalize<S: StepSolver>(
     ensures counted { CountsUpTo 1 meter.old meter.new }
     ensures end { IfErr result (IsReachEnd meter.new) }
 {
-    let first = based(alloc, starts, cube, part)?;
-    let shorter = shorten(alloc, starts, below, first, steps, frames, meter)?;
-    let from = highest(alloc, starts, below, &shorter, steps, frames, meter)?;
+    let first = based(aim.alloc, aim.starts, cube, part)?;
+    let shorter = shorten(aim, below, first, steps, frames, meter)?;
+    let from = highest(aim, below, &shorter, steps, frames, meter)?;
     let lemma = shorter.negation()?;
-    put_counted(starts, from, state, lemma, steps, frames, meter)
+    put_counted(aim.starts, from, state, lemma, steps, frames, meter)
 }
 
 // Counts the lemma, and puts it into the frame above the level `from`.

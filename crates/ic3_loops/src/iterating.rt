@@ -11,6 +11,7 @@ ghost use Rattle.ic3_loops.specs.Propagating.{Narrows, AllStuck};
 ghost use Rattle.ic3_loops.specs.Iterating.{IsIterated, TakesRoom, HasEnded};
 ghost use Rattle.ic3_frames.specs.Witnessing.{AreWitnesses};
 
+use crate::aim::Aim;
 use crate::blocking::strengthen;
 use crate::propagating::propagate;
 use crate::step_solver::StepSolver;
@@ -18,9 +19,8 @@ use circuit::Position;
 use cnf::Cube;
 use edge::Meter;
 use ic3_frames::{Frames, Witnesses, no_witnesses};
-use ic3_semantics::{Goal, ReachEnd};
+use ic3_semantics::ReachEnd;
 use items::Items;
-use std::alloc::Global;
 
 /// What an iteration comes to.
 #[derive(Drop)]
@@ -33,21 +33,19 @@ pub enum Iterated {
     More,
 }
 
-/// Iterations until there is a path, or two neighbouring frames have the same lemmas. `starts` is the cube of the starts.
-/// Each frame that is opened is counted.
+/// Iterations until there is a path, or two neighbouring frames have the same lemmas. Each frame that is
+/// opened is counted.
 pub fn iterate<S: StepSolver>(
-    alloc: Global,
-    starts: &Cube,
-    goal: &Goal<'_>,
+    aim: &Aim<'_, '_>,
     steps: &mut S,
     frames: &mut Frames,
     meter: &mut Meter,
 ) -> Result<Iterated, ReachEnd>
-    requires search { IsSearch starts.now (S.seen steps.old) frames.old }
+    requires search { IsSearch aim.now.starts.now (S.seen steps.old) frames.old }
     requires two { 2 ≤ length frames.old }
-    requires goal { IsGoalOf (S.seen steps.old) goal.now }
-    ensures search { OnOk result (IsSearch starts.now (S.seen steps.new) frames.new) }
-    ensures outcome { IfOk result (IsIterated (S.seen steps.old).question goal.now frames.new) }
+    requires goal { IsGoalOf (S.seen steps.old) aim.now.goal.now }
+    ensures search { OnOk result (IsSearch aim.now.starts.now (S.seen steps.new) frames.new) }
+    ensures outcome { IfOk result (IsIterated (S.seen steps.old).question aim.now.goal.now frames.new) }
     ensures ended { IfOk result HasEnded }
     ensures two { OnOk result (2 ≤ length frames.new) }
     ensures more { OnOk result (length frames.old ≤ length frames.new) }
@@ -59,9 +57,9 @@ pub fn iterate<S: StepSolver>(
     ensures fewest { OnOk result (CountsAtLeast (length frames.new - length frames.old) meter.old meter.new) }
     ensures end { IfErr result (IsReachEnd meter.new) }
 {
-    let mut known = no_witnesses(alloc);
+    let mut known = no_witnesses(aim.alloc);
     'iterations: loop {
-        match iteration(alloc, starts, goal, &mut known, steps, frames, meter)? {
+        match iteration(aim, &mut known, steps, frames, meter)? {
             Iterated::More => {}
             ended => return Ok(ended),
         }
@@ -70,23 +68,21 @@ pub fn iterate<S: StepSolver>(
 
 // One iteration. `known` has steps of the question that showed lemmas stuck.
 fn iteration<S: StepSolver>(
-    alloc: Global,
-    starts: &Cube,
-    goal: &Goal<'_>,
+    aim: &Aim<'_, '_>,
     known: &mut Witnesses,
     steps: &mut S,
     frames: &mut Frames,
     meter: &mut Meter,
 ) -> Result<Iterated, ReachEnd>
-    requires search { IsSearch starts.now (S.seen steps.old) frames.old }
+    requires search { IsSearch aim.now.starts.now (S.seen steps.old) frames.old }
     requires two { 2 ≤ length frames.old }
-    requires goal { IsGoalOf (S.seen steps.old) goal.now }
+    requires goal { IsGoalOf (S.seen steps.old) aim.now.goal.now }
     requires known { AreWitnesses (S.seen steps.old).question known.old }
-    ensures search { OnOk result (IsSearch starts.now (S.seen steps.new) frames.new) }
+    ensures search { OnOk result (IsSearch aim.now.starts.now (S.seen steps.new) frames.new) }
     ensures two { OnOk result (2 ≤ length frames.new) }
     ensures more { OnOk result (length frames.old ≤ length frames.new) }
     ensures narrows { OnOk result (Narrows frames.old frames.new) }
-    ensures outcome { IfOk result (IsIterated (S.seen steps.old).question goal.now frames.new) }
+    ensures outcome { IfOk result (IsIterated (S.seen steps.old).question aim.now.goal.now frames.new) }
     ensures known { OnOk result (AreWitnesses (S.seen steps.old).question known.new) }
     ensures smaller { let n = length (S.seen steps.old).question.circuit.latches in
         IfOk result (TakesRoom (room n frames.old) (room n frames.new)) }
@@ -97,32 +93,30 @@ fn iteration<S: StepSolver>(
     ensures fewest { OnOk result (CountsAtLeast (length frames.new - length frames.old) meter.old meter.new) }
     ensures end { IfErr result (IsReachEnd meter.new) }
 {
-    match strengthen(alloc, starts, goal, steps, frames, meter)? {
+    match strengthen(aim, steps, frames, meter)? {
         Some(positions) => Ok(Iterated::Path(positions)),
-        None => propagate_and_open(alloc, starts, goal, known, steps, frames, meter),
+        None => propagate_and_open(aim, known, steps, frames, meter),
     }
 }
 
 // Propagates lemmas, and opens a frame where no two neighbouring frames have the same lemmas. The last frame has no state
 // of the goal.
 fn propagate_and_open<S: StepSolver>(
-    alloc: Global,
-    starts: &Cube,
-    goal: &Goal<'_>,
+    aim: &Aim<'_, '_>,
     known: &mut Witnesses,
     steps: &mut S,
     frames: &mut Frames,
     meter: &mut Meter,
 ) -> Result<Iterated, ReachEnd>
-    requires search { IsSearch starts.now (S.seen steps.old) frames.old }
+    requires search { IsSearch aim.now.starts.now (S.seen steps.old) frames.old }
     requires two { 2 ≤ length frames.old }
-    requires misses { MissesLast (S.seen steps.old).question goal.now frames.old }
+    requires misses { MissesLast (S.seen steps.old).question aim.now.goal.now frames.old }
     requires known { AreWitnesses (S.seen steps.old).question known.old }
-    ensures search { OnOk result (IsSearch starts.now (S.seen steps.new) frames.new) }
+    ensures search { OnOk result (IsSearch aim.now.starts.now (S.seen steps.new) frames.new) }
     ensures two { OnOk result (2 ≤ length frames.new) }
     ensures more { OnOk result (length frames.old ≤ length frames.new) }
     ensures narrows { OnOk result (Narrows frames.old frames.new) }
-    ensures outcome { IfOk result (IsIterated (S.seen steps.old).question goal.now frames.new) }
+    ensures outcome { IfOk result (IsIterated (S.seen steps.old).question aim.now.goal.now frames.new) }
     ensures known { OnOk result (AreWitnesses (S.seen steps.old).question known.new) }
     ensures smaller { let n = length (S.seen steps.old).question.circuit.latches in
         IfOk result (TakesRoom (room n frames.old) (room n frames.new)) }
@@ -133,11 +127,11 @@ fn propagate_and_open<S: StepSolver>(
     ensures fewest { OnOk result (CountsAtLeast (length frames.new - length frames.old) meter.old meter.new) }
     ensures end { IfErr result (IsReachEnd meter.new) }
 {
-    propagate(alloc, starts, goal, known, steps, frames, meter)?;
+    propagate(aim, known, steps, frames, meter)?;
     match frames.equal_pair() {
         Some(level) => Ok(Iterated::Closed(level)),
         None => {
-            open_frame(starts, steps, frames, meter)?;
+            open_frame(aim.starts, steps, frames, meter)?;
             Ok(Iterated::More)
         }
     }

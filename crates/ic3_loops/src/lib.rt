@@ -54,6 +54,7 @@
 //! scaffolding, but for `Narrows`.
 #![tactic(auto)]
 
+mod aim;
 mod blocking;
 mod closing;
 mod ending;
@@ -71,6 +72,7 @@ mod resuming;
 mod shortening;
 mod step_solver;
 
+pub use aim::Aim;
 pub use closing::lemmas_from;
 pub use iterating::{Iterated, iterate};
 pub use one_literal::single;

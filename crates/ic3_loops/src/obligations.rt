@@ -10,6 +10,7 @@ ghost use Rattle.ic3_loops.specs.Sound.{IsSearch, IsGoalOf};
 ghost use Rattle.ic3_loops.specs.Lifting.{IsGoalLifted};
 ghost use Rattle.ic3_loops.specs.Blocking.{way_state, state_at, cube_at, AreNodes, IsDue, IsOpen, IsPutIn, IsFirst, IsStateFirst, IsLastFirst, IsLiteralFirst, IsNext, AreObligations, levels_left, left_above};
 
+use crate::aim::Aim;
 use crate::lifting::lift_goal;
 use crate::step_solver::StepSolver;
 use circuit::Position;
@@ -248,8 +249,7 @@ fn last_node<S: StepSolver>(
 // A node of a position that meets the literal as goal. Where its cube meets the starts, that of a position from a start,
 // if the solver finds one.
 fn last_from_start<S: StepSolver>(
-    alloc: Global,
-    starts: &Cube,
+    aim: &Aim<'_, '_>,
     literal: u64,
     top: u64,
     node: Node,
@@ -262,13 +262,13 @@ fn last_from_start<S: StepSolver>(
     ensures end { IfErr result (IsEnd meter.new) }
     ensures counted { CountsConflicts meter.old meter.new }
 {
-    if misses_starts(starts, &node.cube) {
+    if misses_starts(aim.starts, &node.cube) {
         return Ok(node);
     }
-    match steps.meets_goal(alloc, 0, literal, meter) {
+    match steps.meets_goal(aim.alloc, 0, literal, meter) {
         Ok(Some(position)) => {
             drop(node);
-            Ok(last_node(alloc, literal, 0, top, position, steps)?)
+            Ok(last_node(aim.alloc, literal, 0, top, position, steps)?)
         }
         Ok(None) => Ok(node),
         Err(end) => {
@@ -280,8 +280,7 @@ fn last_from_start<S: StepSolver>(
 
 // A position that meets the literal as goal, with its cube, if the frame of a level allows one.
 fn literal_node<S: StepSolver>(
-    alloc: Global,
-    starts: &Cube,
+    aim: &Aim<'_, '_>,
     literal: u64,
     level: u64,
     steps: &mut S,
@@ -292,10 +291,10 @@ fn literal_node<S: StepSolver>(
     ensures end { IfErr result (IsEnd meter.new) }
     ensures counted { CountsConflicts meter.old meter.new }
 {
-    match steps.meets_goal(alloc, level, literal, meter)? {
+    match steps.meets_goal(aim.alloc, level, literal, meter)? {
         Some(position) => {
-            let node = last_node(alloc, literal, level, level, position, steps)?;
-            Ok(Some(last_from_start(alloc, starts, literal, level, node, steps, meter)?))
+            let node = last_node(aim.alloc, literal, level, level, position, steps)?;
+            Ok(Some(last_from_start(aim, literal, level, node, steps, meter)?))
         }
         None => Ok(None),
     }
@@ -303,51 +302,45 @@ fn literal_node<S: StepSolver>(
 
 // A node of the goal that the last frame allows, if there is one. `top` is the number of the last frame.
 fn first_node<S: StepSolver>(
-    alloc: Global,
-    starts: &Cube,
-    goal: &Goal<'_>,
+    aim: &Aim<'_, '_>,
     top: u64,
     steps: &mut S,
     frames: &Frames,
     meter: &mut Meter,
 ) -> Result<Option<Node>, ReachEnd>
-    requires search { IsSearch starts.now (S.seen steps.old) frames.now }
-    requires goal { IsGoalOf (S.seen steps.old) goal.now }
-    ensures first { IfOk result (IsFirst (S.seen steps.old).question goal.now frames.now top) }
+    requires search { IsSearch aim.now.starts.now (S.seen steps.old) frames.now }
+    requires goal { IsGoalOf (S.seen steps.old) aim.now.goal.now }
+    ensures first { IfOk result (IsFirst (S.seen steps.old).question aim.now.goal.now frames.now top) }
     ensures same { (S.seen steps.new) ≡ (S.seen steps.old) }
     ensures end { IfErr result (IsReachEnd meter.new) }
     ensures counted { CountsConflicts meter.old meter.new }
 {
-    match goal {
-        Goal::State(to) => Ok(state_node(alloc, to, frames, top)?),
-        Goal::Literal { literal, .. } => Ok(literal_node(
-            alloc, starts, *literal, top, steps, meter,
-        )?),
+    match aim.goal {
+        Goal::State(to) => Ok(state_node(aim.alloc, to, frames, top)?),
+        Goal::Literal { literal, .. } => Ok(literal_node(aim, *literal, top, steps, meter)?),
     }
 }
 
 // The obligation of a state of the goal at the last level, if its frame has one.
 fn begin<S: StepSolver>(
-    alloc: Global,
-    starts: &Cube,
-    goal: &Goal<'_>,
+    aim: &Aim<'_, '_>,
     top: u64,
     nodes: &mut Vec<Node>,
     steps: &mut S,
     frames: &Frames,
     meter: &mut Meter,
 ) -> Result<Option<Obligation>, ReachEnd>
-    requires search { IsSearch starts.now (S.seen steps.old) frames.now }
-    requires goal { IsGoalOf (S.seen steps.old) goal.now }
-    requires nodes { AreNodes (S.seen steps.old).question goal.now nodes.old.items }
-    ensures nodes { OnOk result (AreNodes (S.seen steps.old).question goal.now nodes.new.items) }
+    requires search { IsSearch aim.now.starts.now (S.seen steps.old) frames.now }
+    requires goal { IsGoalOf (S.seen steps.old) aim.now.goal.now }
+    requires nodes { AreNodes (S.seen steps.old).question aim.now.goal.now nodes.old.items }
+    ensures nodes { OnOk result (AreNodes (S.seen steps.old).question aim.now.goal.now nodes.new.items) }
     ensures more { OnOk result (length nodes.old.items ≤ length nodes.new.items) }
-    ensures next { IfOk result (IsNext (S.seen steps.old).question goal.now top frames.now nodes.new.items) }
+    ensures next { IfOk result (IsNext (S.seen steps.old).question aim.now.goal.now top frames.now nodes.new.items) }
     ensures same { (S.seen steps.new) ≡ (S.seen steps.old) }
     ensures end { IfErr result (IsReachEnd meter.new) }
     ensures counted { CountsConflicts meter.old meter.new }
 {
-    match first_node(alloc, starts, goal, top, steps, frames, meter)? {
+    match first_node(aim, top, steps, frames, meter)? {
         Some(first) => {
             let node = put_node(nodes, first)?;
             Ok(Some(Obligation { node, level: top }))
@@ -359,35 +352,24 @@ fn begin<S: StepSolver>(
 /// Takes the next obligation whose frame allows its state, or begins with a state of the goal in the last frame; `None`
 /// where there is none of either. `top` is the number of the last frame.
 pub(crate) fn take_next<S: StepSolver>(
-    alloc: Global,
-    starts: &Cube,
-    goal: &Goal<'_>,
+    aim: &Aim<'_, '_>,
     top: u64,
     obligations: &mut Obligations,
     steps: &mut S,
     frames: &Frames,
     meter: &mut Meter,
 ) -> Result<Option<Obligation>, ReachEnd>
-    requires search { IsSearch starts.now (S.seen steps.old) frames.now }
-    requires goal { IsGoalOf (S.seen steps.old) goal.now }
-    requires obligations { AreObligations (S.seen steps.old).question goal.now top obligations.old }
-    ensures obligations { OnOk result (AreObligations (S.seen steps.old).question goal.now top obligations.new) }
-    ensures next { IfOk result (IsNext (S.seen steps.old).question goal.now top frames.now obligations.new.nodes.items) }
+    requires search { IsSearch aim.now.starts.now (S.seen steps.old) frames.now }
+    requires goal { IsGoalOf (S.seen steps.old) aim.now.goal.now }
+    requires obligations { AreObligations (S.seen steps.old).question aim.now.goal.now top obligations.old }
+    ensures obligations { OnOk result (AreObligations (S.seen steps.old).question aim.now.goal.now top obligations.new) }
+    ensures next { IfOk result (IsNext (S.seen steps.old).question aim.now.goal.now top frames.now obligations.new.nodes.items) }
     ensures same { (S.seen steps.new) ≡ (S.seen steps.old) }
     ensures end { IfErr result (IsReachEnd meter.new) }
     ensures counted { CountsConflicts meter.old meter.new }
 {
     match take_open(top, &obligations.nodes, &mut obligations.queue, frames)? {
         Some(due) => Ok(Some(due)),
-        None => begin(
-            alloc,
-            starts,
-            goal,
-            top,
-            &mut obligations.nodes,
-            steps,
-            frames,
-            meter,
-        ),
+        None => begin(aim, top, &mut obligations.nodes, steps, frames, meter),
     }
 }

@@ -6,6 +6,7 @@ ghost use Rattle.ic3_loops.specs.Sound.{IsSearch, IsRelative, KeepsQuestion, Are
 ghost use Rattle.ic3_loops.specs.Propagating.{IsPushed, IsTried, IsNarrower, StayStuck, AllStuck};
 ghost use Rattle.ic3_frames.specs.Witnessing.{AreWitnesses};
 
+use crate::aim::Aim;
 use crate::lemmas::{has_lemma, lemma_at, one_more};
 use crate::pushing::{push_parts, tried};
 use crate::step_solver::StepSolver;
@@ -13,24 +14,21 @@ use cnf::{Clause, Cube};
 use edge::{Meter, SolveEnd};
 use ic3_frames::{Frames, Witnesses, forget_unused};
 use ic3_semantics::{Goal, Start};
-use std::alloc::{AllocError, Global};
+use std::alloc::AllocError;
 
 /// Puts lemmas that hold after each step from their frame into the next frame too, from level 1 up: first a part of each;
 /// and then each lemma that is left as it is, so that those that stay are stuck. The lemmas of level 0, which are the
-/// literals of the starts, are tried while there are two frames, from a state where the goal is a state. `starts` is the
-/// cube of the starts.
+/// literals of the starts, are tried while there are two frames, from a state where the goal is a state.
 pub(crate) fn propagate<S: StepSolver>(
-    alloc: Global,
-    starts: &Cube,
-    goal: &Goal<'_>,
+    aim: &Aim<'_, '_>,
     known: &mut Witnesses,
     steps: &mut S,
     frames: &mut Frames,
     meter: &mut Meter,
 ) -> Result<(), SolveEnd>
-    requires search { IsSearch starts.now (S.seen steps.old) frames.old }
+    requires search { IsSearch aim.now.starts.now (S.seen steps.old) frames.old }
     requires known { AreWitnesses (S.seen steps.old).question known.old }
-    ensures narrower { OnOk result (IsNarrower starts.now (S.seen steps.old) (S.seen steps.new) frames.old frames.new) }
+    ensures narrower { OnOk result (IsNarrower aim.now.starts.now (S.seen steps.old) (S.seen steps.new) frames.old frames.new) }
     ensures stuck { OnOk result (AllStuck (S.seen steps.old).question frames.new) }
     ensures known { OnOk result (AreWitnesses (S.seen steps.old).question known.new) }
     ensures question { KeepsQuestion (S.seen steps.old) (S.seen steps.new) }
@@ -38,33 +36,31 @@ pub(crate) fn propagate<S: StepSolver>(
     ensures counted { CountsConflicts meter.old meter.new }
 {
     forget_unused(known);
-    push_parts(alloc, starts, known, steps, frames, meter)?;
-    push_lemmas(alloc, starts, goal, known, steps, frames, meter)
+    push_parts(aim, known, steps, frames, meter)?;
+    push_lemmas(aim, known, steps, frames, meter)
 }
 
 // Puts each lemma that holds after each step from its frame into the next frame: from level 1 up all, of level 0 where they
 // are due.
 fn push_lemmas<S: StepSolver>(
-    alloc: Global,
-    starts: &Cube,
-    goal: &Goal<'_>,
+    aim: &Aim<'_, '_>,
     known: &mut Witnesses,
     steps: &mut S,
     frames: &mut Frames,
     meter: &mut Meter,
 ) -> Result<(), SolveEnd>
-    requires search { IsSearch starts.now (S.seen steps.old) frames.old }
+    requires search { IsSearch aim.now.starts.now (S.seen steps.old) frames.old }
     requires known { AreWitnesses (S.seen steps.old).question known.old }
-    ensures narrower { OnOk result (IsNarrower starts.now (S.seen steps.old) (S.seen steps.new) frames.old frames.new) }
+    ensures narrower { OnOk result (IsNarrower aim.now.starts.now (S.seen steps.old) (S.seen steps.new) frames.old frames.new) }
     ensures stuck { OnOk result (AllStuck (S.seen steps.old).question frames.new) }
     ensures known { OnOk result (AreWitnesses (S.seen steps.old).question known.new) }
     ensures question { KeepsQuestion (S.seen steps.old) (S.seen steps.new) }
     ensures end { IfErr result (IsEnd meter.new) }
     ensures counted { CountsConflicts meter.old meter.new }
 {
-    let first = first_due(frames.len(), steps.start(), goal);
+    let first = first_due(frames.len(), steps.start(), aim.goal);
     for level in first..frames.len() {
-        push_level(alloc, starts, level - 1, known, steps, frames, meter)?;
+        push_level(aim, level - 1, known, steps, frames, meter)?;
     }
     Ok(())
 }
@@ -84,18 +80,17 @@ fn first_due(count: u64, start: &Start, goal: &Goal<'_>) -> u64
 
 // The same of one level, of which the lemmas that came last are tried first.
 fn push_level<S: StepSolver>(
-    alloc: Global,
-    starts: &Cube,
+    aim: &Aim<'_, '_>,
     level: u64,
     known: &mut Witnesses,
     steps: &mut S,
     frames: &mut Frames,
     meter: &mut Meter,
 ) -> Result<(), SolveEnd>
-    requires search { IsSearch starts.now (S.seen steps.old) frames.old }
+    requires search { IsSearch aim.now.starts.now (S.seen steps.old) frames.old }
     requires known { AreWitnesses (S.seen steps.old).question known.old }
     requires next { level + 1 < length frames.old }
-    ensures narrower { OnOk result (IsNarrower starts.now (S.seen steps.old) (S.seen steps.new) frames.old frames.new) }
+    ensures narrower { OnOk result (IsNarrower aim.now.starts.now (S.seen steps.old) (S.seen steps.new) frames.old frames.new) }
     ensures stuck { OnOk result (AreStuck (S.seen steps.old).question frames.new level) }
     ensures stay { OnOk result (StayStuck (S.seen steps.old).question frames.old frames.new level) }
     ensures known { OnOk result (AreWitnesses (S.seen steps.old).question known.new) }
@@ -106,7 +101,7 @@ fn push_level<S: StepSolver>(
     let mut place = frames.count(level);
     'places: while place > 0 {
         place -= 1;
-        try_push(alloc, starts, level, place, known, steps, frames, meter)?;
+        try_push(aim, level, place, known, steps, frames, meter)?;
     }
     Ok(())
 }
@@ -114,8 +109,7 @@ fn push_level<S: StepSolver>(
 // Puts the lemma at a place of a level, where there is one, into the next frame too, if it holds after each step from its
 // frame.
 fn try_push<S: StepSolver>(
-    alloc: Global,
-    starts: &Cube,
+    aim: &Aim<'_, '_>,
     level: u64,
     place: u64,
     known: &mut Witnesses,
@@ -123,10 +117,10 @@ fn try_push<S: StepSolver>(
     frames: &mut Frames,
     meter: &mut Meter,
 ) -> Result<(), SolveEnd>
-    requires search { IsSearch starts.now (S.seen steps.old) frames.old }
+    requires search { IsSearch aim.now.starts.now (S.seen steps.old) frames.old }
     requires known { AreWitnesses (S.seen steps.old).question known.old }
     requires next { level + 1 < length frames.old }
-    ensures narrower { OnOk result (IsNarrower starts.now (S.seen steps.old) (S.seen steps.new) frames.old frames.new) }
+    ensures narrower { OnOk result (IsNarrower aim.now.starts.now (S.seen steps.old) (S.seen steps.new) frames.old frames.new) }
     ensures tried { OnOk result (IsTried (S.seen steps.old).question frames.old frames.new level place) }
     ensures stay { OnOk result (StayStuck (S.seen steps.old).question frames.old frames.new level) }
     ensures known { OnOk result (AreWitnesses (S.seen steps.old).question known.new) }
@@ -138,8 +132,8 @@ fn try_push<S: StepSolver>(
         return Ok(());
     }
     let lemma = lemma_at(frames, level, place)?;
-    match tried(alloc, level, &lemma, known, steps, frames, meter)? {
-        Some(_) => Ok(push_one(starts, level, place, &lemma, steps, frames)?),
+    match tried(aim.alloc, level, &lemma, known, steps, frames, meter)? {
+        Some(_) => Ok(push_one(aim.starts, level, place, &lemma, steps, frames)?),
         None => Ok(()),
     }
 }

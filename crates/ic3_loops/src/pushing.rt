@@ -9,6 +9,7 @@ ghost use Rattle.ic3_loops.specs.Holding.{TellsOn};
 ghost use Rattle.ic3_loops.specs.Propagating.{IsNarrower};
 ghost use Rattle.ic3_frames.specs.Witnessing.{AreWitnesses};
 
+use crate::aim::Aim;
 use crate::lemmas::{has_lemma, lemma_at, one_more, put_lemma};
 use crate::step_solver::StepSolver;
 use cnf::{Clause, Cube};
@@ -21,41 +22,39 @@ use std::alloc::{AllocError, Global};
 /// Puts the part of each lemma that holds after each step from its frame into the next frame, from level 1 up. The frames
 /// up to that one may get stronger by it, so that lemmas that were tried before need not be stuck any more.
 pub(crate) fn push_parts<S: StepSolver>(
-    alloc: Global,
-    starts: &Cube,
+    aim: &Aim<'_, '_>,
     known: &mut Witnesses,
     steps: &mut S,
     frames: &mut Frames,
     meter: &mut Meter,
 ) -> Result<(), SolveEnd>
-    requires search { IsSearch starts.now (S.seen steps.old) frames.old }
+    requires search { IsSearch aim.now.starts.now (S.seen steps.old) frames.old }
     requires known { AreWitnesses (S.seen steps.old).question known.old }
-    ensures narrower { OnOk result (IsNarrower starts.now (S.seen steps.old) (S.seen steps.new) frames.old frames.new) }
+    ensures narrower { OnOk result (IsNarrower aim.now.starts.now (S.seen steps.old) (S.seen steps.new) frames.old frames.new) }
     ensures known { OnOk result (AreWitnesses (S.seen steps.old).question known.new) }
     ensures question { KeepsQuestion (S.seen steps.old) (S.seen steps.new) }
     ensures end { IfErr result (IsEnd meter.new) }
     ensures counted { CountsConflicts meter.old meter.new }
 {
     for level in 2..frames.len() {
-        push_own(alloc, starts, level - 1, known, steps, frames, meter)?;
+        push_own(aim, level - 1, known, steps, frames, meter)?;
     }
     Ok(())
 }
 
 // The same of one level, of which the lemmas that came last are tried first.
 fn push_own<S: StepSolver>(
-    alloc: Global,
-    starts: &Cube,
+    aim: &Aim<'_, '_>,
     level: u64,
     known: &mut Witnesses,
     steps: &mut S,
     frames: &mut Frames,
     meter: &mut Meter,
 ) -> Result<(), SolveEnd>
-    requires search { IsSearch starts.now (S.seen steps.old) frames.old }
+    requires search { IsSearch aim.now.starts.now (S.seen steps.old) frames.old }
     requires known { AreWitnesses (S.seen steps.old).question known.old }
     requires next { level + 1 < length frames.old }
-    ensures narrower { OnOk result (IsNarrower starts.now (S.seen steps.old) (S.seen steps.new) frames.old frames.new) }
+    ensures narrower { OnOk result (IsNarrower aim.now.starts.now (S.seen steps.old) (S.seen steps.new) frames.old frames.new) }
     ensures known { OnOk result (AreWitnesses (S.seen steps.old).question known.new) }
     ensures question { KeepsQuestion (S.seen steps.old) (S.seen steps.new) }
     ensures end { IfErr result (IsEnd meter.new) }
@@ -64,15 +63,14 @@ fn push_own<S: StepSolver>(
     let mut place = frames.count(level);
     'places: while place > 0 {
         place -= 1;
-        push_part(alloc, starts, level, place, known, steps, frames, meter)?;
+        push_part(aim, level, place, known, steps, frames, meter)?;
     }
     Ok(())
 }
 
 // The same of the lemma at a place, where there is one.
 fn push_part<S: StepSolver>(
-    alloc: Global,
-    starts: &Cube,
+    aim: &Aim<'_, '_>,
     level: u64,
     place: u64,
     known: &mut Witnesses,
@@ -80,10 +78,10 @@ fn push_part<S: StepSolver>(
     frames: &mut Frames,
     meter: &mut Meter,
 ) -> Result<(), SolveEnd>
-    requires search { IsSearch starts.now (S.seen steps.old) frames.old }
+    requires search { IsSearch aim.now.starts.now (S.seen steps.old) frames.old }
     requires known { AreWitnesses (S.seen steps.old).question known.old }
     requires next { level + 1 < length frames.old }
-    ensures narrower { OnOk result (IsNarrower starts.now (S.seen steps.old) (S.seen steps.new) frames.old frames.new) }
+    ensures narrower { OnOk result (IsNarrower aim.now.starts.now (S.seen steps.old) (S.seen steps.new) frames.old frames.new) }
     ensures known { OnOk result (AreWitnesses (S.seen steps.old).question known.new) }
     ensures question { KeepsQuestion (S.seen steps.old) (S.seen steps.new) }
     ensures end { IfErr result (IsEnd meter.new) }
@@ -93,8 +91,8 @@ fn push_part<S: StepSolver>(
         return Ok(());
     }
     let lemma = lemma_at(frames, level, place)?;
-    match tried(alloc, level, &lemma, known, steps, frames, meter)? {
-        Some(part) => Ok(put_part(alloc, starts, level, &lemma, part, steps, frames)?),
+    match tried(aim.alloc, level, &lemma, known, steps, frames, meter)? {
+        Some(part) => Ok(put_part(aim, level, &lemma, part, steps, frames)?),
         None => Ok(()),
     }
 }
@@ -102,27 +100,26 @@ fn push_part<S: StepSolver>(
 // Puts the lemma of a part of a lemma's cube, which no step from the frame of the level enters, into the next frame: with a
 // literal by which it misses the starts.
 fn put_part<S: StepSolver>(
-    alloc: Global,
-    starts: &Cube,
+    aim: &Aim<'_, '_>,
     level: u64,
     lemma: &Clause,
     part: Cube,
     steps: &mut S,
     frames: &mut Frames,
 ) -> Result<(), AllocError>
-    requires search { IsSearch starts.now (S.seen steps.old) frames.old }
+    requires search { IsSearch aim.now.starts.now (S.seen steps.old) frames.old }
     requires next { level + 1 < length frames.old }
     requires over { IsOver (length (S.seen steps.old).question.circuit.latches) lemma.now }
-    requires based { has_one_of starts.now lemma.now ≡ true }
+    requires based { has_one_of aim.now.starts.now lemma.now ≡ true }
     requires missing { IsMissing (S.seen steps.old) level (map negation lemma.now) part }
-    ensures narrower { OnOk result (IsNarrower starts.now (S.seen steps.old) (S.seen steps.new) frames.old frames.new) }
+    ensures narrower { OnOk result (IsNarrower aim.now.starts.now (S.seen steps.old) (S.seen steps.new) frames.old frames.new) }
     ensures question { KeepsQuestion (S.seen steps.old) (S.seen steps.new) }
 {
-    let cube = negated(alloc, lemma)?;
-    let longer = based(alloc, starts, &cube, part)?;
+    let cube = negated(aim.alloc, lemma)?;
+    let longer = based(aim.alloc, aim.starts, &cube, part)?;
     let clause = longer.negation()?;
     let next = one_more(level)?;
-    put_lemma(starts, next, clause, steps, frames)
+    put_lemma(aim.starts, next, clause, steps, frames)
 }
 
 // The cube of the negated literals of a lemma.

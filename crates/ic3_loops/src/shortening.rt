@@ -8,6 +8,7 @@ ghost use Rattle.ic3_loops.specs.Blocking.{NoneEnters};
 ghost use Rattle.ic3_generalise.specs.Cubes.{misses_starts};
 ghost use Rattle.ic3_loops.specs.Generalizing.{IsExcluded, IsAsked, IsHeldFrom};
 
+use crate::aim::Aim;
 use crate::lemmas::one_more;
 use crate::step_solver::StepSolver;
 use cnf::Cube;
@@ -89,28 +90,27 @@ pub(crate) fn inductive_part<S: StepSolver>(
 /// A part of a cube that misses the starts and that no step from the frame of the level enters, of which this is so too.
 /// Literals of few lemmas are dropped first.
 pub(crate) fn shorten<S: StepSolver>(
-    alloc: Global,
-    starts: &Cube,
+    aim: &Aim<'_, '_>,
     level: u64,
     cube: Cube,
     steps: &mut S,
     frames: &Frames,
     meter: &mut Meter,
 ) -> Result<Cube, SolveEnd>
-    requires { IsExcluded starts.now (S.seen steps.old) level cube }
+    requires { IsExcluded aim.now.starts.now (S.seen steps.old) level cube }
     ensures part { IfOk result (λ part. is_part part cube ≡ true) }
-    ensures excluded { IfOk result (IsExcluded starts.now (S.seen steps.old) level) }
+    ensures excluded { IfOk result (IsExcluded aim.now.starts.now (S.seen steps.old) level) }
     ensures same { (S.seen steps.new) ≡ (S.seen steps.old) }
     ensures counted { CountsConflicts meter.old meter.new }
     ensures end { IfErr result (IsEnd meter.new) }
 {
-    let order = by_activity(alloc, &cube, frames)?;
+    let order = by_activity(aim.alloc, &cube, frames)?;
     let mut asker = LevelTest {
-        starts,
+        starts: aim.starts,
         level,
         steps,
     };
-    generalise(alloc, cube, order.as_slice(), &mut asker, meter)
+    generalise(aim.alloc, cube, order.as_slice(), &mut asker, meter)
 }
 
 // Whether no step from the frame of the level enters the cube.
@@ -136,8 +136,7 @@ fn none_enters<S: StepSolver>(
 /// The last of the levels from `level` on, and below that of the last frame, up to which no step from the frames enters
 /// the cube; no step from the frame of `level` does.
 pub(crate) fn highest<S: StepSolver>(
-    alloc: Global,
-    _starts: &Cube,
+    aim: &Aim<'_, '_>,
     level: u64,
     cube: &Cube,
     steps: &mut S,
@@ -145,8 +144,8 @@ pub(crate) fn highest<S: StepSolver>(
     meter: &mut Meter,
 ) -> Result<u64, SolveEnd>
     requires level { level + 1 < length frames.now }
-    requires excluded { IsExcluded _starts.now (S.seen steps.old) level cube.now }
-    ensures held { IfOk result (IsHeldFrom _starts.now (S.seen steps.old) (length frames.now) level cube.now) }
+    requires excluded { IsExcluded aim.now.starts.now (S.seen steps.old) level cube.now }
+    ensures held { IfOk result (IsHeldFrom aim.now.starts.now (S.seen steps.old) (length frames.now) level cube.now) }
     ensures same { (S.seen steps.new) ≡ (S.seen steps.old) }
     ensures counted { CountsConflicts meter.old meter.new }
     ensures end { IfErr result (IsEnd meter.new) }
@@ -154,7 +153,7 @@ pub(crate) fn highest<S: StepSolver>(
     let first = one_more(level)?;
     let mut from = level;
     for next in first..frames.len() - 1 {
-        let none = none_enters(alloc, next, cube, steps, meter)?;
+        let none = none_enters(aim.alloc, next, cube, steps, meter)?;
         if !none {
             return Ok(from);
         }

@@ -8,13 +8,13 @@ use Rattle.ic3_loops.proofs.blocking.block_at.Goals as goal
 pub consecution-requires-clause-part : goal.consecution-requires-clause-part
 consecution-requires-clause-part g c =
     let ns = c.args.obligations.now.nodes.items in
-    let node = node-at-is (g.S.StepSolver.seen c.args.steps.now).question c.args.goal.now ns c.args.at.node c.requires.obligations.nodes c.requires.due.due.node in
+    let node = node-at-is (g.S.StepSolver.seen c.args.steps.now).question c.args.aim.now.goal.now ns c.args.at.node c.requires.obligations.nodes c.requires.due.due.node in
     subst (λ s. is_part c.cube_at-cube.result.now (value_literals 0 s) ≡ true) (sym c.state_at-state.ensures)
     (subst (λ x. is_part x (value_literals 0 (state_at ns c.args.at.node)) ≡ true) (sym c.cube_at-cube.ensures) node.part)
 
 pub returns-clause-obligations : goal.returns-clause-obligations
 returns-clause-obligations g c =
-    kept-are (g.S.StepSolver.seen c.args.steps.now).question c.args.goal.now c.args.top (c.args.at.level - 1) c.args.frames.now c.consecution.new.frames
+    kept-are (g.S.StepSolver.seen c.args.steps.now).question c.args.aim.now.goal.now c.args.top (c.args.at.level - 1) c.args.frames.now c.consecution.new.frames
     c.args.obligations.now c.keep.new.obligations c.args.at c.in_ok-found.found c.in_ok-keep.field-0 c.requires.obligations
     c.requires.due.due c.in_ok-keep.ensures.due
     (subst

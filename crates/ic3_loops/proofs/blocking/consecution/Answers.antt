@@ -8,7 +8,7 @@ use Rattle.ic3_loops.proofs.Excluding.{part_over, some-room, counted-behind}
 use Rattle.ic3_loops.proofs.blocking.consecution.Goals as goal
 
 pub asked_about-requires-clause-over : goal.asked_about-requires-clause-over
-asked_about-requires-clause-over g c = subst (λ n. IsOver n c.args.starts.now) (sym c.requires.size) c.requires.search.starts.over
+asked_about-requires-clause-over g c = subst (λ n. IsOver n c.args.aim.now.starts.now) (sym c.requires.size) c.requires.search.starts.over
 
 pub predecessor-requires : goal.predecessor-requires
 predecessor-requires g c =

@@ -19,18 +19,18 @@ use Rattle.ic3_loops.proofs.generalizing.generalize.Goals as goal
 pub shorten-requires : goal.shorten-requires
 shorten-requires g c =
     let n = length (g.S.StepSolver.seen c.args.steps.now).question.circuit.latches in
-    excluded-based c.args.starts.now (g.S.StepSolver.seen c.args.steps.now) c.args.below c.args.cube.now c.args.part c.in_ok-first.first
+    excluded-based c.args.aim.now.starts.now (g.S.StepSolver.seen c.args.steps.now) c.args.below c.args.cube.now c.args.part c.in_ok-first.first
     (part_over n c.args.cube.now (value_literals 0 c.args.state.now) c.requires.among
     (value_over n 0 c.args.state.now (omega (arith, c.requires.size)))) c.requires.missing c.in_ok-first.ensures
 
 pub highest-requires-clause-excluded : goal.highest-requires-clause-excluded
 highest-requires-clause-excluded g c =
-    subst (λ st. IsExcluded c.args.starts.now st c.args.below c.in_ok-shorter.shorter) (sym c.in_ok-shorter.ensures.same) c.in_ok-shorter.ensures.excluded
+    subst (λ st. IsExcluded c.args.aim.now.starts.now st c.args.below c.in_ok-shorter.shorter) (sym c.in_ok-shorter.ensures.same) c.in_ok-shorter.ensures.excluded
 
 pub put_counted-requires-clause-search : goal.put_counted-requires-clause-search
 put_counted-requires-clause-search g c =
     let same : (g.S.StepSolver.seen c.highest.new.steps) ≡ (g.S.StepSolver.seen c.args.steps.now) = c.in_ok-from.ensures.same ∙ c.in_ok-shorter.ensures.same in
-    subst (λ st. IsSearch c.args.starts.now st c.args.frames.now) (sym same) c.requires.search
+    subst (λ st. IsSearch c.args.aim.now.starts.now st c.args.frames.now) (sym same) c.requires.search
 
 pub put_counted-requires-clause-size : goal.put_counted-requires-clause-size
 put_counted-requires-clause-size g c =
@@ -57,7 +57,7 @@ put_counted-requires-clause-over g c =
 
 pub put_counted-requires-clause-based : goal.put_counted-requires-clause-based
 put_counted-requires-clause-based g c =
-    rw c.in_ok-lemma.ensures (based-is c.args.starts.now c.in_ok-shorter.shorter c.in_ok-from.ensures.held.excluded.misses)
+    rw c.in_ok-lemma.ensures (based-is c.args.aim.now.starts.now c.in_ok-shorter.shorter c.in_ok-from.ensures.held.excluded.misses)
 
 pub put_counted-requires-clause-relative : goal.put_counted-requires-clause-relative
 put_counted-requires-clause-relative g c =

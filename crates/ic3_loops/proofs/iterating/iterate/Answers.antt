@@ -65,7 +65,7 @@ returns-in_default g c =
     in
     record {
       search = says.search;
-      outcome = subst (λ q. IsIterated q c.args.goal.now c.iteration.new.frames c.in_ok-ended.ended) is says.outcome;
+      outcome = subst (λ q. IsIterated q c.args.aim.now.goal.now c.iteration.new.frames c.in_ok-ended.ended) is says.outcome;
       ended = (search rules);
       two = says.two;
       more = omega (arith, says.more, before.more);

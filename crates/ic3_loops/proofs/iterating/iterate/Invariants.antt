@@ -8,7 +8,7 @@ use Rattle.ic3_loops.proofs.iterating.iterate.Given as goal
 
 abbrev pub invariant-iterations : goal.invariant-iterations
 invariant-iterations g l = record {
-  search : IsSearch l.starts (g.S.StepSolver.seen l.steps) l.frames;
+  search : IsSearch l.aim.starts.now (g.S.StepSolver.seen l.steps) l.frames;
   two : 2 ≤ length l.frames;
   more : length l.initial.frames ≤ length l.frames;
   narrows : Narrows l.initial.frames l.frames;

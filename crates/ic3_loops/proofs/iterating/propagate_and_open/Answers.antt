@@ -11,7 +11,7 @@ returns-in-Some-clause-outcome g c = record {
   below = c.in-Some.ensures.found;
   same = c.in-Some.ensures.equal;
   misses =
-      narrower_misses (g.S.StepSolver.seen c.args.steps.now).question c.args.goal.now c.args.frames.now c.propagate.new.frames (c.in-Some.level + 1)
+      narrower_misses (g.S.StepSolver.seen c.args.steps.now).question c.args.aim.now.goal.now c.args.frames.now c.propagate.new.frames (c.in-Some.level + 1)
       c.in_ok-propagate.ensures.narrower.number c.in-Some.ensures.found c.in_ok-propagate.ensures.narrower.narrows c.requires.misses;
 }
 

@@ -16,7 +16,7 @@ push_lemmas-requires-clause-known g c =
 pub returns-clause-narrower : goal.returns-clause-narrower
 returns-clause-narrower g c =
     on_ok c.push_lemmas.result _ _
-    (narrower_on c.args.starts.now (g.S.StepSolver.seen c.args.steps.now) (g.S.StepSolver.seen c.push_parts.new.steps)
+    (narrower_on c.args.aim.now.starts.now (g.S.StepSolver.seen c.args.steps.now) (g.S.StepSolver.seen c.push_parts.new.steps)
     (g.S.StepSolver.seen c.push_lemmas.new.steps) c.args.frames.now c.push_parts.new.frames c.push_lemmas.new.frames
     c.in_ok-push_parts.ensures.narrower)
     c.push_lemmas.ensures.narrower

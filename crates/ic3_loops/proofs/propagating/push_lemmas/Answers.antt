@@ -10,7 +10,7 @@ use Rattle.ic3_loops.proofs.propagating.push_lemmas.Goals as goal
 
 pub loop-level-init : goal.loop-level-init
 loop-level-init g c = record {
-  narrower = narrower_none c.args.starts.now (g.S.StepSolver.seen c.args.steps.now) c.args.frames.now c.requires.search;
+  narrower = narrower_none c.args.aim.now.starts.now (g.S.StepSolver.seen c.args.steps.now) c.args.frames.now c.requires.search;
   stuck = λ k some below. absurd (omega (arith, some, below, c.first_due-first.ensures.next));
   known = c.requires.known;
   question = record { question = refl; avoid = refl };
@@ -29,7 +29,7 @@ loop-level-preserved g c =
     let is = before.question.question in
     record {
       narrower =
-          narrower_on c.args.starts.now first (g.S.StepSolver.seen c.loop-level.steps) (g.S.StepSolver.seen c.push_level.new.steps) c.args.frames.now
+          narrower_on c.args.aim.now.starts.now first (g.S.StepSolver.seen c.loop-level.steps) (g.S.StepSolver.seen c.push_level.new.steps) c.args.frames.now
           c.loop-level.frames c.push_level.new.frames before.narrower says.narrower;
       stuck =
           stuck_more first.question c.loop-level.frames c.push_level.new.frames c.loop-level.level (omega (arith, c.first_due-first.ensures.some))

@@ -9,7 +9,7 @@ use Rattle.ic3_loops.proofs.propagating.push_level.Goals as goal
 
 pub places-init : goal.places-init
 places-init g c = record {
-  narrower = narrower_none c.args.starts.now (g.S.StepSolver.seen c.args.steps.now) c.args.frames.now c.requires.search;
+  narrower = narrower_none c.args.aim.now.starts.now (g.S.StepSolver.seen c.args.steps.now) c.args.frames.now c.requires.search;
   stuck =
       none_tried (g.S.StepSolver.seen c.args.steps.now).question c.args.frames.now c.args.level c.count-place.result
       (λ below. omega (arith, below, c.count-place.ensures));
@@ -32,7 +32,7 @@ places-preserved g c =
     let back : c.places.place ≡ c.places.place - 1 + 1 = omega (arith, c.places-test.true) in
     record {
       narrower =
-          narrower_on c.args.starts.now first (g.S.StepSolver.seen c.places.steps) (g.S.StepSolver.seen c.try_push.new.steps) c.args.frames.now
+          narrower_on c.args.aim.now.starts.now first (g.S.StepSolver.seen c.places.steps) (g.S.StepSolver.seen c.try_push.new.steps) c.args.frames.now
           c.places.frames c.try_push.new.frames before.narrower says.narrower;
       stuck =
           subst (λ q. IsTried q c.places.frames c.try_push.new.frames c.args.level (c.places.place - 1)) is says.tried

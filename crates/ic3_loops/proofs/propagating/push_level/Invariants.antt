@@ -7,7 +7,7 @@ use Rattle.ic3_loops.proofs.propagating.push_level.Given as goal
 
 abbrev pub invariant-places : goal.invariant-places
 invariant-places g l = record {
-  narrower : IsNarrower l.starts (g.S.StepSolver.seen l.initial.steps) (g.S.StepSolver.seen l.steps) l.initial.frames l.frames;
+  narrower : IsNarrower l.aim.starts.now (g.S.StepSolver.seen l.initial.steps) (g.S.StepSolver.seen l.steps) l.initial.frames l.frames;
   stuck : StuckFrom (g.S.StepSolver.seen l.initial.steps).question l.frames l.level l.place;
   stay : StayStuck (g.S.StepSolver.seen l.initial.steps).question l.initial.frames l.frames l.level;
   known : AreWitnesses (g.S.StepSolver.seen l.initial.steps).question l.known;

@@ -16,7 +16,7 @@ returns-then-not-has_lemma-clause-tried g c = λ behind.
 
 pub returns-then-not-has_lemma-clause-narrower : goal.returns-then-not-has_lemma-clause-narrower
 returns-then-not-has_lemma-clause-narrower g c =
-    narrower_none c.args.starts.now (g.S.StepSolver.seen c.args.steps.now) c.args.frames.now c.requires.search
+    narrower_none c.args.aim.now.starts.now (g.S.StepSolver.seen c.args.steps.now) c.args.frames.now c.requires.search
 
 pub tried-requires-clause-over : goal.tried-requires-clause-over
 tried-requires-clause-over g c =

@@ -7,7 +7,7 @@ use Rattle.ic3_loops.proofs.pushing.push_own.Goals as goal
 
 pub places-init : goal.places-init
 places-init g c = record {
-  narrower = narrower_none c.args.starts.now (g.S.StepSolver.seen c.args.steps.now) c.args.frames.now c.requires.search;
+  narrower = narrower_none c.args.aim.now.starts.now (g.S.StepSolver.seen c.args.steps.now) c.args.frames.now c.requires.search;
   known = c.requires.known;
   question = record { question = refl; avoid = refl };
   counted = counts_none c.args.meter.now;
@@ -24,7 +24,7 @@ places-preserved g c =
     let says = c.in_ok-push_part.ensures in
     record {
       narrower =
-          narrower_on c.args.starts.now first (g.S.StepSolver.seen c.places.steps) (g.S.StepSolver.seen c.push_part.new.steps)
+          narrower_on c.args.aim.now.starts.now first (g.S.StepSolver.seen c.places.steps) (g.S.StepSolver.seen c.push_part.new.steps)
           c.args.frames.now c.places.frames c.push_part.new.frames before.narrower says.narrower;
       known = subst (λ q. AreWitnesses q c.push_part.new.known) before.question.question says.known;
       question = keeps_on first (g.S.StepSolver.seen c.places.steps) (g.S.StepSolver.seen c.push_part.new.steps) before.question says.question;

@@ -6,7 +6,7 @@ use Rattle.ic3_loops.proofs.pushing.push_own.Given as goal
 
 abbrev pub invariant-places : goal.invariant-places
 invariant-places g l = record {
-  narrower : IsNarrower l.starts (g.S.StepSolver.seen l.initial.steps) (g.S.StepSolver.seen l.steps) l.initial.frames l.frames;
+  narrower : IsNarrower l.aim.starts.now (g.S.StepSolver.seen l.initial.steps) (g.S.StepSolver.seen l.steps) l.initial.frames l.frames;
   known : AreWitnesses (g.S.StepSolver.seen l.initial.steps).question l.known;
   question : KeepsQuestion (g.S.StepSolver.seen l.initial.steps) (g.S.StepSolver.seen l.steps);
   counted : CountsConflicts l.initial.meter l.meter;

@@ -9,7 +9,7 @@ use Rattle.ic3_loops.proofs.pushing.push_part.Goals as goal
 
 pub returns-then-not-has_lemma-clause-narrower : goal.returns-then-not-has_lemma-clause-narrower
 returns-then-not-has_lemma-clause-narrower g c =
-    narrower_none c.args.starts.now (g.S.StepSolver.seen c.args.steps.now) c.args.frames.now c.requires.search
+    narrower_none c.args.aim.now.starts.now (g.S.StepSolver.seen c.args.steps.now) c.args.frames.now c.requires.search
 
 pub tried-requires-clause-over : goal.tried-requires-clause-over
 tried-requires-clause-over g c =
@@ -28,6 +28,6 @@ put_part-requires-clause-over g c =
 
 pub put_part-requires-clause-based : goal.put_part-requires-clause-based
 put_part-requires-clause-based g c =
-    subst (λ lemma. has_one_of c.args.starts.now lemma ≡ true) (sym c.in_ok-lemma.ensures)
-    (all_own (λ clause. has_one_of c.args.starts.now clause ≡ true) c.args.frames.now c.args.level c.requires.search.sound.based c.args.place []
+    subst (λ lemma. has_one_of c.args.aim.now.starts.now lemma ≡ true) (sym c.in_ok-lemma.ensures)
+    (all_own (λ clause. has_one_of c.args.aim.now.starts.now clause ≡ true) c.args.frames.now c.args.level c.requires.search.sound.based c.args.place []
     (c.has_lemma.ensures.0 c.if-not-has_lemma.false))

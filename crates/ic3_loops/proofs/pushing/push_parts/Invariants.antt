@@ -6,7 +6,7 @@ use Rattle.ic3_loops.proofs.pushing.push_parts.Given as goal
 
 abbrev pub invariant-loop-level : goal.invariant-loop-level
 invariant-loop-level g l = record {
-  narrower : IsNarrower l.starts (g.S.StepSolver.seen l.initial.steps) (g.S.StepSolver.seen l.steps) l.initial.frames l.frames;
+  narrower : IsNarrower l.aim.starts.now (g.S.StepSolver.seen l.initial.steps) (g.S.StepSolver.seen l.steps) l.initial.frames l.frames;
   known : AreWitnesses (g.S.StepSolver.seen l.initial.steps).question l.known;
   question : KeepsQuestion (g.S.StepSolver.seen l.initial.steps) (g.S.StepSolver.seen l.steps);
   counted : CountsConflicts l.initial.meter l.meter;

@@ -13,8 +13,8 @@ use Rattle.ic3_loops.proofs.pushing.put_part.Goals as goal
 
 pub based-requires-clause-misses : goal.based-requires-clause-misses
 based-requires-clause-misses g c =
-    subst (λ x. misses_starts c.args.starts.now x ≡ true) (sym c.in_ok-cube.ensures)
-    (misses-lemma c.args.starts.now c.args.lemma.now c.requires.based)
+    subst (λ x. misses_starts c.args.aim.now.starts.now x ≡ true) (sym c.in_ok-cube.ensures)
+    (misses-lemma c.args.aim.now.starts.now c.args.lemma.now c.requires.based)
 
 pub based-requires-clause-among : goal.based-requires-clause-among
 based-requires-clause-among g c = subst (λ x. is_part c.args.part x ≡ true) (sym c.in_ok-cube.ensures) c.requires.missing.among
@@ -23,22 +23,22 @@ pub put_lemma-requires-clause-over : goal.put_lemma-requires-clause-over
 put_lemma-requires-clause-over g c =
     let st = (g.S.StepSolver.seen c.args.steps.now) in
     let n = length st.question.circuit.latches in
-    let excluded : IsExcluded c.args.starts.now st c.args.level c.in_ok-longer.longer =
-    excluded-based c.args.starts.now st c.args.level c.in_ok-cube.cube c.args.part c.in_ok-longer.longer
+    let excluded : IsExcluded c.args.aim.now.starts.now st c.args.level c.in_ok-longer.longer =
+    excluded-based c.args.aim.now.starts.now st c.args.level c.in_ok-cube.cube c.args.part c.in_ok-longer.longer
     (subst (IsOver n) (sym c.in_ok-cube.ensures) (negation_over n c.args.lemma.now c.requires.over))
     (subst (λ x. IsMissing st c.args.level x c.args.part) (sym c.in_ok-cube.ensures) c.requires.missing) c.in_ok-longer.ensures
     in
     subst (IsOver n) (sym c.in_ok-clause.ensures) (negation_over n c.in_ok-longer.longer excluded.over)
 
 pub put_lemma-requires-clause-based : goal.put_lemma-requires-clause-based
-put_lemma-requires-clause-based g c = rw c.in_ok-clause.ensures (based-is c.args.starts.now c.in_ok-longer.longer c.in_ok-longer.ensures.misses)
+put_lemma-requires-clause-based g c = rw c.in_ok-clause.ensures (based-is c.args.aim.now.starts.now c.in_ok-longer.longer c.in_ok-longer.ensures.misses)
 
 pub put_lemma-requires-clause-relative : goal.put_lemma-requires-clause-relative
 put_lemma-requires-clause-relative g c =
     let st = (g.S.StepSolver.seen c.args.steps.now) in
     let n = length st.question.circuit.latches in
-    let excluded : IsExcluded c.args.starts.now st c.args.level c.in_ok-longer.longer =
-    excluded-based c.args.starts.now st c.args.level c.in_ok-cube.cube c.args.part c.in_ok-longer.longer
+    let excluded : IsExcluded c.args.aim.now.starts.now st c.args.level c.in_ok-longer.longer =
+    excluded-based c.args.aim.now.starts.now st c.args.level c.in_ok-cube.cube c.args.part c.in_ok-longer.longer
     (subst (IsOver n) (sym c.in_ok-cube.ensures) (negation_over n c.args.lemma.now c.requires.over))
     (subst (λ x. IsMissing st c.args.level x c.args.part) (sym c.in_ok-cube.ensures) c.requires.missing) c.in_ok-longer.ensures
     in
@@ -50,7 +50,7 @@ pub returns-clause-narrower : goal.returns-clause-narrower
 returns-clause-narrower g c =
     on_both c.put_lemma.result _ _ _
     (λ search is.
-    narrower_with c.args.starts.now (g.S.StepSolver.seen c.args.steps.now) (g.S.StepSolver.seen c.put_lemma.new.steps) c.args.frames.now
+    narrower_with c.args.aim.now.starts.now (g.S.StepSolver.seen c.args.steps.now) (g.S.StepSolver.seen c.put_lemma.new.steps) c.args.frames.now
     c.put_lemma.new.frames c.in_ok-next.next c.in_ok-clause.clause search c.put_lemma.ensures.question
     (omega (arith, c.requires.next, c.in_ok-next.ensures)) is)
     c.put_lemma.ensures.search c.put_lemma.ensures.frames

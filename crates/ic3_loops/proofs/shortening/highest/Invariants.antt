@@ -5,7 +5,7 @@ use Rattle.ic3_loops.proofs.shortening.highest.Given as goal
 
 abbrev pub invariant-loop-next : goal.invariant-loop-next
 invariant-loop-next g l = record {
-  held : IsHeldFrom l._starts (g.S.StepSolver.seen l.initial.steps) (length l.frames) l.level l.cube l.from;
+  held : IsHeldFrom l.aim.starts.now (g.S.StepSolver.seen l.initial.steps) (length l.frames) l.level l.cube l.from;
   next : l.from + 1 ≡ l.next;
   same : (g.S.StepSolver.seen l.steps) ≡ (g.S.StepSolver.seen l.initial.steps);
   counted : CountsConflicts l.initial.meter l.meter;
