@@ -19,6 +19,13 @@ pub(crate) fn one_more(place: u64) -> Result<u64, AllocError>
     }
 }
 
+/// Where a lemma stands: its level, and its place among the lemmas that this level has and the next has not.
+#[derive(Clone, Copy, Drop)]
+pub(crate) struct LemmaPlace {
+    pub(crate) level: u64,
+    pub(crate) place: u64,
+}
+
 /// Whether a level has a lemma at this place that the next level has not.
 pub(crate) fn has_lemma(frames: &Frames, level: u64, place: u64) -> bool
     ensures { IsTrue result ↔ (place < length (own_lemmas frames.now level)) }

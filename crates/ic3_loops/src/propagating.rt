@@ -7,13 +7,13 @@ ghost use Rattle.ic3_loops.specs.Propagating.{IsPushed, IsTried, IsNarrower, Sta
 ghost use Rattle.ic3_frames.specs.Witnessing.{AreWitnesses};
 
 use crate::aim::Aim;
-use crate::lemmas::{has_lemma, lemma_at, one_more};
+use crate::lemmas::{LemmaPlace, has_lemma, lemma_at, one_more};
 use crate::pushing::{push_parts, tried};
 use crate::step_solver::StepSolver;
 use cnf::{Clause, Cube};
 use edge::{Meter, SolveEnd};
 use ic3_frames::{Frames, Witnesses, forget_unused};
-use ic3_semantics::{Goal, Start};
+use ic3_semantics::{Goal, Lemma, Start};
 use std::alloc::AllocError;
 
 /// Puts lemmas that hold after each step from their frame into the next frame too, from level 1 up: first a part of each;
@@ -101,7 +101,8 @@ fn push_level<S: StepSolver>(
     let mut place = frames.count(level);
     'places: while place > 0 {
         place -= 1;
-        try_push(aim, level, place, known, steps, frames, meter)?;
+        let at = LemmaPlace { level, place };
+        try_push(aim, at, known, steps, frames, meter)?;
     }
     Ok(())
 }
@@ -110,8 +111,7 @@ fn push_level<S: StepSolver>(
 // frame.
 fn try_push<S: StepSolver>(
     aim: &Aim<'_, '_>,
-    level: u64,
-    place: u64,
+    at: LemmaPlace,
     known: &mut Witnesses,
     steps: &mut S,
     frames: &mut Frames,
@@ -119,21 +119,25 @@ fn try_push<S: StepSolver>(
 ) -> Result<(), SolveEnd>
     requires search { IsSearch aim.now.starts.now (S.seen steps.old) frames.old }
     requires known { AreWitnesses (S.seen steps.old).question known.old }
-    requires next { level + 1 < length frames.old }
+    requires next { at.level + 1 < length frames.old }
     ensures narrower { OnOk result (IsNarrower aim.now.starts.now (S.seen steps.old) (S.seen steps.new) frames.old frames.new) }
-    ensures tried { OnOk result (IsTried (S.seen steps.old).question frames.old frames.new level place) }
-    ensures stay { OnOk result (StayStuck (S.seen steps.old).question frames.old frames.new level) }
+    ensures tried { OnOk result (IsTried (S.seen steps.old).question frames.old frames.new at.level at.place) }
+    ensures stay { OnOk result (StayStuck (S.seen steps.old).question frames.old frames.new at.level) }
     ensures known { OnOk result (AreWitnesses (S.seen steps.old).question known.new) }
     ensures question { KeepsQuestion (S.seen steps.old) (S.seen steps.new) }
     ensures end { IfErr result (IsEnd meter.new) }
     ensures counted { CountsConflicts meter.old meter.new }
 {
-    if !has_lemma(frames, level, place) {
+    if !has_lemma(frames, at.level, at.place) {
         return Ok(());
     }
-    let lemma = lemma_at(frames, level, place)?;
-    match tried(aim.alloc, level, &lemma, known, steps, frames, meter)? {
-        Some(_) => Ok(push_one(aim.starts, level, place, &lemma, steps, frames)?),
+    let clause = lemma_at(frames, at.level, at.place)?;
+    let lemma = Lemma {
+        level: at.level,
+        clause,
+    };
+    match tried(aim.alloc, &lemma, known, steps, frames, meter)? {
+        Some(_) => Ok(push_one(aim.starts, at, &lemma.clause, steps, frames)?),
         None => Ok(()),
     }
 }
@@ -141,22 +145,21 @@ fn try_push<S: StepSolver>(
 // Puts a lemma that holds after each step from its frame into the next frame, and behind the solver's lemmas.
 fn push_one<S: StepSolver>(
     _starts: &Cube,
-    level: u64,
-    place: u64,
+    at: LemmaPlace,
     lemma: &Clause,
     steps: &mut S,
     frames: &mut Frames,
 ) -> Result<(), AllocError>
     requires search { IsSearch _starts.now (S.seen steps.old) frames.old }
-    requires next { level + 1 < length frames.old }
-    requires place { place < length (own_lemmas frames.old level) }
-    requires lemma { lemma.now ≡ slice_index_or (own_lemmas frames.old level) place [] }
-    requires relative { IsRelative (S.seen steps.old).question frames.old (level + 1) lemma.now }
+    requires next { at.level + 1 < length frames.old }
+    requires place { at.place < length (own_lemmas frames.old at.level) }
+    requires lemma { lemma.now ≡ slice_index_or (own_lemmas frames.old at.level) at.place [] }
+    requires relative { IsRelative (S.seen steps.old).question frames.old (at.level + 1) lemma.now }
     ensures narrower { OnOk result (IsNarrower _starts.now (S.seen steps.old) (S.seen steps.new) frames.old frames.new) }
-    ensures pushed { OnOk result (IsPushed frames.old frames.new level place) }
+    ensures pushed { OnOk result (IsPushed frames.old frames.new at.level at.place) }
     ensures question { KeepsQuestion (S.seen steps.old) (S.seen steps.new) }
 {
-    let next = one_more(level)?;
+    let next = one_more(at.level)?;
     steps.hold(next, lemma)?;
-    frames.push_on(level, place)
+    frames.push_on(at.level, at.place)
 }

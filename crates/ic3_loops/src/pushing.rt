@@ -10,13 +10,13 @@ ghost use Rattle.ic3_loops.specs.Propagating.{IsNarrower};
 ghost use Rattle.ic3_frames.specs.Witnessing.{AreWitnesses};
 
 use crate::aim::Aim;
-use crate::lemmas::{has_lemma, lemma_at, one_more, put_lemma};
+use crate::lemmas::{LemmaPlace, has_lemma, lemma_at, one_more, put_lemma};
 use crate::step_solver::StepSolver;
 use cnf::{Clause, Cube};
 use edge::{Meter, SolveEnd};
 use ic3_frames::{Frames, Witnesses, is_stuck, keep_witness};
 use ic3_generalise::based;
-use ic3_semantics::Found;
+use ic3_semantics::{Found, Lemma};
 use std::alloc::{AllocError, Global};
 
 /// Puts the part of each lemma that holds after each step from its frame into the next frame, from level 1 up. The frames
@@ -63,7 +63,8 @@ fn push_own<S: StepSolver>(
     let mut place = frames.count(level);
     'places: while place > 0 {
         place -= 1;
-        push_part(aim, level, place, known, steps, frames, meter)?;
+        let at = LemmaPlace { level, place };
+        push_part(aim, at, known, steps, frames, meter)?;
     }
     Ok(())
 }
@@ -71,8 +72,7 @@ fn push_own<S: StepSolver>(
 // The same of the lemma at a place, where there is one.
 fn push_part<S: StepSolver>(
     aim: &Aim<'_, '_>,
-    level: u64,
-    place: u64,
+    at: LemmaPlace,
     known: &mut Witnesses,
     steps: &mut S,
     frames: &mut Frames,
@@ -80,19 +80,23 @@ fn push_part<S: StepSolver>(
 ) -> Result<(), SolveEnd>
     requires search { IsSearch aim.now.starts.now (S.seen steps.old) frames.old }
     requires known { AreWitnesses (S.seen steps.old).question known.old }
-    requires next { level + 1 < length frames.old }
+    requires next { at.level + 1 < length frames.old }
     ensures narrower { OnOk result (IsNarrower aim.now.starts.now (S.seen steps.old) (S.seen steps.new) frames.old frames.new) }
     ensures known { OnOk result (AreWitnesses (S.seen steps.old).question known.new) }
     ensures question { KeepsQuestion (S.seen steps.old) (S.seen steps.new) }
     ensures end { IfErr result (IsEnd meter.new) }
     ensures counted { CountsConflicts meter.old meter.new }
 {
-    if !has_lemma(frames, level, place) {
+    if !has_lemma(frames, at.level, at.place) {
         return Ok(());
     }
-    let lemma = lemma_at(frames, level, place)?;
-    match tried(aim.alloc, level, &lemma, known, steps, frames, meter)? {
-        Some(part) => Ok(put_part(aim, level, &lemma, part, steps, frames)?),
+    let clause = lemma_at(frames, at.level, at.place)?;
+    let lemma = Lemma {
+        level: at.level,
+        clause,
+    };
+    match tried(aim.alloc, &lemma, known, steps, frames, meter)? {
+        Some(part) => Ok(put_part(aim, at.level, &lemma.clause, part, steps, frames)?),
         None => Ok(()),
     }
 }
@@ -137,51 +141,49 @@ fn negated(alloc: Global, lemma: &Clause) -> Result<Cube, AllocError>
 /// from outside the cube; else none. A step that is kept of it, and begins in the frame, spares the question.
 pub(crate) fn tried<S: StepSolver>(
     alloc: Global,
-    level: u64,
-    lemma: &Clause,
+    lemma: &Lemma,
     known: &mut Witnesses,
     steps: &mut S,
     frames: &Frames,
     meter: &mut Meter,
 ) -> Result<Option<Cube>, SolveEnd>
-    requires over { IsOver (length (S.seen steps.old).question.circuit.latches) lemma.now }
+    requires over { IsOver (length (S.seen steps.old).question.circuit.latches) lemma.now.clause }
     requires agree { Agree (S.seen steps.old).lemmas frames.now }
     requires known { AreWitnesses (S.seen steps.old).question known.old }
-    ensures told { IfOk result (TellsOn (S.seen steps.old) frames.now level lemma.now) }
+    ensures told { IfOk result (TellsOn (S.seen steps.old) frames.now lemma.now.level lemma.now.clause) }
     ensures known { OnOk result (AreWitnesses (S.seen steps.old).question known.new) }
     ensures same { (S.seen steps.new) ≡ (S.seen steps.old) }
     ensures end { IfErr result (IsEnd meter.new) }
     ensures counted { CountsConflicts meter.old meter.new }
 {
-    if is_stuck(known, frames, level, lemma)? {
+    if is_stuck(known, frames, lemma.level, &lemma.clause)? {
         return Ok(None);
     }
-    asked(alloc, level, lemma, known, steps, frames, meter)
+    asked(alloc, lemma, known, steps, frames, meter)
 }
 
 // The same by a question.
 fn asked<S: StepSolver>(
     alloc: Global,
-    level: u64,
-    lemma: &Clause,
+    lemma: &Lemma,
     known: &mut Witnesses,
     steps: &mut S,
     _frames: &Frames,
     meter: &mut Meter,
 ) -> Result<Option<Cube>, SolveEnd>
-    requires over { IsOver (length (S.seen steps.old).question.circuit.latches) lemma.now }
+    requires over { IsOver (length (S.seen steps.old).question.circuit.latches) lemma.now.clause }
     requires agree { Agree (S.seen steps.old).lemmas _frames.now }
     requires known { AreWitnesses (S.seen steps.old).question known.old }
-    ensures told { IfOk result (TellsOn (S.seen steps.old) _frames.now level lemma.now) }
+    ensures told { IfOk result (TellsOn (S.seen steps.old) _frames.now lemma.now.level lemma.now.clause) }
     ensures known { OnOk result (AreWitnesses (S.seen steps.old).question known.new) }
     ensures same { (S.seen steps.new) ≡ (S.seen steps.old) }
     ensures end { IfErr result (IsEnd meter.new) }
     ensures counted { CountsConflicts meter.old meter.new }
 {
-    let cube = negated(alloc, lemma)?;
-    match steps.predecessor_of_excluded(alloc, level, &cube, meter)? {
+    let cube = negated(alloc, &lemma.clause)?;
+    match steps.predecessor_of_excluded(alloc, lemma.level, &cube, meter)? {
         Found::Step(step) => {
-            keep_witness(known, lemma.clone()?, step)?;
+            keep_witness(known, lemma.clause.clone()?, step)?;
             Ok(None)
         }
         Found::Missing(part) => Ok(Some(part)),

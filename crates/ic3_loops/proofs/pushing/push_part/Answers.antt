@@ -14,20 +14,20 @@ returns-then-not-has_lemma-clause-narrower g c =
 pub tried-requires-clause-over : goal.tried-requires-clause-over
 tried-requires-clause-over g c =
     let n = length (g.S.StepSolver.seen c.args.steps.now).question.circuit.latches in
-    subst (IsOver n) (sym c.in_ok-lemma.ensures)
-    (all_own (IsOver n) c.args.frames.now c.args.level c.requires.search.sound.over c.args.place []
+    subst (IsOver n) (sym c.in_ok-clause.ensures)
+    (all_own (IsOver n) c.args.frames.now c.args.at.level c.requires.search.sound.over c.args.at.place []
     (c.has_lemma.ensures.0 c.if-not-has_lemma.false))
 
 pub put_part-requires-clause-over : goal.put_part-requires-clause-over
 put_part-requires-clause-over g c =
-    subst (λ (st : Stepping). IsOver (length st.question.circuit.latches) c.in_ok-lemma.lemma) (sym c.in_ok-part.ensures.same)
+    subst (λ (st : Stepping). IsOver (length st.question.circuit.latches) c.in_ok-clause.clause) (sym c.in_ok-part.ensures.same)
     (let n = length (g.S.StepSolver.seen c.args.steps.now).question.circuit.latches in
-    subst (IsOver n) (sym c.in_ok-lemma.ensures)
-    (all_own (IsOver n) c.args.frames.now c.args.level c.requires.search.sound.over c.args.place []
+    subst (IsOver n) (sym c.in_ok-clause.ensures)
+    (all_own (IsOver n) c.args.frames.now c.args.at.level c.requires.search.sound.over c.args.at.place []
     (c.has_lemma.ensures.0 c.if-not-has_lemma.false)))
 
 pub put_part-requires-clause-based : goal.put_part-requires-clause-based
 put_part-requires-clause-based g c =
-    subst (λ lemma. has_one_of c.args.aim.now.starts.now lemma ≡ true) (sym c.in_ok-lemma.ensures)
-    (all_own (λ clause. has_one_of c.args.aim.now.starts.now clause ≡ true) c.args.frames.now c.args.level c.requires.search.sound.based c.args.place []
+    subst (λ lemma. has_one_of c.args.aim.now.starts.now lemma ≡ true) (sym c.in_ok-clause.ensures)
+    (all_own (λ clause. has_one_of c.args.aim.now.starts.now clause ≡ true) c.args.frames.now c.args.at.level c.requires.search.sound.based c.args.at.place []
     (c.has_lemma.ensures.0 c.if-not-has_lemma.false))
