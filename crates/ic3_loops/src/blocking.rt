@@ -20,7 +20,8 @@ use crate::aim::Aim;
 use crate::generalizing::generalize;
 use crate::lifting::lift_step;
 use crate::obligations::{
-    Lifted, Node, Obligation, Obligations, Way, cube_at, put_due, put_node, state_at, take_next,
+    Consecution, Lifted, Node, Obligation, Obligations, Way, cube_at, put_due, put_node, state_at,
+    take_next,
 };
 use crate::replaying::way_of;
 use crate::step_solver::StepSolver;
@@ -204,7 +205,14 @@ fn block_at<S: StepSolver>(
     }
     let below = at.level - 1;
     let cube = cube_at(&obligations.nodes, at.node);
-    let found = consecution(aim, below, state, cube, steps, frames, meter)?;
+    let asked = asked_about(aim.alloc, aim.starts, state, cube)?;
+    let asking = Consecution {
+        below,
+        state,
+        into: cube,
+        asked: &asked,
+    };
+    let found = consecution(aim, &asking, steps, frames, meter)?;
     Ok(keep(obligations, at, below, found)?)
 }
 
@@ -233,32 +241,26 @@ fn keep(
 // excludes the state.
 fn consecution<S: StepSolver>(
     aim: &Aim<'_, '_>,
-    below: u64,
-    state: &[bool],
-    cube: &Cube,
+    asking: &Consecution<'_>,
     steps: &mut S,
     frames: &mut Frames,
     meter: &mut Meter,
 ) -> Result<Option<Lifted>, ReachEnd>
     requires search { IsSearch aim.now.starts.now (S.seen steps.old) frames.old }
-    requires level { below + 1 < length frames.old }
-    requires size { length state.now ≡ length (S.seen steps.old).question.circuit.latches }
-    requires frame { allowed_by (frame_at frames.old (below + 1)) state.now ≡ true }
-    requires outside { cube_value (values_of state.now) aim.now.starts.now ≡ false }
-    requires part { is_part cube.now (value_literals 0 state.now) ≡ true }
-    ensures outcome { IfOk result (TellsConsecution (S.seen steps.old).question frames.old frames.new below cube.now) }
+    requires level { asking.now.below + 1 < length frames.old }
+    requires size { length asking.now.state.now ≡ length (S.seen steps.old).question.circuit.latches }
+    requires frame { allowed_by (frame_at frames.old (asking.now.below + 1)) asking.now.state.now ≡ true }
+    requires based { IsBased aim.now.starts.now (value_literals 0 asking.now.state.now) asking.now.into.now asking.now.asked.now }
+    ensures outcome { IfOk result (TellsConsecution (S.seen steps.old).question frames.old frames.new asking.now.below asking.now.into.now) }
     ensures kept { OnOk result (Keeps aim.now.starts.now (S.seen steps.old) (S.seen steps.new) frames.old frames.new
         meter.old meter.new) }
     ensures bounded { Bounds (S.seen steps.old) (S.seen steps.new) frames.old meter.old meter.new }
     ensures end { IfErr result (IsReachEnd meter.new) }
 {
-    let asked = asked_about(aim.alloc, aim.starts, state, cube)?;
-    match steps.predecessor(aim.alloc, below, &asked, meter)? {
-        Found::Step(position) => Ok(Some(from_start(
-            aim, below, cube, &asked, position, steps, frames, meter,
-        )?)),
+    match steps.predecessor(aim.alloc, asking.below, asking.asked, meter)? {
+        Found::Step(position) => Ok(Some(from_start(aim, asking, position, steps, frames, meter)?)),
         Found::Missing(part) => {
-            generalize(aim, below, state, &asked, part, steps, frames, meter)?;
+            generalize(aim, asking, part, steps, frames, meter)?;
             Ok(None)
         }
     }
@@ -286,33 +288,29 @@ fn asked_about(
 // solver finds one.
 fn from_start<S: StepSolver>(
     aim: &Aim<'_, '_>,
-    below: u64,
-    into: &Cube,
-    asked: &Cube,
+    asking: &Consecution<'_>,
     position: Position,
     steps: &mut S,
     frames: &Frames,
     meter: &mut Meter,
 ) -> Result<Lifted, SolveEnd>
     requires agree { Agree (S.seen steps.old).lemmas frames.now }
-    requires over { IsOver (length (S.seen steps.old).question.circuit.latches) asked.now }
-    requires part { is_part into.now asked.now ≡ true }
-    requires found { IsPredecessor (S.seen steps.old) below asked.now position }
-    ensures before { IfOk result (IsBefore (S.seen steps.old).question frames.now below into.now) }
+    requires over { IsOver (length (S.seen steps.old).question.circuit.latches) asking.now.asked.now }
+    requires part { is_part asking.now.into.now asking.now.asked.now ≡ true }
+    requires found { IsPredecessor (S.seen steps.old) asking.now.below asking.now.asked.now position }
+    ensures before { IfOk result (IsBefore (S.seen steps.old).question frames.now asking.now.below asking.now.into.now) }
     ensures same { (S.seen steps.new) ≡ (S.seen steps.old) }
     ensures counted { CountsConflicts meter.old meter.new }
     ensures end { IfErr result (IsEnd meter.new) }
 {
-    let found = lifted(
-        aim.alloc, into, asked, below, below, position, steps, frames,
-    )?;
+    let found = lifted(aim.alloc, asking, asking.below, position, steps, frames)?;
     if misses_starts(aim.starts, &found.cube) {
         return Ok(found);
     }
-    match steps.predecessor(aim.alloc, 0, asked, meter) {
+    match steps.predecessor(aim.alloc, 0, asking.asked, meter) {
         Ok(Found::Step(first)) => {
             drop(found);
-            Ok(lifted(aim.alloc, into, asked, 0, below, first, steps, frames)?)
+            Ok(lifted(aim.alloc, asking, 0, first, steps, frames)?)
         }
         Ok(Found::Missing(_)) => Ok(found),
         Err(end) => {
@@ -322,25 +320,23 @@ fn from_start<S: StepSolver>(
     }
 }
 
-// The position of a step into a cube, from a level up to `_below`, with a cube of states that its inputs lead into the
-// part `into` of that cube.
+// The position of a step from a level up to the one that was asked, with a cube of states that its inputs lead into the
+// cube of the node.
 fn lifted<S: StepSolver>(
     alloc: Global,
-    into: &Cube,
-    _asked: &Cube,
+    asking: &Consecution<'_>,
     _level: u64,
-    _below: u64,
     position: Position,
     steps: &S,
     _frames: &Frames,
 ) -> Result<Lifted, AllocError>
     requires agree { Agree (S.seen steps.now).lemmas _frames.now }
-    requires over { IsOver (length (S.seen steps.now).question.circuit.latches) _asked.now }
-    requires part { is_part into.now _asked.now ≡ true }
-    requires level { _level ≤ _below }
-    requires found { IsPredecessor (S.seen steps.now) _level _asked.now position }
-    ensures { IfOk result (IsBefore (S.seen steps.now).question _frames.now _below into.now) }
+    requires over { IsOver (length (S.seen steps.now).question.circuit.latches) asking.now.asked.now }
+    requires part { is_part asking.now.into.now asking.now.asked.now ≡ true }
+    requires level { _level ≤ asking.now.below }
+    requires found { IsPredecessor (S.seen steps.now) _level asking.now.asked.now position }
+    ensures { IfOk result (IsBefore (S.seen steps.now).question _frames.now asking.now.below asking.now.into.now) }
 {
-    let cube = lift_step(alloc, steps.circuit(), &position, into, &[])?;
+    let cube = lift_step(alloc, steps.circuit(), &position, asking.into, &[])?;
     Ok(Lifted { cube, position })
 }

@@ -16,6 +16,7 @@ ghost use Rattle.ic3_loops.specs.Blocking.{IsStronger};
 use crate::aim::Aim;
 use crate::iterating::steps_of;
 use crate::lemmas::{one_more, put_lemma};
+use crate::obligations::Consecution;
 use crate::shortening::{highest, shorten};
 use crate::step_solver::StepSolver;
 use cnf::{Clause, Cube};
@@ -25,28 +26,27 @@ use ic3_generalise::based;
 use ic3_semantics::ReachEnd;
 
 /// Puts a lemma against the state of an obligation into the frame of a level, from the one above `below` on, as high as
-/// it is seen to hold, and counts it; answers the level. The state lies in the cube, which misses the starts. No step
-/// leads from the frame `below` into `part`, a part of the cube, of which literals are dropped while that stays so.
+/// it is seen to hold, and counts it; answers the level. The state lies in the cube that was asked, which misses the
+/// starts. No step leads from the frame `below` into `part`, a part of the cube, of which literals are dropped while
+/// that stays so.
 pub(crate) fn generalize<S: StepSolver>(
     aim: &Aim<'_, '_>,
-    below: u64,
-    state: &[bool],
-    cube: &Cube,
+    asking: &Consecution<'_>,
     part: Cube,
     steps: &mut S,
     frames: &mut Frames,
     meter: &mut Meter,
 ) -> Result<u64, ReachEnd>
     requires search { IsSearch aim.now.starts.now (S.seen steps.old) frames.old }
-    requires level { below + 1 < length frames.old }
-    requires size { length state.now ≡ length (S.seen steps.old).question.circuit.latches }
-    requires frame { allowed_by (frame_at frames.old (below + 1)) state.now ≡ true }
-    requires among { is_part cube.now (value_literals 0 state.now) ≡ true }
-    requires misses { misses_starts aim.now.starts.now cube.now ≡ true }
-    requires missing { IsMissing (S.seen steps.old) below cube.now part }
+    requires level { asking.now.below + 1 < length frames.old }
+    requires size { length asking.now.state.now ≡ length (S.seen steps.old).question.circuit.latches }
+    requires frame { allowed_by (frame_at frames.old (asking.now.below + 1)) asking.now.state.now ≡ true }
+    requires among { is_part asking.now.asked.now (value_literals 0 asking.now.state.now) ≡ true }
+    requires misses { misses_starts aim.now.starts.now asking.now.asked.now ≡ true }
+    requires missing { IsMissing (S.seen steps.old) asking.now.below asking.now.asked.now part }
     ensures search { OnOk result (IsSearch aim.now.starts.now (S.seen steps.new) frames.new) }
-    ensures level { IfOk result (λ level. (below + 1 ≤ level) × (level < length frames.old)) }
-    ensures excluded { IfOk result (λ level. allowed_by (frame_at frames.new level) state.now ≡ false) }
+    ensures level { IfOk result (λ level. (asking.now.below + 1 ≤ level) × (level < length frames.old)) }
+    ensures excluded { IfOk result (λ level. allowed_by (frame_at frames.new level) asking.now.state.now ≡ false) }
     ensures stronger { IfOk result (λ level.
         IsStronger (length (S.seen steps.old).question.circuit.latches) level frames.old frames.new) }
     ensures narrows { OnOk result (Narrows frames.old frames.new) }
@@ -56,11 +56,11 @@ pub(crate) fn generalize<S: StepSolver>(
     ensures counted { CountsUpTo 1 meter.old meter.new }
     ensures end { IfErr result (IsReachEnd meter.new) }
 {
-    let first = based(aim.alloc, aim.starts, cube, part)?;
-    let shorter = shorten(aim, below, first, steps, frames, meter)?;
-    let from = highest(aim, below, &shorter, steps, frames, meter)?;
+    let first = based(aim.alloc, aim.starts, asking.asked, part)?;
+    let shorter = shorten(aim, asking.below, first, steps, frames, meter)?;
+    let from = highest(aim, asking.below, &shorter, steps, frames, meter)?;
     let lemma = shorter.negation()?;
-    put_counted(aim.starts, from, state, lemma, steps, frames, meter)
+    put_counted(aim.starts, from, asking.state, lemma, steps, frames, meter)
 }
 
 // Counts the lemma, and puts it into the frame above the level `from`.

@@ -59,6 +59,16 @@ pub(crate) struct Lifted {
     pub(crate) position: Position,
 }
 
+/// A question for a step from the frame of the level `below` into a cube, of a node whose state is no start: `asked` has
+/// the cube's literals, and one at least by which the state differs from the starts.
+#[derive(Drop)]
+pub(crate) struct Consecution<'a> {
+    pub(crate) below: u64,
+    pub(crate) state: &'a [bool],
+    pub(crate) into: &'a Cube,
+    pub(crate) asked: &'a Cube,
+}
+
 /// What is to be shown: that the frame of a level need not have the cube of the node with this number.
 #[derive(Clone, Copy, Drop)]
 pub(crate) struct Obligation {

@@ -1,12 +1,20 @@
-use Rattle.std.proofs.Common.{◌≡◌, true, ◌-◌, sym, subst}
+use Rattle.std.proofs.Common.{◌≡◌, true, ◌-◌, length, sym, subst}
 use Rattle.proof_semantics.specs.Clauses.{is_part}
 use Rattle.ic3_generalise.specs.Cubes.{value_literals}
+use Rattle.ic3_semantics.specs.Stepping.{IsOver}
 use Rattle.ic3_loops.specs.Blocking.{TellsConsecution, state_at}
 use Rattle.ic3_loops.proofs.Obliging.{node-at-is, kept-are}
 use Rattle.ic3_loops.proofs.blocking.block_at.Goals as goal
 
-pub consecution-requires-clause-part : goal.consecution-requires-clause-part
-consecution-requires-clause-part g c =
+pub asked_about-requires-clause-over : goal.asked_about-requires-clause-over
+asked_about-requires-clause-over g c =
+    let ns = c.args.obligations.now.nodes.items in
+    let node = node-at-is (g.S.StepSolver.seen c.args.steps.now).question c.args.aim.now.goal.now ns c.args.at.node c.requires.obligations.nodes c.requires.due.due.node in
+    subst (λ s. IsOver (length s) c.args.aim.now.starts.now) (sym c.state_at-state.ensures)
+    (subst (λ n. IsOver n c.args.aim.now.starts.now) (sym node.size) c.requires.search.starts.over)
+
+pub asked_about-requires-clause-part : goal.asked_about-requires-clause-part
+asked_about-requires-clause-part g c =
     let ns = c.args.obligations.now.nodes.items in
     let node = node-at-is (g.S.StepSolver.seen c.args.steps.now).question c.args.aim.now.goal.now ns c.args.at.node c.requires.obligations.nodes c.requires.due.due.node in
     subst (λ s. is_part c.cube_at-cube.result.now (value_literals 0 s) ≡ true) (sym c.state_at-state.ensures)

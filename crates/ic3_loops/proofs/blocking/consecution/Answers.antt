@@ -7,25 +7,22 @@ use Rattle.ic3_loops.proofs.Starts.{value_over}
 use Rattle.ic3_loops.proofs.Excluding.{part_over, some-room, counted-behind}
 use Rattle.ic3_loops.proofs.blocking.consecution.Goals as goal
 
-pub asked_about-requires-clause-over : goal.asked_about-requires-clause-over
-asked_about-requires-clause-over g c = subst (λ n. IsOver n c.args.aim.now.starts.now) (sym c.requires.size) c.requires.search.starts.over
-
 pub predecessor-requires : goal.predecessor-requires
 predecessor-requires g c =
     let n = length (g.S.StepSolver.seen c.args.steps.now).question.circuit.latches in
-    part_over n c.in_ok-asked.asked (value_literals 0 c.args.state.now) c.in_ok-asked.ensures.among
-    (value_over n 0 c.args.state.now (omega (arith, c.requires.size)))
+    part_over n c.args.asking.now.asked.now (value_literals 0 c.args.asking.now.state.now) c.requires.based.among
+    (value_over n 0 c.args.asking.now.state.now (omega (arith, c.requires.size)))
 
 pub from_start-requires-clause-over : goal.from_start-requires-clause-over
 from_start-requires-clause-over g c =
     let n = length (g.S.StepSolver.seen c.args.steps.now).question.circuit.latches in
-    subst (λ (st : Stepping). IsOver (length st.question.circuit.latches) c.in_ok-asked.asked) (sym c.in_ok-position.ensures.same)
-    (part_over n c.in_ok-asked.asked (value_literals 0 c.args.state.now) c.in_ok-asked.ensures.among
-    (value_over n 0 c.args.state.now (omega (arith, c.requires.size))))
+    subst (λ (st : Stepping). IsOver (length st.question.circuit.latches) c.args.asking.now.asked.now) (sym c.in_ok-position.ensures.same)
+    (part_over n c.args.asking.now.asked.now (value_literals 0 c.args.asking.now.state.now) c.requires.based.among
+    (value_over n 0 c.args.asking.now.state.now (omega (arith, c.requires.size))))
 
 pub from_start-requires-clause-found : goal.from_start-requires-clause-found
 from_start-requires-clause-found g c =
-    subst (λ st. IsPredecessor st c.args.below c.in_ok-asked.asked c.in-Step.position) (sym c.in_ok-position.ensures.same)
+    subst (λ st. IsPredecessor st c.args.asking.now.below c.args.asking.now.asked.now c.in-Step.position) (sym c.in_ok-position.ensures.same)
     (rw c.in-Step.is at c.in_ok-position.ensures.found)
 
 pub returns-in_err-generalize-in-Missing-clause-bounded : goal.returns-in_err-generalize-in-Missing-clause-bounded
@@ -36,6 +33,6 @@ returns-in_err-generalize-in-Missing-clause-bounded g c =
           subst (λ st. KeepsQuestion st (g.S.StepSolver.seen c.generalize.new.steps)) c.in_ok-position.ensures.same c.in_err-generalize-in-Missing.ensures.question;
       counted =
           counted-behind (room n c.args.frames.now) c.args.meter.now c.predecessor.new.meter c.generalize.new.meter
-          (some-room n c.args.frames.now (c.args.below + 1) c.args.state.now c.requires.level c.requires.size c.requires.frame)
+          (some-room n c.args.frames.now (c.args.asking.now.below + 1) c.args.asking.now.state.now c.requires.level c.requires.size c.requires.frame)
           c.in_ok-position.ensures.counted c.in_err-generalize-in-Missing.ensures.counted;
     }

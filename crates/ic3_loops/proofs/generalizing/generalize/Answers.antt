@@ -19,13 +19,13 @@ use Rattle.ic3_loops.proofs.generalizing.generalize.Goals as goal
 pub shorten-requires : goal.shorten-requires
 shorten-requires g c =
     let n = length (g.S.StepSolver.seen c.args.steps.now).question.circuit.latches in
-    excluded-based c.args.aim.now.starts.now (g.S.StepSolver.seen c.args.steps.now) c.args.below c.args.cube.now c.args.part c.in_ok-first.first
-    (part_over n c.args.cube.now (value_literals 0 c.args.state.now) c.requires.among
-    (value_over n 0 c.args.state.now (omega (arith, c.requires.size)))) c.requires.missing c.in_ok-first.ensures
+    excluded-based c.args.aim.now.starts.now (g.S.StepSolver.seen c.args.steps.now) c.args.asking.now.below c.args.asking.now.asked.now c.args.part c.in_ok-first.first
+    (part_over n c.args.asking.now.asked.now (value_literals 0 c.args.asking.now.state.now) c.requires.among
+    (value_over n 0 c.args.asking.now.state.now (omega (arith, c.requires.size)))) c.requires.missing c.in_ok-first.ensures
 
 pub highest-requires-clause-excluded : goal.highest-requires-clause-excluded
 highest-requires-clause-excluded g c =
-    subst (λ st. IsExcluded c.args.aim.now.starts.now st c.args.below c.in_ok-shorter.shorter) (sym c.in_ok-shorter.ensures.same) c.in_ok-shorter.ensures.excluded
+    subst (λ st. IsExcluded c.args.aim.now.starts.now st c.args.asking.now.below c.in_ok-shorter.shorter) (sym c.in_ok-shorter.ensures.same) c.in_ok-shorter.ensures.excluded
 
 pub put_counted-requires-clause-search : goal.put_counted-requires-clause-search
 put_counted-requires-clause-search g c =
@@ -35,19 +35,19 @@ put_counted-requires-clause-search g c =
 pub put_counted-requires-clause-size : goal.put_counted-requires-clause-size
 put_counted-requires-clause-size g c =
     let same : (g.S.StepSolver.seen c.highest.new.steps) ≡ (g.S.StepSolver.seen c.args.steps.now) = c.in_ok-from.ensures.same ∙ c.in_ok-shorter.ensures.same in
-    subst (λ (st : Stepping). length c.args.state.now ≡ length st.question.circuit.latches) (sym same) c.requires.size
+    subst (λ (st : Stepping). length c.args.asking.now.state.now ≡ length st.question.circuit.latches) (sym same) c.requires.size
 
 pub put_counted-requires-clause-frame : goal.put_counted-requires-clause-frame
 put_counted-requires-clause-frame g c =
-    grow_on c.args.frames.now (c.in_ok-from.from + 1) (c.args.below + 1) c.args.state.now (omega (arith, c.in_ok-from.ensures.held.least))
+    grow_on c.args.frames.now (c.in_ok-from.from + 1) (c.args.asking.now.below + 1) c.args.asking.now.state.now (omega (arith, c.in_ok-from.ensures.held.least))
     c.requires.frame
 
 pub put_counted-requires-clause-excluded : goal.put_counted-requires-clause-excluded
 put_counted-requires-clause-excluded g c =
     rw c.in_ok-lemma.ensures
-    (excluded-is c.args.state.now c.in_ok-shorter.shorter
-    (part_on c.in_ok-shorter.shorter c.in_ok-first.first (value_literals 0 c.args.state.now) c.in_ok-shorter.ensures.part
-    (part_on c.in_ok-first.first c.args.cube.now (value_literals 0 c.args.state.now) c.in_ok-first.ensures.among c.requires.among)))
+    (excluded-is c.args.asking.now.state.now c.in_ok-shorter.shorter
+    (part_on c.in_ok-shorter.shorter c.in_ok-first.first (value_literals 0 c.args.asking.now.state.now) c.in_ok-shorter.ensures.part
+    (part_on c.in_ok-first.first c.args.asking.now.asked.now (value_literals 0 c.args.asking.now.state.now) c.in_ok-first.ensures.among c.requires.among)))
 
 pub put_counted-requires-clause-over : goal.put_counted-requires-clause-over
 put_counted-requires-clause-over g c =
@@ -73,13 +73,13 @@ pub returns-clause-level : goal.returns-clause-level
 returns-clause-level g c =
     let held = c.in_ok-from.ensures.held in
     IfOk-weaker c.put_counted.result (λ level. level ≡ c.in_ok-from.from + 1)
-    (λ level. (c.args.below + 1 ≤ level) × (level < length c.args.frames.now))
+    (λ level. (c.args.asking.now.below + 1 ≤ level) × (level < length c.args.frames.now))
     (λ level is. (omega (arith, is, held.least), omega (arith, is, held.inside)))
     c.put_counted.ensures.level
 
 pub returns-clause-excluded : goal.returns-clause-excluded
 returns-clause-excluded g c =
-    at_level c.put_counted.result (λ level. allowed_by (frame_at c.put_counted.new.frames level) c.args.state.now ≡ false) (c.in_ok-from.from + 1)
+    at_level c.put_counted.result (λ level. allowed_by (frame_at c.put_counted.new.frames level) c.args.asking.now.state.now ≡ false) (c.in_ok-from.from + 1)
     c.put_counted.ensures.level c.put_counted.ensures.excluded
 
 pub returns-clause-stronger : goal.returns-clause-stronger
