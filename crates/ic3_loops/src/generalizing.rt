@@ -19,11 +19,11 @@ use crate::lemmas::{one_more, put_lemma};
 use crate::obligations::Consecution;
 use crate::shortening::{highest, shorten};
 use crate::step_solver::StepSolver;
-use cnf::{Clause, Cube};
+use cnf::Cube;
 use edge::{Held, Meter};
 use ic3_frames::Frames;
 use ic3_generalise::based;
-use ic3_semantics::ReachEnd;
+use ic3_semantics::{Lemma, ReachEnd};
 
 /// Puts a lemma against the state of an obligation into the frame of a level, from the one above `below` on, as high as
 /// it is seen to hold, and counts it; answers the level. The state lies in the cube that was asked, which misses the
@@ -59,32 +59,33 @@ pub(crate) fn generalize<S: StepSolver>(
     let first = based(aim.alloc, aim.starts, asking.asked, part)?;
     let shorter = shorten(aim, asking.below, first, steps, frames, meter)?;
     let from = highest(aim, asking.below, &shorter, steps, frames, meter)?;
-    let lemma = shorter.negation()?;
-    put_counted(aim.starts, from, asking.state, lemma, steps, frames, meter)
+    let level = one_more(from)?;
+    let clause = shorter.negation()?;
+    let lemma = Lemma { level, clause };
+    put_counted(aim.starts, asking.state, lemma, steps, frames, meter)
 }
 
-// Counts the lemma, and puts it into the frame above the level `from`.
+// Counts the lemma, and puts it into the frame of its level.
 fn put_counted<S: StepSolver>(
     starts: &Cube,
-    from: u64,
     state: &[bool],
-    lemma: Clause,
+    lemma: Lemma,
     steps: &mut S,
     frames: &mut Frames,
     meter: &mut Meter,
 ) -> Result<u64, ReachEnd>
     requires search { IsSearch starts.now (S.seen steps.old) frames.old }
-    requires level { from + 1 < length frames.old }
+    requires level { lemma.level < length frames.old }
     requires size { length state.now ≡ length (S.seen steps.old).question.circuit.latches }
-    requires frame { allowed_by (frame_at frames.old (from + 1)) state.now ≡ true }
-    requires excluded { clause_value (values_of state.now) lemma ≡ false }
-    requires over { IsOver (length (S.seen steps.old).question.circuit.latches) lemma }
-    requires based { has_one_of starts.now lemma ≡ true }
-    requires relative { IsRelative (S.seen steps.old).question frames.old (from + 1) lemma }
+    requires frame { allowed_by (frame_at frames.old lemma.level) state.now ≡ true }
+    requires excluded { clause_value (values_of state.now) lemma.clause ≡ false }
+    requires over { IsOver (length (S.seen steps.old).question.circuit.latches) lemma.clause }
+    requires based { has_one_of starts.now lemma.clause ≡ true }
+    requires relative { IsRelative (S.seen steps.old).question frames.old lemma.level lemma.clause }
     ensures search { OnOk result (IsSearch starts.now (S.seen steps.new) frames.new) }
-    ensures level { IfOk result (λ level. level ≡ from + 1) }
-    ensures excluded { OnOk result (allowed_by (frame_at frames.new (from + 1)) state.now ≡ false) }
-    ensures stronger { OnOk result (IsStronger (length (S.seen steps.old).question.circuit.latches) (from + 1) frames.old frames.new) }
+    ensures level { IfOk result (λ level. level ≡ lemma.level) }
+    ensures excluded { OnOk result (allowed_by (frame_at frames.new lemma.level) state.now ≡ false) }
+    ensures stronger { OnOk result (IsStronger (length (S.seen steps.old).question.circuit.latches) lemma.level frames.old frames.new) }
     ensures narrows { OnOk result (Narrows frames.old frames.new) }
     ensures number { OnOk result (length frames.new ≡ length frames.old) }
     ensures question { KeepsQuestion (S.seen steps.old) (S.seen steps.new) }
@@ -92,9 +93,9 @@ fn put_counted<S: StepSolver>(
     ensures counted { CountsUpTo 1 meter.old meter.new }
     ensures end { IfErr result (IsReachEnd meter.new) }
 {
-    let level = one_more(from)?;
+    let Lemma { level, clause } = lemma;
     let _small = steps_of(meter);
-    meter.lemma(&frames.at(level), &lemma, state)?;
-    put_lemma(starts, level, lemma, steps, frames)?;
+    meter.lemma(&frames.at(level), &clause, state)?;
+    put_lemma(starts, level, clause, steps, frames)?;
     Ok(level)
 }

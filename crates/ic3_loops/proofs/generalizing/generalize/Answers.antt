@@ -32,6 +32,9 @@ put_counted-requires-clause-search g c =
     let same : (g.S.StepSolver.seen c.highest.new.steps) ≡ (g.S.StepSolver.seen c.args.steps.now) = c.in_ok-from.ensures.same ∙ c.in_ok-shorter.ensures.same in
     subst (λ st. IsSearch c.args.aim.now.starts.now st c.args.frames.now) (sym same) c.requires.search
 
+pub put_counted-requires-clause-level : goal.put_counted-requires-clause-level
+put_counted-requires-clause-level g c = omega (arith, c.in_ok-from.ensures.held.inside, c.in_ok-level.ensures)
+
 pub put_counted-requires-clause-size : goal.put_counted-requires-clause-size
 put_counted-requires-clause-size g c =
     let same : (g.S.StepSolver.seen c.highest.new.steps) ≡ (g.S.StepSolver.seen c.args.steps.now) = c.in_ok-from.ensures.same ∙ c.in_ok-shorter.ensures.same in
@@ -39,12 +42,13 @@ put_counted-requires-clause-size g c =
 
 pub put_counted-requires-clause-frame : goal.put_counted-requires-clause-frame
 put_counted-requires-clause-frame g c =
-    grow_on c.args.frames.now (c.in_ok-from.from + 1) (c.args.asking.now.below + 1) c.args.asking.now.state.now (omega (arith, c.in_ok-from.ensures.held.least))
+    grow_on c.args.frames.now c.in_ok-level.level (c.args.asking.now.below + 1) c.args.asking.now.state.now
+    (omega (arith, c.in_ok-from.ensures.held.least, c.in_ok-level.ensures))
     c.requires.frame
 
 pub put_counted-requires-clause-excluded : goal.put_counted-requires-clause-excluded
 put_counted-requires-clause-excluded g c =
-    rw c.in_ok-lemma.ensures
+    rw c.in_ok-clause.ensures
     (excluded-is c.args.asking.now.state.now c.in_ok-shorter.shorter
     (part_on c.in_ok-shorter.shorter c.in_ok-first.first (value_literals 0 c.args.asking.now.state.now) c.in_ok-shorter.ensures.part
     (part_on c.in_ok-first.first c.args.asking.now.asked.now (value_literals 0 c.args.asking.now.state.now) c.in_ok-first.ensures.among c.requires.among)))
@@ -52,12 +56,12 @@ put_counted-requires-clause-excluded g c =
 pub put_counted-requires-clause-over : goal.put_counted-requires-clause-over
 put_counted-requires-clause-over g c =
     let n = length (g.S.StepSolver.seen c.shorten.new.steps).question.circuit.latches in
-    subst (λ (st : Stepping). IsOver (length st.question.circuit.latches) c.in_ok-lemma.lemma) (sym c.in_ok-from.ensures.same)
-    (subst (IsOver n) (sym c.in_ok-lemma.ensures) (negation_over n c.in_ok-shorter.shorter c.in_ok-from.ensures.held.excluded.over))
+    subst (λ (st : Stepping). IsOver (length st.question.circuit.latches) c.in_ok-clause.clause) (sym c.in_ok-from.ensures.same)
+    (subst (IsOver n) (sym c.in_ok-clause.ensures) (negation_over n c.in_ok-shorter.shorter c.in_ok-from.ensures.held.excluded.over))
 
 pub put_counted-requires-clause-based : goal.put_counted-requires-clause-based
 put_counted-requires-clause-based g c =
-    rw c.in_ok-lemma.ensures (based-is c.args.aim.now.starts.now c.in_ok-shorter.shorter c.in_ok-from.ensures.held.excluded.misses)
+    rw c.in_ok-clause.ensures (based-is c.args.aim.now.starts.now c.in_ok-shorter.shorter c.in_ok-from.ensures.held.excluded.misses)
 
 pub put_counted-requires-clause-relative : goal.put_counted-requires-clause-relative
 put_counted-requires-clause-relative g c =
@@ -65,31 +69,32 @@ put_counted-requires-clause-relative g c =
     let none : NoneEnters (g.S.StepSolver.seen c.args.steps.now) c.in_ok-from.from c.in_ok-shorter.shorter =
     subst (λ st. NoneEnters st c.in_ok-from.from c.in_ok-shorter.shorter) c.in_ok-shorter.ensures.same c.in_ok-from.ensures.held.excluded.none
     in
-    subst (λ (st : Stepping). IsRelative st.question c.args.frames.now (c.in_ok-from.from + 1) c.in_ok-lemma.lemma) (sym same)
-    (subst (IsRelative (g.S.StepSolver.seen c.args.steps.now).question c.args.frames.now (c.in_ok-from.from + 1)) (sym c.in_ok-lemma.ensures)
-    (relative-is (g.S.StepSolver.seen c.args.steps.now) c.args.frames.now c.in_ok-from.from c.in_ok-shorter.shorter none c.requires.search.agree))
+    subst (λ (st : Stepping). IsRelative st.question c.args.frames.now c.in_ok-level.level c.in_ok-clause.clause) (sym same)
+    (subst (λ k. IsRelative (g.S.StepSolver.seen c.args.steps.now).question c.args.frames.now k c.in_ok-clause.clause) (sym c.in_ok-level.ensures)
+    (subst (IsRelative (g.S.StepSolver.seen c.args.steps.now).question c.args.frames.now (c.in_ok-from.from + 1)) (sym c.in_ok-clause.ensures)
+    (relative-is (g.S.StepSolver.seen c.args.steps.now) c.args.frames.now c.in_ok-from.from c.in_ok-shorter.shorter none c.requires.search.agree)))
 
 pub returns-clause-level : goal.returns-clause-level
 returns-clause-level g c =
     let held = c.in_ok-from.ensures.held in
-    IfOk-weaker c.put_counted.result (λ level. level ≡ c.in_ok-from.from + 1)
+    IfOk-weaker c.put_counted.result (λ level. level ≡ c.in_ok-level.level)
     (λ level. (c.args.asking.now.below + 1 ≤ level) × (level < length c.args.frames.now))
-    (λ level is. (omega (arith, is, held.least), omega (arith, is, held.inside)))
+    (λ level is. (omega (arith, is, c.in_ok-level.ensures, held.least), omega (arith, is, c.in_ok-level.ensures, held.inside)))
     c.put_counted.ensures.level
 
 pub returns-clause-excluded : goal.returns-clause-excluded
 returns-clause-excluded g c =
-    at_level c.put_counted.result (λ level. allowed_by (frame_at c.put_counted.new.frames level) c.args.asking.now.state.now ≡ false) (c.in_ok-from.from + 1)
+    at_level c.put_counted.result (λ level. allowed_by (frame_at c.put_counted.new.frames level) c.args.asking.now.state.now ≡ false) c.in_ok-level.level
     c.put_counted.ensures.level c.put_counted.ensures.excluded
 
 pub returns-clause-stronger : goal.returns-clause-stronger
 returns-clause-stronger g c =
     let same : (g.S.StepSolver.seen c.highest.new.steps) ≡ (g.S.StepSolver.seen c.args.steps.now) = c.in_ok-from.ensures.same ∙ c.in_ok-shorter.ensures.same in
     let n = length (g.S.StepSolver.seen c.args.steps.now).question.circuit.latches in
-    at_level c.put_counted.result (λ level. IsStronger n level c.args.frames.now c.put_counted.new.frames) (c.in_ok-from.from + 1)
+    at_level c.put_counted.result (λ level. IsStronger n level c.args.frames.now c.put_counted.new.frames) c.in_ok-level.level
     c.put_counted.ensures.level
     (subst (λ (st : Stepping). OnOk c.put_counted.result
-    (IsStronger (length st.question.circuit.latches) (c.in_ok-from.from + 1) c.args.frames.now c.put_counted.new.frames)) same
+    (IsStronger (length st.question.circuit.latches) c.in_ok-level.level c.args.frames.now c.put_counted.new.frames)) same
     c.put_counted.ensures.stronger)
 
 pub returns-clause-question : goal.returns-clause-question

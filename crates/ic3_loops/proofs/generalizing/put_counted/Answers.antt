@@ -1,5 +1,4 @@
-use Rattle.std.proofs.Common.{◌≡◌, ℕ, ◌<◌, ◌^◌, length, ap, subst, ◌∙◌, ◌+◌}
-use Rattle.ic3_frames.specs.Frames.{with_lemma}
+use Rattle.std.proofs.Common.{◌≡◌, ℕ, ◌<◌, ◌^◌, length, ap, subst, ◌∙◌}
 use Rattle.ic3_frames.proofs.Meaning.{number-stays}
 use Rattle.ic3_loops.proofs.Ended.{one_step}
 use Rattle.ic3_loops.proofs.Excluding.{stronger-is}
@@ -20,20 +19,20 @@ returns-clause-counted g c =
     c.in_ok-lemma.ensures.counted
 
 pub returns-clause-number : goal.returns-clause-number
-returns-clause-number g c = ap length c.in_ok-put_lemma.ensures.frames ∙ number-stays c.args.frames.now c.in_ok-level.level c.args.lemma
+returns-clause-number g c = ap length c.in_ok-put_lemma.ensures.frames ∙ number-stays c.args.frames.now c.args.lemma.level c.args.lemma.clause
 
 pub returns-clause-excluded : goal.returns-clause-excluded
 returns-clause-excluded g c =
-    put-excludes c.args.frames.now c.put_lemma.new.frames (c.args.from + 1) c.args.lemma c.args.state.now c.requires.level
-    (c.in_ok-put_lemma.ensures.frames ∙ ap (λ k. with_lemma c.args.frames.now k c.args.lemma) c.in_ok-level.ensures) c.requires.excluded
+    put-excludes c.args.frames.now c.put_lemma.new.frames c.args.lemma.level c.args.lemma.clause c.args.state.now c.requires.level
+    c.in_ok-put_lemma.ensures.frames c.requires.excluded
 
 pub returns-clause-narrows : goal.returns-clause-narrows
 returns-clause-narrows g c =
-    put-narrows c.args.frames.now c.put_lemma.new.frames (c.args.from + 1) c.args.lemma c.requires.level
-    (c.in_ok-put_lemma.ensures.frames ∙ ap (λ k. with_lemma c.args.frames.now k c.args.lemma) c.in_ok-level.ensures)
+    put-narrows c.args.frames.now c.put_lemma.new.frames c.args.lemma.level c.args.lemma.clause c.requires.level
+    c.in_ok-put_lemma.ensures.frames
 
 pub returns-clause-stronger : goal.returns-clause-stronger
 returns-clause-stronger g c =
-    rw (c.in_ok-put_lemma.ensures.frames, c.in_ok-level.ensures)
-    (stronger-is (length (g.S.StepSolver.seen c.args.steps.now).question.circuit.latches) c.args.frames.now (c.args.from + 1) c.args.lemma c.args.state.now
+    rw c.in_ok-put_lemma.ensures.frames
+    (stronger-is (length (g.S.StepSolver.seen c.args.steps.now).question.circuit.latches) c.args.frames.now c.args.lemma.level c.args.lemma.clause c.args.state.now
     c.requires.level c.requires.size c.requires.frame c.requires.excluded)
