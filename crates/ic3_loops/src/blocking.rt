@@ -73,13 +73,16 @@ pub(crate) fn strengthen<S: StepSolver>(
     ensures bounded { Bounds (S.seen steps.old) (S.seen steps.new) frames.old meter.old meter.new }
     ensures end { IfErr result (IsReachEnd meter.new) }
 {
-    let top = frames.len() - 1;
+    let top = Top {
+        aim,
+        level: frames.len() - 1,
+    };
     let mut obligations = Obligations {
         nodes: Vec::new(aim.alloc),
         queue: Vec::new(aim.alloc),
     };
     'obligations: loop {
-        match block_next(aim, top, &mut obligations, steps, frames, meter)? {
+        match block_next(&top, &mut obligations, steps, frames, meter)? {
             Blocked::Path(positions) => return Ok(Some(positions)),
             Blocked::Missed => return Ok(None),
             Blocked::More => {}
@@ -87,57 +90,60 @@ pub(crate) fn strengthen<S: StepSolver>(
     }
 }
 
-// Blocks the next obligation: a path, no state of the goal in the last frame, or a lemma more. `top` is the number of the
-// last frame.
+// Blocks the next obligation: a path, no state of the goal in the last frame, or a lemma more.
 fn block_next<S: StepSolver>(
-    aim: &Aim<'_, '_>,
-    top: u64,
+    top: &Top<'_, '_>,
     obligations: &mut Obligations,
     steps: &mut S,
     frames: &mut Frames,
     meter: &mut Meter,
 ) -> Result<Blocked, ReachEnd>
-    requires search { IsSearch aim.now.starts.now (S.seen steps.old) frames.old }
-    requires top { top + 1 ≡ length frames.old }
-    requires goal { IsGoalOf (S.seen steps.old) aim.now.goal.now }
-    requires obligations { AreObligations (S.seen steps.old).question aim.now.goal.now top obligations.old }
-    ensures outcome { IfOk result (IsBlockedNext (S.seen steps.old).question aim.now.goal.now top frames.old frames.new) }
-    ensures obligations { OnOk result (AreObligations (S.seen steps.old).question aim.now.goal.now top obligations.new) }
-    ensures kept { OnOk result (Keeps aim.now.starts.now (S.seen steps.old) (S.seen steps.new) frames.old frames.new
+    requires search { IsSearch top.now.aim.now.starts.now (S.seen steps.old) frames.old }
+    requires top { top.now.level + 1 ≡ length frames.old }
+    requires goal { IsGoalOf (S.seen steps.old) top.now.aim.now.goal.now }
+    requires obligations { AreObligations (S.seen steps.old).question top.now.aim.now.goal.now top.now.level obligations.old }
+    ensures outcome { IfOk result (IsBlockedNext (S.seen steps.old).question top.now.aim.now.goal.now top.now.level frames.old frames.new) }
+    ensures obligations { OnOk result (AreObligations (S.seen steps.old).question top.now.aim.now.goal.now top.now.level obligations.new) }
+    ensures kept { OnOk result (Keeps top.now.aim.now.starts.now (S.seen steps.old) (S.seen steps.new) frames.old frames.new
         meter.old meter.new) }
     ensures bounded { Bounds (S.seen steps.old) (S.seen steps.new) frames.old meter.old meter.new }
     ensures end { IfErr result (IsReachEnd meter.new) }
 {
-    match take_next(aim, top, obligations, steps, frames, meter)? {
-        Some(due) => block(aim, top, due, obligations, steps, frames, meter),
+    match take_next(top, obligations, steps, frames, meter)? {
+        Some(due) => block(top, due, obligations, steps, frames, meter),
         None => Ok(Blocked::Missed),
     }
 }
 
 // The same of the obligation that was taken.
 fn block<S: StepSolver>(
-    aim: &Aim<'_, '_>,
-    top: u64,
+    top: &Top<'_, '_>,
     due: Obligation,
     obligations: &mut Obligations,
     steps: &mut S,
     frames: &mut Frames,
     meter: &mut Meter,
 ) -> Result<Blocked, ReachEnd>
-    requires search { IsSearch aim.now.starts.now (S.seen steps.old) frames.old }
-    requires top { top + 1 ≡ length frames.old }
-    requires obligations { AreObligations (S.seen steps.old).question aim.now.goal.now top obligations.old }
-    requires due { IsOpen top frames.old obligations.old.nodes.items due }
-    ensures outcome { IfOk result (IsBlockedNext (S.seen steps.old).question aim.now.goal.now top frames.old frames.new) }
-    ensures obligations { OnOk result (AreObligations (S.seen steps.old).question aim.now.goal.now top obligations.new) }
-    ensures kept { OnOk result (Keeps aim.now.starts.now (S.seen steps.old) (S.seen steps.new) frames.old frames.new
+    requires search { IsSearch top.now.aim.now.starts.now (S.seen steps.old) frames.old }
+    requires top { top.now.level + 1 ≡ length frames.old }
+    requires obligations { AreObligations (S.seen steps.old).question top.now.aim.now.goal.now top.now.level obligations.old }
+    requires due { IsOpen top.now.level frames.old obligations.old.nodes.items due }
+    ensures outcome { IfOk result (IsBlockedNext (S.seen steps.old).question top.now.aim.now.goal.now top.now.level frames.old frames.new) }
+    ensures obligations { OnOk result (AreObligations (S.seen steps.old).question top.now.aim.now.goal.now top.now.level obligations.new) }
+    ensures kept { OnOk result (Keeps top.now.aim.now.starts.now (S.seen steps.old) (S.seen steps.new) frames.old frames.new
         meter.old meter.new) }
     ensures bounded { Bounds (S.seen steps.old) (S.seen steps.new) frames.old meter.old meter.new }
     ensures end { IfErr result (IsReachEnd meter.new) }
 {
-    match block_chain(aim, top, due, obligations, steps, frames, meter)? {
+    match block_chain(top, due, obligations, steps, frames, meter)? {
         Some(first) => {
-            let way = way_of(aim.alloc, aim.goal, &obligations.nodes, first, steps)?;
+            let way = way_of(
+                top.aim.alloc,
+                top.aim.goal,
+                &obligations.nodes,
+                first,
+                steps,
+            )?;
             Ok(Blocked::Path(way))
         }
         None => Ok(Blocked::More),
@@ -147,29 +153,28 @@ fn block<S: StepSolver>(
 // Goes from an obligation to one before it, a level at a time: to a start, and answers its node, or to a state that a
 // lemma excludes. All but a start are put into the queue.
 fn block_chain<S: StepSolver>(
-    aim: &Aim<'_, '_>,
-    top: u64,
+    top: &Top<'_, '_>,
     due: Obligation,
     obligations: &mut Obligations,
     steps: &mut S,
     frames: &mut Frames,
     meter: &mut Meter,
 ) -> Result<Option<u64>, ReachEnd>
-    requires search { IsSearch aim.now.starts.now (S.seen steps.old) frames.old }
-    requires top { top + 1 ≡ length frames.old }
-    requires obligations { AreObligations (S.seen steps.old).question aim.now.goal.now top obligations.old }
-    requires due { IsOpen top frames.old obligations.old.nodes.items due }
-    ensures outcome { IfOk result (IsChained (length (S.seen steps.old).question.circuit.latches) aim.now.starts.now
+    requires search { IsSearch top.now.aim.now.starts.now (S.seen steps.old) frames.old }
+    requires top { top.now.level + 1 ≡ length frames.old }
+    requires obligations { AreObligations (S.seen steps.old).question top.now.aim.now.goal.now top.now.level obligations.old }
+    requires due { IsOpen top.now.level frames.old obligations.old.nodes.items due }
+    ensures outcome { IfOk result (IsChained (length (S.seen steps.old).question.circuit.latches) top.now.aim.now.starts.now
         frames.old frames.new obligations.new.nodes.items) }
-    ensures obligations { OnOk result (AreObligations (S.seen steps.old).question aim.now.goal.now top obligations.new) }
-    ensures kept { OnOk result (Keeps aim.now.starts.now (S.seen steps.old) (S.seen steps.new) frames.old frames.new
+    ensures obligations { OnOk result (AreObligations (S.seen steps.old).question top.now.aim.now.goal.now top.now.level obligations.new) }
+    ensures kept { OnOk result (Keeps top.now.aim.now.starts.now (S.seen steps.old) (S.seen steps.new) frames.old frames.new
         meter.old meter.new) }
     ensures bounded { Bounds (S.seen steps.old) (S.seen steps.new) frames.old meter.old meter.new }
     ensures end { IfErr result (IsReachEnd meter.new) }
 {
     let mut at = due;
     'levels: loop {
-        match block_at(aim, top, at, obligations, steps, frames, meter)? {
+        match block_at(top, at, obligations, steps, frames, meter)? {
             ConsecutionEnd::Start => return Ok(Some(at.node)),
             ConsecutionEnd::Before(before) => at = before,
             ConsecutionEnd::Excluded => return Ok(None),
@@ -179,40 +184,39 @@ fn block_chain<S: StepSolver>(
 
 // One level of that.
 fn block_at<S: StepSolver>(
-    aim: &Aim<'_, '_>,
-    top: u64,
+    top: &Top<'_, '_>,
     at: Obligation,
     obligations: &mut Obligations,
     steps: &mut S,
     frames: &mut Frames,
     meter: &mut Meter,
 ) -> Result<ConsecutionEnd, ReachEnd>
-    requires search { IsSearch aim.now.starts.now (S.seen steps.old) frames.old }
-    requires top { top + 1 ≡ length frames.old }
-    requires obligations { AreObligations (S.seen steps.old).question aim.now.goal.now top obligations.old }
-    requires due { IsOpen top frames.old obligations.old.nodes.items at }
-    ensures outcome { IfOk result (IsBlockedAt (length (S.seen steps.old).question.circuit.latches) top aim.now.starts.now
-        frames.old frames.new obligations.new.nodes.items at) }
-    ensures obligations { OnOk result (AreObligations (S.seen steps.old).question aim.now.goal.now top obligations.new) }
-    ensures kept { OnOk result (Keeps aim.now.starts.now (S.seen steps.old) (S.seen steps.new) frames.old frames.new
+    requires search { IsSearch top.now.aim.now.starts.now (S.seen steps.old) frames.old }
+    requires top { top.now.level + 1 ≡ length frames.old }
+    requires obligations { AreObligations (S.seen steps.old).question top.now.aim.now.goal.now top.now.level obligations.old }
+    requires due { IsOpen top.now.level frames.old obligations.old.nodes.items at }
+    ensures outcome { IfOk result (IsBlockedAt (length (S.seen steps.old).question.circuit.latches) top.now.level
+        top.now.aim.now.starts.now frames.old frames.new obligations.new.nodes.items at) }
+    ensures obligations { OnOk result (AreObligations (S.seen steps.old).question top.now.aim.now.goal.now top.now.level obligations.new) }
+    ensures kept { OnOk result (Keeps top.now.aim.now.starts.now (S.seen steps.old) (S.seen steps.new) frames.old frames.new
         meter.old meter.new) }
     ensures bounded { Bounds (S.seen steps.old) (S.seen steps.new) frames.old meter.old meter.new }
     ensures end { IfErr result (IsReachEnd meter.new) }
 {
     let state = state_at(&obligations.nodes, at.node);
-    if holds_in(aim.starts, state) {
+    if holds_in(top.aim.starts, state) {
         return Ok(ConsecutionEnd::Start);
     }
     let below = at.level - 1;
     let cube = cube_at(&obligations.nodes, at.node);
-    let asked = asked_about(aim.alloc, aim.starts, state, cube)?;
+    let asked = asked_about(top.aim.alloc, top.aim.starts, state, cube)?;
     let asking = Consecution {
         below,
         state,
         into: cube,
         asked: &asked,
     };
-    let found = consecution(aim, &asking, steps, frames, meter)?;
+    let found = consecution(top.aim, &asking, steps, frames, meter)?;
     Ok(keep(obligations, at, below, found)?)
 }
 
@@ -251,7 +255,8 @@ fn consecution<S: StepSolver>(
     requires size { length asking.now.state.now ≡ length (S.seen steps.old).question.circuit.latches }
     requires frame { allowed_by (frame_at frames.old (asking.now.below + 1)) asking.now.state.now ≡ true }
     requires based { IsBased aim.now.starts.now (value_literals 0 asking.now.state.now) asking.now.into.now asking.now.asked.now }
-    ensures outcome { IfOk result (TellsConsecution (S.seen steps.old).question frames.old frames.new asking.now.below asking.now.into.now) }
+    ensures outcome { IfOk result (TellsConsecution (S.seen steps.old).question frames.old frames.new
+        asking.now.below asking.now.into.now) }
     ensures kept { OnOk result (Keeps aim.now.starts.now (S.seen steps.old) (S.seen steps.new) frames.old frames.new
         meter.old meter.new) }
     ensures bounded { Bounds (S.seen steps.old) (S.seen steps.new) frames.old meter.old meter.new }

@@ -76,6 +76,13 @@ pub(crate) struct Obligation {
     pub(crate) level: u64,
 }
 
+/// The last frame of a search: what the search aims at, and the number of that frame.
+#[derive(Drop)]
+pub(crate) struct Top<'a, 'b> {
+    pub(crate) aim: &'a Aim<'a, 'b>,
+    pub(crate) level: u64,
+}
+
 /// Nodes in the order in which they came, numbered from 0, and the obligations that are left. The last obligation is the
 /// next: its level is the lowest, and of these it came last.
 #[derive(Drop)]
@@ -360,26 +367,38 @@ fn begin<S: StepSolver>(
 }
 
 /// Takes the next obligation whose frame allows its state, or begins with a state of the goal in the last frame; `None`
-/// where there is none of either. `top` is the number of the last frame.
+/// where there is none of either.
 pub(crate) fn take_next<S: StepSolver>(
-    aim: &Aim<'_, '_>,
-    top: u64,
+    top: &Top<'_, '_>,
     obligations: &mut Obligations,
     steps: &mut S,
     frames: &Frames,
     meter: &mut Meter,
 ) -> Result<Option<Obligation>, ReachEnd>
-    requires search { IsSearch aim.now.starts.now (S.seen steps.old) frames.now }
-    requires goal { IsGoalOf (S.seen steps.old) aim.now.goal.now }
-    requires obligations { AreObligations (S.seen steps.old).question aim.now.goal.now top obligations.old }
-    ensures obligations { OnOk result (AreObligations (S.seen steps.old).question aim.now.goal.now top obligations.new) }
-    ensures next { IfOk result (IsNext (S.seen steps.old).question aim.now.goal.now top frames.now obligations.new.nodes.items) }
+    requires search { IsSearch top.now.aim.now.starts.now (S.seen steps.old) frames.now }
+    requires goal { IsGoalOf (S.seen steps.old) top.now.aim.now.goal.now }
+    requires obligations { AreObligations (S.seen steps.old).question top.now.aim.now.goal.now top.now.level obligations.old }
+    ensures obligations { OnOk result (AreObligations (S.seen steps.old).question top.now.aim.now.goal.now top.now.level obligations.new) }
+    ensures next { IfOk result (IsNext (S.seen steps.old).question top.now.aim.now.goal.now top.now.level
+        frames.now obligations.new.nodes.items) }
     ensures same { (S.seen steps.new) ≡ (S.seen steps.old) }
     ensures end { IfErr result (IsReachEnd meter.new) }
     ensures counted { CountsConflicts meter.old meter.new }
 {
-    match take_open(top, &obligations.nodes, &mut obligations.queue, frames)? {
+    match take_open(
+        top.level,
+        &obligations.nodes,
+        &mut obligations.queue,
+        frames,
+    )? {
         Some(due) => Ok(Some(due)),
-        None => begin(aim, top, &mut obligations.nodes, steps, frames, meter),
+        None => begin(
+            top.aim,
+            top.level,
+            &mut obligations.nodes,
+            steps,
+            frames,
+            meter,
+        ),
     }
 }

@@ -6,10 +6,10 @@ use Rattle.ic3_loops.proofs.blocking.block_chain.Given as goal
 abbrev pub invariant-levels : goal.invariant-levels
 invariant-levels g l = record {
   same : l.frames ≡ l.initial.frames;
-  kept : Keeps l.aim.starts.now (g.S.StepSolver.seen l.initial.steps) (g.S.StepSolver.seen l.steps) l.initial.frames l.frames l.initial.meter l.meter;
+  kept : Keeps l.top.aim.now.starts.now (g.S.StepSolver.seen l.initial.steps) (g.S.StepSolver.seen l.steps) l.initial.frames l.frames l.initial.meter l.meter;
   bounded : Bounds (g.S.StepSolver.seen l.initial.steps) (g.S.StepSolver.seen l.steps) l.initial.frames l.initial.meter l.meter;
-  obligations : AreObligations (g.S.StepSolver.seen l.initial.steps).question l.aim.goal.now l.top l.obligations;
-  due : IsOpen l.top l.frames l.obligations.nodes.items l.at;
+  obligations : AreObligations (g.S.StepSolver.seen l.initial.steps).question l.top.aim.now.goal.now l.top.level l.obligations;
+  due : IsOpen l.top.level l.frames l.obligations.nodes.items l.at;
 }
 
 abbrev pub decreases-levels : goal.decreases-levels
