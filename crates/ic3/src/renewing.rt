@@ -1,8 +1,10 @@
 //! A solver that many questions were asked is made anew: it gets the clauses of all lemmas that no later one implies, and
 //! none of those that guards of old questions switched off. The main calls are `is_old` and `renewed`.
-ghost use Rattle.std.specs.Prelude.{◌+◌, ◌<◌, length, IfOk, OnOk};
+ghost use Rattle.std.specs.Prelude.{◌≡◌, ◌+◌, ◌<◌, List, length, IfOk, OnOk};
 ghost use Rattle.entry.specs.CheckedEntries.{viewed};
-ghost use Rattle.ic3.specs.SteppingInside.{IsHeldWith};
+ghost use Rattle.proof_semantics.specs.declared.literals.Lit.{Lit};
+ghost use Rattle.ic3_semantics.specs.Stepping.{Stepping, no_lemmas};
+ghost use Rattle.ic3.specs.SteppingInside.{IsHeldBy, IsHeldWith};
 ghost use Rattle.ic3.specs.SteppingStart.{HoldsAll, IsHeldUpTo, stepping_of};
 ghost use Rattle.ic3.specs.declared.stepping_questions.Questions.{Questions};
 
@@ -65,6 +67,23 @@ fn hold_all(
     Ok(())
 }
 
+// Puts the lemmas into a new solver that holds none. The count of questions is that of the old one.
+fn hold_anew(
+    alloc: Global,
+    lemmas: &[Lemma],
+    old: &Questions,
+    made: &mut Questions,
+) -> Result<(), AllocError>
+    ensures { OnOk result ((st : Stepping) (base : List (List Lit)) → st.lemmas ≡ lemmas.now → IsHeldWith st base old.now
+        → IsHeldBy (no_lemmas st.question st.avoid) made.old → IsHeldWith st base made.new) }
+{
+    let others = implying_places(alloc, lemmas, made.here.len(), old.implying.as_slice())?;
+    hold_all(alloc, lemmas, others.as_slice(), made)?;
+    made.count = old.count;
+    made.implying = others;
+    Ok(())
+}
+
 /// A new solver that holds what the old one does, and a new cone with it. The count of questions goes on.
 pub(crate) fn renewed(
     alloc: Global,
@@ -81,9 +100,11 @@ pub(crate) fn renewed(
     ensures { IfOk result (IsHeldWith (stepping_of c.now (viewed view.now) start.now avoid.now lemmas.now) base.now.clauses) }
 {
     let mut made = questions_of(alloc, c, view, start, avoid, base, old.free, cone)?;
-    let others = implying_places(alloc, lemmas, made.here.len(), old.implying.as_slice())?;
-    hold_all(alloc, lemmas, others.as_slice(), &mut made)?;
-    made.count = old.count;
-    made.implying = others;
-    Ok(made)
+    match hold_anew(alloc, lemmas, old, &mut made) {
+        Ok(()) => Ok(made),
+        Err(refused) => {
+            drop(made);
+            Err(refused)
+        }
+    }
 }

@@ -182,7 +182,7 @@ impl<'a> Steps<'a> {
         ensures { self.new ≡ self.old }
     {
         let mut cone = Cone::new(self.alloc, self.c)?;
-        let made = renewed(
+        match renewed(
             self.alloc,
             self.c,
             self.view,
@@ -192,10 +192,17 @@ impl<'a> Steps<'a> {
             &self.base,
             &self.questions,
             &mut cone,
-        )?;
-        drop(mem::replace(&mut self.questions, made));
-        self.cone = cone;
-        Ok(())
+        ) {
+            Ok(made) => {
+                drop(mem::replace(&mut self.questions, made));
+                drop(mem::replace(&mut self.cone, cone));
+                Ok(())
+            }
+            Err(refused) => {
+                drop(cone);
+                Err(refused)
+            }
+        }
     }
 
     /// A step of the arena into the cube, from a state outside it that meets the lemmas of this level and of those
