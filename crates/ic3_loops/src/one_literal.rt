@@ -92,11 +92,34 @@ fn held<S: StepSolver>(
     ensures counted { CountsConflicts meter.old meter.new }
 {
     let cube = one_cube(alloc, literal.negation())?;
-    if !holds_in(&cube, to) {
+    let found = held_outside(alloc, starts, &cube, to, steps, meter);
+    drop(cube);
+    found
+}
+
+// The negation of a cube, if the state lies in it and no step from outside it leads into it.
+fn held_outside<S: StepSolver>(
+    alloc: Global,
+    starts: &Cube,
+    cube: &Cube,
+    to: &[bool],
+    steps: &mut S,
+    meter: &mut Meter,
+) -> Result<Option<Clause>, SolveEnd>
+    requires { (S.seen steps.old).lemmas ≡ [] }
+    ensures single { IfOk result (λ found. IfSome found (IsSingle (S.seen steps.old).question starts.now to.now)) }
+    ensures same { (S.seen steps.new) ≡ (S.seen steps.old) }
+    ensures end { IfErr result (IsEnd meter.new) }
+    ensures counted { CountsConflicts meter.old meter.new }
+{
+    if !holds_in(cube, to) {
         return Ok(None);
     }
-    match inductive_part(alloc, starts, 0, &cube, steps, meter)? {
-        Some(_) => Ok(Some(cube.negation()?)),
+    match inductive_part(alloc, starts, 0, cube, steps, meter)? {
+        Some(part) => {
+            drop(part);
+            Ok(Some(cube.negation()?))
+        }
         None => Ok(None),
     }
 }

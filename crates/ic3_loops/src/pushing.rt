@@ -1,10 +1,12 @@
 //! Lemmas that hold after each step from their frame: the part of such a one that the solver tells goes into the next frame.
 //! The main calls are `push_parts`, and `tried` for one lemma.
-ghost use Rattle.std.specs.Prelude.{◌≡◌, ◌+◌, ◌<◌, ◌≤◌, true, map, length, IfOk, IfErr, OnOk};
-ghost use Rattle.proof_semantics.specs.Clauses.{negation};
+ghost use Rattle.std.specs.Prelude.{◌≡◌, ◌+◌, ◌<◌, ◌≤◌, true, List, map, length, IfOk, IfErr, OnOk};
+ghost use Rattle.proof_semantics.specs.Clauses.{negation, is_part};
+ghost use Rattle.proof_semantics.specs.declared.literals.Lit.{Lit};
 ghost use Rattle.edge.specs.Ends.{CountsConflicts, IsEnd};
 ghost use Rattle.ic3_semantics.specs.Stepping.{IsOver, IsMissing};
 ghost use Rattle.ic3_loops.specs.Sound.{IsSearch, KeepsQuestion, Agree, has_one_of};
+ghost use Rattle.ic3_generalise.specs.Cubes.{IsBased};
 ghost use Rattle.ic3_loops.specs.Holding.{TellsOn};
 ghost use Rattle.ic3_loops.specs.Propagating.{IsNarrower};
 ghost use Rattle.ic3_frames.specs.Witnessing.{AreWitnesses};
@@ -119,11 +121,26 @@ fn put_part<S: StepSolver>(
     ensures narrower { OnOk result (IsNarrower aim.now.starts.now (S.seen steps.old) (S.seen steps.new) frames.old frames.new) }
     ensures question { KeepsQuestion (S.seen steps.old) (S.seen steps.new) }
 {
-    let cube = negated(aim.alloc, lemma)?;
-    let longer = based(aim.alloc, aim.starts, &cube, part)?;
-    let clause = longer.negation()?;
     let next = one_more(level)?;
+    let clause = longer_lemma(aim.alloc, aim.starts, lemma, part)?;
     put_lemma(aim.starts, next, clause, steps, frames)
+}
+
+// The lemma of a part of a lemma's cube, with a literal by which the part misses the starts.
+fn longer_lemma(
+    alloc: Global,
+    starts: &Cube,
+    lemma: &Clause,
+    part: Cube,
+) -> Result<Clause, AllocError>
+    requires based { has_one_of starts.now lemma.now ≡ true }
+    requires among { is_part part (map negation lemma.now) ≡ true }
+    ensures { IfOk result (λ clause. (longer : List Lit) × IsBased starts.now (map negation lemma.now) part longer
+        × (clause ≡ map negation longer)) }
+{
+    let cube = negated(alloc, lemma)?;
+    let longer = based(alloc, starts, &cube, part)?;
+    longer.negation()
 }
 
 // The cube of the negated literals of a lemma.

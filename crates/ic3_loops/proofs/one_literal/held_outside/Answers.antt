@@ -1,8 +1,8 @@
 use Rattle.std.proofs.Common.{sym, ◌∙◌}
 use Rattle.ic3_loops.proofs.Singles.{single-is}
-use Rattle.ic3_loops.proofs.one_literal.held.Goals as goal
+use Rattle.ic3_loops.proofs.one_literal.held_outside.Goals as goal
 
 pub returns-in-Some-clause-single : goal.returns-in-Some-clause-single
 returns-in-Some-clause-single g c =
-    single-is (g.S.StepSolver.seen c.args.steps.now) c.args.starts.now c.in_ok-cube.cube c.in_ok-negation-in-Some.field-0 c.args.to.now c.requires
+    single-is (g.S.StepSolver.seen c.args.steps.now) c.args.starts.now c.args.cube.now c.in_ok-negation-in-Some.field-0 c.args.to.now c.requires
     (rw c.in-Some.is at c.in_ok-inductive_part.ensures.asked).0 (sym c.holds_in.ensures ∙ c.if-not-holds_in.false) c.in_ok-negation-in-Some.ensures
