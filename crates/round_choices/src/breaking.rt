@@ -70,7 +70,27 @@ fn is_found(
     }
 }
 
-// The first state of a skeleton that breaks a clause, if one is found.
+// The first state of a skeleton that breaks the clause, if one is found.
+fn state_against(
+    alloc: Global,
+    c: &Circuit,
+    solver: &mut Solver,
+    clause: &Clause,
+    meter: &mut Meter,
+) -> Result<Option<Items<bool>>, SolveEnd>
+    ensures end { IfErr result (IsEnd meter.new) }
+    ensures counted { CountsConflicts meter.old meter.new }
+{
+    let literals = broken_first(alloc, c, clause)?;
+    let found = is_found(alloc, solver, literals.as_slice(), meter);
+    drop(literals);
+    if found? {
+        return Ok(Some(first_state(alloc, c, solver)?));
+    }
+    Ok(None)
+}
+
+// The first state of a skeleton that breaks one of the clauses, if one is found.
 fn state_found(
     alloc: Global,
     c: &Circuit,
@@ -82,9 +102,9 @@ fn state_found(
     ensures counted { CountsConflicts meter.old meter.new }
 {
     for clause in clauses.iter().take(MOST_ASKED) {
-        let literals = broken_first(alloc, c, clause)?;
-        if is_found(alloc, solver, literals.as_slice(), meter)? {
-            return Ok(Some(first_state(alloc, c, solver)?));
+        match state_against(alloc, c, solver, clause, meter)? {
+            Some(state) => return Ok(Some(state)),
+            None => {}
         }
     }
     Ok(None)
