@@ -127,14 +127,32 @@ fn lasso_of(alloc: Global, s: &Stimulus, positions: usize, from: u64) -> Result<
     ensures inputs { IfOk result (λ lasso. lasso.inputs ≡ take positions s.now.inputs) }
     ensures from { IfOk result (λ lasso. lasso.from ≡ from) }
 {
-    let start = s.latches.try_copy(alloc)?;
+    let inputs = first_inputs(alloc, s, positions)?;
+    match s.latches.try_copy(alloc) {
+        Ok(start) => Ok(Lasso {
+            start,
+            inputs,
+            from,
+        }),
+        Err(refused) => {
+            drop(inputs);
+            Err(refused)
+        }
+    }
+}
+
+// The inputs of its first positions.
+fn first_inputs(
+    alloc: Global,
+    s: &Stimulus,
+    positions: usize,
+) -> Result<Items<Items<bool>>, AllocError>
+    requires { positions ≤ length s.now.inputs }
+    ensures { IfOk result (λ inputs. inputs ≡ take positions s.now.inputs) }
+{
     let mut inputs = Items::new(alloc);
     for values in &s.inputs.as_slice()[..positions] {
         inputs.push(values.try_copy(alloc)?)?;
     }
-    Ok(Lasso {
-        start,
-        inputs,
-        from,
-    })
+    Ok(inputs)
 }
