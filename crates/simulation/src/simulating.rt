@@ -7,7 +7,7 @@ ghost use Rattle.lasso_join.specs.Prefixes.{stimulus_of};
 use crate::choosing::{Chosen, choose};
 use crate::drawn_states::DrawnStates;
 use crate::judging::{judged_lasso, judged_runs};
-use circuit::{Circuit, Lasso, Position};
+use circuit::{Circuit, Lasso, Position, Stimulus};
 use edge::Meter;
 use items::Items;
 use std::alloc::{AllocError, Global};
@@ -50,9 +50,40 @@ pub fn simulate(
         runs,
         states,
     } = choose(alloc, c, j, seed, meter)?;
-    Ok(Simulated {
-        lasso: judged_lasso(alloc, c, j, lasso)?,
-        runs: judged_runs(alloc, c, &runs)?,
-        states,
-    })
+    let found = judged(alloc, c, j, lasso, &runs);
+    drop(runs);
+    match found {
+        Ok((lasso, runs)) => Ok(Simulated {
+            lasso,
+            runs,
+            states,
+        }),
+        Err(refused) => {
+            drop(states);
+            Err(refused)
+        }
+    }
+}
+
+// The lasso that a stimulus stands for, if it does, and the runs.
+fn judged(
+    alloc: Global,
+    c: &Circuit,
+    j: u32,
+    lasso: Option<Stimulus>,
+    runs: &[Stimulus],
+) -> Result<(Option<Lasso>, Vec<Items<Position>>), AllocError>
+    ensures fair { IfOk result (λ found. IfSome found.0 (IsFairLassoOf c.now j)) }
+    ensures whole { IfOk result (λ found. IfSome found.0
+        (λ lasso. StandsFor c.now j (stimulus_of lasso) (length lasso.inputs) lasso.from)) }
+    ensures runs { IfOk result (λ found. All (λ run. (t : List Bool) × IsStemTo c.now t run) found.1.items) }
+{
+    let lasso = judged_lasso(alloc, c, j, lasso)?;
+    match judged_runs(alloc, c, runs) {
+        Ok(runs) => Ok((lasso, runs)),
+        Err(refused) => {
+            drop(lasso);
+            Err(refused)
+        }
+    }
 }
