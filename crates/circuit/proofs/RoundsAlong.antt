@@ -1,7 +1,7 @@
 -- Rounds that end as early as they can are as many as there can be.
 use Rattle.std.proofs.Common.{◌≡◌, ℕ, zero, suc, ◌+◌, ◌<◌, ◌≤◌, ◌⊎◌, Bool, true, false, cond, ◌||◌, List, [], ◌∷◌, ◌++◌, length, get_or, drop, replicate, refl, sym, ap, ◌∙◌, subst, inl, inr, arith, length-append, IsTrue}
 use Rattle.std.specs.List.{All, Any, list_all}
-use Rattle.std.proofs.lemmas.Bool.{and_parts, and_from, false≢true}
+use Rattle.std.proofs.lemmas.Bool.{and_parts, and_from, or_cases, or_left, or_right, false≢true}
 use Rattle.std.proofs.lemmas.List.{append_assoc, drop_more, length-replicate}
 use Rattle.std.proofs.lemmas.List.Elements.{All-nil, All-cons, All-head, All-tail}
 use Rattle.aig_semantics.specs.declared.traces.Position.{Position}
@@ -20,35 +20,24 @@ all_on P xs k x below is h back rest =
 
 -- ---- each literal was seen, or is true at one of these positions
 
-abbrev Soon : Circuit → List ℕ → List Bool → List Position → Type 0
+abbrev pub Soon : Circuit → List ℕ → List Bool → List Position → Type 0
 Soon c [] [] run = Unit {0}
 Soon c [] (s ∷ seens) run = ⊥
 Soon c (l ∷ literals) [] run = ⊥
 Soon c (l ∷ literals) (s ∷ seens) run = ((s ≡ true) ⊎ Any (λ p. IsTrue (literal_at c p l)) run) × Soon c literals seens run
 
-any_head : {X : Type 0} (P : X → Type 0) (x : X) (xs : List X) → P x → Any P (x ∷ xs)
+pub any_head : {X : Type 0} (P : X → Type 0) (x : X) (xs : List X) → P x → Any P (x ∷ xs)
 any_head P x xs h = (0, x, omega arith, refl, h)
 
-any_tail : {X : Type 0} (P : X → Type 0) (x : X) (xs : List X) → Any P xs → Any P (x ∷ xs)
+pub any_tail : {X : Type 0} (P : X → Type 0) (x : X) (xs : List X) → Any P xs → Any P (x ∷ xs)
 any_tail P x xs (k, y, inside, at, h) = (suc k, y, omega (arith, inside), at, h)
 
-any_cases : {X : Type 0} (P : X → Type 0) (x : X) (xs : List X) → Any P (x ∷ xs) → P x ⊎ Any P xs
+pub any_cases : {X : Type 0} (P : X → Type 0) (x : X) (xs : List X) → Any P (x ∷ xs) → P x ⊎ Any P xs
 any_cases P x xs (zero, y, inside, at, h) = inl (subst P (sym at) h)
 any_cases P x xs (suc k, y, inside, at, h) = inr (k, y, omega (arith, inside), at, h)
 
-none_any : {X : Type 0} (P : X → Type 0) → Any P [] → ⊥
+pub none_any : {X : Type 0} (P : X → Type 0) → Any P [] → ⊥
 none_any P (k, x, inside, at, h) = omega (arith, inside)
-
-or_right_true : (s l : Bool) → l ≡ true → (s || l) ≡ true
-or_right_true true l e = refl
-or_right_true false l e = e
-
-or_left_true : (s l : Bool) → s ≡ true → (s || l) ≡ true
-or_left_true s l e = ap (λ x. x || l) e
-
-or_cases : (s l : Bool) → (s || l) ≡ true → (s ≡ true) ⊎ (l ≡ true)
-or_cases true l e = inl refl
-or_cases false l e = inr e
 
 pub length-seen_with : (values : List Bool) (literals : List ℕ) (seens : List Bool) → length seens ≡ length literals → length (seen_with values literals seens) ≡ length literals
 length-seen_with values [] seens l = refl
@@ -65,7 +54,7 @@ length-seen_next values literals seens l =
     (length-replicate (length literals) false) (length-seen_with values literals seens l)
 
 -- what is true at the first position was seen behind it
-soon_on : (c : Circuit) (p : Position) (run : List Position) (literals : List ℕ) (seens : List Bool)
+pub soon_on : (c : Circuit) (p : Position) (run : List Position) (literals : List ℕ) (seens : List Bool)
     → Soon c literals seens (p ∷ run) → Soon c literals (seen_with (valuation_at c p) literals seens) run
 soon_on c p run [] [] h = tt
 soon_on c p run [] (s ∷ seens) h = absurd h
@@ -73,15 +62,15 @@ soon_on c p run (l ∷ literals) [] h = absurd h
 soon_on c p run (l ∷ literals) (s ∷ seens) h =
     let P : Position → Type 0 = λ q. IsTrue (literal_at c q l) in
     let here : ((s || literal_at c p l) ≡ true) ⊎ Any P run = elim h.0 [
-      | inl seen ↦ inl (or_left_true s (literal_at c p l) seen)
+      | inl seen ↦ inl (or_left s (literal_at c p l) seen)
       | inr some ↦ elim (any_cases P p run some) [
-        | inl now ↦ inl (or_right_true s (literal_at c p l) now)
+        | inl now ↦ inl (or_right s (literal_at c p l) now)
         | inr later ↦ inr later
       ]
     ] in
     (here, soon_on c p run literals seens h.1)
 
-soon_back : (c : Circuit) (p : Position) (run : List Position) (literals : List ℕ) (seens : List Bool) → length seens ≡ length literals
+pub soon_back : (c : Circuit) (p : Position) (run : List Position) (literals : List ℕ) (seens : List Bool) → length seens ≡ length literals
     → Soon c literals (seen_with (valuation_at c p) literals seens) run → Soon c literals seens (p ∷ run)
 soon_back c p run [] [] l h = tt
 soon_back c p run [] (s ∷ seens) l h = absurd (omega (arith, l))
@@ -97,7 +86,7 @@ soon_back c p run (l ∷ literals) (s ∷ seens) e h =
     ] in
     (here, soon_back c p run literals seens (omega (arith, e)) h.1)
 
-soon_none : (c : Circuit) (literals : List ℕ) (seens : List Bool) → Soon c literals seens [] → list_all (λ b. b) seens ≡ true
+pub soon_none : (c : Circuit) (literals : List ℕ) (seens : List Bool) → Soon c literals seens [] → list_all (λ b. b) seens ≡ true
 soon_none c [] [] h = refl
 soon_none c [] (s ∷ seens) h = absurd h
 soon_none c (l ∷ literals) [] h = absurd h
@@ -108,7 +97,7 @@ soon_none c (l ∷ literals) (s ∷ seens) h =
     ] in
     and_from s (list_all (λ b. b) seens) here (soon_none c literals seens h.1)
 
-soon_all : (c : Circuit) (literals : List ℕ) (seens : List Bool) (run : List Position) → length seens ≡ length literals → list_all (λ b. b) seens ≡ true → Soon c literals seens run
+pub soon_all : (c : Circuit) (literals : List ℕ) (seens : List Bool) (run : List Position) → length seens ≡ length literals → list_all (λ b. b) seens ≡ true → Soon c literals seens run
 soon_all c [] [] run l e = tt
 soon_all c [] (s ∷ seens) run l e = absurd (omega (arith, l))
 soon_all c (l ∷ literals) [] run e f = absurd (omega (arith, e))
@@ -117,7 +106,7 @@ soon_all c (l ∷ literals) (s ∷ seens) run e f =
     (inl parts.0, soon_all c literals seens run (omega (arith, e)) parts.1)
 
 -- nothing was seen yet: each literal is true at one of the positions
-soon_fair : (c : Circuit) (literals : List ℕ) (run : List Position)
+pub soon_fair : (c : Circuit) (literals : List ℕ) (run : List Position)
     → Soon c literals (replicate (length literals) false) run → All (λ literal. Any (λ p. IsTrue (literal_at c p literal)) run) literals
 soon_fair c [] run h = All-nil _
 soon_fair c (l ∷ literals) run h =
@@ -129,7 +118,7 @@ soon_fair c (l ∷ literals) run h =
     All-cons Met l literals here (soon_fair c literals run h.1)
 
 -- where each literal is true somewhere, nothing needs to be seen before
-fair_soon : (c : Circuit) (literals : List ℕ) (seens : List Bool) (run : List Position) → length seens ≡ length literals
+pub fair_soon : (c : Circuit) (literals : List ℕ) (seens : List Bool) (run : List Position) → length seens ≡ length literals
     → All (λ literal. Any (λ p. IsTrue (literal_at c p literal)) run) literals → Soon c literals seens run
 fair_soon c [] [] run l all = tt
 fair_soon c [] (s ∷ seens) run l all = absurd (omega (arith, l))

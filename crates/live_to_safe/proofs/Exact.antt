@@ -10,14 +10,15 @@ use Rattle.aig_semantics.specs.Circuits.{Circuit, IsChecked, IsWithinLimits, fai
 use Rattle.aig_semantics.specs.Runs.{IsPosition, position_of, literal_at, successor, MeetsConstraints, StartsIn, IsRun, IsInitial, IsInitialRun, MeetsFairness}
 use Rattle.aig_semantics.specs.Valuations.{HasOneValuation}
 use Rattle.fair_semantics.proofs.Runs.{end_of, loop-of}
+use Rattle.circuit.proofs.RoundsAlong.{Soon, soon_none, soon_all, soon_fair, fair_soon}
 use Rattle.live_to_safe.specs.declared.sizes.Sizes.{Sizes}
 use Rattle.live_to_safe.specs.BadRuns.{HasBadRun, HasFairLasso}
 use Rattle.live_to_safe.specs.Numbers.{sizes_of, save, copy, seen, latch_gate, literal_gate}
 use Rattle.live_to_safe.specs.Watching.{numbered, copy_latch, seen_latch, new_latches, bad_literal}
 use Rattle.live_to_safe.specs.Translation.{safety_circuit, safety_model}
 use Rattle.live_to_safe.proofs.Valued.{same_lists, seen_after, all_true}
-use Rattle.live_to_safe.proofs.Watched.{watch_state, joint, watch_next, step-is, bad-at, constraints-kept, constraints-back}
-use Rattle.live_to_safe.proofs.Lassos.{same_lists-self, same_lists-equal, length-seen_after, seen_after-off, last_split, Soon, soon_on, soon_back, soon_none, soon_all, soon_fair, fair_soon, EndsBad, ends-cons, ends-last, last-ends, some-run, ends-some, drop-seam, closes-behind, any_one, Begin, begin-length, begin-append, begin-split, begin-zero, zero-begins}
+use Rattle.live_to_safe.proofs.Watched.{watch_state, joint, watch_next, step-is, bad-at, kept, back}
+use Rattle.live_to_safe.proofs.Lassos.{same_lists-self, same_lists-equal, length-seen_after, seen_after-off, last_split, soon_next, soon_before, EndsBad, ends-cons, ends-last, last-ends, some-run, ends-some, drop-seam, closes-behind, any_one, Begin, begin-length, begin-append, begin-split, begin-zero, zero-begins}
 
 same_append : (xs ys zs : List Bool) → xs ≡ ys → xs ++ zs ≡ ys ++ zs
 same_append xs ys zs e = ap (λ vs. vs ++ zs) e
@@ -58,12 +59,12 @@ module _ (c : Circuit) (j : ℕ) (checked : IsChecked c) (limits : IsWithinLimit
       → watch_next c j p is_saved copies seens saves ≡ watch → LeadsToBad (successor c p) watch → LeadsToBad state (watch_state is_saved copies seens)
   lead_on p is_saved copies seens saves state watch possible l q starts next (run, is_run, begins, bad) =
       let whole : Position = joint p is_saved copies seens saves in
-      let kept = constraints-kept c j checked limits property one other p is_saved copies seens saves possible.position l q possible in
+      let met = kept c j checked limits property one other p is_saved copies seens saves possible.position l q possible in
       let step : successor t whole ≡ successor c p ++ watch =
       step-is c j checked limits property one other p is_saved copies seens saves possible.position l q ∙ ap (λ w. successor c p ++ w) next
       in (
         whole ∷ run,
-        (kept, subst (λ s. StartsIn s run) (sym step) begins, is_run),
+        (met, subst (λ s. StartsIn s run) (sym step) begins, is_run),
         same_append p.latches state (watch_state is_saved copies seens) starts,
         ends-cons t (bad_literal z) whole run bad,
       )
@@ -76,10 +77,10 @@ module _ (c : Circuit) (j : ℕ) (checked : IsChecked c) (limits : IsWithinLimit
       → LeadsToBad state (watch_state true first.latches seens)
   round_on first possible [] state seens l is_run starts ends soon =
       let whole : Position = joint first true first.latches seens false in
-      let kept = constraints-kept c j checked limits property one other first true first.latches seens false possible.position possible.position.latches l possible in
+      let met = kept c j checked limits property one other first true first.latches seens false possible.position possible.position.latches l possible in
       let bad = bad-at c j checked limits property one other first true first.latches seens false possible.position possible.position.latches l in (
         whole ∷ [],
-        (kept, tt, tt),
+        (met, tt, tt),
         same_append first.latches state (watch_state true first.latches seens) (sym ends),
         bad ∙ and_from (same_lists first.latches first.latches) (all_true seens) (same_lists-self first.latches) (soon_none c literals seens soon),
       )
@@ -87,7 +88,7 @@ module _ (c : Circuit) (j : ℕ) (checked : IsChecked c) (limits : IsWithinLimit
       let now = seen_after true seens (values_at p) in
       lead_on p true first.latches seens false state (watch_state true first.latches now) is_run.0 possible.position.latches l starts refl
       (round_on first possible rest (successor c p) now (length-seen_after true seens (values_at p) (values-length p seens l) ∙ l)
-      is_run.2 is_run.1 ends (soon_on c p rest literals seens soon))
+      is_run.2 is_run.1 ends (soon_next c p rest literals seens soon))
 
   -- along the stem, and then round the loop
   stem_on : (from : ℕ) (run : List Position) (state copies : List Bool) → length copies ≡ length c.latches → IsRun c run → StartsIn state run
@@ -98,7 +99,7 @@ module _ (c : Circuit) (j : ℕ) (checked : IsChecked c) (limits : IsWithinLimit
       let now = seen_after true none_seen (values_at p) in
       lead_on p false copies none_seen true state (watch_state true p.latches now) is_run.0 l none-length starts refl
       (round_on p is_run.0 rest (successor c p) now (length-seen_after true none_seen (values_at p) (values-length p none_seen none-length) ∙ none-length)
-      is_run.2 is_run.1 (ends ∙ sym first) (soon_on c p rest literals none_seen (fair_soon c literals (p ∷ rest) fair)))
+      is_run.2 is_run.1 (ends ∙ sym first) (soon_next c p rest literals none_seen (fair_soon c literals none_seen (p ∷ rest) none-length fair)))
   stem_on (suc from) [] state copies l is_run starts begins first ends some fair = absurd (omega (arith, some))
   stem_on (suc from) (p ∷ rest) state copies l is_run starts begins first ends some fair =
       lead_on p false copies none_seen false state (watch_state false copies none_seen) is_run.0 l none-length starts
@@ -183,7 +184,7 @@ module _ (c : Circuit) (j : ℕ) (checked : IsChecked c) (limits : IsWithinLimit
   round_back (whole ∷ after ∷ run) state copies seens l k q is_run starts bad =
       let parted = part whole state true copies seens is_run.0.position l starts in
       let p = parted.own in
-      let possible = constraints-back c j checked limits property one other p true copies seens parted.saves parted.fits k q (subst (MeetsConstraints t) parted.is is_run.0) in
+      let possible = back c j checked limits property one other p true copies seens parted.saves parted.fits k q (subst (MeetsConstraints t) parted.is is_run.0) in
       let step : successor t whole ≡ successor c p ++ watch_state true copies (seen_after true seens (values_at p)) =
       ap (successor t) parted.is ∙ step-is c j checked limits property one other p true copies seens parted.saves parted.fits k q
       ∙ ap (λ w. successor c p ++ w) (next_on p copies seens parted.saves)
@@ -191,7 +192,7 @@ module _ (c : Circuit) (j : ℕ) (checked : IsChecked c) (limits : IsWithinLimit
       let now = seen_after true seens (values_at p) in
       let rest = round_back (after ∷ run) (successor c p) copies now (successor-length p) k
       (length-seen_after true seens (values_at p) (values-length p seens q) ∙ q) is_run.2 (is_run.1 ∙ step) bad in
-      (p ∷ rest.0, (possible, rest.2, rest.1), parted.latches, rest.3, soon_back c p rest.0 literals seens q rest.4)
+      (p ∷ rest.0, (possible, rest.2, rest.1), parted.latches, rest.3, soon_before c p rest.0 literals seens q rest.4)
 
   -- a run of the circuit from the state, with a fair loop at its end
   record Found (state : List Bool) : Type 0 where
@@ -229,7 +230,7 @@ module _ (c : Circuit) (j : ℕ) (checked : IsChecked c) (limits : IsWithinLimit
         is_run = (possible, round.2, round.1);
         starts = latches;
         ends = round.3;
-        fair = soon_back c p round.0 literals none_seen none-length round.4;
+        fair = soon_before c p round.0 literals none_seen none-length round.4;
       }
   stem_by run p state copies false latches possible is_run starts bad later =
       let off : watch_state false copies (seen_after false none_seen (values_at p)) ≡ watch_state false copies none_seen =
@@ -248,7 +249,7 @@ module _ (c : Circuit) (j : ℕ) (checked : IsChecked c) (limits : IsWithinLimit
   stem_back (whole ∷ after ∷ run) state copies l k is_run starts bad =
       let parted = part whole state false copies none_seen is_run.0.position l starts in
       let p = parted.own in
-      let possible = constraints-back c j checked limits property one other p false copies none_seen parted.saves parted.fits k none-length (subst (MeetsConstraints t) parted.is is_run.0) in
+      let possible = back c j checked limits property one other p false copies none_seen parted.saves parted.fits k none-length (subst (MeetsConstraints t) parted.is is_run.0) in
       let step : successor t whole ≡ successor c p ++ watch_next c j p false copies none_seen parted.saves =
       ap (successor t) parted.is ∙ step-is c j checked limits property one other p false copies none_seen parted.saves parted.fits k none-length
       in

@@ -20,7 +20,8 @@ use Rattle.live_to_safe.specs.Watching.{bad_literal}
 use Rattle.live_to_safe.specs.Translation.{safety_circuit, safety_model}
 use Rattle.live_to_safe.specs.Ends.{IsTranslatable}
 use Rattle.live_to_safe.specs.Steps.{safety_parts}
-use Rattle.live_to_safe.proofs.Defining.{safety_is_model, fair_all, old_latches_read}
+use Rattle.live_to_safe.proofs.Extending.{fair_all, own_latches_read}
+use Rattle.live_to_safe.proofs.Defining.{safety_is_model}
 use Rattle.live_to_safe.proofs.Exact.{exact}
 
 pub fits : (c : Circuit) (j : ℕ) (z : Sizes) → z ≡ sizes_of c j → IsTranslatable c j → greatest z ≤ MAX_VARIABLE
@@ -29,7 +30,7 @@ fits c j z is able = subst (λ x. greatest x ≤ MAX_VARIABLE) (sym is) able.siz
 module _ (c : Circuit) (j : ℕ) (checked : IsChecked c) (limits : IsWithinLimits c) (able : IsTranslatable c j) where
   pub low_latches : All (λ latch. latch.var ≤ MAX_VARIABLE) c.latches
   low_latches = λ k d below.
-      let low = (old_latches_read c j checked limits able.property k d below).0 in
+      let low = (own_latches_read c checked k d below).0 in
       let most = limits.max in
       omega (arith, low, most)
 

@@ -1,16 +1,17 @@
 -- Runs that end at a bad position, loops, and which literals were seen or will be.
-use Rattle.std.proofs.Common.{◌≡◌, ℕ, zero, suc, ◌+◌, ◌-◌, ◌⊎◌, Bool, true, false, ◌||◌, List, [], ◌∷◌, ◌++◌, map, length, drop, replicate, refl, sym, ap, ◌∙◌, subst, inl, inr, arith, length-append, Some, slice_get, IsTrue}
-use Rattle.std.specs.List.{All, AllZip, Any}
+use Rattle.std.proofs.Common.{◌≡◌, ℕ, zero, suc, ◌+◌, ◌-◌, Bool, true, false, ◌||◌, List, [], ◌∷◌, ◌++◌, map, length, drop, replicate, refl, sym, ap, ◌∙◌, subst, arith, length-append, Some, slice_get}
+use Rattle.std.specs.List.{AllZip, Any}
 use Rattle.std.proofs.lemmas.Bool.{and_parts, and_from}
 use Rattle.std.proofs.lemmas.Option.{same_Some, none-some}
-use Rattle.std.proofs.lemmas.List.Elements.{All-nil, All-cons, All-head, All-tail}
 use Rattle.aig_semantics.specs.declared.parts.Latch.{Latch}
 use Rattle.aig_semantics.specs.declared.traces.Position.{Position}
 use Rattle.aig_semantics.specs.Circuits.{Circuit}
-use Rattle.aig_semantics.specs.Runs.{literal_at, successor, AgreesWith, ClosesAt}
+use Rattle.aig_semantics.specs.Runs.{valuation_at, literal_at, successor, AgreesWith, ClosesAt}
 use Rattle.fair_semantics.proofs.Runs.{end_of}
+use Rattle.circuit.specs.Following.{seen_with}
+use Rattle.circuit.proofs.RoundsAlong.{Soon, soon_on, soon_back}
 use Rattle.live_to_safe.specs.Watching.{numbered, zero_latch}
-use Rattle.live_to_safe.proofs.Valued.{same_bool, same_lists, seen_after, all_true}
+use Rattle.live_to_safe.proofs.Valued.{same_bool, same_lists, seen_after}
 
 -- ---- values of lists
 
@@ -55,111 +56,26 @@ last_split (suc n) (x ∷ xs) l =
 
 -- ---- each literal was seen, or is true at one of these positions
 
-abbrev pub Soon : Circuit → List ℕ → List Bool → List Position → Type 0
-Soon c [] [] run = Unit {0}
-Soon c [] (s ∷ seens) run = ⊥
-Soon c (l ∷ literals) [] run = ⊥
-Soon c (l ∷ literals) (s ∷ seens) run = ((s ≡ true) ⊎ Any (λ p. IsTrue (literal_at c p l)) run) × Soon c literals seens run
-
-any_head : {X : Type 0} (P : X → Type 0) (x : X) (xs : List X) → P x → Any P (x ∷ xs)
-any_head P x xs h = (0, x, omega arith, refl, h)
-
-any_tail : {X : Type 0} (P : X → Type 0) (x : X) (xs : List X) → Any P xs → Any P (x ∷ xs)
-any_tail P x xs (k, y, inside, at, h) = (suc k, y, omega (arith, inside), at, h)
-
-any_cases : {X : Type 0} (P : X → Type 0) (x : X) (xs : List X) → Any P (x ∷ xs) → P x ⊎ Any P xs
-any_cases P x xs (zero, y, inside, at, h) = inl (subst P (sym at) h)
-any_cases P x xs (suc k, y, inside, at, h) = inr (k, y, omega (arith, inside), at, h)
-
-or_right_true : (s l : Bool) → l ≡ true → (s || l) ≡ true
-or_right_true true l e = refl
-or_right_true false l e = e
-
-or_left_true : (s l : Bool) → s ≡ true → (s || l) ≡ true
-or_left_true s l e = ap (λ x. x || l) e
-
-or_cases : (s l : Bool) → (s || l) ≡ true → (s ≡ true) ⊎ (l ≡ true)
-or_cases true l e = inl refl
-or_cases false l e = inr e
+after-is : (c : Circuit) (p : Position) (literals : List ℕ) (seens : List Bool)
+    → seen_after true seens (map (literal_at c p) literals) ≡ seen_with (valuation_at c p) literals seens
+after-is c p [] [] = refl
+after-is c p [] (s ∷ seens) = refl
+after-is c p (l ∷ literals) [] = refl
+after-is c p (l ∷ literals) (s ∷ seens) = ap (λ xs. (s || literal_at c p l) ∷ xs) (after-is c p literals seens)
 
 -- what is true at the first position was seen behind it
-pub soon_on : (c : Circuit) (p : Position) (run : List Position) (literals : List ℕ) (seens : List Bool)
+pub soon_next : (c : Circuit) (p : Position) (run : List Position) (literals : List ℕ) (seens : List Bool)
     → Soon c literals seens (p ∷ run) → Soon c literals (seen_after true seens (map (literal_at c p) literals)) run
-soon_on c p run [] [] h = tt
-soon_on c p run [] (s ∷ seens) h = absurd h
-soon_on c p run (l ∷ literals) [] h = absurd h
-soon_on c p run (l ∷ literals) (s ∷ seens) h =
-    let P : Position → Type 0 = λ q. IsTrue (literal_at c q l) in
-    let here : ((s || literal_at c p l) ≡ true) ⊎ Any P run = elim h.0 [
-      | inl seen ↦ inl (or_left_true s (literal_at c p l) seen)
-      | inr some ↦ elim (any_cases P p run some) [
-        | inl now ↦ inl (or_right_true s (literal_at c p l) now)
-        | inr later ↦ inr later
-      ]
-    ] in
-    (here, soon_on c p run literals seens h.1)
+soon_next c p run literals seens h = subst (λ xs. Soon c literals xs run) (sym (after-is c p literals seens)) (soon_on c p run literals seens h)
 
-pub soon_back : (c : Circuit) (p : Position) (run : List Position) (literals : List ℕ) (seens : List Bool) → length seens ≡ length literals
+pub soon_before : (c : Circuit) (p : Position) (run : List Position) (literals : List ℕ) (seens : List Bool) → length seens ≡ length literals
     → Soon c literals (seen_after true seens (map (literal_at c p) literals)) run → Soon c literals seens (p ∷ run)
-soon_back c p run [] [] l h = tt
-soon_back c p run [] (s ∷ seens) l h = absurd (omega (arith, l))
-soon_back c p run (l ∷ literals) [] e h = absurd (omega (arith, e))
-soon_back c p run (l ∷ literals) (s ∷ seens) e h =
-    let P : Position → Type 0 = λ q. IsTrue (literal_at c q l) in
-    let here : (s ≡ true) ⊎ Any P (p ∷ run) = elim h.0 [
-      | inl either ↦ elim (or_cases s (literal_at c p l) either) [
-        | inl seen ↦ inl seen
-        | inr now ↦ inr (any_head P p run now)
-      ]
-      | inr later ↦ inr (any_tail P p run later)
-    ] in
-    (here, soon_back c p run literals seens (omega (arith, e)) h.1)
+soon_before c p run literals seens l h = soon_back c p run literals seens l (subst (λ xs. Soon c literals xs run) (after-is c p literals seens) h)
 
 -- what is so of one of a list of one element is so of it
 pub any_one : {X : Type 0} (P : X → Type 0) (x : X) → Any P (x ∷ []) → P x
 any_one P x (zero, y, inside, at, h) = subst P (sym at) h
 any_one P x (suc k, y, inside, at, h) = absurd (omega (arith, inside))
-
-none_any : {X : Type 0} (P : X → Type 0) → Any P [] → ⊥
-none_any P (k, x, inside, at, h) = omega (arith, inside)
-
-pub soon_none : (c : Circuit) (literals : List ℕ) (seens : List Bool) → Soon c literals seens [] → all_true seens ≡ true
-soon_none c [] [] h = refl
-soon_none c [] (s ∷ seens) h = absurd h
-soon_none c (l ∷ literals) [] h = absurd h
-soon_none c (l ∷ literals) (s ∷ seens) h =
-    let here : s ≡ true = elim h.0 [
-      | inl seen ↦ seen
-      | inr some ↦ absurd (none_any (λ p. IsTrue (literal_at c p l)) some)
-    ] in
-    and_from s (all_true seens) here (soon_none c literals seens h.1)
-
-pub soon_all : (c : Circuit) (literals : List ℕ) (seens : List Bool) (run : List Position) → length seens ≡ length literals → all_true seens ≡ true → Soon c literals seens run
-soon_all c [] [] run l e = tt
-soon_all c [] (s ∷ seens) run l e = absurd (omega (arith, l))
-soon_all c (l ∷ literals) [] run e f = absurd (omega (arith, e))
-soon_all c (l ∷ literals) (s ∷ seens) run e f =
-    let parts = and_parts s (all_true seens) f in
-    (inl parts.0, soon_all c literals seens run (omega (arith, e)) parts.1)
-
--- nothing was seen yet: each literal is true at one of the positions
-pub soon_fair : (c : Circuit) (literals : List ℕ) (run : List Position)
-    → Soon c literals (replicate (length literals) false) run → All (λ literal. Any (λ p. IsTrue (literal_at c p literal)) run) literals
-soon_fair c [] run h = All-nil _
-soon_fair c (l ∷ literals) run h =
-    let Met : ℕ → Type 0 = λ literal. Any (λ p. IsTrue (literal_at c p literal)) run in
-    let here : Met l = elim h.0 [
-      | inl seen ↦ let x : false ≡ true = seen in cc
-      | inr some ↦ some
-    ] in
-    All-cons Met l literals here (soon_fair c literals run h.1)
-
-pub fair_soon : (c : Circuit) (literals : List ℕ) (run : List Position)
-    → All (λ literal. Any (λ p. IsTrue (literal_at c p literal)) run) literals → Soon c literals (replicate (length literals) false) run
-fair_soon c [] run all = tt
-fair_soon c (l ∷ literals) run all =
-    let Met : ℕ → Type 0 = λ literal. Any (λ p. IsTrue (literal_at c p literal)) run in
-    (inr (All-head Met l literals all), fair_soon c literals run (All-tail Met l literals all))
 
 -- ---- runs with a bad last position
 
@@ -198,7 +114,7 @@ ends-some t bad (p ∷ run) h = omega arith
 
 -- ---- loops
 
-last-at : (c : Circuit) (s : List Bool) (run : List Position) (k : ℕ) → suc k ≡ length run
+pub last-at : (c : Circuit) (s : List Bool) (run : List Position) (k : ℕ) → suc k ≡ length run
     → (last : Position) × (slice_get run k ≡ Some last) × (end_of c s run ≡ successor c last)
 last-at c s [] k e = absurd (omega (arith, e))
 last-at c s (p ∷ []) zero e = (p, refl, refl)
@@ -206,7 +122,7 @@ last-at c s (p ∷ []) (suc k) e = absurd (omega (arith, e))
 last-at c s (p ∷ q ∷ run) zero e = absurd (omega (arith, e))
 last-at c s (p ∷ q ∷ run) (suc k) e = last-at c (successor c p) (q ∷ run) k (omega (arith, e))
 
-get-seam : {X : Type 0} (xs : List X) (y : X) (ys : List X) → slice_get (xs ++ y ∷ ys) (length xs) ≡ Some y
+pub get-seam : {X : Type 0} (xs : List X) (y : X) (ys : List X) → slice_get (xs ++ y ∷ ys) (length xs) ≡ Some y
 get-seam [] y ys = refl
 get-seam (x ∷ xs) y ys = get-seam xs y ys
 

@@ -1,5 +1,8 @@
+mod Lists
 mod Numbering
+mod Before
 mod Reading
+mod Extending
 mod Defining
 mod Valued
 mod Watched

@@ -1,9 +1,7 @@
 -- The variables of the new latches and gates are numbered in their order.
-use Rattle.std.proofs.Common.{◌≡◌, ℕ, zero, suc, ◌+◌, ◌*◌, ◌<◌, ◌≤◌, List, [], ◌∷◌, ◌++◌, map, length, refl, sym, ap, ◌∙◌, arith, length-append}
-use Rattle.std.specs.List.{All, range_with_len}
-use Rattle.std.proofs.lemmas.List.{append_assoc, map-append, length-map}
-use Rattle.std.proofs.lemmas.List.Elements.{All-nil, All-cons}
-use Rattle.std.proofs.lemmas.List.FromFn.{length-range_with_len, map-range_with_len_more}
+use Rattle.std.proofs.Common.{◌≡◌, ℕ, suc, ◌+◌, ◌*◌, ◌≤◌, List, [], ◌∷◌, ◌++◌, map, length, refl, sym, ap, ◌∙◌, arith, length-append}
+use Rattle.std.specs.List.{range_with_len}
+use Rattle.std.proofs.lemmas.List.{map-append}
 use Rattle.aig_semantics.specs.declared.parts.Latch.{Latch}
 use Rattle.aig_semantics.specs.declared.parts.Gate.{Gate}
 use Rattle.aig_semantics.specs.declared.limits.TheConstants.{MAX_VARIABLE}
@@ -11,32 +9,7 @@ use Rattle.aiger_grammar.proofs.Ranges.{range_append}
 use Rattle.live_to_safe.specs.declared.sizes.Sizes.{Sizes}
 use Rattle.live_to_safe.specs.Numbers.{saved, seen, saving, latch_gate, literal_gate, bad_gate, greatest}
 use Rattle.live_to_safe.specs.Watching.{numbered, for_each, copy_latch, seen_latch, new_latches, saving_gates, latch_gates, literal_gates, chain, back_and_seen, new_gates}
-
-pub all_numbered : {A : Type 0} (P : A → Type 0) (f : ℕ → A) (k n : ℕ) → ((i : ℕ) → i < k + n → P (f i)) → All P (numbered f k n)
-all_numbered P f k zero each = All-nil P
-all_numbered P f k (suc n) each =
-    All-cons P (f k) (numbered f (k + 1) n) (each k (omega arith)) (all_numbered P f (k + 1) n (λ i lt. each i (omega (arith, lt))))
-
-pub numbered-length : {A : Type 0} (f : ℕ → A) (k n : ℕ) → length (numbered f k n) ≡ n
-numbered-length f k n = length-map (range_with_len k n) f ∙ length-range_with_len k n
-
--- one more behind those that were put behind a list
-pub numbered_push : {A : Type 0} (f : ℕ → A) (n : ℕ) (start xs ys : List A) (x : A) → ys ≡ xs ++ x ∷ [] → xs ≡ start ++ numbered f 0 n → x ≡ f n
-    → ys ≡ start ++ numbered f 0 (n + 1)
-numbered_push f n start xs ys x pushed so_far is =
-    pushed ∙ ap (λ s. s ++ x ∷ []) so_far ∙ append_assoc start (numbered f 0 n) (x ∷ [])
-    ∙ ap (λ y. start ++ (numbered f 0 n ++ y ∷ [])) is
-    ∙ ap (λ s. start ++ s) (sym (map-range_with_len_more f 0 n n (omega arith)))
-
-cons-same : (x y : ℕ) (xs ys : List ℕ) → x ≡ y → xs ≡ ys → x ∷ xs ≡ y ∷ ys
-cons-same x y xs ys e f = ap (λ z. z ∷ xs) e ∙ ap (λ zs. y ∷ zs) f
-
-numbered-vars : {A : Type 0} (f : ℕ → A) (g : A → ℕ) (first k n : ℕ) → ((i : ℕ) → g (f i) ≡ first + i) → map g (numbered f k n) ≡ range_with_len (first + k) n
-numbered-vars f g first k zero each = refl
-numbered-vars f g first k (suc n) each =
-    let e : first + (k + 1) ≡ first + k + 1 = omega arith in
-    cons-same (g (f k)) (first + k) (map g (numbered f (k + 1) n)) (range_with_len (first + k + 1) n) (each k)
-    (numbered-vars f g first (k + 1) n each ∙ ap (λ a. range_with_len a n) e)
+use Rattle.live_to_safe.proofs.Lists.{cons-same, numbered-length, numbered-vars}
 
 -- ---- latches
 

@@ -13,7 +13,7 @@ use Rattle.aig_semantics.proofs.Lists.{All-left, All-right}
 use Rattle.live_to_safe.specs.declared.sizes.Sizes.{Sizes}
 use Rattle.live_to_safe.specs.Numbers.{negation, save, saved, copy, seen, saving, idle, latch_gate, literal_gate, bad_gate}
 use Rattle.live_to_safe.specs.Watching.{numbered, for_each, saving_gates, latch_gates, literal_gates, chain, chain_end, back_and_seen, new_gates, bad_literal}
-use Rattle.live_to_safe.proofs.Reading.{negation-variable}
+use Rattle.live_to_safe.proofs.Before.{negation-variable}
 
 -- ---- literals
 
@@ -33,7 +33,7 @@ negative-value value v =
     let e : (2 * v + 1) / 2 ≡ v = omega arith in
     ap (λ x. by_rest value x ((2 * v + 1) / 2)) r ∙ ap (λ x. not (value x)) e
 
-not_not : (b : Bool) → not (not b) ≡ b
+pub not_not : (b : Bool) → not (not b) ≡ b
 not_not true = refl
 not_not false = refl
 
@@ -97,7 +97,7 @@ and_true : (a : Bool) → a ≡ (a && true)
 and_true true = refl
 and_true false = refl
 
-both_same : (a b c d : Bool) → a ≡ c → b ≡ d → (a && b) ≡ (c && d)
+pub both_same : (a b c d : Bool) → a ≡ c → b ≡ d → (a && b) ≡ (c && d)
 both_same a b c d e f = ap (λ x. x && b) e ∙ ap (λ x. c && x) f
 
 -- two lists of one length with the same values
@@ -113,15 +113,14 @@ seen_after on (s ∷ seens) [] = []
 seen_after on (s ∷ seens) (l ∷ values) = (on && (s || l)) ∷ seen_after on seens values
 
 abbrev pub all_true : List Bool → Bool
-all_true [] = true
-all_true (x ∷ xs) = x && all_true xs
+all_true xs = list_all (λ b. b) xs
 
 module _ (value : ℕ → Bool) where
   abbrev Meets : Gate → Type 0
   Meets gate = value gate.var ≡ conjunction value gate
 
   -- a gate by the values of its right sides
-  gate-by : (v a b : ℕ) (x y : Bool) → value v ≡ (literal_by value a && literal_by value b) → literal_by value a ≡ x → literal_by value b ≡ y → value v ≡ (x && y)
+  pub gate-by : (v a b : ℕ) (x y : Bool) → value v ≡ (literal_by value a && literal_by value b) → literal_by value a ≡ x → literal_by value b ≡ y → value v ≡ (x && y)
   gate-by v a b x y e f g = e ∙ both_same (literal_by value a) (literal_by value b) x y f g
 
   pub saving-is : (z : Sizes) → All Meets (saving_gates z) → value (saving z) ≡ (value (save z) && not (value (saved z)))

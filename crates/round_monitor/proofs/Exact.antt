@@ -1,22 +1,23 @@
 -- The runs of the monitor are those of the circuit, and its counters count their rounds.
-use Rattle.std.proofs.Common.{◌≡◌, ℕ, zero, suc, ◌+◌, ◌-◌, ◌*◌, ◌<◌, ◌≤◌, ◌↔◌, Bool, true, false, List, [], ◌∷◌, ◌++◌, map, length, get_or, take, replicate, refl, sym, ap, ◌∙◌, subst, arith, length-append, take_at, Some, slice_get}
-use Rattle.std.specs.List.{AllZip}
-use Rattle.std.proofs.lemmas.Option.{same_Some, none-some}
+use Rattle.std.proofs.Common.{◌≡◌, ℕ, zero, suc, ◌+◌, ◌-◌, ◌*◌, ◌<◌, ◌≤◌, ◌↔◌, Bool, true, false, List, [], ◌∷◌, ◌++◌, map, length, get_or, take, refl, sym, ap, ◌∙◌, subst, arith, length-append, take_at, Some, slice_get}
+use Rattle.std.proofs.lemmas.Option.{same_Some}
 use Rattle.std.proofs.lemmas.List.{append_assoc, length-map, length-replicate}
-use Rattle.aig_semantics.specs.declared.parts.Latch.{Latch}
 use Rattle.aig_semantics.specs.declared.traces.Position.{Position}
 use Rattle.aig_semantics.specs.Circuits.{Circuit, IsChecked, IsWithinLimits, fair_literals}
-use Rattle.aig_semantics.specs.Runs.{IsPosition, position_of, valuation_at, literal_at, successor, MeetsConstraints, StartsIn, IsRun, AgreesWith, IsInitial, IsInitialRun}
+use Rattle.aig_semantics.specs.Runs.{IsPosition, position_of, valuation_at, literal_at, successor, MeetsConstraints, StartsIn, IsRun, IsInitial, IsInitialRun}
 use Rattle.aig_semantics.specs.Valuations.{HasOneValuation}
 use Rattle.fair_semantics.specs.Rounds.{HasRounds}
-use Rattle.live_to_safe.specs.Watching.{numbered, zero_latch}
+use Rattle.fair_semantics.proofs.Runs.{run-of}
+use Rattle.live_to_safe.specs.Watching.{numbered}
 use Rattle.round_monitor.specs.declared.sizes.Sizes.{Sizes}
 use Rattle.round_monitor.specs.Counting.{HasRunOfRounds, own_position, HasFullRun, WatchesRounds}
 use Rattle.round_monitor.specs.Numbers.{sizes_of, seen, counter, seen_gate, counter_gate}
 use Rattle.round_monitor.specs.Watching.{seen_latch, counter_latch, new_latches}
 use Rattle.round_monitor.specs.Monitor.{monitor_circuit}
 use Rattle.circuit.specs.RoundsAlong.{none_seen, ends_with, seen_next, more_if, rounds_along}
-use Rattle.round_monitor.proofs.Lists.{cons-same, get_or-behind}
+use Rattle.live_to_safe.proofs.Lists.{cons-same}
+use Rattle.live_to_safe.proofs.Lassos.{Begin, begin-length, begin-append, begin-split, begin-zero, zero-begins, some-run}
+use Rattle.round_monitor.proofs.Lists.{get_or-behind}
 use Rattle.round_monitor.proofs.Numbering.{latches-length}
 use Rattle.round_monitor.proofs.Watched.{tally, tally-zero, tally-true, tally-told, watch_state, joint, next-is, kept, back}
 use Rattle.circuit.proofs.RoundsAlong.{length-seen_next, rounds-fewer, counted}
@@ -28,41 +29,6 @@ first-sum false n = omega arith
 later-sum : (e : Bool) (a n : ℕ) → a + more_if e n ≡ more_if e a + n
 later-sum true a n = omega arith
 later-sum false a n = refl
-
--- ---- initial values
-
-abbrev Begin : List Latch → List Bool → Type 0
-Begin latches values = AllZip (λ latch value. AgreesWith latch.reset value) latches values
-
-begin-length : (latches : List Latch) (values : List Bool) → Begin latches values → length values ≡ length latches
-begin-length [] [] h = refl
-begin-length [] (v ∷ values) h = absurd h
-begin-length (l ∷ latches) [] h = absurd h
-begin-length (l ∷ latches) (v ∷ values) h = omega (arith, begin-length latches values h.1)
-
-begin-append : (latches more : List Latch) (values others : List Bool) → Begin latches values → Begin more others → Begin (latches ++ more) (values ++ others)
-begin-append [] more [] others h g = g
-begin-append [] more (v ∷ values) others h g = absurd h
-begin-append (l ∷ latches) more [] others h g = absurd h
-begin-append (l ∷ latches) more (v ∷ values) others h g = (h.0, begin-append latches more values others h.1 g)
-
-begin-split : (latches more : List Latch) (values : List Bool) → Begin (latches ++ more) values
-    → (front : List Bool) × (back : List Bool) × (values ≡ front ++ back) × Begin latches front × Begin more back
-begin-split [] more values h = ([], values, refl, tt, h)
-begin-split (l ∷ latches) more [] h = absurd h
-begin-split (l ∷ latches) more (v ∷ values) h =
-    let rest = begin-split latches more values h.1 in
-    (v ∷ rest.0, rest.1, ap (λ xs. v ∷ xs) rest.2, (h.0, rest.3), rest.4)
-
-begin-zero : (f g : ℕ → ℕ) (k n : ℕ) → Begin (numbered (λ i. zero_latch (f i) (g i)) k n) (replicate n false)
-begin-zero f g k zero = tt
-begin-zero f g k (suc n) = (refl, begin-zero f g (k + 1) n)
-
-zero-begins : (f g : ℕ → ℕ) (k n : ℕ) (values : List Bool) → Begin (numbered (λ i. zero_latch (f i) (g i)) k n) values → values ≡ replicate n false
-zero-begins f g k zero [] h = refl
-zero-begins f g k zero (v ∷ values) h = absurd h
-zero-begins f g k (suc n) [] h = absurd h
-zero-begins f g k (suc n) (v ∷ values) h = cons-same v false values (replicate n false) h.0 (zero-begins f g (k + 1) n values h.1)
 
 module _ (c : Circuit) (j k : ℕ) (checked : IsChecked c) (limits : IsWithinLimits c) (property : j < length c.justice) (some : 1 ≤ k) (one : HasOneValuation c) (other : HasOneValuation (monitor_circuit c j k)) where
   abbrev z : Sizes
@@ -233,20 +199,12 @@ module _ (c : Circuit) (j k : ℕ) (checked : IsChecked c) (limits : IsWithinLim
       let w = is-watched (p ∷ run) split.0 none 0 (begin-length c.latches split.0 split.3) none-length h.1 starts in
       record { is = w.is; initial = (subst (IsInitial c) (sym w.starts) split.3, w.is_run); is_run = w.is_run }
 
-  run-of : (run : List Position) → IsInitialRun c run → IsRun c run
-  run-of [] h = tt
-  run-of (p ∷ run) h = h.1
-
   watched-initial : (run : List Position) → IsInitialRun c run → IsInitialRun t (watched none 0 run)
   watched-initial [] h = tt
   watched-initial (p ∷ run) h = (
     begin-append c.latches (new_latches z) p.latches (watch_state none 0 k) h.0 watch_begins,
     watched-run none 0 (p ∷ run) none-length h.1,
   )
-
-  last-size : (run : List Position) (last : Position) → slice_get run (length run - 1) ≡ Some last → suc (length run - 1) ≡ length run
-  last-size [] last at = absurd (none-some last at)
-  last-size (p ∷ run) last at = omega arith
 
   abbrev value_behind : Position → ℕ → Bool
   value_behind last i = get_or (successor t last) (length c.latches + length literals + i) false
@@ -257,7 +215,7 @@ module _ (c : Circuit) (j k : ℕ) (checked : IsChecked c) (limits : IsWithinLim
   counter-is run last i initial at =
       let w = initial-watched run initial in
       let e : ℕ = length run - 1 in
-      let size : suc e ≡ length (map own run) = last-size run last at ∙ sym (length-map run own) in
+      let size : suc e ≡ length (map own run) = some-run run last at ∙ sym (length-map run own) in
       let there : slice_get (watched none 0 (map own run)) e ≡ Some last = ap (λ r. slice_get r e) (sym w.is) ∙ at in
       let b = behind (map own run) none 0 e last size none-length w.is_run there in
       let n : ℕ = rounds_along c literals none (map own run) + 0 in
@@ -280,7 +238,7 @@ module _ (c : Circuit) (j k : ℕ) (checked : IsChecked c) (limits : IsWithinLim
   pub watches : WatchesRounds c j k t
   watches = record {
     sound = λ run h. (initial-watched run h).initial;
-    complete = λ run h. (watched none 0 run, watched-initial run h, own-watched none 0 run (run-of run h));
+    complete = λ run h. (watched none 0 run, watched-initial run h, own-watched none 0 run (run-of c run h));
     counts = counts;
   }
 
@@ -322,7 +280,7 @@ module _ (c : Circuit) (j k : ℕ) (checked : IsChecked c) (limits : IsWithinLim
       let inside : 0 < length whole = omega (arith, watched-length none 0 run, some-position k run some h) in
       let last = last-of whole inside in
       let size : k ≡ k - 1 + 1 = omega (arith, some) in
-      let back_again = own-watched none 0 run (run-of run initial) in
+      let back_again = own-watched none 0 run (run-of c run initial) in
       let rounds : HasRounds c j (k - 1 + 1) (map own whole) = subst (λ r. HasRounds c j (k - 1 + 1) r) (sym back_again) (subst (λ n. HasRounds c j n run) size h) in
       let is_true = (counts whole last.0 (k - 1) (watched-initial run initial) last.1 (omega (arith, some))).1 rounds in (
         whole,

@@ -13,13 +13,13 @@ use Rattle.circuit.specs.Sections.{circuit_of, used_by, AreInRange}
 use Rattle.aiger_grammar.specs.declared.names.Names.{Names}
 use Rattle.aiger_grammar.specs.Models.{Model, IsModel}
 use Rattle.aiger_names.specs.Kept.{joined}
+use Rattle.live_to_safe.proofs.Extending.{fair_all}
 use Rattle.round_monitor.specs.declared.sizes.Sizes.{Sizes}
 use Rattle.round_monitor.specs.Counting.{HasFullRun, HasRunOfRounds, WatchesRounds}
 use Rattle.round_monitor.specs.Numbers.{sizes_of, greatest}
 use Rattle.round_monitor.specs.Monitor.{monitor_circuit, monitor_model}
 use Rattle.round_monitor.specs.Ends.{IsMonitorable}
 use Rattle.round_monitor.specs.Steps.{monitor_parts}
-use Rattle.round_monitor.proofs.Extending.{fair_all}
 use Rattle.round_monitor.proofs.Watched.{monitor-is_model}
 use Rattle.round_monitor.proofs.Exact.{watches, exact}
 

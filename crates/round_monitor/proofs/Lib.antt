@@ -1,7 +1,6 @@
 mod Lists
 mod Numbering
 mod Reading
-mod Extending
 mod Valued
 mod Watched
 mod Exact

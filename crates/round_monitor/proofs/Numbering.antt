@@ -5,11 +5,12 @@ use Rattle.std.proofs.lemmas.List.{map-append}
 use Rattle.aig_semantics.specs.declared.parts.Gate.{Gate}
 use Rattle.aig_semantics.specs.declared.limits.TheConstants.{MAX_VARIABLE}
 use Rattle.aiger_grammar.proofs.Ranges.{range_append}
-use Rattle.live_to_safe.specs.Watching.{numbered, for_each, chain}
+use Rattle.live_to_safe.specs.Watching.{numbered, for_each}
+use Rattle.live_to_safe.proofs.Lists.{cons-same, numbered-length, numbered-vars}
+use Rattle.live_to_safe.proofs.Numbering.{chain_vars}
 use Rattle.round_monitor.specs.declared.sizes.Sizes.{Sizes}
 use Rattle.round_monitor.specs.Numbers.{missing, ending, counter_gate, greatest}
 use Rattle.round_monitor.specs.Watching.{each_of, seen_latch, counter_latch, new_latches, missing_gate, all_gates, none_missing, next_seen_gate, later_counter_gates, counter_gates, new_gates}
-use Rattle.round_monitor.proofs.Lists.{numbered-length, numbered-vars, cons-same}
 
 -- ---- latches
 
@@ -41,10 +42,6 @@ missing_vars z k [] = refl
 missing_vars z k (literal ∷ literals) =
     let e : missing z (k + 1) ≡ missing z k + 1 = omega arith in
     ap (λ xs. missing z k ∷ xs) (missing_vars z (k + 1) literals ∙ ap (λ x. range_with_len x (length literals)) e)
-
-pub chain_vars : (v so_far : ℕ) (literals : List ℕ) → map (λ gate. gate.var) (chain v so_far literals) ≡ range_with_len v (length literals)
-chain_vars v so_far [] = refl
-chain_vars v so_far (literal ∷ literals) = ap (λ xs. v ∷ xs) (chain_vars (v + 1) (2 * v) literals)
 
 all_vars : (v n : ℕ) (literals : List ℕ) → n ≡ length literals - 1 → map (λ gate. gate.var) (all_gates v literals) ≡ range_with_len v n
 all_vars v n [] is =

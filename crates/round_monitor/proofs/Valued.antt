@@ -1,70 +1,20 @@
 -- What the new gates come to, over any values that meet their equations.
-use Rattle.std.proofs.Common.{◌≡◌, ℕ, zero, suc, ◌+◌, ◌-◌, ◌*◌, ◌/◌, ◌%◌, ◌<◌, ◌≤◌, ◌==◌, Bool, true, false, not, cond, ◌&&◌, ◌||◌, List, [], ◌∷◌, ◌++◌, length, replicate, refl, sym, ap, ◌∙◌, subst, inl, inr, arith}
+use Rattle.std.proofs.Common.{◌≡◌, ℕ, zero, suc, ◌+◌, ◌-◌, ◌*◌, ◌≤◌, Bool, true, false, not, cond, ◌&&◌, ◌||◌, List, [], ◌∷◌, ◌++◌, length, replicate, refl, sym, ap, ◌∙◌, subst, arith}
 use Rattle.std.specs.List.{All, list_all}
-use Rattle.std.proofs.lemmas.Bool.{cond_both, cases_lt, eqb-true, eq-eqb, both_ways}
-use Rattle.std.proofs.lemmas.Nat.{mod_below}
 use Rattle.std.proofs.lemmas.List.Elements.{All-head, All-tail}
 use Rattle.aig_semantics.specs.declared.parts.Gate.{Gate}
-use Rattle.aig_semantics.specs.Literals.{variable_of, is_negated, literal_by, variable_in}
+use Rattle.aig_semantics.specs.Literals.{literal_by, variable_in}
 use Rattle.aig_semantics.specs.Valuations.{conjunction}
 use Rattle.aig_semantics.proofs.Lists.{All-left, All-right}
 use Rattle.circuit.specs.Following.{seen_with}
+use Rattle.circuit.specs.RoundsAlong.{ends_with, seen_next}
 use Rattle.live_to_safe.specs.Numbers.{negation}
-use Rattle.live_to_safe.specs.Watching.{numbered, for_each, chain, chain_end}
+use Rattle.live_to_safe.specs.Watching.{numbered, for_each}
+use Rattle.live_to_safe.proofs.Lists.{cons-same}
+use Rattle.live_to_safe.proofs.Valued.{not_not, both_same, positive-value, negative-value, negation-value, gate-by, chain-is}
 use Rattle.round_monitor.specs.declared.sizes.Sizes.{Sizes}
 use Rattle.round_monitor.specs.Numbers.{seen, counter, missing, ending, seen_gate, counter_gate}
-use Rattle.circuit.specs.RoundsAlong.{ends_with, seen_next}
 use Rattle.round_monitor.specs.Watching.{each_of, missing_gate, all_gates, all_literal, none_missing, round_ends, next_seen_gate, later_counter_gates, counter_gates, new_gates}
-use Rattle.round_monitor.proofs.Lists.{cons-same}
-use Rattle.round_monitor.proofs.Reading.{negation-variable}
-
--- ---- literals
-
--- a literal by the rest of its number modulo 2 and by its variable
-abbrev by_rest : (ℕ → Bool) → ℕ → ℕ → Bool
-by_rest value rest v = cond (rest == 1) (not (value v)) (value v)
-
-pub positive-value : (value : ℕ → Bool) (v : ℕ) → literal_by value (2 * v) ≡ value v
-positive-value value v =
-    let r : (2 * v) % 2 ≡ 0 = omega arith in
-    let e : (2 * v) / 2 ≡ v = omega arith in
-    ap (λ x. by_rest value x ((2 * v) / 2)) r ∙ ap value e
-
-pub negative-value : (value : ℕ → Bool) (v : ℕ) → literal_by value (2 * v + 1) ≡ not (value v)
-negative-value value v =
-    let r : (2 * v + 1) % 2 ≡ 1 = omega arith in
-    let e : (2 * v + 1) / 2 ≡ v = omega arith in
-    ap (λ x. by_rest value x ((2 * v + 1) / 2)) r ∙ ap (λ x. not (value x)) e
-
-not_not : (b : Bool) → not (not b) ≡ b
-not_not true = refl
-not_not false = refl
-
-turned : (value : ℕ → Bool) (a b : Bool) (v w : ℕ) → b ≡ not a → w ≡ v → cond b (not (value w)) (value w) ≡ not (cond a (not (value v)) (value v))
-turned value true b v w e same = ap (λ x. cond x (not (value w)) (value w)) e ∙ ap value same ∙ sym (not_not (value v))
-turned value false b v w e same = ap (λ x. cond x (not (value w)) (value w)) e ∙ ap (λ x. not (value x)) same
-
-negation-sign : (literal : ℕ) → is_negated (negation literal) ≡ not (is_negated literal)
-negation-sign literal =
-    cond_both (is_negated literal) (literal - 1) (literal + 1) (λ l. is_negated l ≡ not (is_negated literal))
-    (λ e.
-    let r : literal % 2 ≡ 1 = eqb-true (literal % 2) 1 e in
-    let s : (literal - 1) % 2 ≡ 0 = omega (arith, r) in
-    ap (λ x. x == 1) s ∙ ap not (sym e))
-    (λ e. elim (cases_lt (literal % 2) 1) [
-      | inl lt ↦
-          let s : (literal + 1) % 2 ≡ 1 = omega (arith, lt) in
-          ap (λ x. x == 1) s ∙ ap not (sym e)
-      | inr ge ↦
-          let m : literal % 2 < 2 = mod_below literal 2 (omega arith) in
-          let r : literal % 2 ≡ 1 = omega (arith, ge, m) in
-          absurd (both_ways (is_negated literal) e (eq-eqb (literal % 2) 1 r))
-    ])
-
-pub negation-value : (value : ℕ → Bool) (literal : ℕ) → literal_by value (negation literal) ≡ not (literal_by value literal)
-negation-value value literal =
-    turned value (is_negated literal) (is_negated (negation literal)) (variable_of literal) (variable_of (negation literal))
-    (negation-sign literal) (negation-variable literal)
 
 -- ---- what gates come to
 
@@ -74,17 +24,6 @@ neither false l = not_not l
 
 neither_both : (x b e : Bool) → not (not x && not (b && e)) ≡ (x || (b && e))
 neither_both x b e = neither x (b && e)
-
-and_assoc : (a b c : Bool) → ((a && b) && c) ≡ (a && (b && c))
-and_assoc true b c = refl
-and_assoc false b c = refl
-
-and_true : (a : Bool) → a ≡ (a && true)
-and_true true = refl
-and_true false = refl
-
-both_same : (a b c d : Bool) → a ≡ c → b ≡ d → (a && b) ≡ (c && d)
-both_same a b c d e f = ap (λ x. x && b) e ∙ ap (λ x. c && x) f
 
 -- the counters behind a position, from those at it: each stays, or is raised behind the one before
 abbrev pub raised : Bool → Bool → List Bool → List Bool
@@ -97,10 +36,6 @@ module _ (V : List Bool) (zero-is : variable_in V 0 ≡ false) (z : Sizes) where
 
   abbrev Meets : Gate → Type 0
   Meets gate = value gate.var ≡ conjunction value gate
-
-  -- a gate by the values of its right sides
-  gate-by : (v a b : ℕ) (x y : Bool) → value v ≡ (literal_by value a && literal_by value b) → literal_by value a ≡ x → literal_by value b ≡ y → value v ≡ (x && y)
-  gate-by v a b x y e f g = e ∙ both_same (literal_by value a) (literal_by value b) x y f g
 
   abbrev pub seen_values : ℕ → ℕ → List Bool
   seen_values k n = numbered (λ m. value (seen z m)) k n
@@ -118,7 +53,7 @@ module _ (V : List Bool) (zero-is : variable_in V 0 ≡ false) (z : Sizes) where
       let s : Bool = value (seen z k) in
       let l : Bool = literal_by value literal in
       let here : value (missing z k) ≡ (not s && not l) =
-      gate-by (missing z k) (2 * seen z k + 1) (negation literal) (not s) (not l) (All-head Meets gate (for_each (missing_gate z) (k + 1) literals) all)
+      gate-by value (missing z k) (2 * seen z k + 1) (negation literal) (not s) (not l) (All-head Meets gate (for_each (missing_gate z) (k + 1) literals) all)
       (negative-value value (seen z k)) (negation-value value literal)
       in
       cons-same (not (value (missing z k))) (s || l) (numbered (λ m. not (value (missing z m))) (k + 1) (length literals)) (seen_with V literals (seen_values (k + 1) (length literals)))
@@ -127,19 +62,9 @@ module _ (V : List Bool) (zero-is : variable_in V 0 ≡ false) (z : Sizes) where
 
   -- ---- the chain
 
-  chain-is : (v so_far : ℕ) (literals : List ℕ) → All Meets (chain v so_far literals)
-      → literal_by value (chain_end v so_far literals) ≡ (literal_by value so_far && list_all (literal_by value) literals)
-  chain-is v so_far [] all = and_true (literal_by value so_far)
-  chain-is v so_far (literal ∷ literals) all =
-      let gate : Gate = record { var = v; rhs0 = so_far; rhs1 = literal } in
-      let here : value v ≡ (literal_by value so_far && literal_by value literal) = All-head Meets gate (chain (v + 1) (2 * v) literals) all in
-      chain-is (v + 1) (2 * v) literals (All-tail Meets gate (chain (v + 1) (2 * v) literals) all)
-      ∙ ap (λ x. x && list_all (literal_by value) literals) (positive-value value v ∙ here)
-      ∙ and_assoc (literal_by value so_far) (literal_by value literal) (list_all (literal_by value) literals)
-
   all-is : (v : ℕ) (literals : List ℕ) → All Meets (all_gates v literals) → literal_by value (all_literal v literals) ≡ list_all (literal_by value) literals
   all-is v [] all = negative-value value 0 ∙ ap not zero-is
-  all-is v (literal ∷ literals) all = chain-is v literal literals all
+  all-is v (literal ∷ literals) all = chain-is value v literal literals all
 
   none-missing : (k n : ℕ) → list_all (literal_by value) (numbered (λ m. 2 * missing z m + 1) k n) ≡ list_all (λ b. b) (numbered (λ m. not (value (missing z m))) k n)
   none-missing k zero = refl
@@ -161,7 +86,7 @@ module _ (V : List Bool) (zero-is : variable_in V 0 ≡ false) (z : Sizes) where
   next-of e k zero is all = refl
   next-of e k (suc n) is all =
       let here : value (seen_gate z k) ≡ (not e && not (value (missing z k))) =
-      gate-by (seen_gate z k) (negation (round_ends z)) (2 * missing z k + 1) (not e) (not (value (missing z k)))
+      gate-by value (seen_gate z k) (negation (round_ends z)) (2 * missing z k + 1) (not e) (not (value (missing z k)))
       (All-head Meets (next_seen_gate z k) (numbered (next_seen_gate z) (k + 1) n) all)
       (negation-value value (round_ends z) ∙ ap not is) (negative-value value (missing z k))
       in
@@ -179,10 +104,10 @@ module _ (V : List Bool) (zero-is : variable_in V 0 ≡ false) (z : Sizes) where
       let b : Bool = value (counter z i) in
       let x : Bool = value (counter z (i + 1)) in
       let raises : value (counter_gate z i + 1) ≡ (b && e) =
-      gate-by (counter_gate z i + 1) (2 * counter z i) (round_ends z) b e (here 0 d (omega arith)) (positive-value value (counter z i)) is
+      gate-by value (counter_gate z i + 1) (2 * counter z i) (round_ends z) b e (here 0 d (omega arith)) (positive-value value (counter z i)) is
       in
       let stays : value (counter_gate z i + 2) ≡ (not x && not (b && e)) =
-      gate-by (counter_gate z i + 2) (2 * counter z (i + 1) + 1) (2 * (counter_gate z i + 1) + 1) (not x) (not (b && e)) (here 1 d (omega arith))
+      gate-by value (counter_gate z i + 2) (2 * counter z (i + 1) + 1) (2 * (counter_gate z i + 1) + 1) (not x) (not (b && e)) (here 1 d (omega arith))
       (negative-value value (counter z (i + 1))) (negative-value value (counter_gate z i + 1) ∙ ap not raises)
       in
       let place : counter_gate z (i + 1) ≡ counter_gate z i + 2 = omega arith in
@@ -197,7 +122,7 @@ module _ (V : List Bool) (zero-is : variable_in V 0 ≡ false) (z : Sizes) where
       let first : Gate = record { var = counter_gate z 0; rhs0 = 2 * counter z 0 + 1; rhs1 = negation (round_ends z) } in
       let x : Bool = value (counter z 0) in
       let stays : value (counter_gate z 0) ≡ (not x && not e) =
-      gate-by (counter_gate z 0) (2 * counter z 0 + 1) (negation (round_ends z)) (not x) (not e)
+      gate-by value (counter_gate z 0) (2 * counter z 0 + 1) (negation (round_ends z)) (not x) (not e)
       (All-head Meets first (each_of (later_counter_gates z) 0 (z.counters - 1)) all)
       (negative-value value (counter z 0)) (negation-value value (round_ends z) ∙ ap not ends)
       in

@@ -2,7 +2,7 @@
 use Rattle.std.proofs.Common.{◌≡◌, ℕ, zero, suc, ◌+◌, ◌*◌, ◌<◌, ◌≤◌, Bool, true, false, not, cond, ◌&&◌, ◌||◌, List, [], ◌∷◌, ◌++◌, map, length, get_or, replicate, refl, sym, ap, ◌∙◌, arith, length-append}
 use Rattle.std.specs.List.{All, list_all, range_with_len}
 use Rattle.std.proofs.lemmas.Bool.{false≢true}
-use Rattle.std.proofs.lemmas.List.{map-append}
+use Rattle.std.proofs.lemmas.List.{map-append, append-nil}
 use Rattle.std.proofs.lemmas.List.Elements.{All-nil}
 use Rattle.aig_semantics.specs.declared.parts.Latch.{Latch}
 use Rattle.aig_semantics.specs.declared.traces.Position.{Position}
@@ -16,17 +16,19 @@ use Rattle.aiger_grammar.proofs.Ranges.{range_append}
 use Rattle.aiger_grammar.proofs.Room.{has_room}
 use Rattle.circuit.specs.Following.{seen_with}
 use Rattle.live_to_safe.specs.Watching.{numbered}
+use Rattle.live_to_safe.proofs.Lists.{cons-same, numbered-length, map_numbered, numbered_agrees, split_same}
+use Rattle.live_to_safe.proofs.Before.{IsBefore, ReadsBefore}
+use Rattle.live_to_safe.proofs.Extending.{IsOwn, own_read, fair_all, Extension, all-known, is-checked, watch-given, zero-is, new-meet, literal-is, step-on, constraints-kept, constraints-back}
+use Rattle.live_to_safe.proofs.Valued.{positive-value, negative-value}
 use Rattle.round_monitor.specs.declared.sizes.Sizes.{Sizes}
 use Rattle.round_monitor.specs.Numbers.{sizes_of, seen, counter, seen_gate, counter_gate, greatest}
 use Rattle.round_monitor.specs.Watching.{seen_latch, counter_latch, new_latches, new_gates}
 use Rattle.round_monitor.specs.Monitor.{monitor_circuit, monitor_model}
 use Rattle.round_monitor.specs.Ends.{IsMonitorable}
 use Rattle.circuit.specs.RoundsAlong.{ends_with, seen_next, more_if, none_seen}
-use Rattle.round_monitor.proofs.Lists.{numbered-length, map_numbered, numbered_agrees, split_same, cons-same}
 use Rattle.round_monitor.proofs.Numbering.{latch_vars, latches-length, gate_vars, gate_count, greatest-is}
-use Rattle.round_monitor.proofs.Reading.{IsBefore, ReadsBefore, new_gates_read, new_latches_read}
-use Rattle.round_monitor.proofs.Extending.{IsOwn, own_read, fair_all, all-known, is-checked, watch-is, zero-is, new-meet, literal-is, step-is, constraints-kept, constraints-back}
-use Rattle.round_monitor.proofs.Valued.{positive-value, negative-value, raised, seens-next, counters-next}
+use Rattle.round_monitor.proofs.Reading.{new_gates_read, new_latches_read}
+use Rattle.round_monitor.proofs.Valued.{raised, seens-next, counters-next}
 
 -- ---- counters after rounds
 
@@ -126,14 +128,33 @@ module _ (c : Circuit) (j k : ℕ) (checked : IsChecked c) (limits : IsWithinLim
   latches-read : All (λ latch. IsBefore c.max c (greatest z + 1) latch.next) (new_latches z)
   latches-read = new_latches_read z c
 
+  no_more : c.inputs ≡ c.inputs ++ []
+  no_more = sym (append-nil c.inputs)
+
+  -- what the circuit gets more
+  abbrev more : Extension c
+  more = record {
+    top = greatest z;
+    n = added;
+    inputs = [];
+    all_inputs = c.inputs;
+    latches = new_latches z;
+    gates = new_gates z literals;
+    inputs-are = no_more;
+    top-is = top-is;
+    vars = vars;
+    gates-read = gates-read;
+    latches-read = latches-read;
+  }
+
   pub monitor-checked : IsChecked t
-  monitor-checked = is-checked c checked limits (greatest z) added (new_latches z) (new_gates z literals) top-is vars gates-read latches-read
+  monitor-checked = is-checked c checked limits more
 
   pub monitor-is_model : IsMonitorable c j k → IsModel (monitor_model c j k)
   monitor-is_model able =
       let size : greatest z ≤ MAX_VARIABLE = able.size in
       let room = has_room (monitor_model c j k) monitor-checked in
-      let known = all-known c checked limits (greatest z) added (new_latches z) (new_gates z literals) top-is vars gates-read latches-read in
+      let known = all-known c checked limits more in
       record {
         checked = monitor-checked;
         limits = record {
@@ -170,8 +191,11 @@ module _ (c : Circuit) (j k : ℕ) (checked : IsChecked c) (limits : IsWithinLim
         let a = length-append seens (tally n k) in
         omega (arith, a, seens-fit, tally-length n k, latches-length z)
 
+    no_given : p.inputs ≡ p.inputs ++ []
+    no_given = sym (append-nil p.inputs)
+
     given : map (λ latch. value latch.var) (new_latches z) ≡ watch_state seens n k
-    given = watch-is c checked limits (greatest z) added (new_latches z) (new_gates z literals) top-is vars gates-read latches-read one other p (watch_state seens n k) is fit
+    given = watch-given c checked limits more one other p (watch_state seens n k) [] p.inputs is fit refl no_given
 
     split-new : (numbered (λ m. value (seen z m)) 0 z.literals ≡ seens) × (numbered (λ i. value (counter z i)) 0 z.counters ≡ tally n k)
     split-new =
@@ -185,14 +209,14 @@ module _ (c : Circuit) (j k : ℕ) (checked : IsChecked c) (limits : IsWithinLim
         ∙ given)
 
     meet : All (λ gate. value gate.var ≡ conjunction value gate) (new_gates z literals)
-    meet = new-meet c checked limits (greatest z) added (new_latches z) (new_gates z literals) top-is vars gates-read latches-read one other p (watch_state seens n k) is fit
+    meet = new-meet c checked limits more one other p (watch_state seens n k) [] p.inputs is fit refl no_given
 
     zero-value : value 0 ≡ false
-    zero-value = zero-is c checked limits (greatest z) added (new_latches z) (new_gates z literals) top-is vars gates-read latches-read one other p (watch_state seens n k) is fit
+    zero-value = zero-is c checked limits more one other p (watch_state seens n k) [] p.inputs is fit refl no_given
 
     own-literal : (i d : ℕ) → i < length literals → literal_in V (get_or literals i d) ≡ literal_in (valuation_at c p) (get_or literals i d)
     own-literal i d below =
-        literal-is c checked limits (greatest z) added (new_latches z) (new_gates z literals) top-is vars gates-read latches-read one other p (watch_state seens n k) is fit
+        literal-is c checked limits more one other p (watch_state seens n k) [] p.inputs is fit refl no_given
         (get_or literals i d) (fair_all (IsOwn c) c j property (own_read c checked limits) i d below).0
 
     same-seen : seen_with V literals seens ≡ seen_with (valuation_at c p) literals seens
@@ -225,14 +249,14 @@ module _ (c : Circuit) (j k : ℕ) (checked : IsChecked c) (limits : IsWithinLim
     pub next-is : successor t whole ≡ successor c p ++ watch_state (seen_next W literals seens) (more_if (ends_with W literals seens) n) k
     next-is =
         let next : Latch → Bool = λ latch. literal_at t whole latch.next in
-        step-is c checked limits (greatest z) added (new_latches z) (new_gates z literals) top-is vars gates-read latches-read one other p (watch_state seens n k) is fit
+        step-on c checked limits more one other p (watch_state seens n k) [] p.inputs is fit refl no_given
         ∙ ap (λ xs. successor c p ++ xs)
         (map-append next (numbered (seen_latch z) 0 z.literals) (numbered (counter_latch z) 0 z.counters)
         ∙ ap (λ xs. xs ++ map next (numbered (counter_latch z) 0 z.counters)) next-seens
         ∙ ap (λ xs. seen_next W literals seens ++ xs) next-counters)
 
     pub kept : MeetsConstraints c p → MeetsConstraints t whole
-    kept = constraints-kept c checked limits (greatest z) added (new_latches z) (new_gates z literals) top-is vars gates-read latches-read one other p (watch_state seens n k) is fit
+    kept = constraints-kept c checked limits more one other p (watch_state seens n k) [] p.inputs is fit refl no_given
 
     pub back : MeetsConstraints t whole → MeetsConstraints c p
-    back = constraints-back c checked limits (greatest z) added (new_latches z) (new_gates z literals) top-is vars gates-read latches-read one other p (watch_state seens n k) is fit
+    back = constraints-back c checked limits more one other p (watch_state seens n k) [] p.inputs is fit refl no_given

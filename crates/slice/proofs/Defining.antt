@@ -1,9 +1,9 @@
 -- The slice is a model: a checked circuit within the limits, with symbols of what is there.
-use Rattle.std.proofs.Common.{◌≡◌, ◌≢◌, ℕ, zero, suc, ◌+◌, ◌*◌, ◌<◌, ◌≤◌, ◌⊎◌, Bool, not, List, [], ◌∷◌, ◌++◌, length, refl, sym, subst, inl, inr, arith}
+use Rattle.std.proofs.Common.{◌≡◌, ◌≢◌, ℕ, ◌+◌, ◌*◌, ◌<◌, ◌≤◌, ◌⊎◌, Bool, not, List, [], ◌∷◌, length, refl, sym, subst, inl, inr, arith}
 use Rattle.std.specs.Prelude.{IsTrue, slice_index_or}
 use Rattle.std.specs.List.{All, AllPairs, Any, Contains, filter}
 use Rattle.std.proofs.lemmas.Bool.{cases_Bool}
-use Rattle.std.proofs.lemmas.List.Elements.{All-nil, All-cons, All-append, All-weaker, All-filter, filter_passes}
+use Rattle.std.proofs.lemmas.List.Elements.{All-nil, All-cons, All-weaker, All-filter, filter_passes}
 use Rattle.std.proofs.lemmas.List.Filters.{length-filter_both}
 use Rattle.std.proofs.lemmas.List.Kept.{AllPairs-filter}
 use Rattle.aig_semantics.specs.declared.limits.TheConstants.{MAX_PROPERTY_LITERALS}
@@ -12,11 +12,12 @@ use Rattle.aig_semantics.specs.declared.parts.Gate.{Gate}
 use Rattle.aig_semantics.specs.Literals.{variable_of}
 use Rattle.aig_semantics.specs.Circuits.{Circuit, IsChecked, ReadsThrough, IsOnCycle, defined, used}
 use Rattle.aig_semantics.proofs.Lists.{All-left, All-right}
-use Rattle.circuit.specs.declared.parts.Parts.{Parts}
 use Rattle.circuit.specs.Fitting.{UsesAll}
-use Rattle.circuit.proofs.Ranges.{UsesAll-from, All-used}
+use Rattle.circuit.proofs.Ranges.{All-used}
+use Rattle.circuit.proofs.RoundsAlong.{any_cases, any_tail}
 use Rattle.aiger_grammar.specs.Models.{Model, IsModel}
 use Rattle.cone.specs.Cones.{IsClosed}
+use Rattle.live_to_safe.proofs.Extending.{own_parts, own_uses}
 use Rattle.slice.specs.Slicing.{sliced_circuit, sliced_model}
 use Rattle.slice.specs.Steps.{sliced_parts}
 use Rattle.slice.proofs.Picking.{contains-filter}
@@ -26,40 +27,15 @@ use Rattle.slice.proofs.Placing.{symbols-name}
 filter-short : {X : Type 0} (test : X → Bool) (xs : List X) → length (filter test xs) ≤ length xs
 filter-short test xs = omega (arith, length-filter_both test (λ x. not (test x)) (λ x. refl) xs)
 
-any-cases : {X : Type 0} (P : X → Type 0) (x : X) (xs : List X) → Any P (x ∷ xs) → P x ⊎ Any P xs
-any-cases P x xs (zero, y, below, at, h) = inl (subst P (sym at) h)
-any-cases P x xs (suc k, y, below, at, h) = inr (k, y, omega (arith, below), at, h)
-
-any-more : {X : Type 0} (P : X → Type 0) (x : X) (xs : List X) → Any P xs → Any P (x ∷ xs)
-any-more P x xs (k, y, below, at, h) = (suc k, y, omega (arith, below), at, h)
-
 any-kept : {X : Type 0} (P : X → Type 0) (test : X → Bool) (xs : List X) → Any P (filter test xs) → Any P xs
 any-kept P test [] h = h
 any-kept P test (x ∷ xs) h = elim (cases_Bool (test x)) [
-  | inl t ↦ elim (any-cases P x (filter test xs) (rw t at h)) [
+  | inl t ↦ elim (any_cases P x (filter test xs) (rw t at h)) [
     | inl here ↦ (0, x, omega arith, refl, here)
-    | inr later ↦ any-more P x xs (any-kept P test xs later)
+    | inr later ↦ any_tail P x xs (any-kept P test xs later)
   ]
-  | inr f ↦ any-more P x xs (any-kept P test xs (rw f at h))
+  | inr f ↦ any_tail P x xs (any-kept P test xs (rw f at h))
 ]
-
--- the sections of the circuit itself
-abbrev own_parts : Circuit → Parts
-own_parts c = record {
-  max = c.max;
-  inputs = c.inputs;
-  latches = c.latches;
-  gates = c.gates;
-  outputs = [];
-  bad = [];
-  constraints = c.constraints;
-  justice = c.justice;
-  fairness = c.fairness;
-}
-
-own_uses : (P : ℕ → Type 0) (c : Circuit) → All P (used c) → UsesAll P (own_parts c)
-own_uses P c all =
-    UsesAll-from P (own_parts c) (All-append P (used c ++ []) [] (All-append P (used c) [] all (All-nil P)) (All-nil P))
 
 module _ (m : Model) (j : ℕ) (set : ℕ → Bool) (closed : IsClosed m.circuit j set) (is : IsModel m) (property : j < length m.circuit.justice) where
   abbrev c : Circuit

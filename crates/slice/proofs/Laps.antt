@@ -1,7 +1,7 @@
 -- From a fair lasso of the slice to one of the circuit: inputs outside the cone are false, and the loop is repeated until
 -- the whole state comes that an earlier repetition began with.
-use Rattle.std.proofs.Common.{◌≡◌, ℕ, zero, suc, ◌-◌, ◌<◌, Bool, true, false, List, [], ◌∷◌, ◌++◌, map, length, drop, get_or, refl, sym, ap, ◌∙◌, subst, arith, Some, length-append}
-use Rattle.std.specs.Prelude.{IsTrue, slice_get}
+use Rattle.std.proofs.Common.{◌≡◌, ℕ, zero, suc, ◌-◌, ◌<◌, Bool, true, false, List, [], ◌∷◌, ◌++◌, map, length, drop, get_or, refl, sym, ap, ◌∙◌, subst, arith, length-append}
+use Rattle.std.specs.Prelude.{IsTrue}
 use Rattle.std.specs.List.{All, AllZip, Any, filter}
 use Rattle.std.proofs.lemmas.List.{length-map}
 use Rattle.aig_semantics.specs.declared.parts.Latch.{Latch}
@@ -14,6 +14,7 @@ use Rattle.aig_semantics.specs.Valuations.{HasOneValuation}
 use Rattle.fair_semantics.proofs.Runs.{end_of, loop-of}
 use Rattle.cone.specs.Cones.{IsClosed}
 use Rattle.live_to_safe.specs.BadRuns.{HasFairLasso}
+use Rattle.live_to_safe.proofs.Lassos.{last-at, get-seam, drop-seam}
 use Rattle.slice.specs.Slicing.{sliced_circuit}
 use Rattle.slice.proofs.Picking.{spread, length-spread, pick-spread, spread-zip}
 use Rattle.slice.proofs.Repeating.{steps, steps-kept, ComesBack, comes_back}
@@ -47,22 +48,6 @@ any-front P (y ∷ xs) ys (suc k, x, below, at, h) =
     (suc rest.0, rest.1, (let a = rest.2 in omega (arith, a)), rest.3, rest.4)
 
 -- ---- closing
-
-last-at : (c : Circuit) (s : List Bool) (run : List Position) (k : ℕ) → suc k ≡ length run
-    → (last : Position) × (slice_get run k ≡ Some last) × (end_of c s run ≡ successor c last)
-last-at c s [] k e = absurd (omega (arith, e))
-last-at c s (p ∷ []) zero e = (p, refl, refl)
-last-at c s (p ∷ []) (suc k) e = absurd (omega (arith, e))
-last-at c s (p ∷ q ∷ run) zero e = absurd (omega (arith, e))
-last-at c s (p ∷ q ∷ run) (suc k) e = last-at c (successor c p) (q ∷ run) k (omega (arith, e))
-
-get-seam : {X : Type 0} (xs : List X) (y : X) (ys : List X) → slice_get (xs ++ y ∷ ys) (length xs) ≡ Some y
-get-seam [] y ys = refl
-get-seam (x ∷ xs) y ys = get-seam xs y ys
-
-drop-seam : {X : Type 0} (xs ys : List X) → drop (length xs) (xs ++ ys) ≡ ys
-drop-seam [] ys = refl
-drop-seam (x ∷ xs) ys = drop-seam xs ys
 
 -- a run that ends in the first state of its part behind the stem closes there
 closes-behind : (c : Circuit) (s : List Bool) (stem : List Position) (first : Position) (more : List Position)

@@ -1,18 +1,21 @@
 -- A variable of the cone has the same value in the slice: one position, with its values beside what is left.
-use Rattle.std.proofs.Common.{◌≡◌, ℕ, zero, suc, ◌+◌, Bool, true, false, not, cond, ◌&&◌, List, [], ◌∷◌, ◌++◌, map, length, get_or, refl, sym, ap, ◌∙◌, subst, inl, inr, arith}
+use Rattle.std.proofs.Common.{◌≡◌, ℕ, zero, suc, ◌+◌, Bool, true, false, ◌&&◌, List, [], ◌∷◌, ◌++◌, map, length, get_or, refl, sym, ap, ◌∙◌, subst, inl, inr, arith}
 use Rattle.std.specs.Prelude.{IsTrue, slice_index_or}
 use Rattle.std.specs.List.{All, Contains, filter}
 use Rattle.std.proofs.lemmas.Bool.{cases_Bool}
-use Rattle.std.proofs.lemmas.List.Elements.{All-head, All-tail, All-filter, filter_passes, filter-append}
+use Rattle.std.proofs.lemmas.List.Elements.{All-filter, filter_passes, filter-append}
 use Rattle.aig_semantics.specs.declared.parts.Latch.{Latch}
 use Rattle.aig_semantics.specs.declared.parts.Gate.{Gate}
 use Rattle.aig_semantics.specs.declared.traces.Position.{Position}
-use Rattle.aig_semantics.specs.Literals.{variable_of, is_negated, literal_by, variable_in, literal_in}
+use Rattle.aig_semantics.specs.Literals.{variable_of, literal_by, variable_in, literal_in}
 use Rattle.aig_semantics.specs.Circuits.{Circuit, defined, fair_literals}
 use Rattle.aig_semantics.specs.Valuations.{conjunction, IsValuation, HasOneValuation}
 use Rattle.aig_semantics.specs.Runs.{IsPosition, position_of, valuation_at, literal_at, successor, MeetsConstraints}
 use Rattle.aig_semantics.proofs.Lists.{All-left, All-right}
 use Rattle.cone.specs.Cones.{IsClosed}
+use Rattle.live_to_safe.proofs.Lists.{map_agrees}
+use Rattle.live_to_safe.proofs.Extending.{same-literal}
+use Rattle.live_to_safe.proofs.Valued.{both_same}
 use Rattle.slice.specs.Slicing.{sliced_circuit}
 use Rattle.slice.proofs.Picking.{pick, pick-map, length-pick, map-filter, contains-filter}
 
@@ -37,18 +40,6 @@ masked-at set v zero n (b ∷ values) e =
     let here : v ≡ n = omega (arith, e) in
     ap (λ i. set i && b) here
 masked-at set v (suc k) n (b ∷ values) e = masked-at set (v + 1) k n values (omega (arith, e))
-
-same-literal : (f g : ℕ → Bool) (literal : ℕ) → f (variable_of literal) ≡ g (variable_of literal) → literal_by f literal ≡ literal_by g literal
-same-literal f g literal e = ap (λ b. cond (is_negated literal) (not b) b) e
-
-both_same : (a b c d : Bool) → a ≡ c → b ≡ d → (a && b) ≡ (c && d)
-both_same a b c d e f = ap (λ x. x && b) e ∙ ap (λ x. c && x) f
-
-map_agrees : {X Y : Type 0} (f g : X → Y) (xs : List X) → All (λ x. f x ≡ g x) xs → map f xs ≡ map g xs
-map_agrees f g [] all = refl
-map_agrees f g (x ∷ xs) all =
-    ap (λ y. y ∷ map f xs) (All-head (λ x. f x ≡ g x) x xs all)
-    ∙ ap (λ ys. g x ∷ ys) (map_agrees f g xs (All-tail (λ x. f x ≡ g x) x xs all))
 
 -- ---- what is defined
 

@@ -1,6 +1,6 @@
 use Rattle.std.proofs.Common.{◌∙◌, ◌+◌, ◌*◌, ap}
 use Rattle.live_to_safe.specs.Numbers.{latch_gate}
-use Rattle.live_to_safe.proofs.Numbering.{numbered_push}
+use Rattle.live_to_safe.proofs.Lists.{numbered_push}
 use Rattle.live_to_safe.proofs.gates.push_back.Goals as goal
 
 pub loop-i-preserved : goal.loop-i-preserved

@@ -1,6 +1,6 @@
 use Rattle.std.proofs.Common.{◌∙◌, ◌*◌, ap}
 use Rattle.live_to_safe.specs.Numbers.{seen}
-use Rattle.live_to_safe.proofs.Numbering.{numbered_push}
+use Rattle.live_to_safe.proofs.Lists.{numbered_push}
 use Rattle.live_to_safe.proofs.gates.push_was_seen.Goals as goal
 
 pub loop-m-preserved : goal.loop-m-preserved

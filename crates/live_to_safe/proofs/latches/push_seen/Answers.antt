@@ -1,6 +1,6 @@
 use Rattle.std.proofs.Common.{◌∙◌, ◌+◌, ◌*◌, ap, ap₂}
 use Rattle.live_to_safe.specs.Watching.{seen_latch, zero_latch}
-use Rattle.live_to_safe.proofs.Numbering.{numbered_push}
+use Rattle.live_to_safe.proofs.Lists.{numbered_push}
 use Rattle.live_to_safe.proofs.latches.push_seen.Goals as goal
 
 pub loop-m-preserved : goal.loop-m-preserved

@@ -1,6 +1,6 @@
 use Rattle.std.proofs.Common.{◌∙◌, ◌+◌, ◌*◌, [], ap}
 use Rattle.round_monitor.specs.Numbers.{missing}
-use Rattle.round_monitor.proofs.Lists.{numbered_push}
+use Rattle.live_to_safe.proofs.Lists.{numbered_push}
 use Rattle.round_monitor.proofs.gates.none_missing.Goals as goal
 
 pub loop-m-preserved : goal.loop-m-preserved

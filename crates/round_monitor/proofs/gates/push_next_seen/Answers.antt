@@ -3,7 +3,7 @@ use Rattle.live_to_safe.specs.Numbers.{negation}
 use Rattle.live_to_safe.specs.Watching.{and_gate}
 use Rattle.round_monitor.specs.Numbers.{seen_gate}
 use Rattle.round_monitor.specs.Watching.{next_seen_gate, round_ends}
-use Rattle.round_monitor.proofs.Lists.{numbered_push}
+use Rattle.live_to_safe.proofs.Lists.{numbered_push}
 use Rattle.round_monitor.proofs.gates.push_next_seen.Goals as goal
 
 pub loop-m-preserved : goal.loop-m-preserved

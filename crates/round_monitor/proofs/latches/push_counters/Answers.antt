@@ -1,7 +1,7 @@
 use Rattle.std.proofs.Common.{◌∙◌, ◌+◌, ◌*◌, ap, ap₂}
 use Rattle.live_to_safe.specs.Watching.{zero_latch}
 use Rattle.round_monitor.specs.Watching.{counter_latch}
-use Rattle.round_monitor.proofs.Lists.{numbered_push}
+use Rattle.live_to_safe.proofs.Lists.{numbered_push}
 use Rattle.round_monitor.proofs.latches.push_counters.Goals as goal
 
 pub loop-i-preserved : goal.loop-i-preserved

@@ -1,5 +1,5 @@
--- A circuit with latches and gates more, numbered behind its own variables: it is checked, and it values what the circuit
--- itself has as the circuit does.
+-- A circuit with inputs, latches and gates more, numbered behind its own variables: it is checked, and it values what the
+-- circuit itself has as the circuit does.
 use Rattle.std.proofs.Common.{◌≡◌, ◌≢◌, ℕ, ◌+◌, ◌*◌, ◌<◌, ◌≤◌, ◌⊎◌, Bool, false, not, cond, ◌&&◌, get_or, List, [], ◌∷◌, ◌++◌, map, length, take, refl, sym, ap, ◌∙◌, subst, inl, inr, arith, length-append, get_or-take, length-take-le}
 use Rattle.std.specs.List.{All, AllPairs, Contains, range_with_len}
 use Rattle.std.proofs.lemmas.Bool.{cases_lt}
@@ -17,24 +17,15 @@ use Rattle.circuit.specs.declared.parts.Parts.{Parts}
 use Rattle.circuit.specs.Fitting.{UsesAll}
 use Rattle.circuit.specs.Orders.{HasRightSide}
 use Rattle.circuit.proofs.Counting.{count, Contains-from_count, count-differ, AllDiffer-from_count, All-unmap}
-use Rattle.circuit.proofs.Ranges.{UsesAll-from, All-used}
-use Rattle.round_monitor.proofs.Lists.{map_agrees, split_same, range-apart, range-contains, range-all, count-append}
-use Rattle.round_monitor.proofs.Reading.{IsRead, IsBefore, ReadsBefore}
+use Rattle.circuit.proofs.Ranges.{UsesAll-from, All-used, DefinesAll-from}
+use Rattle.live_to_safe.proofs.Lists.{map_agrees, split_same, range-apart, range-contains, range-all, count-append}
+use Rattle.live_to_safe.proofs.Before.{IsRead, IsBefore, ReadsBefore}
 
--- the circuit with these latches and gates more, and without properties
-abbrev pub extended : Circuit → ℕ → List Latch → List Gate → Circuit
-extended c top latches gates = record {
-  max = top;
-  inputs = c.inputs;
-  latches = c.latches ++ latches;
-  gates = c.gates ++ gates;
-  constraints = c.constraints;
-  justice = [];
-  fairness = [];
-}
+-- ---- the circuit itself
 
-abbrev parts_of : Circuit → Parts
-parts_of c = record {
+-- its sections
+abbrev pub own_parts : Circuit → Parts
+own_parts c = record {
   max = c.max;
   inputs = c.inputs;
   latches = c.latches;
@@ -46,9 +37,9 @@ parts_of c = record {
   fairness = c.fairness;
 }
 
-own_uses : (P : ℕ → Type 0) (c : Circuit) → All P (used c) → UsesAll P (parts_of c)
+pub own_uses : (P : ℕ → Type 0) (c : Circuit) → All P (used c) → UsesAll P (own_parts c)
 own_uses P c all =
-    UsesAll-from P (parts_of c) (All-append P (used c ++ []) [] (All-append P (used c) [] all (All-nil P)) (All-nil P))
+    UsesAll-from P (own_parts c) (All-append P (used c ++ []) [] (All-append P (used c) [] all (All-nil P)) (All-nil P))
 
 -- what is so of each literal that is used is so of those of the property and of fairness
 pub fair_all : (P : ℕ → Type 0) (c : Circuit) (j : ℕ) → j < length c.justice → All P (used c) → All P (fair_literals c j)
@@ -56,7 +47,7 @@ fair_all P c j inside all =
     let h = own_uses P c all in
     All-append P (get_or c.justice j []) c.fairness (h.justice j [] inside) h.fairness
 
-same-literal : (f g : ℕ → Bool) (literal : ℕ) → f (variable_of literal) ≡ g (variable_of literal) → literal_by f literal ≡ literal_by g literal
+pub same-literal : (f g : ℕ → Bool) (literal : ℕ) → f (variable_of literal) ≡ g (variable_of literal) → literal_by f literal ≡ literal_by g literal
 same-literal f g literal e = ap (λ b. cond (is_negated literal) (not b) b) e
 
 -- what a literal of the circuit is
@@ -68,9 +59,55 @@ own_read c checked limits = λ k d below.
     let a = limits.literals k d below in
     (omega (arith, a), checked.used_defined k d below)
 
-module _ (c : Circuit) (checked : IsChecked c) (limits : IsWithinLimits c) (top n : ℕ) (latches : List Latch) (gates : List Gate) (top-is : top ≡ c.max + n) (vars : map (λ latch. latch.var) latches ++ map (λ gate. gate.var) gates ≡ range_with_len (c.max + 1) n) (gates-read : All (ReadsBefore c.max c) gates) (latches-read : All (λ latch. IsBefore c.max c (top + 1) latch.next) latches) where
+pub own_latches_read : (c : Circuit) → IsChecked c → All (λ latch. (latch.var ≤ c.max) × IsRead c latch.var) c.latches
+own_latches_read c checked = λ k d below.
+    let P : ℕ → Type 0 = λ v. (v ≤ c.max) × IsRead c v in
+    let all : All P (defined c) = λ i e at. ((checked.in_range i e at).1, inr (i, at, get_or_default (defined c) i _ e at)) in
+    (DefinesAll-from P (own_parts c) all).latches k d below
+
+-- ---- what it gets more
+
+-- inputs, latches and gates, numbered in this order behind its own variables; each gate reads variables below its own
+pub record Extension (c : Circuit) : Type 0 where
+  pub top : ℕ
+  pub n : ℕ
+  pub inputs : List ℕ
+  pub all_inputs : List ℕ
+  pub latches : List Latch
+  pub gates : List Gate
+  pub inputs-are : all_inputs ≡ c.inputs ++ inputs
+  pub top-is : top ≡ c.max + n
+  pub vars : inputs ++ map (λ latch. latch.var) latches ++ map (λ gate. gate.var) gates ≡ range_with_len (c.max + 1) n
+  pub gates-read : All (ReadsBefore c.max c) gates
+  pub latches-read : All (λ latch. IsBefore c.max c (top + 1) latch.next) latches
+
+-- the circuit with these, and without properties
+abbrev pub extended : (c : Circuit) → Extension c → Circuit
+extended c more = record {
+  max = more.top;
+  inputs = more.all_inputs;
+  latches = c.latches ++ more.latches;
+  gates = c.gates ++ more.gates;
+  constraints = c.constraints;
+  justice = [];
+  fairness = [];
+}
+
+module _ (c : Circuit) (checked : IsChecked c) (limits : IsWithinLimits c) (more : Extension c) where
   abbrev t : Circuit
-  t = extended c top latches gates
+  t = extended c more
+
+  abbrev top : ℕ
+  top = more.top
+
+  abbrev n : ℕ
+  n = more.n
+
+  abbrev latches : List Latch
+  latches = more.latches
+
+  abbrev gates : List Gate
+  gates = more.gates
 
   abbrev latch_variables : List ℕ
   latch_variables = map (λ latch. latch.var) c.latches
@@ -78,27 +115,37 @@ module _ (c : Circuit) (checked : IsChecked c) (limits : IsWithinLimits c) (top 
   abbrev gate_variables : List ℕ
   gate_variables = map (λ gate. gate.var) c.gates
 
+  abbrev all_inputs : List ℕ
+  all_inputs = c.inputs ++ more.inputs
+
   abbrev added_latches : List ℕ
-  added_latches = map (λ latch. latch.var) latches
+  added_latches = map (λ latch. latch.var) more.latches
 
   abbrev added_gates : List ℕ
-  added_gates = map (λ gate. gate.var) gates
+  added_gates = map (λ gate. gate.var) more.gates
 
   abbrev added : List ℕ
-  added = range_with_len (c.max + 1) n
+  added = range_with_len (c.max + 1) more.n
 
-  all_latches : map (λ latch. latch.var) t.latches ≡ latch_variables ++ added_latches
-  all_latches = map-append (λ latch. latch.var) c.latches latches
+  top-is : more.top ≡ c.max + more.n
+  top-is = more.top-is
+
+  vars : more.inputs ++ added_latches ++ added_gates ≡ added
+  vars = more.vars
+
+  all_latches_are : map (λ latch. latch.var) t.latches ≡ latch_variables ++ added_latches
+  all_latches_are = map-append (λ latch. latch.var) c.latches more.latches
 
   all_gates_are : map (λ gate. gate.var) t.gates ≡ gate_variables ++ added_gates
-  all_gates_are = map-append (λ gate. gate.var) c.gates gates
+  all_gates_are = map-append (λ gate. gate.var) c.gates more.gates
 
-  defined-is : defined t ≡ c.inputs ++ (latch_variables ++ added_latches) ++ (gate_variables ++ added_gates)
+  defined-is : defined t ≡ all_inputs ++ (latch_variables ++ added_latches) ++ (gate_variables ++ added_gates)
   defined-is =
-      ap (λ xs. c.inputs ++ xs ++ map (λ gate. gate.var) t.gates) all_latches
-      ∙ ap (λ xs. c.inputs ++ (latch_variables ++ added_latches) ++ xs) all_gates_are
+      ap (λ xs. xs ++ map (λ latch. latch.var) t.latches ++ map (λ gate. gate.var) t.gates) more.inputs-are
+      ∙ ap (λ xs. all_inputs ++ xs ++ map (λ gate. gate.var) t.gates) all_latches_are
+      ∙ ap (λ xs. all_inputs ++ (latch_variables ++ added_latches) ++ xs) all_gates_are
 
-  own_used : UsesAll (IsOwn c) (parts_of c)
+  own_used : UsesAll (IsOwn c) (own_parts c)
   own_used = own_uses (IsOwn c) c (own_read c checked limits)
 
   -- ---- what is defined
@@ -106,28 +153,31 @@ module _ (c : Circuit) (checked : IsChecked c) (limits : IsWithinLimits c) (top 
   still_defined : (v : ℕ) → Contains (defined c) v → Contains (defined t) v
   still_defined v there = subst (λ xs. Contains xs v) (sym defined-is)
       (elim (Contains-append_cases (c.inputs ++ latch_variables) gate_variables v there) [
-        | inl given ↦ Contains-append_left (c.inputs ++ (latch_variables ++ added_latches)) (gate_variables ++ added_gates) v
+        | inl given ↦ Contains-append_left (all_inputs ++ (latch_variables ++ added_latches)) (gate_variables ++ added_gates) v
             (elim (Contains-append_cases c.inputs latch_variables v given) [
-              | inl a ↦ Contains-append_left c.inputs (latch_variables ++ added_latches) v a
-              | inr b ↦ Contains-append_right c.inputs (latch_variables ++ added_latches) v (Contains-append_left latch_variables added_latches v b)
+              | inl a ↦ Contains-append_left all_inputs (latch_variables ++ added_latches) v (Contains-append_left c.inputs more.inputs v a)
+              | inr b ↦ Contains-append_right all_inputs (latch_variables ++ added_latches) v (Contains-append_left latch_variables added_latches v b)
             ])
-        | inr gate ↦ Contains-append_right (c.inputs ++ (latch_variables ++ added_latches)) (gate_variables ++ added_gates) v (Contains-append_left gate_variables added_gates v gate)
+        | inr gate ↦ Contains-append_right (all_inputs ++ (latch_variables ++ added_latches)) (gate_variables ++ added_gates) v (Contains-append_left gate_variables added_gates v gate)
       ])
 
   new_defined : (v : ℕ) → c.max < v → v ≤ top → Contains (defined t) v
   new_defined v new low =
-      let there : Contains (added_latches ++ added_gates) v =
+      let there : Contains (more.inputs ++ added_latches ++ added_gates) v =
       subst (λ xs. Contains xs v) (sym vars) (range-contains (c.max + 1) n v (omega (arith, new)) (omega (arith, low, top-is)))
       in
       subst (λ xs. Contains xs v) (sym defined-is)
-      (elim (Contains-append_cases added_latches added_gates v there) [
-        | inl latch ↦ Contains-append_left (c.inputs ++ (latch_variables ++ added_latches)) (gate_variables ++ added_gates) v
-            (Contains-append_right c.inputs (latch_variables ++ added_latches) v (Contains-append_right latch_variables added_latches v latch))
-        | inr gate ↦ Contains-append_right (c.inputs ++ (latch_variables ++ added_latches)) (gate_variables ++ added_gates) v (Contains-append_right gate_variables added_gates v gate)
+      (elim (Contains-append_cases (more.inputs ++ added_latches) added_gates v there) [
+        | inl given ↦ Contains-append_left (all_inputs ++ (latch_variables ++ added_latches)) (gate_variables ++ added_gates) v
+            (elim (Contains-append_cases more.inputs added_latches v given) [
+              | inl input ↦ Contains-append_left all_inputs (latch_variables ++ added_latches) v (Contains-append_right c.inputs more.inputs v input)
+              | inr latch ↦ Contains-append_right all_inputs (latch_variables ++ added_latches) v (Contains-append_right latch_variables added_latches v latch)
+            ])
+        | inr gate ↦ Contains-append_right (all_inputs ++ (latch_variables ++ added_latches)) (gate_variables ++ added_gates) v (Contains-append_right gate_variables added_gates v gate)
       ])
 
-  -- what is so of all new variables is so of those of the new latches and of the new gates
-  each_new : (P : ℕ → Type 0) → ((v : ℕ) → c.max < v → v ≤ top → P v) → All P (added_latches ++ added_gates)
+  -- what is so of all new variables is so of each that is added
+  each_new : (P : ℕ → Type 0) → ((v : ℕ) → c.max < v → v ≤ top → P v) → All P (more.inputs ++ added_latches ++ added_gates)
   each_new P new =
       subst (All P) (sym vars)
       (range-all P (c.max + 1) n (λ v low high. new v (omega (arith, low)) (omega (arith, high, top-is))))
@@ -136,11 +186,14 @@ module _ (c : Circuit) (checked : IsChecked c) (limits : IsWithinLimits c) (top 
   each_defined P old new =
       let given = All-left P (c.inputs ++ latch_variables) gate_variables old in
       let both = each_new P new in
+      let front = All-left P (more.inputs ++ added_latches) added_gates both in
       subst (All P) (sym defined-is)
-      (All-append P (c.inputs ++ (latch_variables ++ added_latches)) (gate_variables ++ added_gates)
-      (All-append P c.inputs (latch_variables ++ added_latches) (All-left P c.inputs latch_variables given)
-      (All-append P latch_variables added_latches (All-right P c.inputs latch_variables given) (All-left P added_latches added_gates both)))
-      (All-append P gate_variables added_gates (All-right P (c.inputs ++ latch_variables) gate_variables old) (All-right P added_latches added_gates both)))
+      (All-append P (all_inputs ++ (latch_variables ++ added_latches)) (gate_variables ++ added_gates)
+      (All-append P all_inputs (latch_variables ++ added_latches)
+      (All-append P c.inputs more.inputs (All-left P c.inputs latch_variables given) (All-left P more.inputs added_latches front))
+      (All-append P latch_variables added_latches (All-right P c.inputs latch_variables given) (All-right P more.inputs added_latches front)))
+      (All-append P gate_variables added_gates (All-right P (c.inputs ++ latch_variables) gate_variables old)
+      (All-right P (more.inputs ++ added_latches) added_gates both)))
 
   -- a variable that is defined is new, or one of the circuit
   new_or_old : (v : ℕ) → Contains (defined t) v → (c.max < v) ⊎ Contains (defined c) v
@@ -180,15 +233,17 @@ module _ (c : Circuit) (checked : IsChecked c) (limits : IsWithinLimits c) (top 
   count-is : (u : ℕ) → count u (defined t) ≡ count u (defined c) + count u added
   count-is u =
       let whole = ap (count u) defined-is in
-      let a = count-append u (c.inputs ++ (latch_variables ++ added_latches)) (gate_variables ++ added_gates) in
-      let b = count-append u c.inputs (latch_variables ++ added_latches) in
+      let a = count-append u (all_inputs ++ (latch_variables ++ added_latches)) (gate_variables ++ added_gates) in
+      let b = count-append u all_inputs (latch_variables ++ added_latches) in
+      let d = count-append u c.inputs more.inputs in
       let e = count-append u latch_variables added_latches in
       let f = count-append u gate_variables added_gates in
       let g = count-append u (c.inputs ++ latch_variables) gate_variables in
       let h = count-append u c.inputs latch_variables in
-      let i = count-append u added_latches added_gates in
+      let i = count-append u (more.inputs ++ added_latches) added_gates in
+      let k = count-append u more.inputs added_latches in
       let l = ap (count u) vars in
-      omega (arith, whole, a, b, e, f, g, h, i, l)
+      omega (arith, whole, a, b, d, e, f, g, h, i, k, l)
 
   once : AllPairs (λ v w. v ≢ w) (defined t)
   once =
@@ -200,14 +255,14 @@ module _ (c : Circuit) (checked : IsChecked c) (limits : IsWithinLimits c) (top 
 
   -- ---- literals that are used
 
-  abbrev Known : ℕ → Type 0
+  abbrev pub Known : ℕ → Type 0
   Known literal = (literal ≤ 2 * top + 1) × ((variable_of literal ≡ 0) ⊎ Contains (defined t) (variable_of literal))
 
   read-known : (v : ℕ) → IsRead c v → (v ≡ 0) ⊎ Contains (defined t) v
   read-known v (inl e) = inl e
   read-known v (inr there) = inr (still_defined v there)
 
-  before-known : (literal : ℕ) → IsBefore c.max c (top + 1) literal → Known literal
+  pub before-known : (literal : ℕ) → IsBefore c.max c (top + 1) literal → Known literal
   before-known literal h =
       let low = h.low in
       let inside : variable_of literal ≤ top = omega (arith, low) in (
@@ -225,24 +280,24 @@ module _ (c : Circuit) (checked : IsChecked c) (limits : IsWithinLimits c) (top 
   gates-new : All (λ gate. (c.max < gate.var) × (gate.var ≤ top)) gates
   gates-new =
       All-unmap (λ v. (c.max < v) × (v ≤ top)) (λ gate. gate.var) gates
-      (All-right (λ v. (c.max < v) × (v ≤ top)) added_latches added_gates (each_new (λ v. (c.max < v) × (v ≤ top)) (λ v new low. (new, low))))
+      (All-right (λ v. (c.max < v) × (v ≤ top)) (more.inputs ++ added_latches) added_gates (each_new (λ v. (c.max < v) × (v ≤ top)) (λ v new low. (new, low))))
 
   side-known : (v literal : ℕ) → v ≤ top → IsBefore c.max c v literal → Known literal
   side-known v literal low h = before-known literal (record { low = (let a = h.low in omega (arith, a, low)); known = h.known })
 
-  uses-known : UsesAll Known (parts_of t)
+  uses-known : UsesAll Known (own_parts t)
   uses-known =
       let old = own_uses Known c old-known in
       record {
         latches =
             All-append (λ latch. Known latch.next) c.latches latches old.latches
-            (All-weaker (λ latch. IsBefore c.max c (top + 1) latch.next) (λ latch. Known latch.next) (λ latch h. before-known latch.next h) latches latches-read);
+            (All-weaker (λ latch. IsBefore c.max c (top + 1) latch.next) (λ latch. Known latch.next) (λ latch h. before-known latch.next h) latches more.latches-read);
         gates =
             All-append (λ gate. Known gate.rhs0 × Known gate.rhs1) c.gates gates old.gates
             (λ k d below.
             let gate : Gate = get_or gates k d in
             let low = (gates-new k d below).1 in
-            let h = gates-read k d below in
+            let h = more.gates-read k d below in
             (side-known gate.var gate.rhs0 low h.first, side-known gate.var gate.rhs1 low h.second));
         constraints = old.constraints;
         justice = All-nil (λ property. All Known property);
@@ -252,7 +307,7 @@ module _ (c : Circuit) (checked : IsChecked c) (limits : IsWithinLimits c) (top 
       }
 
   pub all-known : All Known (used t)
-  all-known = All-used Known (parts_of t) uses-known
+  all-known = All-used Known (own_parts t) uses-known
 
   -- ---- no cycle
 
@@ -272,7 +327,7 @@ module _ (c : Circuit) (checked : IsChecked c) (limits : IsWithinLimits c) (top 
 
   new_falls : All Falls gates
   new_falls = λ k d below u side.
-      let h = gates-read k d below in
+      let h = more.gates-read k d below in
       inr (
         (gates-new k d below).0,
         elim side [
@@ -338,9 +393,9 @@ module _ (c : Circuit) (checked : IsChecked c) (limits : IsWithinLimits c) (top 
 
   -- ---- values
 
-  module _ (one : HasOneValuation c) (other : HasOneValuation t) (p : Position) (watch : List Bool) (is : IsPosition c p) (fit : length watch ≡ length latches) where
+  module _ (one : HasOneValuation c) (other : HasOneValuation t) (p : Position) (watch given values : List Bool) (is : IsPosition c p) (fit : length watch ≡ length more.latches) (given-fit : length given ≡ length more.inputs) (values-are : values ≡ p.inputs ++ given) where
     abbrev whole : Position
-    whole = position_of (p.latches ++ watch) p.inputs
+    whole = position_of (p.latches ++ watch) values
 
     abbrev V : List Bool
     V = valuation_at t whole
@@ -348,10 +403,19 @@ module _ (c : Circuit) (checked : IsChecked c) (limits : IsWithinLimits c) (top 
     abbrev value : ℕ → Bool
     value v = variable_in V v
 
+    inputs-fit : length values ≡ length more.all_inputs
+    inputs-fit =
+        let a = length-append p.inputs given in
+        let b = length-append c.inputs more.inputs in
+        let e = ap length values-are in
+        let f = ap length more.inputs-are in
+        let g = is.inputs in
+        omega (arith, a, b, e, f, g, given-fit)
+
     pub is-position : IsPosition t whole
     is-position = record {
       latches = (let a = length-append p.latches watch in let d = length-append c.latches latches in let e = is.latches in omega (arith, a, d, e, fit));
-      inputs = is.inputs;
+      inputs = inputs-fit;
     }
 
     valued : IsValuation t whole.latches whole.inputs V
@@ -366,9 +430,21 @@ module _ (c : Circuit) (checked : IsChecked c) (limits : IsWithinLimits c) (top 
         (length-map c.latches (λ latch. value latch.var) ∙ sym is.latches)
         (sym (map-append (λ latch. value latch.var) c.latches latches) ∙ valued.equations.given_latches)
 
-    -- what the new latches are given
-    pub watch-is : map (λ latch. value latch.var) latches ≡ watch
-    watch-is = split-latches.1
+    split-inputs : (map value c.inputs ≡ p.inputs) × (map value more.inputs ≡ given)
+    split-inputs =
+        split_same (map value c.inputs) p.inputs (map value more.inputs) given
+        (length-map c.inputs value ∙ sym is.inputs)
+        (sym (map-append value c.inputs more.inputs) ∙ ap (map value) (sym more.inputs-are) ∙ valued.equations.given_inputs ∙ values-are)
+
+    -- what latches and new inputs are given
+    pub own-given : map (λ latch. value latch.var) c.latches ≡ p.latches
+    own-given = split-latches.0
+
+    pub watch-given : map (λ latch. value latch.var) latches ≡ watch
+    watch-given = split-latches.1
+
+    pub inputs-given : map value more.inputs ≡ given
+    inputs-given = split-inputs.1
 
     pub zero-is : value 0 ≡ false
     zero-is = valued.equations.constant
@@ -400,7 +476,7 @@ module _ (c : Circuit) (checked : IsChecked c) (limits : IsWithinLimits c) (top 
             map_agrees (variable_in front) value c.inputs
             (λ k d below. front-at (get_or c.inputs k d)
             (All-left InRange c.inputs latch_variables (All-left InRange (c.inputs ++ latch_variables) gate_variables checked.in_range) k d below).1)
-            ∙ valued.equations.given_inputs;
+            ∙ split-inputs.0;
         conjunctions = λ k d below.
             let sides = own_used.gates k d below in
             let gate : Gate = get_or c.gates k d in
@@ -438,8 +514,8 @@ module _ (c : Circuit) (checked : IsChecked c) (limits : IsWithinLimits c) (top 
         same-literal value (variable_in (valuation_at c p)) literal
         (sym (front-at (variable_of literal) low) ∙ ap (λ xs. variable_in xs (variable_of literal)) front-is)
 
-    pub step-is : successor t whole ≡ successor c p ++ map (λ latch. literal_at t whole latch.next) latches
-    step-is =
+    pub step-on : successor t whole ≡ successor c p ++ map (λ latch. literal_at t whole latch.next) latches
+    step-on =
         let next : Latch → Bool = λ latch. literal_at t whole latch.next in
         map-append next c.latches latches
         ∙ ap (λ xs. xs ++ map next latches)
