@@ -18,6 +18,26 @@ use Rattle.certificate.proofs.CompletingEntries.{clause_on, clause_back_on, entr
 use Rattle.certificate.proofs.CompletingStarts.{start_on, start_back}
 use Rattle.certificate.proofs.CompletingTexts.{row_on, row_back, latches_on, latches_back, version_on, version_back, property_on, property_back, status_on, status_back}
 
+-- ---- where no line is left
+
+pub no_front : {X : Type 0} → (x : X) (xs ys : List X) → [] ≡ xs ++ x ∷ ys → ⊥
+no_front x [] ys e = cc
+no_front x (y ∷ xs) ys e = cc
+
+pub no_clause : (c : Circuit) (m n : ℕ) (literals : List (List ℕ)) (clauses : List (List Lit)) (rest : List (List ℕ)) → [] ≡ map clause_text literals ++ rest
+    → AreClausesOf c literals clauses → m + length clauses ≡ n → (m ≡ n → ⊥) → ⊥
+no_clause c m n [] [] rest spelled are count other = other (omega (arith, count))
+no_clause c m n [] (k ∷ clauses) rest spelled are count other = cc
+no_clause c m n (ls ∷ literals) clauses rest spelled are count other = cc
+
+pub no_proof : (m n : ℕ) (proofs : List (List (List ℕ))) (rest : List (List ℕ)) → [] ≡ flat_map proof_lines proofs ++ rest → m + length proofs ≡ n → (m ≡ n → ⊥) → ⊥
+no_proof m n [] rest spelled count other = other (omega (arith, count))
+no_proof m n (proof ∷ proofs) rest spelled count other = cc
+
+pub no_proof_line : (m n : ℕ) (proof rest : List (List ℕ)) → [] ≡ proof ++ rest → m + length proof ≡ n → (m ≡ n → ⊥) → ⊥
+no_proof_line m n [] rest spelled count other = other (omega (arith, count))
+no_proof_line m n (line ∷ proof) rest spelled count other = cc
+
 module _ (c : Circuit) (a : Accepted) where
   -- ---- a line
 
@@ -68,32 +88,14 @@ module _ (c : Circuit) (a : Accepted) where
 
   -- ---- no line
 
-  no_front : {X : Type 0} → (x : X) (xs ys : List X) → [] ≡ xs ++ x ∷ ys → ⊥
-  no_front x [] ys e = cc
-  no_front x (y ∷ xs) ys e = cc
-
   no_rest : (more : List Written) (uses : List Use) (proof : List (List ℕ)) → [] ≡ rest_lines more uses proof → ⊥
   no_rest [] uses proof e = cc
   no_rest (e ∷ more) uses proof same = cc
 
-  no_clause : (m n : ℕ) (literals : List (List ℕ)) (clauses : List (List Lit)) (rest : List (List ℕ)) → [] ≡ map clause_text literals ++ rest
-      → AreClausesOf c literals clauses → m + length clauses ≡ n → (m ≡ n → ⊥) → ⊥
-  no_clause m n [] [] rest spelled are count other = other (omega (arith, count))
-  no_clause m n [] (k ∷ clauses) rest spelled are count other = cc
-  no_clause m n (ls ∷ literals) clauses rest spelled are count other = cc
-
-  no_proof : (m n : ℕ) (proofs : List (List (List ℕ))) (rest : List (List ℕ)) → [] ≡ flat_map proof_lines proofs ++ rest → m + length proofs ≡ n → (m ≡ n → ⊥) → ⊥
-  no_proof m n [] rest spelled count other = other (omega (arith, count))
-  no_proof m n (proof ∷ proofs) rest spelled count other = cc
-
-  no_proof_line : (m n : ℕ) (proof rest : List (List ℕ)) → [] ≡ proof ++ rest → m + length proof ≡ n → (m ≡ n → ⊥) → ⊥
-  no_proof_line m n [] rest spelled count other = other (omega (arith, count))
-  no_proof_line m n (line ∷ proof) rest spelled count other = cc
-
   wanted_at_end : (b : Body) (wanted : Wanted) → Continues c b wanted [] a → ⊥
   wanted_at_end b Start h = no_rest h.more h.uses h.proof h.spelled
   wanted_at_end b (EntryUses o) h = no_front _ [] h.rest h.spelled
-  wanted_at_end b (EntryClause begun) (h, other) = no_clause (length begun.entry.clauses) begun.count h.literals h.clauses h.rest h.spelled h.are h.count other
+  wanted_at_end b (EntryClause begun) (h, other) = no_clause c (length begun.entry.clauses) begun.count h.literals h.clauses h.rest h.spelled h.are h.count other
   wanted_at_end b (EntryProof e i) (h, other) = no_proof i (length e.clauses) h.proofs h.rest h.spelled h.count other
   wanted_at_end b (EntryLine e i p) (h, other) = no_proof_line p.read p.count h.proof h.rest h.spelled h.count other
   wanted_at_end b (RefutationUses r) h = no_front _ [] (h.proof ++ end_line ∷ []) h.spelled

@@ -116,23 +116,32 @@ proved_by_each c before e proofs over count (uses, based, refuted) =
 
 -- ---- clauses
 
+-- as many clauses are known as are wanted: none is left, and what is so behind all is so here
+pub no_clause_left : (c : Circuit) (Behind : List (List Lit) → List (List ℕ) → Type 0) (known : List (List Lit)) (wanted : ℕ) (left rest literals : List (List ℕ)) (clauses : List (List Lit))
+    → left ≡ map clause_text literals ++ rest → AreClausesOf c literals clauses → length known + length clauses ≡ wanted
+    → Behind (known ++ clauses) rest → (length known == wanted) ≡ true → Behind known left
+no_clause_left c Behind known wanted left rest [] [] spelled are count behind test =
+    subst (λ cs. Behind cs left) (append-nil known) (subst (λ ls. Behind (known ++ []) ls) (sym spelled) behind)
+no_clause_left c Behind known wanted left rest (ls ∷ literals) [] spelled are count behind test = absurd (cc)
+no_clause_left c Behind known wanted left rest literals (k ∷ clauses) spelled are count behind test =
+    absurd (omega (arith, count, eqb-true (length known) wanted test))
+
+pub used_again : (us : List Use) → map as_use (map written us) ≡ us
+used_again [] = refl
+used_again (u ∷ us) = ap (λ vs. u ∷ vs) (used_again us)
+
+pub written_again : (us : List WrittenUse) → map written (map as_use us) ≡ us
+written_again [] = refl
+written_again (u ∷ us) = ap (λ vs. u ∷ vs) (written_again us)
+
 module _ (c : Circuit) (b : Body) (a : Accepted) where
   abbrev EntryBehind : Begun → List (List Lit) → List (List ℕ) → Type 0
   EntryBehind begun clauses rest = ProofsTail c b (record begun.entry { clauses = clauses }) 0 rest a
 
-  no_clause_left : (begun : Begun) (left rest literals : List (List ℕ)) (clauses : List (List Lit)) → left ≡ map clause_text literals ++ rest
-      → AreClausesOf c literals clauses → length begun.entry.clauses + length clauses ≡ begun.count
-      → EntryBehind begun (begun.entry.clauses ++ clauses) rest → (length begun.entry.clauses == begun.count) ≡ true → EntryBehind begun begun.entry.clauses left
-  no_clause_left begun left rest [] [] spelled are count proofs test =
-      subst (λ cs. EntryBehind begun cs left) (append-nil begun.entry.clauses) (subst (λ ls. EntryBehind begun (begun.entry.clauses ++ []) ls) (sym spelled) proofs)
-  no_clause_left begun left rest (ls ∷ literals) [] spelled are count proofs test = absurd (cc)
-  no_clause_left begun left rest literals (k ∷ clauses) spelled are count proofs test =
-      absurd (omega (arith, count, eqb-true (length begun.entry.clauses) begun.count test))
-
   clauses_next_by : (begun : Begun) (left : List (List ℕ)) → ClausesTail c b begun left a → (t : Bool) → (length begun.entry.clauses == begun.count) ≡ t
       → After c (if t then next_proof b begun.entry 0 else Ok (Certified b (EntryClause begun))) left a
   clauses_next_by begun left h true test =
-      proof_next c b begun.entry a 0 left (no_clause_left begun left h.rest h.literals h.clauses h.spelled h.are h.count h.proofs test)
+      proof_next c b begun.entry a 0 left (no_clause_left c (EntryBehind begun) begun.entry.clauses begun.count left h.rest h.literals h.clauses h.spelled h.are h.count h.proofs test)
   clauses_next_by begun left h false test = (h, differs (length begun.entry.clauses) begun.count test)
 
   pub clauses_next : (begun : Begun) (left : List (List ℕ)) → ClausesTail c b begun left a → After c (next_clause b begun) left a
@@ -242,14 +251,6 @@ module _ (c : Circuit) (b : Body) (a : Accepted) where
     pub count : length uses ≡ n
     pub fit : first_bad_use user b.entries uses ≡ None
     pub next : After c (rest uses) left a
-
-  used_again : (us : List Use) → map as_use (map written us) ≡ us
-  used_again [] = refl
-  used_again (u ∷ us) = ap (λ vs. u ∷ vs) (used_again us)
-
-  written_again : (us : List WrittenUse) → map written (map as_use us) ≡ us
-  written_again [] = refl
-  written_again (u ∷ us) = ap (λ vs. u ∷ vs) (written_again us)
 
   uses_on : (user : User) (count : ℕ) (bad : ℕ → Stepped) (number : ℕ) (line : List ℕ) (rest : List Use → Stepped) (left : List (List ℕ))
       → GoodUses user count rest line left → After c (uses_step b user count bad number (uses_of b.version line) rest) left a

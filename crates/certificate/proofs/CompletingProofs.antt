@@ -30,7 +30,7 @@ heads x y xs ys e = (cc, cc)
 pub differs : (m n : ℕ) → (m == n) ≡ false → m ≡ n → ⊥
 differs m n test same = false≢true (sym test ∙ eq-eqb m n same)
 
-finished : (line : ℕ) (b : Bool) → unfinished_at line b ≡ None → b ≡ true
+pub finished : (line : ℕ) (b : Bool) → unfinished_at line b ≡ None → b ≡ true
 finished line true h = refl
 finished line false h = absurd (cc)
 
@@ -124,7 +124,7 @@ module _ (c : Circuit) (b : Body) (a : Accepted) where
 
 -- ---- the proofs of an entry
 
-no_more : {X : Type 0} → (text : X → List (List ℕ)) (i n : ℕ) (xs : List X) (left rest : List (List ℕ)) → left ≡ flat_map text xs ++ rest → i + length xs ≡ n
+pub no_more : {X : Type 0} → (text : X → List (List ℕ)) (i n : ℕ) (xs : List X) (left rest : List (List ℕ)) → left ≡ flat_map text xs ++ rest → i + length xs ≡ n
     → (i == n) ≡ true → left ≡ rest
 no_more text i n [] left rest spelled count test = spelled
 no_more text i n (x ∷ xs) left rest spelled count test = absurd (omega (arith, eqb-true i n test, count))

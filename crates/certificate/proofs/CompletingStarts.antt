@@ -30,11 +30,11 @@ use Rattle.certificate.proofs.StateRefutations.{faultless_refutes}
 use Rattle.certificate.proofs.CompletingEntries.{clauses_over, as_many, passes_each, proved_by_each}
 
 -- the lines of an entry behind its first two, and what follows them
-regrouped : (clauses proofs more rest : List (List ℕ)) → ((clauses ++ proofs) ++ more) ++ rest ≡ clauses ++ (proofs ++ (more ++ rest))
+pub regrouped : (clauses proofs more rest : List (List ℕ)) → ((clauses ++ proofs) ++ more) ++ rest ≡ clauses ++ (proofs ++ (more ++ rest))
 regrouped clauses proofs more rest =
     append_assoc (clauses ++ proofs) more rest ∙ append_assoc clauses proofs (more ++ rest)
 
-few_more : (more : List Written) (n limit : ℕ) → n < limit → (0 < length more → (n + 1) + length more ≤ limit) → n + suc (length more) ≤ limit
+pub few_more : (more : List Written) (n limit : ℕ) → n < limit → (0 < length more → (n + 1) + length more ≤ limit) → n + suc (length more) ≤ limit
 few_more [] n limit room h = omega (arith, room)
 few_more (e ∷ more) n limit room h = let r : (n + 1) + suc (length more) ≤ limit = h (omega arith) in omega (arith, r)
 

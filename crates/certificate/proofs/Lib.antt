@@ -20,8 +20,10 @@ pub mod WrittenGood
 pub mod EachEnd
 mod Staying
 mod Playing
-mod AddedLines
+pub mod AddedLines
 pub mod PlainLines
+pub mod WrittenLiterals
+pub mod WrittenEntries
 pub mod WrittenCertificates
 pub mod Kept
 pub mod TakenBack

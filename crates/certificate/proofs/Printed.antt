@@ -1,28 +1,24 @@
 -- What is printed of an answer that is held is a good answer, which has the same.
-use Rattle.std.proofs.Common.{◌<◌, ◌^◌, ℕ, ◌+◌, List, [], ◌∷◌, ◌++◌, map, flat_map, length, get_or, refl, arith, All}
+use Rattle.std.proofs.Common.{◌<◌, ◌^◌, ℕ, ◌+◌, List, [], ◌∷◌, ◌++◌, map, flat_map, refl, All}
 use Rattle.std.specs.Prelude.{codes}
-use Rattle.std.proofs.lemmas.List.Elements.{All-nil, All-cons, All-head, All-tail, All-append, All-map, All-weaker, All-push, All-from_get_or}
+use Rattle.std.proofs.lemmas.List.Elements.{All-cons, All-append, All-weaker, All-push}
 use Rattle.aig_semantics.specs.Circuits.{Circuit}
-use Rattle.proof_semantics.specs.declared.literals.Lit.{Lit}
-use Rattle.fair_semantics.specs.Entries.{Entry}
 use Rattle.certificate_lines.specs.declared.uses.WrittenUse.{WrittenUse}
 use Rattle.certificate_lines.specs.declared.words.Version.{Version}
 use Rattle.certificate_lines.specs.declared.words.Version.TheVariants.{One, Two}
 use Rattle.certificate_lines.specs.declared.words.WordLine.TheVariants as lines
-use Rattle.certificate_lines.specs.Fields.{IsNumber}
 use Rattle.certificate_lines.specs.Words.{word_line_text}
-use Rattle.certificate_lines.specs.Uses.{uses_text, MayStand, written}
-use Rattle.certificate_lines.specs.Clauses.{clause_text}
-use Rattle.entry.specs.Proved.{AreProofs, obligation_of}
+use Rattle.certificate_lines.specs.Uses.{MayStand, written}
 use Rattle.certificate.specs.declared.loaded.Loaded.TheVariants.{Lasso, Holds}
 use Rattle.certificate_texts.specs.declared.certificates.Written.{Written}
 use Rattle.certificate_texts.specs.declared.certificates.Certificate.{Certificate}
-use Rattle.certificate_texts.specs.Certificates.{opening_line, proof_lines, entry_lines, refuting_line, refutation_lines, lines_of_certificate, CanBeWritten}
-use Rattle.certificate.specs.Certificates.{entry_with, AreProvedBehind, IsGoodCertificate}
+use Rattle.certificate_texts.specs.Certificates.{entry_lines, refutation_lines, lines_of_certificate, CanBeWritten}
+use Rattle.certificate.specs.Certificates.{IsGoodCertificate}
 use Rattle.certificate_texts.specs.Writing.{property_line, certificate_lines_of, certificate_text, in_version_two}
 use Rattle.certificate.specs.Answers.{HasCertificate}
 use Rattle.certificate.specs.Laws.{HeldIsGood, PrintedHoldsTheSame}
-use Rattle.certificate.proofs.PlainLines.{IsPlain, word_line_plain, property_plain, status_plain, uses_plain, clause_plain, refuting_plain, written_kept}
+use Rattle.certificate.proofs.PlainLines.{IsPlain, word_line_plain, property_plain, status_plain, written_kept}
+use Rattle.certificate.proofs.WrittenEntries.{entries_plain, refutation_plain}
 use Rattle.certificate.proofs.WrittenGood.{written_has}
 
 -- ---- a certificate in version 2
@@ -50,40 +46,6 @@ good_of_two c n certificate good = record {
 
 -- ---- its lines are plain
 
-proof_plain : (proof : List (List ℕ)) → IsNumber (length proof) → All IsPlain proof → All IsPlain (proof_lines proof)
-proof_plain proof small all =
-    All-cons IsPlain (word_line_text (lines.Proof (length proof))) proof (word_line_plain (lines.Proof (length proof)) small) all
-
-proofs_plain : (proofs : List (List (List ℕ))) → All (λ proof. IsNumber (length proof)) proofs → All (λ proof. All IsPlain proof) proofs
-    → All IsPlain (flat_map proof_lines proofs)
-proofs_plain [] small all = All-nil IsPlain
-proofs_plain (proof ∷ proofs) small all =
-    All-append IsPlain (proof_lines proof) (flat_map proof_lines proofs)
-    (proof_plain proof (All-head (λ p. IsNumber (length p)) proof proofs small) (All-head (λ p. All IsPlain p) proof proofs all))
-    (proofs_plain proofs (All-tail (λ p. IsNumber (length p)) proof proofs small) (All-tail (λ p. All IsPlain p) proof proofs all))
-
-each_plain : (c : Circuit) (before : List Entry) (e : Entry) (proofs : List (List (List ℕ))) → AreProofs c before e proofs → All (λ proof. All IsPlain proof) proofs
-each_plain c before e proofs h =
-    All-from_get_or (λ proof. All IsPlain proof) proofs []
-    (λ i below. let count = h.count in refuting_plain (obligation_of c before e i) (get_or proofs i []) (h.refute i (omega (arith, below, count))))
-
-clauses_plain : (clauses : List (List ℕ)) → All (All IsNumber) clauses → All IsPlain (map clause_text clauses)
-clauses_plain clauses h = All-map IsPlain clause_text clauses (All-weaker (All IsNumber) (λ ls. IsPlain (clause_text ls)) clause_plain clauses h)
-
-entry_plain : (c : Circuit) (before : List Entry) (e : Written) (clauses : List (List Lit)) → CanBeWritten Two e → AreProofs c before (entry_with e clauses) e.proofs → All IsPlain (entry_lines e)
-entry_plain c before e clauses form proved =
-    let literals : List (List ℕ) = map clause_text e.clauses in
-    let behind = All-append IsPlain literals (flat_map proof_lines e.proofs) (clauses_plain e.clauses form.literals)
-    (proofs_plain e.proofs form.proofs (each_plain c before (entry_with e clauses) e.proofs proved)) in
-    All-cons IsPlain (word_line_text (opening_line e)) (uses_text (map written e.uses) ∷ (literals ++ flat_map proof_lines e.proofs)) (word_line_plain (opening_line e) form.sizes)
-    (All-cons IsPlain (uses_text (map written e.uses)) (literals ++ flat_map proof_lines e.proofs) (uses_plain (map written e.uses) form.uses) behind)
-
-entries_plain : (c : Circuit) (before : List Entry) (es : List Written) (all : List Entry) → All (CanBeWritten Two) es → AreProvedBehind c before es all → All IsPlain (flat_map entry_lines es)
-entries_plain c before [] all form proved = All-nil IsPlain
-entries_plain c before (e ∷ es) all form (clauses, are, first, others) =
-    All-append IsPlain (entry_lines e) (flat_map entry_lines es) (entry_plain c before e clauses (All-head (CanBeWritten Two) e es form) first.each)
-    (entries_plain c (before ++ entry_with e clauses ∷ []) es all (All-tail (CanBeWritten Two) e es form) others)
-
 module _ (c : Circuit) (n : ℕ) (certificate : Certificate) (good : IsGoodCertificate c n (in_version_two certificate)) (small : n < 2 ^ 63) where
   abbrev whole : Certificate
   whole = in_version_two certificate
@@ -92,10 +54,7 @@ module _ (c : Circuit) (n : ℕ) (certificate : Certificate) (good : IsGoodCerti
   entries = flat_map entry_lines certificate.entries
 
   refuting_lines_plain : All IsPlain (refutation_lines whole)
-  refuting_lines_plain =
-      All-cons IsPlain (word_line_text (refuting_line whole)) (uses_text (map written certificate.uses) ∷ certificate.proof) (word_line_plain (refuting_line whole) good.sizes)
-      (All-cons IsPlain (uses_text (map written certificate.uses)) certificate.proof (uses_plain (map written certificate.uses) good.signs)
-      (refuting_plain _ certificate.proof good.refuted.refutes))
+  refuting_lines_plain = refutation_plain whole _ good.sizes good.signs good.refuted.refutes
 
   lines_plain : All IsPlain (certificate_lines_of n whole)
   lines_plain =

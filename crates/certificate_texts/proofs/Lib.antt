@@ -1,3 +1,4 @@
 pub mod Variables
 pub mod AddedLines
 pub mod Taken
+pub mod WrittenSizes

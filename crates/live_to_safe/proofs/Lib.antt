@@ -1,11 +1,11 @@
-mod Lists
-mod Numbering
-mod Before
+pub mod Lists
+pub mod Numbering
+pub mod Before
 mod Reading
-mod Extending
+pub mod Extending
 mod Defining
-mod Valued
+pub mod Valued
 mod Watched
-mod Lassos
+pub mod Lassos
 mod Exact
 mod Kept

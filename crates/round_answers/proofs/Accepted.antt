@@ -12,7 +12,7 @@ use Rattle.answer_lines.specs.Left.{most_bytes}
 use Rattle.certificate_lines.specs.declared.words.Version.TheVariants.{Two}
 use Rattle.certificate_lines.specs.declared.words.WordLine.TheVariants as lines
 use Rattle.certificate_lines.specs.Words.{word_line_text, HasNumbers}
-use Rattle.certificate_lines.specs.Uses.{uses_text, MayStand, written}
+use Rattle.certificate_lines.specs.Uses.{MayStand, written}
 use Rattle.entry.specs.declared.entries.Entry.{Entry as WithProofs}
 use Rattle.entry.specs.declared.refutations.Refutation.{Refutation}
 use Rattle.entry.specs.Entries.{said}
@@ -20,7 +20,9 @@ use Rattle.certificate_texts.specs.declared.certificates.Written.{Written}
 use Rattle.certificate_texts.specs.declared.certificates.Certificate.{Certificate}
 use Rattle.certificate_texts.specs.Certificates.{refuting_line, refutation_lines, lines_of_certificate}
 use Rattle.certificate_texts.specs.Writing.{property_line}
-use Rattle.certificate.proofs.PlainLines.{IsPlain, word_line_plain, property_plain, uses_plain, refuting_plain, written_kept}
+use Rattle.certificate_texts.proofs.WrittenSizes.{size_first, size_both}
+use Rattle.certificate.proofs.WrittenEntries.{Short, uses_stand, refuting_numbers, entries_plain, refutation_plain}
+use Rattle.certificate.proofs.PlainLines.{IsPlain, word_line_plain, property_plain, written_kept}
 use Rattle.round_monitor.specs.Ends.{IsMonitorable}
 use Rattle.round_monitor.specs.Monitor.{monitor_circuit}
 use Rattle.round_answers.specs.declared.limits.TheConstants.{MAX_ROUNDS}
@@ -29,8 +31,7 @@ use Rattle.round_answers.specs.declared.rounds.Rounds.TheVariants.{Fewer, Reache
 use Rattle.round_answers.specs.Texts.{MayBeAsked, rounds_line, HasCertificate}
 use Rattle.round_answers.specs.Answers.{NeverFull, IsGoodAbout}
 use Rattle.round_answers.specs.Writing.{written_entry, certificate_of, rounds_text, AreFull, IsSo, is_reached}
-use Rattle.round_answers.proofs.AcceptedSizes.{size_first, size_both, counted, uses_counted}
-use Rattle.round_answers.proofs.AcceptedEntries.{Short, uses_stand, all_lines, AreFine, all_fine}
+use Rattle.round_answers.proofs.AcceptedEntries.{all_lines, AreFine, all_fine}
 use Rattle.round_answers.proofs.AcceptedRuns.{rounds_plain, reached_good}
 
 module _ (t : Circuit) (checked : IsChecked t) (limits : IsWithinLimits t) (k n : ℕ) (list : List WithProofs) (refutation : Refutation) (h : AreFull t list refutation) where
@@ -60,15 +61,7 @@ module _ (t : Circuit) (checked : IsChecked t) (limits : IsWithinLimits t) (k n 
   entries_fine short = let few = h.few in all_fine t checked limits [] list h.proved (omega (arith, few)) (parts short).0
 
   numbers : Short whole_lines → HasNumbers (refuting_line whole)
-  numbers short =
-      let first = size_first (word_line_text (refuting_line whole)) (uses_text (map written refutation.uses) ∷ refutation.proof) in
-      let second = size_first (uses_text (map written refutation.uses)) refutation.proof in
-      let uses = uses_counted refutation.uses in
-      let count = counted refutation.proof in
-      let room = (parts short).1 in
-      let many_uses : length refutation.uses < 2 ^ 63 = omega (arith, first, second, uses, room) in
-      let many_lines : length refutation.proof < 2 ^ 63 = omega (arith, first, second, count, room) in
-      (many_uses, many_lines)
+  numbers short = refuting_numbers whole (parts short).1
 
   signs : All (MayStand Two) (map written refutation.uses)
   signs =
@@ -77,16 +70,13 @@ module _ (t : Circuit) (checked : IsChecked t) (limits : IsWithinLimits t) (k n 
       uses_stand (length (map said list)) refutation.uses (omega (arith, count, few)) h.refuted.closed.present
 
   refuting_lines_plain : Short whole_lines → All IsPlain refuting
-  refuting_lines_plain short =
-      All-cons IsPlain (word_line_text (refuting_line whole)) (uses_text (map written refutation.uses) ∷ refutation.proof) (word_line_plain (refuting_line whole) (numbers short))
-      (All-cons IsPlain (uses_text (map written refutation.uses)) refutation.proof (uses_plain (map written refutation.uses) signs)
-      (refuting_plain _ refutation.proof h.refuted.refutes))
+  refuting_lines_plain short = refutation_plain whole _ (numbers short) signs h.refuted.refutes
 
   lines_plain : k < 2 ^ 63 → n < 2 ^ 63 → Short whole_lines → All IsPlain whole_lines
   lines_plain few small short =
       let entries : List (List ℕ) = all_lines t checked limits list in
       let behind = All-push IsPlain (entries ++ refuting) (word_line_text lines.End)
-      (All-append IsPlain entries refuting (entries_fine short).plain (refuting_lines_plain short)) (word_line_plain lines.End tt) in
+      (All-append IsPlain entries refuting (entries_plain t [] (map (written_entry t) list) (map said list) (entries_fine short).form (entries_fine short).proved) (refuting_lines_plain short)) (word_line_plain lines.End tt) in
       All-cons IsPlain (rounds_line k) (property_line n ∷ lines_of_certificate whole) (rounds_plain k few)
       (All-cons IsPlain (property_line n) (lines_of_certificate whole) (property_plain n small)
       (All-cons IsPlain (word_line_text (lines.Version Two)) (entries ++ refuting ++ last) (word_line_plain (lines.Version Two) tt) behind))

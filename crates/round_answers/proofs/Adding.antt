@@ -1,7 +1,6 @@
 -- Lines that are added to a text, one after the other, and what an answer's text becomes.
 use Rattle.std.proofs.Common.{◌≡◌, ℕ, ◌+◌, ◌-◌, List, [], ◌∷◌, ◌++◌, map, length, take, drop, refl, sym, ap, ◌∙◌, arith, append_assoc, append-nil, length-append}
 use Rattle.std.specs.Prelude.{◌≤◌, codes, Result, Ok, Err, IfOk}
-use Rattle.std.proofs.lemmas.Grind.{flat_map-append}
 use Rattle.std.proofs.lemmas.List.{take_all}
 use Rattle.aig_semantics.specs.declared.traces.Position.{Position}
 use Rattle.text_grammar.specs.Lines.{ended_lines}
@@ -10,15 +9,9 @@ use Rattle.certificate_texts.specs.Adding.{Adds}
 use Rattle.certificate_texts.specs.Writing.{property_line, certificate_text}
 use Rattle.certificate_texts.specs.declared.certificates.Certificate.{Certificate}
 use Rattle.certificate_texts.specs.Certificates.{lines_of_certificate}
+use Rattle.certificate_texts.proofs.AddedLines.{both_added}
 use Rattle.round_answers.specs.Texts.{rounds_line}
 use Rattle.round_answers.specs.Writing.{start_of, run_lines}
-
-pub both_added : (old mid new : List ℕ) (ls ms all : List (List ℕ)) → Adds old mid ls → Adds mid new ms → all ≡ ls ++ ms → Adds old new all
-both_added old mid new ls ms all first second is =
-    second
-    ∙ ap (λ text. text ++ ended_lines ms) first
-    ∙ append_assoc old (ended_lines ls) (ended_lines ms)
-    ∙ ap (λ text. old ++ text) (sym (flat_map-append (λ line. line ++ 10 ∷ []) ls ms) ∙ ap ended_lines (sym is))
 
 -- an answer has a line for its status
 pub some_text : (n : ℕ) (certificate : Certificate) (text : List ℕ) → text ≡ certificate_text n certificate → 2 ≤ length text

@@ -13,7 +13,5 @@ mod LaidOut
 mod RunEnds
 mod Stepped
 mod AcceptedRuns
-mod AcceptedSizes
-mod AcceptedLiterals
 mod AcceptedEntries
 mod Accepted

@@ -3,10 +3,7 @@ use Rattle.std.proofs.Common.{◌≡◌, ◌<◌, ℕ, zero, suc, ◌+◌, ◌-�
 use Rattle.std.specs.Prelude.{codes}
 use Rattle.std.specs.Arc.{arc_value}
 use Rattle.std.specs.declared.sync.Arc.{Arc}
-use Rattle.std.proofs.lemmas.Grind.{flat_map-append}
-use Rattle.std.proofs.lemmas.List.{take_more, map-append}
 use Rattle.aig_semantics.specs.declared.traces.Stimulus.{Stimulus}
-use Rattle.text_grammar.specs.Lines.{ended_lines}
 use Rattle.stimulus.specs.Texts.{digit_of}
 use Rattle.certificate_lines.specs.declared.words.WordLine.TheVariants as lines
 use Rattle.certificate_lines.specs.Words.{word_line_text}
@@ -16,15 +13,10 @@ use Rattle.entry.specs.CheckedEntries.{CheckedEntry}
 use Rattle.certificate_texts.specs.Adding.{Adds}
 use Rattle.certificate_texts.specs.Certificates.{entry_lines, refuting_line, refutation_lines}
 use Rattle.certificate.specs.Writing.{listed, written_entry}
+use Rattle.certificate_texts.proofs.AddedLines.{both_added}
+use Rattle.certificate.proofs.AddedLines.{entries_more}
 use Rattle.sheet_answers.specs.Sheets.{Block, all_line, version_line, end_line, refuting}
 use Rattle.sheet_answers.specs.Writing.{stimulus_rows, block_lines, lines_of_blocks, lines_of_sheet, sheet_text}
-
-both_added : (old mid new : List ℕ) (ls ms all : List (List ℕ)) → Adds old mid ls → Adds mid new ms → all ≡ ls ++ ms → Adds old new all
-both_added old mid new ls ms all first second is =
-    second
-    ∙ ap (λ text. text ++ ended_lines ms) first
-    ∙ append_assoc old (ended_lines ls) (ended_lines ms)
-    ∙ ap (λ text. old ++ text) (sym (flat_map-append (λ line. line ++ 10 ∷ []) ls ms) ∙ ap ended_lines (sym is))
 
 -- one entry more
 pub entry_added : {Z : Type 0} → (i : ℕ) (list : List (Arc CheckedEntry Z)) (shared : Arc CheckedEntry Z) (e : CheckedEntry) (old mid new : List ℕ)
@@ -32,17 +24,8 @@ pub entry_added : {Z : Type 0} → (i : ℕ) (list : List (Arc CheckedEntry Z)) 
     → Adds old mid (flat_map entry_lines (map written_entry (listed (take i list)))) → Adds mid new (entry_lines (written_entry e))
     → Adds old new (flat_map entry_lines (map written_entry (listed (take (i + 1) list))))
 entry_added {Z} i list shared e old mid new within at is first second =
-    let ls : List CheckedEntry = listed (take i list) in
-    let more : listed (take (i + 1) list) ≡ ls ++ e ∷ [] =
-    ap listed (take_more list i shared within ∙ ap (λ x. take i list ++ x ∷ []) (sym at))
-    ∙ map-append (λ (x : Arc CheckedEntry Z). arc_value {X = CheckedEntry} x) (take i list) (shared ∷ [])
-    ∙ ap (λ x. ls ++ x ∷ []) (sym is) in
-    let spelled : flat_map entry_lines (map written_entry (listed (take (i + 1) list))) ≡ flat_map entry_lines (map written_entry ls) ++ entry_lines (written_entry e) =
-    ap (λ es. flat_map entry_lines (map written_entry es)) more
-    ∙ ap (flat_map entry_lines) (map-append written_entry ls (e ∷ []))
-    ∙ flat_map-append entry_lines (map written_entry ls) (written_entry e ∷ [])
-    ∙ ap (λ lines. flat_map entry_lines (map written_entry ls) ++ lines) (append-nil (entry_lines (written_entry e))) in
-    both_added old mid new (flat_map entry_lines (map written_entry ls)) (entry_lines (written_entry e)) _ first second spelled
+    both_added old mid new (flat_map entry_lines (map written_entry (listed (take i list)))) (entry_lines (written_entry e)) _ first second
+    (entries_more i list shared e within at is)
 
 -- one block more
 blocks_more : (n i : ℕ) (blocks : List Block) (block : Block) → i < length blocks → block ≡ get_or blocks i block

@@ -28,7 +28,7 @@ use Rattle.certificate.specs.Refuted.{refuted_clauses}
 use Rattle.certificate_texts.specs.Certificates.{as_use}
 use Rattle.certificate.specs.Reading.{Body, Begun, EntryUses, EntryClause, RefutationUses, Certified, Stepped, entry_fault, next_proof, next_clause, begin_proof, next_refuting_line, unless_bad, uses_step, begin_entry, with_clause, has_base, base_step, clause_step, entry_uses_step, refutation_uses_step}
 use Rattle.certificate.proofs.CompletingProofs.{heads, differs}
-use Rattle.certificate.proofs.CompletingEntries.{IsBased}
+use Rattle.certificate.proofs.CompletingEntries.{IsBased, no_clause_left, used_again, written_again}
 use Rattle.sheet_answers.proofs.Entering.{ProofsTail, ClausesTail, RefutationTail, Continues, After}
 use Rattle.sheet_answers.proofs.EnteringProofs.{proof_next, proof_from, refuting_next, refuting_from}
 
@@ -38,19 +38,10 @@ module _ (c : Circuit) (b : Body) (K : Body → List (List ℕ) → Type 0) wher
   abbrev EntryBehind : Begun → List (List Lit) → List (List ℕ) → Type 0
   EntryBehind begun clauses rest = ProofsTail c b (record begun.entry { clauses = clauses }) 0 rest K
 
-  no_clause_left : (begun : Begun) (left rest literals : List (List ℕ)) (clauses : List (List Lit)) → left ≡ map clause_text literals ++ rest
-      → AreClausesOf c literals clauses → length begun.entry.clauses + length clauses ≡ begun.count
-      → EntryBehind begun (begun.entry.clauses ++ clauses) rest → (length begun.entry.clauses == begun.count) ≡ true → EntryBehind begun begun.entry.clauses left
-  no_clause_left begun left rest [] [] spelled are count proofs test =
-      subst (λ cs. EntryBehind begun cs left) (append-nil begun.entry.clauses) (subst (λ ls. EntryBehind begun (begun.entry.clauses ++ []) ls) (sym spelled) proofs)
-  no_clause_left begun left rest (ls ∷ literals) [] spelled are count proofs test = absurd (cc)
-  no_clause_left begun left rest literals (k ∷ clauses) spelled are count proofs test =
-      absurd (omega (arith, count, eqb-true (length begun.entry.clauses) begun.count test))
-
   clauses_next_by : (begun : Begun) (left : List (List ℕ)) → ClausesTail c b begun left K → (t : Bool) → (length begun.entry.clauses == begun.count) ≡ t
       → After c (if t then next_proof b begun.entry 0 else Ok (Certified b (EntryClause begun))) left K
   clauses_next_by begun left h true test =
-      proof_next c b begun.entry K 0 left (no_clause_left begun left h.rest h.literals h.clauses h.spelled h.are h.count h.proofs test)
+      proof_next c b begun.entry K 0 left (no_clause_left c (EntryBehind begun) begun.entry.clauses begun.count left h.rest h.literals h.clauses h.spelled h.are h.count h.proofs test)
   clauses_next_by begun left h false test = (h, differs (length begun.entry.clauses) begun.count test)
 
   pub clauses_next : (begun : Begun) (left : List (List ℕ)) → ClausesTail c b begun left K → After c (next_clause b begun) left K
@@ -160,14 +151,6 @@ module _ (c : Circuit) (b : Body) (K : Body → List (List ℕ) → Type 0) wher
     pub count : length uses ≡ n
     pub fit : first_bad_use user b.entries uses ≡ None
     pub next : After c (rest uses) left K
-
-  used_again : (us : List Use) → map as_use (map written us) ≡ us
-  used_again [] = refl
-  used_again (u ∷ us) = ap (λ vs. u ∷ vs) (used_again us)
-
-  written_again : (us : List WrittenUse) → map written (map as_use us) ≡ us
-  written_again [] = refl
-  written_again (u ∷ us) = ap (λ vs. u ∷ vs) (written_again us)
 
   uses_on : (user : User) (count : ℕ) (bad : ℕ → Stepped) (number : ℕ) (line : List ℕ) (rest : List Use → Stepped) (left : List (List ℕ))
       → GoodUses user count rest line left → After c (uses_step b user count bad number (uses_of b.version line) rest) left K

@@ -19,12 +19,8 @@ use Rattle.entry.specs.Proved.{obligation_of}
 use Rattle.certificate.specs.declared.ends.AnswerFault.TheVariants as faults
 use Rattle.certificate_texts.specs.Certificates.{proof_lines}
 use Rattle.certificate.specs.Reading.{Body, Proving, Start, EntryProof, EntryLine, RefutationLine, Last, Certified, with_entry, entry_fault, next_proof, next_line, next_refuting_line, begin_proof, with_line, proof_step, line_step, refuting_step}
-use Rattle.certificate.proofs.CompletingProofs.{heads, differs, clause_parts}
+use Rattle.certificate.proofs.CompletingProofs.{heads, differs, finished, no_more, clause_parts}
 use Rattle.sheet_answers.proofs.Entering.{ProofsTail, LinesTail, RefutationTail, Continues, After}
-
-finished : (line : ℕ) (b : Bool) → unfinished_at line b ≡ None → b ≡ true
-finished line true h = refl
-finished line false h = absurd (cc)
 
 -- ---- the refutation
 
@@ -97,11 +93,6 @@ module _ (c : Circuit) (b : Body) (K : Body → List (List ℕ) → Type 0) wher
   refuting_line_back p line left h = refuting_line_from p line left (judge p.state line) refl h
 
 -- ---- the proofs of an entry
-
-no_more : {X : Type 0} → (text : X → List (List ℕ)) (i n : ℕ) (xs : List X) (left rest : List (List ℕ)) → left ≡ flat_map text xs ++ rest → i + length xs ≡ n
-    → (i == n) ≡ true → left ≡ rest
-no_more text i n [] left rest spelled count test = spelled
-no_more text i n (x ∷ xs) left rest spelled count test = absurd (omega (arith, eqb-true i n test, count))
 
 module _ (c : Circuit) (b : Body) (e : Entry) (K : Body → List (List ℕ) → Type 0) where
   proof_next_by : (i : ℕ) (left : List (List ℕ)) → ProofsTail c b e i left K → (t : Bool) → (i == length e.clauses) ≡ t

@@ -1,5 +1,5 @@
 -- All lines of a sheet, from its first on.
-use Rattle.std.proofs.Common.{◌≡◌, ◌⊎◌, ℕ, suc, ◌+◌, ◌<◌, ◌≤◌, ◌^◌, inl, inr, Bool, true, false, List, [], ◌∷◌, ◌++◌, map, length, flat_map, drop, take, refl, sym, ap, subst, ◌∙◌, arith, append_assoc, length-append, Some, None, Option, Ok, Err, All}
+use Rattle.std.proofs.Common.{◌≡◌, ◌⊎◌, ℕ, suc, ◌+◌, ◌<◌, ◌≤◌, ◌^◌, inl, inr, Bool, true, false, List, [], ◌∷◌, ◌++◌, map, length, flat_map, drop, take, refl, sym, ap, subst, ◌∙◌, arith, length-append, Some, None, Option, Ok, Err, All}
 use Rattle.std.specs.Prelude.{if◌then◌else◌, ◌==◌, nat_lt, codes}
 use Rattle.std.specs.Str.{bytes_eq}
 use Rattle.std.proofs.lemmas.Bool.{lt-ltb, ltb-true, eqb-true, eq-eqb}
@@ -10,7 +10,6 @@ use Rattle.std.proofs.lemmas.Slice.Eq.{bytes_eq-Decides}
 use Rattle.aig_semantics.specs.declared.traces.Stimulus.{Stimulus}
 use Rattle.aig_semantics.specs.Circuits.{Circuit}
 use Rattle.aig_semantics.specs.Stimuli.{StandsFor}
-use Rattle.proof_semantics.specs.declared.literals.Lit.{Lit}
 use Rattle.proof_semantics.specs.Proofs.{judge}
 use Rattle.fair_semantics.specs.declared.entries.Kind.{Kind}
 use Rattle.fair_semantics.specs.declared.entries.Kind.TheVariants.{Reach, Wall}
@@ -33,10 +32,12 @@ use Rattle.certificate.specs.declared.ends.AnswerFault.TheVariants as faults
 use Rattle.certificate.specs.Lines.{Numbered, bare}
 use Rattle.certificate_texts.specs.declared.certificates.Written.{Written}
 use Rattle.certificate_texts.specs.Certificates.{proof_lines, opening_line, entry_lines, CanBeWritten, refutation_lines}
-use Rattle.certificate.specs.Certificates.{entry_with, AreClausesOf, AreProvedBehind}
+use Rattle.certificate.specs.Certificates.{entry_with, AreProvedBehind}
 use Rattle.certificate.specs.Reading.{Body, Start, EntryUses, EntryClause, EntryProof, EntryLine, RefutationUses, RefutationLine, Last, Latches, Rows, Dotted, Certified, with_entry, begin_entry}
 use Rattle.certificate.specs.Reading as answers
+use Rattle.certificate.proofs.CompletingAll.{no_front, no_clause, no_proof, no_proof_line}
 use Rattle.certificate.proofs.CompletingProofs.{heads}
+use Rattle.certificate.proofs.CompletingStarts.{regrouped, few_more}
 use Rattle.certificate.proofs.CompletingEntries.{clauses_over, as_many, passes_each, proved_by_each}
 use Rattle.sheet_answers.specs.declared.blocks.Block.TheVariants.{Lasso, Holds, Open}
 use Rattle.sheet_answers.specs.declared.found.Accepted.{Accepted}
@@ -142,15 +143,6 @@ module _ (c : Circuit) (a : Accepted) (replays : Replays) (are : AreReplays c re
   show_back t entries (answers.Ended b) number line left well h = absurd well
 
 -- ---- entries
-
--- the lines of an entry behind its first two, and what follows them
-regrouped : (clauses proofs more rest : List (List ℕ)) → ((clauses ++ proofs) ++ more) ++ rest ≡ clauses ++ (proofs ++ (more ++ rest))
-regrouped clauses proofs more rest =
-    append_assoc (clauses ++ proofs) more rest ∙ append_assoc clauses proofs (more ++ rest)
-
-few_more : (more : List Written) (n limit : ℕ) → n < limit → (0 < length more → (n + 1) + length more ≤ limit) → n + suc (length more) ≤ limit
-few_more [] n limit room h = omega (arith, room)
-few_more (e ∷ more) n limit room h = let r : (n + 1) + suc (length more) ≤ limit = h (omega arith) in omega (arith, r)
 
 abbrev first_byte : List ℕ → ℕ
 first_byte [] = 0
@@ -477,10 +469,6 @@ module _ (c : Circuit) (a : Accepted) where
 
 -- ---- no line
 
-no_front : {X : Type 0} → (x : X) (xs ys : List X) → [] ≡ xs ++ x ∷ ys → ⊥
-no_front x [] ys e = cc
-no_front x (y ∷ xs) ys e = cc
-
 no_block : (n : ℕ) (blocks : List Block) → AreBlocks n blocks [] → ⊥
 no_block n [] spelled = no_front end_line [] [] spelled
 no_block n (Lasso s ∷ blocks) (rows, others, is, spells, more) = no_front (lasso_line n) [] (rows ++ others) is
@@ -490,20 +478,6 @@ no_block n (Open ∷ blocks) (others, is, more) = no_front (open_line n) [] othe
 no_entry : (n : ℕ) (more : List Written) (blocks : List Block) (rest : List (List ℕ)) → [] ≡ flat_map entry_lines more ++ rest → AreBlocks n blocks rest → ⊥
 no_entry n [] blocks rest spelled h = no_block n blocks (subst (AreBlocks n blocks) (sym spelled) h)
 no_entry n (e ∷ more) blocks rest spelled h = cc
-
-no_clause : (c : Circuit) (m n : ℕ) (literals : List (List ℕ)) (clauses : List (List Lit)) (rest : List (List ℕ)) → [] ≡ map clause_text literals ++ rest
-    → AreClausesOf c literals clauses → m + length clauses ≡ n → (m ≡ n → ⊥) → ⊥
-no_clause c m n [] [] rest spelled of count other = other (omega (arith, count))
-no_clause c m n [] (k ∷ clauses) rest spelled of count other = cc
-no_clause c m n (ls ∷ literals) clauses rest spelled of count other = cc
-
-no_proof : (m n : ℕ) (proofs : List (List (List ℕ))) (rest : List (List ℕ)) → [] ≡ flat_map proof_lines proofs ++ rest → m + length proofs ≡ n → (m ≡ n → ⊥) → ⊥
-no_proof m n [] rest spelled count other = other (omega (arith, count))
-no_proof m n (proof ∷ proofs) rest spelled count other = cc
-
-no_proof_line : (m n : ℕ) (proof rest : List (List ℕ)) → [] ≡ proof ++ rest → m + length proof ≡ n → (m ≡ n → ⊥) → ⊥
-no_proof_line m n [] rest spelled count other = other (omega (arith, count))
-no_proof_line m n (line ∷ proof) rest spelled count other = cc
 
 module _ (c : Circuit) (a : Accepted) where
   list_end : (s : answers.State) → Lists c a s [] → ⊥

@@ -10,17 +10,18 @@ use Rattle.answer_lines.specs.Left.{most_bytes}
 use Rattle.stimulus.specs.Texts.{value_of, digit_of, row_values, present}
 use Rattle.certificate_lines.specs.declared.words.Version.TheVariants.{Two}
 use Rattle.certificate_lines.specs.declared.words.WordLine.TheVariants as lines
-use Rattle.certificate_lines.specs.Words.{word_line_text, HasNumbers}
-use Rattle.certificate_lines.specs.Uses.{uses_text, MayStand, written}
-use Rattle.entry.specs.declared.refutations.Refutation.{Refutation}
+use Rattle.certificate_lines.specs.Words.{HasNumbers}
+use Rattle.certificate_lines.specs.Uses.{MayStand, written}
 use Rattle.entry.specs.CheckedEntries.{CheckedEntry}
 use Rattle.certificate.specs.declared.limits.TheConstants.{MAX_ENTRIES}
 use Rattle.certificate_texts.specs.Certificates.{entry_lines, refuting_line, refutation_lines}
 use Rattle.certificate_texts.specs.Writing.{property_line}
 use Rattle.certificate.specs.Answers.{Spells}
 use Rattle.certificate.specs.Writing.{written_entry}
-use Rattle.certificate.proofs.PlainLines.{IsPlain, plain_append, plain_word, plain_decimal, word_line_plain, property_plain, uses_plain, refuting_plain, written_kept}
-use Rattle.certificate.proofs.WrittenCertificates.{size, size_first, size_both, counted, uses_counted, uses_stand, AreFine, all_fine}
+use Rattle.certificate.proofs.PlainLines.{IsPlain, plain_append, plain_word, plain_decimal, word_line_plain, property_plain, written_kept}
+use Rattle.certificate_texts.proofs.WrittenSizes.{size, size_first, size_both}
+use Rattle.certificate.proofs.WrittenEntries.{uses_stand, refuting_numbers, entries_plain, refutation_plain}
+use Rattle.certificate.proofs.WrittenCertificates.{AreFine, all_fine}
 use Rattle.sheet_answers.specs.declared.blocks.Block.TheVariants.{Lasso, Holds, Open}
 use Rattle.sheet_answers.specs.Sheets.{Block, all_line, lasso_line, holds_line, open_line, version_line, end_line, refuting, AreBlocks, IsGoodBlock, AreGood, IsSheetWith, none, and_all}
 use Rattle.sheet_answers.specs.Writing.{stimulus_rows, block_lines, lines_of_blocks, sheet_of, lines_of_sheet, sheet_text, IsTrueBlock, AreTrue, IsSo}
@@ -84,28 +85,17 @@ module _ (c : Circuit) (checked : IsChecked c) (limits : IsWithinLimits c) (entr
     good : IsGoodBlock c entries n block
     plain : All IsPlain (block_lines n block)
 
-  numbers : (r : Refutation) → size (refutation_lines (refuting r)) ≤ most_bytes → HasNumbers (refuting_line (refuting r))
-  numbers r short =
-      let first = size_first (word_line_text (refuting_line (refuting r))) (uses_text (map written r.uses) ∷ r.proof) in
-      let second = size_first (uses_text (map written r.uses)) r.proof in
-      let uses = uses_counted r.uses in
-      let count = counted r.proof in
-      let many_uses : length r.uses < 2 ^ 63 = omega (arith, first, second, uses, short) in
-      let many_lines : length r.proof < 2 ^ 63 = omega (arith, first, second, count, short) in
-      (many_uses, many_lines)
-
   block_fine : (n : ℕ) (block : Block) → n < 2 ^ 63 → size (block_lines n block) ≤ most_bytes → IsTrueBlock c entries n block → IsFine n block
   block_fine n (Lasso s) small short stands =
       record { good = stands; plain = All-cons IsPlain (lasso_line n) (stimulus_rows s) (lasso_plain n small) (stimulus_plain s) }
   block_fine n (Holds r) small short refuted =
       let first = size_first (holds_line n) (refutation_lines (refuting r)) in
-      let sizes : HasNumbers (refuting_line (refuting r)) = numbers r (omega (arith, first, short)) in
-      let signs : All (MayStand Two) (map written r.uses) = uses_stand c checked limits (length entries) r.uses few refuted.closed.present in
+      let sizes : HasNumbers (refuting_line (refuting r)) = refuting_numbers (refuting r) (omega (arith, first, short)) in
+      let signs : All (MayStand Two) (map written r.uses) = uses_stand (length entries) r.uses few refuted.closed.present in
       record {
         good = (sizes, signs, refuted);
         plain = All-cons IsPlain (holds_line n) (refutation_lines (refuting r)) (holds_plain n small)
-            (All-cons IsPlain (word_line_text (refuting_line (refuting r))) (uses_text (map written r.uses) ∷ r.proof) (word_line_plain (refuting_line (refuting r)) sizes)
-            (All-cons IsPlain (uses_text (map written r.uses)) r.proof (uses_plain (map written r.uses) signs) (refuting_plain _ r.proof refuted.refutes)));
+            (refutation_plain (refuting r) _ sizes signs refuted.refutes);
       }
   block_fine n Open small short h = record { good = tt; plain = All-cons IsPlain (open_line n) [] (open_plain n small) (All-nil IsPlain) }
 
@@ -162,7 +152,7 @@ module _ (c : Circuit) (checked : IsChecked c) (limits : IsWithinLimits c) (list
       let ended = All-push IsPlain block_part end_line fine.1 (word_line_plain lines.End tt) in
       All-cons IsPlain (all_line (length blocks)) (version_line ∷ (entry_part ++ (block_part ++ end_line ∷ []))) all_plain
       (All-cons IsPlain version_line (entry_part ++ (block_part ++ end_line ∷ [])) (word_line_plain (lines.Version Two) tt)
-      (All-append IsPlain entry_part (block_part ++ end_line ∷ []) entries_fine.plain ended))
+      (All-append IsPlain entry_part (block_part ++ end_line ∷ []) (entries_plain c [] (map written_entry list) entries_of entries_fine.form entries_fine.proved) ended))
 
   good : IsSheetWith c (sheet_text list blocks) (and_all none blocks) (length list)
   good = (

@@ -31,7 +31,7 @@ use Rattle.certificate.proofs.CompletingTexts.{dot_has_none, no_dot}
 use Rattle.certificate.proofs.Kept.{stimulus_is_read}
 use Rattle.certificate.proofs.OneEnd.{one_is_good, good_has_no_fault}
 use Rattle.certificate.proofs.PlainLines.{IsPlain, plain_word, property_plain, written_kept}
-use Rattle.certificate.proofs.WrittenCertificates.{size, size_first, size_both}
+use Rattle.certificate_texts.proofs.WrittenSizes.{size, size_first, size_both}
 use Rattle.certificate.proofs.WrittenGood.{kept-bare}
 use Rattle.sheet_answers.specs.declared.blocks.Block.{Block}
 use Rattle.sheet_answers.specs.declared.blocks.Block.TheVariants.{Lasso, Holds, Open}

@@ -1,5 +1,5 @@
 use Rattle.std.proofs.Common.{◌∙◌, sym}
-use Rattle.round_answers.proofs.Variables.{variable_small}
+use Rattle.certificate_texts.proofs.Variables.{variable_small}
 use Rattle.round_answers.proofs.writing.latch_variable.Goals as goal
 
 pub returns-in-Some-clause-small : goal.returns-in-Some-clause-small

@@ -16,7 +16,7 @@ use Rattle.certificate_lines.specs.Fields.{IsNumber}
 use Rattle.entry.specs.Clauses.{latch_from, latch_literal, with_literal, clause_behind}
 use Rattle.certificate.specs.Certificates.{AreClausesOf}
 use Rattle.certificate_texts.specs.Writing.{variable_of_latch, literal_in_model}
-use Rattle.round_answers.proofs.Variables.{variable_small}
+use Rattle.certificate_texts.proofs.Variables.{variable_small}
 
 -- the latch at a place is the first with its variable
 found_at : (n k : ℕ) (latches : List Latch) (latch : Latch) → AllDiffer (map (λ l. l.var) latches) → slice_get latches k ≡ Some latch
