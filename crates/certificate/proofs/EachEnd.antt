@@ -11,13 +11,14 @@ use Rattle.aig_semantics.specs.declared.parts.Reset.TheVariants.{Zero, One, Free
 use Rattle.aig_semantics.specs.declared.traces.Position.{Position}
 use Rattle.aig_semantics.specs.declared.traces.Stimulus.{Stimulus}
 use Rattle.aig_semantics.specs.Circuits.{Circuit, fair_literals}
-use Rattle.aig_semantics.specs.Runs.{position_of, successor, literal_at, AgreesWith, MeetsConstraints, StartsIn, IsRun, IsInitial, IsInitialRun, ClosesAt, MeetsFairness}
+use Rattle.aig_semantics.specs.Runs.{position_of, successor, literal_at, AgreesWith, MeetsConstraints, IsRun, IsInitial, IsInitialRun, ClosesAt, MeetsFairness}
 use Rattle.aig_semantics.specs.Stimuli.{simulated, FitsCircuit, HasLasso, StandsFor}
 use Rattle.stimulus.specs.declared.ends.ReplayFault.{ReplayFault}
 use Rattle.stimulus.specs.declared.ends.ReplayFault.TheVariants.{Width, NotInitial, Constraint, NoFairLoop, NoProperty}
 use Rattle.stimulus.specs.Faults.{items_of, width_of, IsFirstMisfit, AgreesAt, IsFirstWrong, CanBegin, AreAllowed, HasReplayFault}
 use Rattle.stimulus.proofs.FaultLemmas.{initial_from}
 use Rattle.answer_lines.specs.Left.{most_bytes}
+use Rattle.circuit.proofs.Following.{StartsIn-simulated}
 use Rattle.certificate.specs.declared.ends.Accepted.{Accepted}
 use Rattle.certificate.specs.declared.ends.Accepted.TheVariants.{Lasso, Holds}
 use Rattle.certificate.specs.declared.ends.AnswerFault.{AnswerFault}
@@ -170,18 +171,13 @@ meets_known c p =
     by (inl h) = inl (record { position = record { latches = h.0.0; inputs = h.0.1 }; constraints = h.1 })
     by (inr never) = inr (λ h. never ((h.position.latches, h.position.inputs), h.constraints))
 
-starts_in : (c : Circuit) (state : List Bool) (inputs : List (List Bool)) → StartsIn state (simulated c state inputs)
-unfolding simulated
-starts_in c state [] = tt
-starts_in c state (now ∷ later) = refl
-
 run_of_allowed : (c : Circuit) (state : List Bool) (inputs : List (List Bool)) → AreAllowed c (simulated c state inputs) → IsRun c (simulated c state inputs)
 unfolding simulated
 run_of_allowed c state [] all = tt
 run_of_allowed c state (now ∷ later) all =
     let p : Position = position_of state now in
     let run : List Position = simulated c (successor c p) later in
-    (All-head (MeetsConstraints c) p run all, starts_in c (successor c p) later, run_of_allowed c (successor c p) later (All-tail (MeetsConstraints c) p run all))
+    (All-head (MeetsConstraints c) p run all, StartsIn-simulated c (successor c p) later, run_of_allowed c (successor c p) later (All-tail (MeetsConstraints c) p run all))
 
 allowed_of_run : (c : Circuit) (run : List Position) → IsRun c run → AreAllowed c run
 allowed_of_run c [] is = All-nil (MeetsConstraints c)

@@ -1,13 +1,14 @@
 -- A good answer is true.
-use Rattle.std.proofs.Common.{◌≡◌, ℕ, suc, Bool, ◌++◌, List, [], ◌∷◌, length, take, subst, sym, ap, ◌∙◌, refl}
+use Rattle.std.proofs.Common.{ℕ, ◌++◌, List, [], ◌∷◌, take, subst, sym, ◌∙◌}
 use Rattle.std.proofs.lemmas.List.{length-take-le}
 use Rattle.aig_semantics.specs.Circuits.{Circuit}
 use Rattle.aig_semantics.specs.declared.traces.Position.{Position}
-use Rattle.aig_semantics.specs.Runs.{position_of, successor, IsFairLasso}
+use Rattle.aig_semantics.specs.Runs.{IsFairLasso}
 use Rattle.aig_semantics.specs.Stimuli.{simulated}
 use Rattle.fair_semantics.specs.Entries.{Entry}
 use Rattle.fair_semantics.specs.Laws.{NoLassoMeansFewRounds}
 use Rattle.entry.specs.Laws.{IsGoodList, GoodListsGrow, RefutedHasNoLasso}
+use Rattle.circuit.proofs.Following.{length-simulated}
 use Rattle.certificate.specs.declared.ends.Accepted.TheVariants.{Lasso, Holds}
 use Rattle.certificate_texts.specs.declared.certificates.Written.{Written}
 use Rattle.certificate.specs.Certificates.{entry_with, AreProvedBehind}
@@ -19,11 +20,6 @@ pub proved_list : (c : Circuit) → GoodListsGrow c → (before : List Entry) (e
 proved_list c grow before [] all good proved = subst (IsGoodList c) (sym proved) good
 proved_list c grow before (e ∷ es) all good (clauses, _, first, others) =
     proved_list c grow (before ++ entry_with e clauses ∷ []) es all (grow.more before (entry_with e clauses) e.proofs good first) others
-
-pub length-simulated : (c : Circuit) (latches : List Bool) (inputs : List (List Bool)) → length (simulated c latches inputs) ≡ length inputs
-unfolding simulated
-length-simulated c latches [] = refl
-length-simulated c latches (now ∷ later) = ap suc (length-simulated c (successor c (position_of latches now)) later)
 
 pub good_is_true : (c : Circuit) → GoodListsGrow c → RefutedHasNoLasso c → NoLassoMeansFewRounds → GoodIsTrue c
 good_is_true c grow none few text (Lasso n positions from) (_, _, s, _, stands) = (

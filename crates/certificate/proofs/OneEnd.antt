@@ -1,8 +1,7 @@
 -- The check of a text has one end.
-use Rattle.std.proofs.Common.{◌≡◌, ◌≤◌, ℕ, List, refl, sym, ap, subst, ◌∙◌, arith, Ok, Err, inl, inr}
+use Rattle.std.proofs.Common.{◌≡◌, ℕ, List, refl, sym, ap, subst, ◌∙◌, arith, Ok, Err, inl, inr}
 use Rattle.aig_semantics.specs.declared.traces.Stimulus.{Stimulus}
 use Rattle.aig_semantics.specs.Circuits.{Circuit}
-use Rattle.aig_semantics.specs.Stimuli.{HasLasso, StandsFor}
 use Rattle.stimulus.specs.declared.ends.ReplayFault.{ReplayFault}
 use Rattle.stimulus.specs.Faults.{HasReplayFault}
 use Rattle.stimulus.proofs.FaultLemmas.{one_fault, fault-no_lasso}
@@ -15,16 +14,7 @@ use Rattle.certificate.specs.Reading.{State, Status, Property, Latches, Rows, Do
 use Rattle.certificate.specs.Ends.{IsReplayFault, IsGoodAtEnd, IsFaultAtEnd, IsFirstFault, IsRefused, ReadsWell}
 use Rattle.certificate.specs.Laws.{OneIsGood, GoodHasNoFault, OneFault}
 use Rattle.certificate.proofs.GoodRead.{reads_from_good}
-
--- a stimulus stands for one lasso
-one_lasso : (c : Circuit) (j : ℕ) (s : Stimulus) (k from n place : ℕ) → StandsFor c j s k from → StandsFor c j s n place → (k ≡ n) × (from ≡ place)
-one_lasso c j s k from n place a b =
-    let le : k ≤ n = a.shortest n place b.has in
-    let ge : n ≤ k = b.shortest k from a.has in
-    let same : k ≡ n = omega arith in
-    let early : from ≤ place = a.earliest place (subst (λ (m : ℕ). HasLasso c j s m place) (sym same) b.has) in
-    let late : place ≤ from = b.earliest from (subst (λ (m : ℕ). HasLasso c j s m from) same a.has) in
-    (same, omega arith)
+use Rattle.certificate.proofs.Replayed.{one_lasso}
 
 -- ---- what is accepted
 

@@ -1,5 +1,5 @@
 -- A lasso that is followed to its end is fair, and the other way round.
-use Rattle.std.proofs.Common.{◌≡◌, ℕ, zero, suc, ◌+◌, ◌-◌, ◌<◌, ◌≤◌, ◌==◌, ◌&&◌, ◌||◌, ◌↔◌, Bool, true, false, not, List, [], ◌∷◌, ◌++◌, length, get_or, take, drop, set, replicate, Some, IsTrue, refl, sym, ap, ◌∙◌, subst, arith}
+use Rattle.std.proofs.Common.{◌≡◌, ℕ, zero, suc, ◌+◌, ◌-◌, ◌<◌, ◌≤◌, ◌==◌, ◌&&◌, ◌||◌, ◌↔◌, Bool, true, false, not, List, [], ◌∷◌, ◌++◌, length, get_or, take, drop, set, replicate, Some, IsTrue, refl, sym, ap, ◌∙◌, subst, arith, map}
 use Rattle.std.specs.List.{All, Any, AllZip, list_all, list_any, slice_get}
 use Rattle.std.proofs.lemmas.Bool.{and_parts, and_from, and_right, eqb-true, eq-eqb, ne_eqb}
 use Rattle.std.proofs.lemmas.List.{append_assoc, take_more_set, drop-set-lt, drop_more, drop_all, take_all, length-map, length-replicate, get_or-replicate, get_or_default}
@@ -118,6 +118,16 @@ drop-simulated c zero start inputs = refl
 drop-simulated c (suc n) start [] = refl
 drop-simulated c (suc n) start (now ∷ later) = drop-simulated c n (successor c (position_of start now)) later
 
+-- the inputs of a run lay it out again
+pub simulated-inputs : (c : Circuit) (s : List Bool) (run : List Position) → IsRun c run → StartsIn s run
+    → simulated c s (map (λ p. p.inputs) run) ≡ run
+unfolding simulated
+simulated-inputs c s [] h starts = refl
+simulated-inputs c s (p ∷ run) h starts =
+    let same : position_of s p.inputs ≡ p = ap (λ latches. position_of latches p.inputs) (sym starts) in
+    ap (λ q. q ∷ simulated c (successor c q) (map (λ p. p.inputs) run)) same
+    ∙ ap (λ later. p ∷ later) (simulated-inputs c (successor c p) run h.2 h.1)
+
 pub length-simulated : (c : Circuit) (start : List Bool) (inputs : List (List Bool)) → length (simulated c start inputs) ≡ length inputs
 unfolding simulated
 length-simulated c start [] = refl
@@ -153,7 +163,7 @@ state_at-next c (suc n) start (now ∷ later) below = state_at-next c n (success
 
 -- ---- runs
 
-StartsIn-simulated : (c : Circuit) (state : List Bool) (inputs : List (List Bool)) → StartsIn state (simulated c state inputs)
+pub StartsIn-simulated : (c : Circuit) (state : List Bool) (inputs : List (List Bool)) → StartsIn state (simulated c state inputs)
 unfolding simulated
 StartsIn-simulated c state [] = tt
 StartsIn-simulated c state (now ∷ later) = refl

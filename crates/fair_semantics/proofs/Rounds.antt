@@ -12,6 +12,7 @@ use Rattle.aig_semantics.specs.Runs.{literal_at, successor, StartsIn, IsRun, IsI
 use Rattle.fair_semantics.specs.Rounds.{HasRounds, HasFewRounds}
 use Rattle.fair_semantics.specs.Laws.{NoLassoMeansFewRounds}
 use Rattle.fair_semantics.proofs.States.{count, count-less, count-most, same, same_is, same_itself}
+use Rattle.fair_semantics.proofs.Runs.{run-of}
 
 -- ---- parts of runs
 
@@ -26,10 +27,6 @@ run_front c (p ∷ xs) ys h = (h.0, starts_front (successor c p) xs ys h.1, run_
 initial_front : (c : Circuit) (xs ys : List Position) → IsInitialRun c (xs ++ ys) → IsInitialRun c xs
 initial_front c [] ys h = tt
 initial_front c (p ∷ xs) ys h = (h.0, run_front c (p ∷ xs) ys h.1)
-
-run_of : (c : Circuit) (run : List Position) → IsInitialRun c run → IsRun c run
-run_of c [] h = tt
-run_of c (p ∷ run) h = h.1
 
 -- the last of some positions steps to the first of those behind
 seam : (c : Circuit) (xs : List Position) (x q : Position) (ys : List Position) → IsRun c (xs ++ x ∷ q ∷ ys) → q.latches ≡ successor c x
@@ -127,7 +124,7 @@ module _ (c : Circuit) (j : ℕ) (there : j < length c.justice) (none : (run : L
         property = there;
         initial = initial_front c run (q ∷ ys) whole;
         inside = inside;
-        closes = closes c b.before b.first b.after q ys (run_of c (run ++ q ∷ ys) whole) (sym b.state);
+        closes = closes c b.before b.first b.after q ys (run-of c (run ++ q ∷ ys) whole) (sym b.state);
         fair = subst (MeetsFairness c j) (sym (drop-append_seam b.before (b.first ∷ b.after))) b.fair;
       })
 
@@ -162,7 +159,7 @@ module _ (c : Circuit) (j : ℕ) (there : j < length c.justice) (none : (run : L
             let next : List Bool → Bool = more_states test q.latches in
             let up : (s : List Bool) → test s ≡ true → next s ≡ true = λ s e. or_left (test s) (same q.latches s) e in
             let here : next q.latches ≡ true = or_right (test q.latches) (same q.latches q.latches) (same_itself q.latches) in
-            let one = count-less (length c.latches) test next up q.latches (sized (done ++ front) q (qs ++ others) (run_of c ((done ++ front) ++ q ∷ (qs ++ others)) run)) new here in
+            let one = count-less (length c.latches) test next up q.latches (sized (done ++ front) q (qs ++ others) (run-of c ((done ++ front) ++ q ∷ (qs ++ others)) run)) new here in
             let others_fit = counted n next ((done ++ front) ++ q ∷ qs) others
             (λ s e. began_next test (done ++ front) q qs is.fair far s (test s) refl e)
             (subst (IsInitialRun c) regrouped run) more in

@@ -1,12 +1,12 @@
 -- Along runs and round loops: what lies in a set that no allowed step leaves.
-use Rattle.std.proofs.Common.{◌≡◌, ℕ, zero, suc, ◌+◌, ◌-◌, ◌<◌, Bool, true, false, List, [], ◌∷◌, length, drop, get_or, refl, sym, ap, ◌∙◌, inl, inr, arith, length-drop, get_or-drop}
+use Rattle.std.proofs.Common.{◌≡◌, ℕ, zero, suc, ◌+◌, ◌-◌, ◌<◌, Bool, true, false, List, [], ◌∷◌, length, drop, get_or, refl, sym, ap, ◌∙◌, inl, inr, arith, length-drop, get_or-drop, ◌++◌, subst, Some, slice_get}
 use Rattle.std.specs.List.{All}
 use Rattle.std.proofs.lemmas.Bool.{both_ways, cases_Bool}
 use Rattle.std.proofs.lemmas.Option.{get_or_from_slice_get}
 use Rattle.std.proofs.lemmas.List.Elements.{All-head, All-tail, All-cons, All-nil}
 use Rattle.aig_semantics.specs.declared.traces.Position.{Position}
 use Rattle.aig_semantics.specs.Circuits.{Circuit}
-use Rattle.aig_semantics.specs.Runs.{successor, StartsIn, IsRun, IsInitialRun, IsFairLasso}
+use Rattle.aig_semantics.specs.Runs.{successor, StartsIn, IsRun, IsInitialRun, IsFairLasso, IsInitial}
 use Rattle.fair_semantics.specs.Validity.{NoStepLeaves}
 use Rattle.fair_semantics.specs.Laws.{LieOn}
 
@@ -87,6 +87,15 @@ end-at c s (p ∷ q ∷ run) (suc k) last place h = end-at c (successor c p) (q 
 pub run-of : (c : Circuit) (run : List Position) → IsInitialRun c run → IsRun c run
 run-of c [] h = tt
 run-of c (p ∷ run) h = h.1
+
+pub initial-run : (c : Circuit) (s : List Bool) (run : List Position) → IsInitial c s → StartsIn s run → IsRun c run → IsInitialRun c run
+initial-run c s [] initial starts h = tt
+initial-run c s (p ∷ run) initial starts h = (subst (IsInitial c) (sym starts) initial, h)
+
+-- the element behind a list
+pub get-seam : {X : Type 0} (xs : List X) (y : X) (ys : List X) → slice_get (xs ++ y ∷ ys) (length xs) ≡ Some y
+get-seam [] y ys = refl
+get-seam (x ∷ xs) y ys = get-seam xs y ys
 
 -- the loop is a run that ends where it begins
 pub record IsLoop (c : Circuit) (loop : List Position) : Type 0 where

@@ -11,7 +11,7 @@ use Rattle.aig_semantics.specs.declared.traces.Position.{Position}
 use Rattle.aig_semantics.specs.Circuits.{Circuit, IsWithinLimits, fair_literals}
 use Rattle.aig_semantics.proofs.Lists.{All-left}
 use Rattle.circuit.proofs.Counting.{All-unmap}
-use Rattle.aig_semantics.specs.Runs.{literal_at, successor, MeetsConstraints, StartsIn, IsRun, IsInitial, IsInitialRun}
+use Rattle.aig_semantics.specs.Runs.{literal_at, successor, MeetsConstraints, StartsIn, IsRun, IsInitialRun}
 use Rattle.ic3_semantics.specs.Searching.{Leads, IsPathToLiteral}
 use Rattle.fair_semantics.specs.Rounds.{HasRounds}
 use Rattle.live_to_safe.specs.Watching.{numbered}
@@ -20,6 +20,8 @@ use Rattle.round_monitor.specs.Counting.{IsFullRun, HasFullRun, HasRunOfRounds, 
 use Rattle.round_monitor.specs.Monitor.{monitor_circuit}
 use Rattle.round_monitor.specs.Numbers.{sizes_of}
 use Rattle.round_monitor.specs.Watching.{seen_latch, counter_latch, new_latches}
+use Rattle.fair_semantics.proofs.Runs.{run-of, initial-run}
+use Rattle.round_monitor.proofs.Lists.{get_or-behind}
 use Rattle.k_live.specs.Asking.{next_of_last, question}
 
 abbrev pub no_latch : Latch
@@ -46,10 +48,6 @@ slice-last : (before : List Position) (last : Position) → slice_get (before ++
 slice-last [] last = refl
 slice-last (p ∷ before) last = slice-last before last
 
-initial-of : (t : Circuit) (s : List Bool) (run : List Position) → IsInitial t s → StartsIn s run → IsRun t run → IsInitialRun t run
-initial-of t s [] initial starts h = tt
-initial-of t s (p ∷ run) initial starts h = (subst (IsInitial t) (sym starts) initial, h)
-
 pub path-full : (t : Circuit) (positions : List Position) → 0 < length t.latches → IsPathToLiteral (question t) (next_of_last t) [] positions → IsFullRun t positions
 path-full t positions some path =
     let run = leads-run t path.path.from (successor t path.last) positions path.path.leads in
@@ -57,7 +55,7 @@ path-full t positions some path =
     (let a = ap length path.is_last ∙ length-append path.before (path.last ∷ []) in omega (arith, a))
     in
     record {
-      initial = initial-of t path.path.from positions path.path.starts run.1 run.0;
+      initial = initial-run t path.path.from positions path.path.starts run.1 run.0;
       last = path.last;
       is_last = ap (slice_get positions) size ∙ ap (λ xs. slice_get xs (length path.before)) path.is_last ∙ slice-last path.before path.last;
       full = last-next t path.last some ∙ path.meets.holds;
@@ -88,10 +86,6 @@ last-possible : (t : Circuit) (run : List Position) (k : ℕ) (last : Position) 
 last-possible t [] k last at h = absurd (none-some last at)
 last-possible t (p ∷ run) zero last at h = subst (MeetsConstraints t) (same_Some p last at) h.0
 last-possible t (p ∷ run) (suc k) last at h = last-possible t run k last at h.2
-
-run-of : (t : Circuit) (run : List Position) → IsInitialRun t run → IsRun t run
-run-of t [] h = tt
-run-of t (p ∷ run) h = h.1
 
 pub full-path : (t : Circuit) (run : List Position) → 0 < length t.latches → IsFullRun t run → IsPathToLiteral (question t) (next_of_last t) [] run
 full-path t [] some full = absurd (none-some full.last full.is_last)
@@ -164,13 +158,6 @@ none-decides c j k t some is exact none run =
     let full = exact.1 run in
     none full.0 (full-path t full.0 (some-latch c j k t some is) full.1)
 
-get-behind : {A : Type 0} (xs ys : List A) (m i : ℕ) (d : A) → m ≡ length xs + i → get_or (xs ++ ys) m d ≡ get_or ys i d
-get-behind [] ys m i d e =
-    let same : m ≡ i = omega (arith, e) in
-    ap (λ k. get_or ys k d) same
-get-behind (x ∷ xs) ys zero i d e = absurd (omega (arith, e))
-get-behind (x ∷ xs) ys (suc m) i d e = get-behind xs ys m i d (omega (arith, e))
-
 counters-zero : (z : Sizes) (first i n : ℕ) → i < n → (get_or (numbered (counter_latch z) first n) i no_latch).reset ≡ Zero
 counters-zero z first i zero below = absurd (omega (arith, below))
 counters-zero z first zero (suc n) below = refl
@@ -187,8 +174,8 @@ last-zero c j k t some is =
     let place : length m.latches - 1 ≡ length c.latches + (z.literals + (k - 1)) = omega (arith, monitor-latches c j k, some) in
     let inner : z.literals + (k - 1) ≡ length seens + (k - 1) = omega (arith, d) in
     let at_last : get_or m.latches (length m.latches - 1) no_latch ≡ get_or counters (k - 1) no_latch =
-    get-behind c.latches (seens ++ counters) (length m.latches - 1) (z.literals + (k - 1)) no_latch place
-    ∙ get-behind seens counters (z.literals + (k - 1)) (k - 1) no_latch inner
+    get_or-behind c.latches (seens ++ counters) (length m.latches - 1) (z.literals + (k - 1)) no_latch place
+    ∙ get_or-behind seens counters (z.literals + (k - 1)) (k - 1) no_latch inner
     in
     subst (λ x. (get_or x.latches (length x.latches - 1) no_latch).reset ≡ Zero) (sym is)
     (ap (λ l. l.reset) at_last ∙ counters-zero z 0 (k - 1) k (omega (arith, some)))

@@ -1,6 +1,6 @@
 -- What the solver's answers say of lassos.
-use Rattle.std.proofs.Common.{◌≡◌, ℕ, suc, ◌+◌, ◌<◌, ◌≤◌, Bool, true, false, ◌&&◌, ◌||◌, List, [], ◌∷◌, ◌++◌, length, take, refl, sym, ap, ◌∙◌, subst, inl, inr, Option, Some, None, IfSome, Result, Err, IsOk, arith, add-one}
-use Rattle.std.proofs.lemmas.Bool.{cases_lt, false≢true}
+use Rattle.std.proofs.Common.{◌≡◌, ℕ, suc, ◌+◌, ◌<◌, ◌≤◌, Bool, true, false, ◌&&◌, ◌||◌, List, [], ◌∷◌, ◌++◌, length, take, refl, sym, ap, ◌∙◌, subst, inl, inr, Option, Some, None, IfSome, arith, add-one}
+use Rattle.std.proofs.lemmas.Bool.{cases_lt}
 use Rattle.aig_semantics.specs.declared.traces.Position.{Position}
 use Rattle.aig_semantics.specs.declared.traces.Stimulus.{Stimulus}
 use Rattle.aig_semantics.specs.declared.traces.Lasso.{Lasso}
@@ -13,10 +13,6 @@ use Rattle.cdcl.specs.Solving.{IsModel, HasNoModel}
 use Rattle.cnf_unroll.proofs.Truth.{both, together}
 use Rattle.lasso_clauses.specs.Clauses.{positions_clauses, closing_literal, lasso_clauses}
 use Rattle.lasso_clauses.specs.Laws.{LassoClausesTell, ModelsAreLassos, stimulus_in}
-use Rattle.stimulus.specs.declared.ends.ReplayEnd.{ReplayEnd}
-use Rattle.stimulus.specs.declared.ends.ReplayEnd.TheVariants.{Fault, Memory}
-use Rattle.stimulus.specs.declared.ends.ReplayFault.{ReplayFault}
-use Rattle.unless_memory.specs.Answers.{GivesSome}
 use Rattle.lasso_bmc.specs.declared.ends.Searched.{Searched}
 use Rattle.lasso_bmc.specs.declared.ends.Searched.TheVariants.{Found}
 use Rattle.lasso_bmc.specs.Searching.{HasNoneWithin, IsShortest, IsSearched}
@@ -84,15 +80,6 @@ pub none_of_none : (c : Circuit) (j : ℕ) → HasNoneWithin c j 0
 none_of_none c j = λ run from lasso within. let inside = lasso.inside in absurd (omega (arith, inside, within))
 
 -- ---- the lasso of a stimulus
-
--- an answer or want of memory is no fault
-pub never_a_fault : (r : Result Lasso ReplayEnd) (end : ReplayEnd) (fault : ReplayFault) → r ≡ Err end → end ≡ Fault fault
-    → GivesSome (Err Memory) IsOk r → ⊥
-never_a_fault r end fault is was (inl ok) = false≢true (subst IsOk is ok)
-never_a_fault r end fault is was (inr memory) =
-    let same : end ≡ Memory = cc in
-    let apart : Fault fault ≡ Memory = sym was ∙ same in
-    cc
 
 pub shortest_within : (c : Circuit) (j last : ℕ) (s : Stimulus) (lasso : Lasso) → HasNoneWithin c j last → length lasso.inputs ≤ last + 1
     → StandsFor c j s (length lasso.inputs) lasso.from → lasso.start ≡ s.latches → lasso.inputs ≡ take (length lasso.inputs) s.inputs

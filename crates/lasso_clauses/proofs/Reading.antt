@@ -1,15 +1,14 @@
 -- The fair lasso that an assignment gives which makes the clauses of positions true, and the last of them the last one.
-use Rattle.std.proofs.Common.{◌≡◌, ℕ, zero, suc, ◌+◌, ◌-◌, ◌<◌, ◌≤◌, Bool, true, false, not, ◌||◌, List, [], ◌∷◌, ◌++◌, map, length, get_or, drop, take, refl, sym, ap, ap₂, subst, ◌∙◌, inl, inr, Some, slice_get, IsTrue, arith, length-drop, get_or-drop, take_all}
+use Rattle.std.proofs.Common.{◌≡◌, ℕ, zero, suc, ◌+◌, ◌-◌, ◌<◌, ◌≤◌, Bool, true, false, ◌||◌, List, [], ◌∷◌, ◌++◌, map, length, get_or, drop, take, refl, sym, ap, subst, ◌∙◌, inl, inr, Some, slice_get, IsTrue, arith, length-drop, get_or-drop, take_all}
 use Rattle.std.specs.List.{All, Any, flat_map}
 use Rattle.std.proofs.lemmas.Bool.{or_cases}
 use Rattle.std.proofs.lemmas.List.{map-append, length-map}
 use Rattle.std.proofs.lemmas.List.Elements.{All-append, All-map}
 use Rattle.aig_semantics.specs.declared.traces.Position.{Position}
-use Rattle.aig_semantics.specs.declared.traces.Stimulus.{Stimulus}
 use Rattle.aig_semantics.specs.Literals.{variable_of}
 use Rattle.aig_semantics.specs.Circuits.{Circuit, IsChecked, fair_literals}
-use Rattle.aig_semantics.specs.Runs.{literal_at, successor, MeetsConstraints, StartsIn, IsRun, IsInitial, IsInitialRun, ClosesAt, MeetsFairness, IsFairLasso}
-use Rattle.aig_semantics.specs.Stimuli.{simulated, FitsCircuit, HasLasso}
+use Rattle.aig_semantics.specs.Runs.{literal_at, successor, MeetsConstraints, StartsIn, IsRun, IsInitial, IsInitialRun, IsFairLasso}
+use Rattle.aig_semantics.specs.Stimuli.{simulated, HasLasso}
 use Rattle.aig_semantics.proofs.Lists.{All-left, All-right}
 use Rattle.aig_semantics.specs.Valuations.{HasOneValuation}
 use Rattle.proof_semantics.specs.Clauses.{literal_value, clauses_value}
@@ -17,12 +16,13 @@ use Rattle.fair_semantics.specs.Skeletons.{IsSituation}
 use Rattle.cnf_unroll.specs.Numbers.{minus, literal_in_block, state_place}
 use Rattle.cnf_unroll.specs.Situations.{situation_in}
 use Rattle.cnf_unroll.proofs.BlockReading.{IsRead, nexts, sides_of, of_justice, block_read, literal_is}
+use Rattle.circuit.proofs.Following.{simulated-inputs}
 use Rattle.lasso_clauses.specs.Moments.{begins, inside, closes, met, moment_base, moment_before}
 use Rattle.lasso_clauses.specs.Clauses.{loop_start, state_start, successor_start, positions_clauses}
 use Rattle.lasso_clauses.specs.Laws.{inputs_in, stimulus_in}
 use Rattle.lasso_clauses.proofs.States.{same_read, initial_read}
 use Rattle.lasso_clauses.proofs.Holding.{implied, alone, denied, Holds, IsMet, parts_hold, all_parts, at_position}
-use Rattle.lasso_clauses.proofs.Runs.{upto, length-upto, get_or-upto, get_some, IsFirst, first, first_least, run_from, initial_from, starts_at, simulated_run}
+use Rattle.lasso_clauses.proofs.Runs.{upto, length-upto, get_or-upto, get_some, IsFirst, first, first_least, run_from, initial_from, starts_at}
 
 -- ---- the literals that are asked for are read
 
@@ -217,7 +217,7 @@ module _ (c : Circuit) (checked : IsChecked c) (law : HasOneValuation c) (j : �
         let size = run_length in
         let inputs = inputs_are c n v k in
         let starts_in : StartsIn (map v (state_place c (base 0))) run = starts_at c run (map v (state_place c (base 0))) (λ d some. ap (λ p. p.latches) (run_at 0 d (omega arith))) in
-        let laid : simulated c (map v (state_place c (base 0))) (inputs_in c n v k) ≡ run = ap (simulated c (map v (state_place c (base 0)))) inputs ∙ simulated_run c (map v (state_place c (base 0))) run is_run starts_in in
+        let laid : simulated c (map v (state_place c (base 0))) (inputs_in c n v k) ≡ run = ap (simulated c (map v (state_place c (base 0)))) inputs ∙ simulated-inputs c (map v (state_place c (base 0))) run is_run starts_in in
         let count : length (inputs_in c n v k) ≡ k = ap length inputs ∙ length-map run (λ p. p.inputs) ∙ run_length in
         let whole : take k (inputs_in c n v k) ≡ inputs_in c n v k = take_all k (inputs_in c n v k) (omega arith) in (
           from,

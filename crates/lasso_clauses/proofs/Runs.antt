@@ -1,11 +1,10 @@
 -- Runs by their places.
-use Rattle.std.proofs.Common.{◌≡◌, ℕ, zero, suc, ◌+◌, ◌<◌, ◌≤◌, ◌⊎◌, Bool, true, false, List, [], ◌∷◌, ◌++◌, map, length, get_or, refl, sym, ap, ap₂, ◌∙◌, subst, inl, inr, Some, slice_get, arith, add-one}
+use Rattle.std.proofs.Common.{◌≡◌, ℕ, zero, suc, ◌+◌, ◌<◌, ◌≤◌, ◌⊎◌, Bool, true, false, List, [], ◌∷◌, ◌++◌, length, get_or, refl, sym, ap, ◌∙◌, inl, inr, Some, slice_get, arith, add-one}
 use Rattle.std.proofs.lemmas.Bool.{cases_Bool, cases_lt}
 use Rattle.std.proofs.lemmas.List.{get_or_append_left, get_or_push, length_push}
 use Rattle.aig_semantics.specs.declared.traces.Position.{Position}
 use Rattle.aig_semantics.specs.Circuits.{Circuit}
-use Rattle.aig_semantics.specs.Runs.{position_of, successor, MeetsConstraints, StartsIn, IsRun, IsInitial, IsInitialRun}
-use Rattle.aig_semantics.specs.Stimuli.{simulated}
+use Rattle.aig_semantics.specs.Runs.{successor, MeetsConstraints, StartsIn, IsRun, IsInitial, IsInitialRun}
 
 -- ---- a list of the values at 0, 1, .. below k
 
@@ -107,15 +106,6 @@ run_linked c [] h i d below = absurd (omega arith)
 run_linked c (p ∷ []) h i d below = absurd (omega arith)
 run_linked c (p ∷ q ∷ run) h zero d below = sym h.1
 run_linked c (p ∷ q ∷ run) h (suc i) d below = run_linked c (q ∷ run) h.2 i d (omega arith)
-
--- the inputs of a run lay it out again
-pub simulated_run : (c : Circuit) (s : List Bool) (run : List Position) → IsRun c run → StartsIn s run → simulated c s (map (λ p. p.inputs) run) ≡ run
-unfolding simulated
-simulated_run c s [] h starts = refl
-simulated_run c s (p ∷ run) h starts =
-    let same : position_of s p.inputs ≡ p = ap (λ latches. position_of latches p.inputs) (sym starts) in
-    ap (λ q. q ∷ simulated c (successor c q) (map (λ p. p.inputs) run)) same
-    ∙ ap (λ later. p ∷ later) (simulated_run c (successor c p) run h.2 h.1)
 
 pub initial_from : (c : Circuit) (run : List Position) → IsRun c run → ((d : Position) → 0 < length run → IsInitial c (get_or run 0 d).latches) → IsInitialRun c run
 initial_from c [] h f = tt

@@ -1,21 +1,21 @@
 -- An assignment of lasso clauses, from a fair lasso.
-use Rattle.std.proofs.Common.{◌≡◌, ℕ, zero, suc, ◌+◌, ◌-◌, ◌*◌, ◌/◌, ◌<◌, ◌≤◌, ◌⊎◌, Bool, true, false, not, ◌&&◌, ◌||◌, eqb, leb, List, [], ◌∷◌, ◌++◌, map, length, get_or, drop, refl, sym, ap, subst, ◌∙◌, inl, inr, IsTrue, arith, length-drop, get_or-drop}
+use Rattle.std.proofs.Common.{◌≡◌, ℕ, zero, suc, ◌+◌, ◌-◌, ◌*◌, ◌/◌, ◌<◌, ◌≤◌, ◌⊎◌, Bool, true, false, ◌&&◌, ◌||◌, eqb, leb, List, [], ◌∷◌, map, length, get_or, drop, refl, sym, ap, subst, ◌∙◌, inl, inr, IsTrue, arith, length-drop, get_or-drop}
 use Rattle.std.specs.List.{Any, Contains}
 use Rattle.std.proofs.lemmas.Bool.{and_parts, and_from, or_cases, or_left, or_right, cases_lt, eqb-true, eq-eqb, leb-true, le-leb}
 use Rattle.std.proofs.lemmas.Nat.{div-mul-add}
 use Rattle.std.proofs.lemmas.List.{get_or_default}
 use Rattle.aig_semantics.specs.declared.traces.Position.{Position}
-use Rattle.aig_semantics.specs.Literals.{variable_of, variable_in}
+use Rattle.aig_semantics.specs.Literals.{variable_in}
 use Rattle.aig_semantics.specs.Circuits.{Circuit, IsChecked, defined, fair_literals}
 use Rattle.aig_semantics.specs.Valuations.{IsValuation, HasOneValuation}
-use Rattle.aig_semantics.specs.Runs.{literal_at, valuation_at, successor, IsRun, IsInitial, IsInitialRun, IsFairLasso, ClosesAt}
+use Rattle.aig_semantics.specs.Runs.{literal_at, valuation_at, successor, IsRun, IsInitial, IsInitialRun, IsFairLasso}
 use Rattle.proof_semantics.specs.Clauses.{literal_value, clause_value, clauses_value}
 use Rattle.fair_semantics.specs.declared.skeletons.Situation.{Situation}
 use Rattle.fair_semantics.specs.Skeletons.{IsSituation}
 use Rattle.cnf_unroll.specs.Numbers.{block_size, minus, literal_in_block, state_place, successor_place}
-use Rattle.cnf_unroll.proofs.BlockReading.{IsRead, each, map_same, map_map, latches_defined, read_in_range}
+use Rattle.cnf_unroll.proofs.BlockReading.{each, map_same, map_map, latches_defined, read_in_range}
 use Rattle.cnf_unroll.proofs.BlockWriting.{Shows, block_value, block_shown, block_true, shown_latches, literal_shown}
-use Rattle.cnf_unroll.proofs.Truth.{together}
+use Rattle.fair_semantics.proofs.Runs.{run-of}
 use Rattle.lasso_clauses.specs.Moments.{begins, inside, closes, met, moment_size, moment_base, moment_before}
 use Rattle.lasso_clauses.specs.Clauses.{loop_start, state_start, successor_start, state_clauses, inside_clause, seen_clause, positions_clauses}
 use Rattle.lasso_clauses.proofs.States.{same_written, initial_written}
@@ -82,10 +82,6 @@ number_3 b s m = omega arith
 -- no position
 nowhere : Position
 nowhere = record { latches = []; inputs = [] }
-
-run_of : (c : Circuit) (run : List Position) → IsInitialRun c run → IsRun c run
-run_of c [] h = tt
-run_of c (p ∷ run) h = h.1
 
 first_initial : (c : Circuit) (run : List Position) (d : Position) → 0 < length run → IsInitialRun c run → IsInitial c (get_or run 0 d).latches
 first_initial c [] d some h = absurd (omega arith)
@@ -215,7 +211,7 @@ module _ (c : Circuit) (checked : IsChecked c) (law : HasOneValuation c) (j : �
   here i = record { position = get_or run i nowhere; successor = successor c (get_or run i nowhere) }
 
   is_run : IsRun c run
-  is_run = run_of c run lasso.initial
+  is_run = run-of c run lasso.initial
 
   from_early : from ≤ last
   from_early = let small = lasso.inside in omega arith

@@ -12,8 +12,10 @@ use Rattle.aig_semantics.specs.Runs.{literal_at, successor, IsFairLasso, MeetsFa
 use Rattle.fair_semantics.specs.declared.skeletons.Situation.{Situation}
 use Rattle.fair_semantics.specs.declared.skeletons.Skeleton.{Skeleton}
 use Rattle.fair_semantics.specs.Skeletons.{IsSituation, IsSkeleton, AreTrueInTurn}
+use Rattle.circuit.proofs.Following.{simulated-inputs}
+use Rattle.fair_semantics.proofs.Runs.{initial-run, get-seam}
 use Rattle.lasso_join.specs.Fitting.{end_of, LeadsTo, Fit, state_at, loop_of}
-use Rattle.lasso_join.proofs.Ways.{leads-none, leads-on, leads-through, initial-run, simulated-inputs, last-at, get-seam}
+use Rattle.lasso_join.proofs.Ways.{leads-none, leads-on, leads-through, last-at}
 
 abbrev pub states : List Situation → List (List Bool)
 states situations = map (λ s. s.position.latches) situations

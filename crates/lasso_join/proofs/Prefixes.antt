@@ -1,24 +1,15 @@
 -- The stimulus of a fair lasso, and of the shortest prefix.
-use Rattle.std.proofs.Common.{◌≡◌, ℕ, ◌<◌, ◌≤◌, Bool, List, [], ◌∷◌, length, take, sym, ap, ◌∙◌, subst, inl, inr, Result, Err, IsOk, All, arith}
+use Rattle.std.proofs.Common.{◌≡◌, ℕ, ◌<◌, ◌≤◌, Bool, List, [], ◌∷◌, length, take, sym, ap, ◌∙◌, subst, All, arith}
 use Rattle.std.proofs.Math.Seq.{take-length}
-use Rattle.std.proofs.lemmas.Bool.{false≢true}
 use Rattle.std.proofs.lemmas.List.{take-take}
 use Rattle.std.proofs.lemmas.List.Elements.{All-nil, All-cons, All-take}
-use Rattle.aig_semantics.specs.declared.traces.Position.{Position}
 use Rattle.aig_semantics.specs.declared.traces.Stimulus.{Stimulus}
 use Rattle.aig_semantics.specs.declared.traces.Lasso.{Lasso}
 use Rattle.aig_semantics.specs.Circuits.{Circuit}
-use Rattle.aig_semantics.specs.Runs.{position_of, successor, IsRun, IsInitialRun, IsFairLasso}
+use Rattle.aig_semantics.specs.Runs.{position_of, successor, IsRun, IsFairLasso}
 use Rattle.aig_semantics.specs.Stimuli.{simulated, FitsCircuit, HasLasso, StandsFor, IsFairLassoOf}
-use Rattle.stimulus.specs.declared.ends.ReplayEnd.{ReplayEnd}
-use Rattle.stimulus.specs.declared.ends.ReplayEnd.TheVariants.{Fault, Memory}
-use Rattle.stimulus.specs.declared.ends.ReplayFault.{ReplayFault}
-use Rattle.unless_memory.specs.Answers.{GivesSome}
+use Rattle.fair_semantics.proofs.Runs.{run-of}
 use Rattle.lasso_join.specs.Prefixes.{stimulus_of}
-
-run-of : (c : Circuit) (run : List Position) → IsInitialRun c run → IsRun c run
-run-of c [] h = tt
-run-of c (p ∷ run) h = h.1
 
 start-fits : (c : Circuit) (latches : List Bool) (inputs : List (List Bool)) (from : ℕ) → from < length (simulated c latches inputs)
     → IsRun c (simulated c latches inputs) → length latches ≡ length c.latches
@@ -46,15 +37,6 @@ has-whole c j lasso fair =
       inside = omega arith;
       lasso = subst (λ inputs. IsFairLasso c j (simulated c lasso.start inputs) lasso.from) (sym (take-length lasso.inputs)) fair;
     }
-
--- an answer or want of memory is no fault
-pub never-a-fault : (r : Result Lasso ReplayEnd) (end : ReplayEnd) (fault : ReplayFault) → r ≡ Err end → end ≡ Fault fault
-    → GivesSome (Err Memory) IsOk r → ⊥
-never-a-fault r end fault is was (inl ok) = false≢true (subst IsOk is ok)
-never-a-fault r end fault is was (inr memory) =
-    let same : end ≡ Memory = cc in
-    let apart : Fault fault ≡ Memory = sym was ∙ same in
-    cc
 
 -- what a prefix of a stimulus has, the stimulus has
 has-more : (c : Circuit) (j : ℕ) (s : Stimulus) (k n from : ℕ) → FitsCircuit c s → k ≤ length s.inputs → n ≤ k

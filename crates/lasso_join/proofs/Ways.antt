@@ -1,9 +1,8 @@
 -- Runs that lead from one state to another, one behind the other.
-use Rattle.std.proofs.Common.{◌≡◌, ℕ, zero, suc, Bool, List, [], ◌∷◌, ◌++◌, map, length, refl, sym, ap, ◌∙◌, subst, Some, slice_get, arith}
+use Rattle.std.proofs.Common.{◌≡◌, ℕ, zero, suc, Bool, List, [], ◌∷◌, ◌++◌, length, refl, sym, subst, Some, slice_get, arith}
 use Rattle.aig_semantics.specs.declared.traces.Position.{Position}
 use Rattle.aig_semantics.specs.Circuits.{Circuit}
-use Rattle.aig_semantics.specs.Runs.{position_of, successor, StartsIn, IsRun, IsInitial, IsInitialRun, MeetsConstraints}
-use Rattle.aig_semantics.specs.Stimuli.{simulated}
+use Rattle.aig_semantics.specs.Runs.{successor, MeetsConstraints}
 use Rattle.lasso_join.specs.Fitting.{end_of, LeadsTo}
 
 pub leads-none : (c : Circuit) (s : List Bool) → LeadsTo c s s []
@@ -22,20 +21,6 @@ leads-through c s t u (p ∷ xs) ys h k =
     let rest = leads-through c (successor c p) t u xs ys later k in
     record { is_run = (h.is_run.0, rest.starts, rest.is_run); starts = h.starts; ends = rest.ends }
 
--- the inputs of a run lay it out again
-pub simulated-inputs : (c : Circuit) (s : List Bool) (run : List Position) → IsRun c run → StartsIn s run
-    → simulated c s (map (λ p. p.inputs) run) ≡ run
-unfolding simulated
-simulated-inputs c s [] h starts = refl
-simulated-inputs c s (p ∷ run) h starts =
-    let same : position_of s p.inputs ≡ p = ap (λ latches. position_of latches p.inputs) (sym starts) in
-    ap (λ q. q ∷ simulated c (successor c q) (map (λ p. p.inputs) run)) same
-    ∙ ap (λ later. p ∷ later) (simulated-inputs c (successor c p) run h.2 h.1)
-
-pub initial-run : (c : Circuit) (s : List Bool) (run : List Position) → IsInitial c s → StartsIn s run → IsRun c run → IsInitialRun c run
-initial-run c s [] initial starts h = tt
-initial-run c s (p ∷ run) initial starts h = (subst (IsInitial c) (sym starts) initial, h)
-
 -- the last position
 pub last-at : (c : Circuit) (s : List Bool) (run : List Position) (k : ℕ) → suc k ≡ length run
     → (last : Position) × (slice_get run k ≡ Some last) × (end_of c s run ≡ successor c last)
@@ -44,8 +29,3 @@ last-at c s (p ∷ []) zero e = (p, refl, refl)
 last-at c s (p ∷ []) (suc k) e = absurd (omega arith)
 last-at c s (p ∷ q ∷ run) zero e = absurd (omega arith)
 last-at c s (p ∷ q ∷ run) (suc k) e = last-at c (successor c p) (q ∷ run) k (omega arith)
-
--- the element behind a list
-pub get-seam : {X : Type 0} (xs : List X) (y : X) (ys : List X) → slice_get (xs ++ y ∷ ys) (length xs) ≡ Some y
-get-seam [] y ys = refl
-get-seam (x ∷ xs) y ys = get-seam xs y ys

@@ -7,9 +7,9 @@ use Rattle.std.proofs.lemmas.Option.{none-some}
 use Rattle.std.proofs.lemmas.List.{length-map, length-replicate}
 use Rattle.aig_semantics.specs.declared.traces.Position.{Position}
 use Rattle.aig_semantics.specs.Circuits.{Circuit, IsChecked, IsWithinLimits, fair_literals}
-use Rattle.aig_semantics.specs.Runs.{IsPosition, position_of, literal_at, successor, MeetsConstraints, StartsIn, IsRun, IsInitial, IsInitialRun, MeetsFairness}
+use Rattle.aig_semantics.specs.Runs.{IsPosition, position_of, literal_at, successor, MeetsConstraints, StartsIn, IsRun, IsInitial, MeetsFairness}
 use Rattle.aig_semantics.specs.Valuations.{HasOneValuation}
-use Rattle.fair_semantics.proofs.Runs.{end_of, loop-of}
+use Rattle.fair_semantics.proofs.Runs.{end_of, loop-of, initial-run}
 use Rattle.circuit.proofs.RoundsAlong.{Soon, soon_none, soon_all, soon_fair, fair_soon}
 use Rattle.live_to_safe.specs.declared.sizes.Sizes.{Sizes}
 use Rattle.live_to_safe.specs.BadRuns.{HasBadRun, HasFairLasso}
@@ -273,16 +273,12 @@ module _ (c : Circuit) (j : ℕ) (checked : IsChecked c) (limits : IsWithinLimit
         length found.stem,
         record {
           property = property;
-          initial = initial-run run state initial found.starts found.is_run;
+          initial = initial-run c state run initial found.starts found.is_run;
           inside = omega (arith, length-append found.stem (found.first ∷ found.more));
           closes = closes-behind c state found.stem found.first found.more found.ends;
           fair = subst (MeetsFairness c j) (sym (drop-seam found.stem (found.first ∷ found.more))) (soon_fair c literals (found.first ∷ found.more) found.fair);
         },
       )
-    where
-      initial-run : (run : List Position) (state : List Bool) → IsInitial c state → StartsIn state run → IsRun c run → IsInitialRun c run
-      initial-run [] state initial starts h = tt
-      initial-run (p ∷ run) state initial starts h = (subst (IsInitial c) (sym starts) initial, h)
 
   pub from_bad_run : HasBadRun (safety_model c j) → HasFairLasso c j
   from_bad_run ([], bad) = absurd (none-some bad.last bad.is_last)

@@ -7,7 +7,7 @@ use Rattle.aig_semantics.specs.declared.parts.Latch.{Latch}
 use Rattle.aig_semantics.specs.declared.traces.Position.{Position}
 use Rattle.aig_semantics.specs.Circuits.{Circuit}
 use Rattle.aig_semantics.specs.Runs.{valuation_at, literal_at, successor, AgreesWith, ClosesAt}
-use Rattle.fair_semantics.proofs.Runs.{end_of}
+use Rattle.fair_semantics.proofs.Runs.{end_of, get-seam}
 use Rattle.circuit.specs.Following.{seen_with}
 use Rattle.circuit.proofs.RoundsAlong.{Soon, soon_on, soon_back}
 use Rattle.live_to_safe.specs.Watching.{numbered, zero_latch}
@@ -121,10 +121,6 @@ last-at c s (p ∷ []) zero e = (p, refl, refl)
 last-at c s (p ∷ []) (suc k) e = absurd (omega (arith, e))
 last-at c s (p ∷ q ∷ run) zero e = absurd (omega (arith, e))
 last-at c s (p ∷ q ∷ run) (suc k) e = last-at c (successor c p) (q ∷ run) k (omega (arith, e))
-
-pub get-seam : {X : Type 0} (xs : List X) (y : X) (ys : List X) → slice_get (xs ++ y ∷ ys) (length xs) ≡ Some y
-get-seam [] y ys = refl
-get-seam (x ∷ xs) y ys = get-seam xs y ys
 
 pub drop-seam : {X : Type 0} (xs ys : List X) → drop (length xs) (xs ++ ys) ≡ ys
 drop-seam [] ys = refl

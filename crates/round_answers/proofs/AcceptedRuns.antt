@@ -1,5 +1,5 @@
 -- What is written of an initial run that has so many rounds is a good text.
-use Rattle.std.proofs.Common.{◌≡◌, ◌≢◌, ◌≤◌, ◌<◌, ◌^◌, ℕ, zero, suc, Bool, true, false, List, [], ◌∷◌, ◌++◌, map, length, get_or, refl, sym, ap, ◌∙◌, subst, arith, length-append}
+use Rattle.std.proofs.Common.{◌≡◌, ◌≢◌, ◌≤◌, ◌<◌, ◌^◌, ℕ, zero, suc, Bool, true, List, [], ◌∷◌, ◌++◌, map, length, get_or, refl, sym, ap, ◌∙◌, subst, arith, length-append}
 use Rattle.std.specs.Prelude.{codes, nat_lt}
 use Rattle.std.specs.List.{All, list_all}
 use Rattle.std.proofs.lemmas.Bool.{ltb-true}
@@ -14,8 +14,8 @@ use Rattle.aig_semantics.specs.Runs.{position_of, successor, StartsIn, IsRun, Is
 use Rattle.aig_semantics.specs.Stimuli.{simulated}
 use Rattle.fair_semantics.specs.Rounds.{HasRounds}
 use Rattle.answer_lines.specs.Left.{most_bytes}
-use Rattle.stimulus.specs.Texts.{digit_of, is_skipped}
-use Rattle.stimulus.proofs.WriteLemmas.{rows_lack, rows_read}
+use Rattle.stimulus.specs.Texts.{digit_of}
+use Rattle.stimulus.proofs.WriteLemmas.{rows_lack, rows_read, digits_kept}
 use Rattle.certificate_texts.specs.Writing.{property_line}
 use Rattle.certificate.proofs.PlainLines.{IsPlain, plain_decimal, property_plain, written_kept}
 use Rattle.round_monitor.specs.Ends.{IsMonitorable}
@@ -34,11 +34,6 @@ pub rounds_plain : (k : ℕ) → k < 2 ^ 63 → IsPlain (rounds_line k)
 rounds_plain k small =
     let word : List ℕ = codes "rounds " in
     record { lacks = All-append (λ b. b ≢ 10) word _ (lacks_above word refl) (plain_decimal k small).lacks; kept = refl }
-
-digits_kept : (row : List Bool) → is_skipped (map digit_of row) ≡ false
-digits_kept [] = refl
-digits_kept (false ∷ row) = refl
-digits_kept (true ∷ row) = refl
 
 row_plain : (row : List Bool) → IsPlain (map digit_of row)
 row_plain row = record { lacks = All-head (λ line. Lacks line 10) (map digit_of row) [] (rows_lack (row ∷ [])); kept = digits_kept row }

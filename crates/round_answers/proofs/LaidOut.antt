@@ -1,32 +1,25 @@
 -- A run as it is laid out, and how it is judged.
-use Rattle.std.proofs.Common.{◌≡◌, ℕ, suc, zero, ◌+◌, ◌<◌, ◌≤◌, inl, inr, Bool, true, false, List, [], ◌∷◌, ◌++◌, map, length, take, drop, get_or, refl, sym, ap, subst, ◌∙◌, arith, append-nil}
+use Rattle.std.proofs.Common.{◌≡◌, ℕ, ◌+◌, ◌<◌, ◌≤◌, inl, inr, Bool, true, List, [], ◌∷◌, ◌++◌, map, length, take, drop, get_or, refl, sym, ap, subst, ◌∙◌, arith, append-nil}
 use Rattle.std.specs.Prelude.{◌↔◌, IsTrue}
 use Rattle.std.specs.List.{All}
 use Rattle.std.proofs.lemmas.Bool.{cases_lt}
-use Rattle.std.proofs.lemmas.List.{take_more, take_all, take-take, drop_all, length-take-le, length-map}
-use Rattle.std.proofs.lemmas.List.Elements.{All-nil, All-cons, All-head, All-tail, All-append, All-take, All-push, All-get_or}
+use Rattle.std.proofs.lemmas.List.{take_more, take_all, drop_all, length-take-le}
+use Rattle.std.proofs.lemmas.List.Elements.{All-nil, All-head, All-tail, All-push}
 use Rattle.aig_semantics.specs.declared.traces.Position.{Position}
 use Rattle.aig_semantics.specs.declared.traces.Stimulus.{Stimulus}
 use Rattle.aig_semantics.specs.Literals.{literal_in}
 use Rattle.aig_semantics.specs.Circuits.{Circuit}
 use Rattle.aig_semantics.specs.Valuations.{valuation}
-use Rattle.aig_semantics.specs.Runs.{position_of, literal_at, successor, MeetsConstraints, IsPosition, IsRun, IsInitial, IsInitialRun}
+use Rattle.aig_semantics.specs.Runs.{position_of, literal_at, successor, MeetsConstraints, IsInitial, IsInitialRun}
 use Rattle.aig_semantics.specs.Stimuli.{simulated, state_after, FitsCircuit}
+use Rattle.fair_semantics.proofs.Runs.{run-of}
 use Rattle.circuit.proofs.Following.{length-simulated}
 use Rattle.stimulus.specs.Faults.{AreAllowed}
+use Rattle.stimulus.proofs.RunLemmas.{state_after-push, simulated-push, IsRun-from_meets, IsRun-meets}
+use Rattle.stimulus.proofs.TrackLemmas.{length-state_after, IsInitialRun-simulated}
+use Rattle.stimulus.proofs.FaultLemmas.{fewer_meet, first_positions_meet}
 use Rattle.round_answers.specs.Ends.{IsFirstForbidden}
 use Rattle.round_answers.specs.Running.{IsLaidOut}
-
-state_after-push : (c : Circuit) (latches : List Bool) (inputs : List (List Bool)) (now : List Bool) → state_after c latches (inputs ++ now ∷ []) ≡ successor c (position_of (state_after c latches inputs) now)
-unfolding state_after
-state_after-push c latches [] now = refl
-state_after-push c latches (first ∷ inputs) now = state_after-push c (successor c (position_of latches first)) inputs now
-
-simulated-push : (c : Circuit) (latches : List Bool) (inputs : List (List Bool)) (now : List Bool)
-    → simulated c latches (inputs ++ now ∷ []) ≡ simulated c latches inputs ++ position_of (state_after c latches inputs) now ∷ []
-unfolding state_after simulated
-simulated-push c latches [] now = refl
-simulated-push c latches (first ∷ inputs) now = ap (λ run. position_of latches first ∷ run) (simulated-push c (successor c (position_of latches first)) inputs now)
 
 simulated-none : (c : Circuit) (latches : List Bool) → simulated c latches [] ≡ []
 unfolding simulated
@@ -35,17 +28,6 @@ simulated-none c latches = refl
 after-none : (c : Circuit) (latches : List Bool) → state_after c latches [] ≡ latches
 unfolding state_after
 after-none c latches = refl
-
-simulated-take : (c : Circuit) (k : ℕ) (latches : List Bool) (inputs : List (List Bool)) → simulated c latches (take k inputs) ≡ take k (simulated c latches inputs)
-unfolding simulated
-simulated-take c zero latches inputs = refl
-simulated-take c (suc k) latches [] = refl
-simulated-take c (suc k) latches (first ∷ inputs) = ap (λ run. position_of latches first ∷ run) (simulated-take c k (successor c (position_of latches first)) inputs)
-
-length-state_after : (c : Circuit) (latches : List Bool) (inputs : List (List Bool)) → length latches ≡ length c.latches → length (state_after c latches inputs) ≡ length c.latches
-unfolding state_after
-length-state_after c latches [] h = h
-length-state_after c latches (now ∷ inputs) h = length-state_after c (successor c (position_of latches now)) inputs (length-map c.latches (λ latch. literal_at c (position_of latches now) latch.next))
 
 -- the first i positions are laid out and are allowed, and the state behind them is in hand
 pub record IsOnTheWay (c : Circuit) (s : Stimulus) (i : ℕ) (run : List Position) (state : List Bool) : Type 0 where
@@ -143,50 +125,19 @@ way_end c s i run state way past = (way.laid ∙ ap (simulated c s.latches) (tak
 
 -- ---- what is judged
 
-IsRun-from_meets : (c : Circuit) (latches : List Bool) (inputs : List (List Bool)) → All (MeetsConstraints c) (simulated c latches inputs) → IsRun c (simulated c latches inputs)
-unfolding simulated
-IsRun-from_meets c latches [] h = tt
-IsRun-from_meets c latches (now ∷ []) h = (All-head (MeetsConstraints c) (position_of latches now) [] h, tt, tt)
-IsRun-from_meets c latches (now ∷ next ∷ inputs) h =
-    let p = position_of latches now in
-    let later = simulated c (successor c p) (next ∷ inputs) in
-    (All-head (MeetsConstraints c) p later h, refl, IsRun-from_meets c (successor c p) (next ∷ inputs) (All-tail (MeetsConstraints c) p later h))
-
-IsRun-meets : (c : Circuit) (run : List Position) → IsRun c run → All (MeetsConstraints c) run
-IsRun-meets c [] h = All-nil (MeetsConstraints c)
-IsRun-meets c (p ∷ run) h = All-cons (MeetsConstraints c) p run h.0 (IsRun-meets c run h.2)
-
-initial_run : (c : Circuit) (latches : List Bool) (inputs : List (List Bool)) → IsInitial c latches → IsRun c (simulated c latches inputs) → IsInitialRun c (simulated c latches inputs)
-unfolding simulated
-initial_run c latches [] initial run = tt
-initial_run c latches (now ∷ inputs) initial run = (initial, run)
-
-run_in : (c : Circuit) (run : List Position) → IsInitialRun c run → IsRun c run
-run_in c [] h = tt
-run_in c (p ∷ run) h = h.1
-
 -- positions that are allowed, from an initial state, are an initial run, and of an initial run all are
 pub allowed_run : (c : Circuit) (s : Stimulus) → IsInitial c s.latches → AreAllowed c (simulated c s.latches s.inputs) → IsInitialRun c (simulated c s.latches s.inputs)
-allowed_run c s initial allowed = initial_run c s.latches s.inputs initial (IsRun-from_meets c s.latches s.inputs allowed)
+allowed_run c s initial allowed = IsInitialRun-simulated c s.latches s.inputs initial (IsRun-from_meets c s.latches s.inputs allowed)
 
 pub run_allowed : (c : Circuit) (s : Stimulus) → IsInitialRun c (simulated c s.latches s.inputs) → AreAllowed c (simulated c s.latches s.inputs)
-run_allowed c s run = IsRun-meets c (simulated c s.latches s.inputs) (run_in c (simulated c s.latches s.inputs) run)
-
--- the first positions of those that are allowed are
-pub fewer_allowed : (c : Circuit) (s : Stimulus) (m : ℕ) → AreAllowed c (simulated c s.latches s.inputs) → AreAllowed c (simulated c s.latches (take m s.inputs))
-fewer_allowed c s m all = subst (AreAllowed c) (sym (simulated-take c m s.latches s.inputs)) (All-take (MeetsConstraints c) m (simulated c s.latches s.inputs) all)
+run_allowed c s run = IsRun-meets c (simulated c s.latches s.inputs) (run-of c (simulated c s.latches s.inputs) run)
 
 pub none_forbidden : (c : Circuit) (s : Stimulus) (n : ℕ) → AreAllowed c (simulated c s.latches s.inputs) → IsFirstForbidden c s n → ⊥
-none_forbidden c s n all h = h.forbidden (fewer_allowed c s (n + 1) all)
-
-less_allowed : (c : Circuit) (s : Stimulus) (m n : ℕ) → m ≤ n → AreAllowed c (simulated c s.latches (take n s.inputs)) → AreAllowed c (simulated c s.latches (take m s.inputs))
-less_allowed c s m n fewer met =
-    subst (AreAllowed c) (sym (simulated-take c m s.latches (take n s.inputs)) ∙ ap (simulated c s.latches) (take-take m n s.inputs fewer))
-    (All-take (MeetsConstraints c) m (simulated c s.latches (take n s.inputs)) met)
+none_forbidden c s n all h = h.forbidden (first_positions_meet c s (n + 1) all)
 
 pub one_forbidden : (c : Circuit) (s : Stimulus) (m n : ℕ) → IsFirstForbidden c s m → IsFirstForbidden c s n → m ≡ n
 one_forbidden c s m n a b =
     elim (cases_lt m n) [
-      | inl below ↦ absurd (a.forbidden (less_allowed c s (m + 1) n (omega (arith, below)) b.before))
-      | inr above ↦ elim (cases_lt n m) [ inl below ↦ absurd (b.forbidden (less_allowed c s (n + 1) m (omega (arith, below)) a.before)) | inr other ↦ omega (arith, above, other) ]
+      | inl below ↦ absurd (a.forbidden (fewer_meet c s (m + 1) n (omega (arith, below)) b.before))
+      | inr above ↦ elim (cases_lt n m) [ inl below ↦ absurd (b.forbidden (fewer_meet c s (n + 1) m (omega (arith, below)) a.before)) | inr other ↦ omega (arith, above, other) ]
     ]

@@ -1,25 +1,21 @@
 -- A run that is whole ends in one way.
-use Rattle.std.proofs.Common.{◌≡◌, ◌≢◌, ◌⊎◌, inl, inr, ℕ, zero, suc, ◌+◌, ◌<◌, ◌≤◌, Bool, true, false, List, [], ◌∷◌, length, get_or, slice_get, refl, sym, ap, subst, ◌∙◌, arith, Some, Result, Ok, Err}
+use Rattle.std.proofs.Common.{◌≡◌, ℕ, ◌<◌, ◌≤◌, Bool, true, false, List, [], refl, sym, ap, subst, arith, Result, Ok, Err}
 use Rattle.std.specs.Prelude.{IfOk}
-use Rattle.std.specs.List.{All, AllZip}
-use Rattle.std.proofs.lemmas.Bool.{cases_lt}
-use Rattle.std.proofs.lemmas.List.Elements.{All-get_or}
-use Rattle.std.proofs.lemmas.Option.{same_Some}
-use Rattle.aig_semantics.specs.declared.parts.Latch.{Latch}
 use Rattle.aig_semantics.specs.declared.traces.Position.{Position}
 use Rattle.aig_semantics.specs.declared.traces.Stimulus.{Stimulus}
 use Rattle.aig_semantics.specs.Circuits.{Circuit}
-use Rattle.aig_semantics.specs.Runs.{AgreesWith, IsInitial}
+use Rattle.aig_semantics.specs.Runs.{IsInitial}
 use Rattle.aig_semantics.specs.Stimuli.{simulated, FitsCircuit}
 use Rattle.circuit.specs.Rounds.{IsMostRounds}
 use Rattle.fair_semantics.specs.Rounds.{HasRounds}
-use Rattle.stimulus.specs.declared.ends.ReplayFault.{ReplayFault}
 use Rattle.stimulus.specs.declared.ends.ReplayFault.TheVariants as replays
 use Rattle.stimulus.specs.Faults.{IsFirstMisfit, IsFirstWrong, AreAllowed}
+use Rattle.stimulus.proofs.FaultLemmas.{no_misfit, no_wrong, one_misfit, one_wrong}
 use Rattle.certificate.specs.declared.ends.AnswerFault.{AnswerFault}
 use Rattle.certificate.specs.declared.ends.AnswerFault.TheVariants as faults
 use Rattle.certificate.specs.declared.ends.AnswerEnd.TheVariants as ends
 use Rattle.certificate.specs.Reading.{Body, Dotted, Ended}
+use Rattle.circuit.proofs.RoundsAlong.{rounds-fewer}
 use Rattle.round_answers.specs.declared.ends.Judged.{Judged}
 use Rattle.round_answers.specs.declared.ends.Judged.TheVariants.{Answer as Answered, Rounds}
 use Rattle.round_answers.specs.declared.ends.JudgeEnd.{JudgeEnd}
@@ -30,36 +26,6 @@ use Rattle.round_answers.specs.Ends.{IsRunFault, IsFirstForbidden, IsGoodAtEnd}
 use Rattle.round_answers.specs.Telling.{TellsRun, TellsEnd, KnowsMonitor}
 use Rattle.round_answers.specs.Running.{IsLaidOut}
 use Rattle.round_answers.proofs.LaidOut.{allowed_run, run_allowed, none_forbidden, one_forbidden}
-use Rattle.round_answers.proofs.True.{fewer_rounds}
-
-no_misfit : (c : Circuit) (s : Stimulus) (item : ℕ) → FitsCircuit c s → IsFirstMisfit c s item → ⊥
-no_misfit c s zero fits a = a.misfits fits.latches
-no_misfit c s (suc k) fits a = a.misfits (All-get_or (λ values. length values ≡ length c.inputs) s.inputs k [] (omega (arith, a.inside)) fits.inputs)
-
-all_agree_at : (latches : List Latch) (values : List Bool) (n : ℕ) (latch : Latch) (value : Bool) → AllZip (λ latch value. AgreesWith latch.reset value) latches values
-    → slice_get latches n ≡ Some latch → slice_get values n ≡ Some value → AgreesWith latch.reset value
-all_agree_at [] values n latch value h at on = cc
-all_agree_at (l ∷ latches) [] n latch value h at on = absurd h
-all_agree_at (l ∷ latches) (v ∷ values) zero latch value h at on =
-    subst (λ x. AgreesWith x.reset value) (same_Some l latch at) (subst (λ x. AgreesWith l.reset x) (same_Some v value on) h.0)
-all_agree_at (l ∷ latches) (v ∷ values) (suc n) latch value h at on = all_agree_at latches values n latch value h.1 at on
-
-no_wrong : (c : Circuit) (values : List Bool) (latch : ℕ) → IsInitial c values → IsFirstWrong c values latch → ⊥
-no_wrong c values latch initial a = a.wrong (λ l v at on. all_agree_at c.latches values latch l v initial at on)
-
-one_misfit : (c : Circuit) (s : Stimulus) (m n : ℕ) → IsFirstMisfit c s m → IsFirstMisfit c s n → m ≡ n
-one_misfit c s m n a b =
-    elim (cases_lt m n) [
-      | inl below ↦ absurd (a.misfits (b.before m below))
-      | inr above ↦ elim (cases_lt n m) [ inl below ↦ absurd (b.misfits (a.before n below)) | inr other ↦ omega arith ]
-    ]
-
-one_wrong : (c : Circuit) (values : List Bool) (m n : ℕ) → IsFirstWrong c values m → IsFirstWrong c values n → m ≡ n
-one_wrong c values m n a b =
-    elim (cases_lt m n) [
-      | inl below ↦ absurd (a.wrong (b.before m below))
-      | inr above ↦ elim (cases_lt n m) [ inl below ↦ absurd (b.wrong (a.before n below)) | inr other ↦ omega arith ]
-    ]
 
 module _ (c : Circuit) (k n : ℕ) (s : Stimulus) where
   -- a fault of a run is one of four
@@ -156,7 +122,7 @@ module _ (c : Circuit) (k n : ℕ) (s : Stimulus) where
         fits = fits;
         initial = start;
         run = allowed_run c s start (subst (AreAllowed c) laid_out.0 laid_out.1);
-        rounds = subst (HasRounds c n k) laid_out.0 (fewer_rounds c n count k run enough has);
+        rounds = subst (HasRounds c n k) laid_out.0 (rounds-fewer c n k count run enough has);
       }
 
 -- a certificate that was read to its end

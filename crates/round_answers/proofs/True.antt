@@ -1,30 +1,21 @@
 -- A good text about rounds is true, where its monitor's laws are in hand.
-use Rattle.std.proofs.Common.{◌≡◌, ℕ, zero, suc, ◌≤◌, ◌<◌, false, inl, inr, List, [], ◌∷◌, ◌++◌, sym, subst, arith}
+use Rattle.std.proofs.Common.{◌≡◌, ℕ, false, inl, inr, List, [], ◌∷◌, ◌++◌, sym, subst, arith}
 use Rattle.std.specs.List.{All}
 use Rattle.std.proofs.lemmas.Bool.{cases_lt}
 use Rattle.std.proofs.lemmas.List.Elements.{All-nil, All-head, All-tail, All-push}
-use Rattle.aig_semantics.specs.declared.traces.Position.{Position}
 use Rattle.aig_semantics.specs.Circuits.{Circuit}
 use Rattle.fair_semantics.specs.declared.entries.Kind.TheVariants.{Reach}
 use Rattle.fair_semantics.specs.Entries.{Entry}
-use Rattle.fair_semantics.specs.Rounds.{HasRounds}
-use Rattle.entry.specs.Laws.{IsGoodList}
 use Rattle.certificate_texts.specs.declared.certificates.Written.{Written}
 use Rattle.certificate_texts.specs.declared.certificates.Certificate.{Certificate}
 use Rattle.certificate.specs.Certificates.{entry_with, AreProvedBehind}
 use Rattle.certificate.proofs.GoodTrue.{proved_list}
 use Rattle.round_monitor.specs.Counting.{HasFullRun}
 use Rattle.round_monitor.specs.Monitor.{monitor_circuit}
+use Rattle.circuit.proofs.RoundsAlong.{rounds-fewer}
 use Rattle.round_answers.specs.Answers.{NeverFull, ShowsRounds}
 use Rattle.round_answers.specs.Telling.{Tells}
 use Rattle.round_answers.proofs.Full.{no_full_run}
-
--- fewer rounds are there too
-pub fewer_rounds : (c : Circuit) (j m k : ℕ) (run : List Position) → k ≤ m → HasRounds c j m run → HasRounds c j k run
-fewer_rounds c j m zero run le h = tt
-fewer_rounds c j zero (suc k) run le h = absurd (omega (arith, le))
-fewer_rounds c j (suc m) (suc k) run le (front, segment, rest, split, round, others) =
-    (front, segment, rest, split, round, fewer_rounds c j m k rest (omega (arith, le)) others)
 
 abbrev IsReach : Entry → Type 0
 IsReach e = e.kind ≡ Reach
@@ -47,5 +38,5 @@ pub fewer_true : (c : Circuit) (k n : ℕ) (certificate : Certificate) → Tells
 fewer_true c k n certificate tells h run m initial rounds =
     elim (cases_lt m k) [
       | inl below ↦ below
-      | inr above ↦ absurd (never_full c k n (monitor_circuit c n k) certificate tells h (tells.exact.1 (run, initial, fewer_rounds c n m k run (omega (arith, above)) rounds)))
+      | inr above ↦ absurd (never_full c k n (monitor_circuit c n k) certificate tells h (tells.exact.1 (run, initial, rounds-fewer c n k m run (omega (arith, above)) rounds)))
     ]

@@ -1,4 +1,4 @@
-mod Lists
+pub mod Lists
 mod Numbering
 mod Reading
 mod Valued

@@ -9,12 +9,12 @@ use Rattle.aig_semantics.specs.declared.parts.Reset.{Reset}
 use Rattle.aig_semantics.specs.declared.parts.Reset.TheVariants.{Zero, One, Free}
 use Rattle.aig_semantics.specs.declared.traces.Position.{Position}
 use Rattle.aig_semantics.specs.Circuits.{Circuit, fair_literals}
-use Rattle.aig_semantics.specs.Runs.{IsPosition, position_of, literal_at, successor, MeetsConstraints, StartsIn, IsRun, AgreesWith, IsInitial, IsInitialRun, ClosesAt, MeetsFairness}
+use Rattle.aig_semantics.specs.Runs.{IsPosition, position_of, literal_at, successor, MeetsConstraints, StartsIn, IsRun, AgreesWith, IsInitial, ClosesAt, MeetsFairness}
 use Rattle.aig_semantics.specs.Valuations.{HasOneValuation}
-use Rattle.fair_semantics.proofs.Runs.{end_of, loop-of}
+use Rattle.fair_semantics.proofs.Runs.{end_of, loop-of, initial-run, get-seam}
 use Rattle.cone.specs.Cones.{IsClosed}
 use Rattle.live_to_safe.specs.BadRuns.{HasFairLasso}
-use Rattle.live_to_safe.proofs.Lassos.{last-at, get-seam, drop-seam}
+use Rattle.live_to_safe.proofs.Lassos.{last-at, drop-seam}
 use Rattle.slice.specs.Slicing.{sliced_circuit}
 use Rattle.slice.proofs.Picking.{spread, length-spread, pick-spread, spread-zip}
 use Rattle.slice.proofs.Repeating.{steps, steps-kept, ComesBack, comes_back}
@@ -103,10 +103,6 @@ found_of c literals state turn stem (first ∷ more) some h starts ends g begins
       fair = fair;
     }
 
-initial-run : (c : Circuit) (run : List Position) (state : List Bool) → IsInitial c state → StartsIn state run → IsRun c run → IsInitialRun c run
-initial-run c [] state initial starts h = tt
-initial-run c (p ∷ run) state initial starts h = (subst (IsInitial c) (sym starts) initial, h)
-
 lasso_of : (c : Circuit) (j : ℕ) (state : List Bool) → j < length c.justice → IsInitial c state → Found c (fair_literals c j) state → HasFairLasso c j
 lasso_of c j state property initial found =
     let run : List Position = found.stem ++ found.first ∷ found.more in (
@@ -114,7 +110,7 @@ lasso_of c j state property initial found =
       length found.stem,
       record {
         property = property;
-        initial = initial-run c run state initial found.starts found.is_run;
+        initial = initial-run c state run initial found.starts found.is_run;
         inside = omega (arith, length-append found.stem (found.first ∷ found.more));
         closes = closes-behind c state found.stem found.first found.more found.ends;
         fair = subst (MeetsFairness c j) (sym (drop-seam found.stem (found.first ∷ found.more))) found.fair;

@@ -2,7 +2,7 @@
 use Rattle.std.proofs.Common.{◌≡◌, ℕ, zero, suc, ◌+◌, ◌<◌, ◌≤◌, inl, inr, Bool, List, [], ◌∷◌, length, take, slice_get, subst, refl, sym, ap, ◌∙◌, Some, All, Result, Ok, Err, IfOk, arith}
 use Rattle.std.specs.Prelude.{IsOk}
 use Rattle.std.specs.List.{AllZip}
-use Rattle.std.proofs.lemmas.Bool.{cases_lt}
+use Rattle.std.proofs.lemmas.Bool.{cases_lt, false≢true}
 use Rattle.std.proofs.lemmas.List.{take-take}
 use Rattle.std.proofs.lemmas.List.Elements.{All-take, All-get_or}
 use Rattle.std.proofs.lemmas.Option.{same_Some}
@@ -23,7 +23,7 @@ use Rattle.stimulus.proofs.RunLemmas.{simulated-take}
 use Rattle.stimulus.proofs.TrackLemmas.{can_begin, run_of_lasso}
 
 -- where all items fit there is no misfit
-no_misfit : (c : Circuit) (s : Stimulus) (item : ℕ) → FitsCircuit c s → IsFirstMisfit c s item → ⊥
+pub no_misfit : (c : Circuit) (s : Stimulus) (item : ℕ) → FitsCircuit c s → IsFirstMisfit c s item → ⊥
 no_misfit c s zero fits a = a.misfits fits.latches
 no_misfit c s (suc k) fits a = a.misfits (All-get_or (λ values. length values ≡ length c.inputs) s.inputs k [] (omega (arith, a.inside)) fits.inputs)
 
@@ -35,18 +35,18 @@ all_agree_at (l ∷ latches) (v ∷ values) zero latch value h at on =
     subst (λ x. AgreesWith x.reset value) (same_Some l latch at) (subst (λ x. AgreesWith l.reset x) (same_Some v value on) h.0)
 all_agree_at (l ∷ latches) (v ∷ values) (suc n) latch value h at on = all_agree_at latches values n latch value h.1 at on
 
-no_wrong : (c : Circuit) (values : List Bool) (latch : ℕ) → IsInitial c values → IsFirstWrong c values latch → ⊥
+pub no_wrong : (c : Circuit) (values : List Bool) (latch : ℕ) → IsInitial c values → IsFirstWrong c values latch → ⊥
 no_wrong c values latch initial a = a.wrong (λ l v at on. all_agree_at c.latches values latch l v initial at on)
 
 -- the first of two places is one
-one_misfit : (c : Circuit) (s : Stimulus) (m n : ℕ) → IsFirstMisfit c s m → IsFirstMisfit c s n → m ≡ n
+pub one_misfit : (c : Circuit) (s : Stimulus) (m n : ℕ) → IsFirstMisfit c s m → IsFirstMisfit c s n → m ≡ n
 one_misfit c s m n a b =
     elim (cases_lt m n) [
       | inl below ↦ absurd (a.misfits (b.before m below))
       | inr above ↦ elim (cases_lt n m) [ inl below ↦ absurd (b.misfits (a.before n below)) | inr other ↦ omega arith ]
     ]
 
-one_wrong : (c : Circuit) (values : List Bool) (m n : ℕ) → IsFirstWrong c values m → IsFirstWrong c values n → m ≡ n
+pub one_wrong : (c : Circuit) (values : List Bool) (m n : ℕ) → IsFirstWrong c values m → IsFirstWrong c values n → m ≡ n
 one_wrong c values m n a b =
     elim (cases_lt m n) [
       | inl below ↦ absurd (a.wrong (b.before m below))
@@ -54,12 +54,12 @@ one_wrong c values m n a b =
     ]
 
 -- the first positions of those that meet the constraints meet them
-fewer_meet : (c : Circuit) (s : Stimulus) (m n : ℕ) → m ≤ n → All (MeetsConstraints c) (simulated c s.latches (take n s.inputs)) → All (MeetsConstraints c) (simulated c s.latches (take m s.inputs))
+pub fewer_meet : (c : Circuit) (s : Stimulus) (m n : ℕ) → m ≤ n → All (MeetsConstraints c) (simulated c s.latches (take n s.inputs)) → All (MeetsConstraints c) (simulated c s.latches (take m s.inputs))
 fewer_meet c s m n fewer met =
     subst (All (MeetsConstraints c)) (sym (simulated-take c m s.latches (take n s.inputs)) ∙ ap (simulated c s.latches) (take-take m n s.inputs fewer))
     (All-take (MeetsConstraints c) m (simulated c s.latches (take n s.inputs)) met)
 
-first_positions_meet : (c : Circuit) (s : Stimulus) (m : ℕ) → All (MeetsConstraints c) (simulated c s.latches s.inputs) → All (MeetsConstraints c) (simulated c s.latches (take m s.inputs))
+pub first_positions_meet : (c : Circuit) (s : Stimulus) (m : ℕ) → All (MeetsConstraints c) (simulated c s.latches s.inputs) → All (MeetsConstraints c) (simulated c s.latches (take m s.inputs))
 first_positions_meet c s m met = subst (All (MeetsConstraints c)) (sym (simulated-take c m s.latches s.inputs)) (All-take (MeetsConstraints c) m (simulated c s.latches s.inputs) met)
 
 one_forbidden : (c : Circuit) (j : ℕ) (s : Stimulus) (m n : ℕ) → IsFirstForbidden c j s m → IsFirstForbidden c j s n → m ≡ n
@@ -156,3 +156,12 @@ initial_from c values e may = all_from c.latches values e (λ n l v inside at on
     all_from [] (v ∷ values) e may = absurd (omega arith)
     all_from (l ∷ latches) [] e may = absurd (omega arith)
     all_from (l ∷ latches) (v ∷ values) e may = (may 0 l v (omega arith) refl refl, all_from latches values (omega arith) (λ n latch value inside at on. may (suc n) latch value (omega arith) at on))
+
+-- an answer or want of memory is no fault
+pub never_a_fault : (r : Result Lasso ReplayEnd) (end : ReplayEnd) (fault : ReplayFault) → r ≡ Err end → end ≡ Fault fault
+    → GivesSome (Err Memory) IsOk r → ⊥
+never_a_fault r end fault is was (inl ok) = false≢true (subst IsOk is ok)
+never_a_fault r end fault is was (inr memory) =
+    let same : end ≡ Memory = cc in
+    let apart : Fault fault ≡ Memory = sym was ∙ same in
+    cc

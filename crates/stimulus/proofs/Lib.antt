@@ -1,6 +1,6 @@
 pub mod TextLemmas
-mod RunLemmas
+pub mod RunLemmas
 mod PlaceLemmas
-mod TrackLemmas
+pub mod TrackLemmas
 pub mod FaultLemmas
 pub mod WriteLemmas

@@ -9,6 +9,7 @@ use Rattle.aig_semantics.specs.declared.traces.Position.{Position}
 use Rattle.aig_semantics.specs.Circuits.{Circuit}
 use Rattle.aig_semantics.specs.Runs.{position_of, successor, IsRun, MeetsConstraints}
 use Rattle.aig_semantics.specs.Stimuli.{simulated, state_after}
+use Rattle.circuit.proofs.RoundsAlong.{any_head, any_tail, any_cases, none_any}
 use Rattle.stimulus.specs.Walks.{IsEndOf}
 
 pub state_after-push : (c : Circuit) (latches : List Bool) (inputs : List (List Bool)) (now : List Bool) → state_after c latches (inputs ++ now ∷ []) ≡ successor c (position_of (state_after c latches inputs) now)
@@ -20,11 +21,6 @@ pub simulated-push : (c : Circuit) (latches : List Bool) (inputs : List (List Bo
 unfolding state_after simulated
 simulated-push c latches [] now = refl
 simulated-push c latches (first ∷ inputs) now = ap (λ run. position_of latches first ∷ run) (simulated-push c (successor c (position_of latches first)) inputs now)
-
-pub length-simulated : (c : Circuit) (latches : List Bool) (inputs : List (List Bool)) → length (simulated c latches inputs) ≡ length inputs
-unfolding simulated
-length-simulated c latches [] = refl
-length-simulated c latches (first ∷ inputs) = ap suc (length-simulated c (successor c (position_of latches first)) inputs)
 
 pub simulated-take : (c : Circuit) (k : ℕ) (latches : List Bool) (inputs : List (List Bool)) → simulated c latches (take k inputs) ≡ take k (simulated c latches inputs)
 unfolding simulated
@@ -53,20 +49,6 @@ last_position c latches [] h = absurd (omega arith)
 last_position c latches (now ∷ []) h = (position_of latches now, refl, refl)
 last_position c latches (now ∷ next ∷ inputs) h = simp unary_clauses (simp unary_clauses at (last_position c (successor c (position_of latches now)) (next ∷ inputs) (omega arith)))
 
--- some element of the list passes: the first, or another
-any_first : {X : Type 0} (P : X → Type 0) (x : X) (xs : List X) → P x → Any P (x ∷ xs)
-any_first P x xs h = (0, x, omega arith, refl, h)
-
-any_later : {X : Type 0} (P : X → Type 0) (x : X) (xs : List X) → Any P xs → Any P (x ∷ xs)
-any_later P x xs h = (suc h.0, h.1, omega (arith, h.2), h.3, h.4)
-
-any_cases : {X : Type 0} (P : X → Type 0) (x : X) (xs : List X) → Any P (x ∷ xs) → P x ⊎ Any P xs
-any_cases P x xs (zero, y, inside, is, h) = inl (subst P (sym is) h)
-any_cases P x xs (suc k, y, inside, is, h) = inr (k, y, omega arith, is, h)
-
-any_none : {X : Type 0} (P : X → Type 0) → Any P [] → ⊥
-any_none P h = absurd (omega (arith, h.2))
-
 -- from place k on, with one more element at the end
 any_drop-last : {X : Type 0} (P : X → Type 0) (k : ℕ) (xs : List X) (x : X) → k ≤ length xs → P x → Any P (drop k (xs ++ x ∷ []))
 any_drop-last P zero xs x h here = Any-push P xs x here
@@ -74,33 +56,33 @@ any_drop-last P (suc k) [] x h here = absurd (omega arith)
 any_drop-last P (suc k) (y ∷ xs) x h here = any_drop-last P k xs x (omega arith) here
 
 any_append : {X : Type 0} (P : X → Type 0) (xs : List X) (x : X) → Any P xs → Any P (xs ++ x ∷ [])
-any_append P [] x h = absurd (any_none P h)
+any_append P [] x h = absurd (none_any P h)
 any_append P (y ∷ xs) x h = any_append_cases (any_cases P y xs h) (any_append P xs x)
   where
     any_append_cases : P y ⊎ Any P xs → (Any P xs → Any P (xs ++ x ∷ [])) → Any P (y ∷ xs ++ x ∷ [])
-    any_append_cases (inl here) later = any_first P y (xs ++ x ∷ []) here
-    any_append_cases (inr h) later = any_later P y (xs ++ x ∷ []) (later h)
+    any_append_cases (inl here) later = any_head P y (xs ++ x ∷ []) here
+    any_append_cases (inr h) later = any_tail P y (xs ++ x ∷ []) (later h)
 
 any_append-back : {X : Type 0} (P : X → Type 0) (xs : List X) (x : X) → (P x → ⊥) → Any P (xs ++ x ∷ []) → Any P xs
 any_append-back P [] x not_here h = absurd (alone (any_cases P x [] h))
   where
     alone : P x ⊎ Any P [] → ⊥
     alone (inl here) = not_here here
-    alone (inr none) = any_none P none
+    alone (inr none) = none_any P none
 any_append-back P (y ∷ xs) x not_here h = back (any_cases P y (xs ++ x ∷ []) h) (any_append-back P xs x not_here)
   where
     back : P y ⊎ Any P (xs ++ x ∷ []) → (Any P (xs ++ x ∷ []) → Any P xs) → Any P (y ∷ xs)
-    back (inl here) later = any_first P y xs here
-    back (inr h) later = any_later P y xs (later h)
+    back (inl here) later = any_head P y xs here
+    back (inr h) later = any_tail P y xs (later h)
 
 any_drop-more : {X : Type 0} (P : X → Type 0) (k : ℕ) (xs : List X) (x : X) → Any P (drop k xs) → Any P (drop k (xs ++ x ∷ []))
 any_drop-more P zero xs x h = any_append P xs x h
-any_drop-more P (suc k) [] x h = absurd (any_none P h)
+any_drop-more P (suc k) [] x h = absurd (none_any P h)
 any_drop-more P (suc k) (y ∷ xs) x h = any_drop-more P k xs x h
 
 any_drop-back : {X : Type 0} (P : X → Type 0) (k : ℕ) (xs : List X) (x : X) → (P x → ⊥) → Any P (drop k (xs ++ x ∷ [])) → Any P (drop k xs)
 any_drop-back P zero xs x not_here h = any_append-back P xs x not_here h
-any_drop-back P (suc k) [] x not_here h = absurd (any_none P (subst (Any P) (drop_all k [] (omega arith)) h))
+any_drop-back P (suc k) [] x not_here h = absurd (none_any P (subst (Any P) (drop_all k [] (omega arith)) h))
 any_drop-back P (suc k) (y ∷ xs) x not_here h = any_drop-back P k xs x not_here h
 
 any_drop-inside : {X : Type 0} (P : X → Type 0) (k : ℕ) (xs : List X) → Any P (drop k xs) → k < length xs
@@ -110,7 +92,7 @@ any_drop-inside P k xs h = omega (arith, h.2, length-drop k xs)
 pub IsEndOf-none : {X : Type 0} (test : X → Bool) → IsEndOf test [] 0
 IsEndOf-none test = record {
   within = λ k h. absurd (omega arith);
-  behind = λ k h. absurd (any_none (λ x. IsTrue (test x)) (subst (Any (λ x. IsTrue (test x))) (drop_all k [] (omega arith)) h));
+  behind = λ k h. absurd (none_any (λ x. IsTrue (test x)) (subst (Any (λ x. IsTrue (test x))) (drop_all k [] (omega arith)) h));
 }
 
 pub IsEndOf-push : {X : Type 0} (test : X → Bool) (xs : List X) (x : X) (end number : ℕ) → number ≡ length xs + 1 → IsEndOf test xs end → IsEndOf test (xs ++ x ∷ []) (if test x then number else end)

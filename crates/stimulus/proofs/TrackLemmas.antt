@@ -11,13 +11,14 @@ use Rattle.aig_semantics.specs.declared.traces.Stimulus.{Stimulus}
 use Rattle.aig_semantics.specs.Circuits.{Circuit, fair_literals}
 use Rattle.aig_semantics.specs.Runs.{position_of, successor, literal_at, IsRun, IsInitial, IsInitialRun, MeetsConstraints, IsFairLasso}
 use Rattle.aig_semantics.specs.Stimuli.{simulated, state_after, HasLasso, StandsFor}
+use Rattle.circuit.proofs.Following.{length-simulated}
 use Rattle.stimulus.specs.declared.walks.Walk.{Walk}
 use Rattle.stimulus.specs.declared.walks.Watched.{Watched}
 use Rattle.stimulus.specs.Walks.{IsEndOf, unmet, watched_after, GoesOn, ClosesFrom}
 use Rattle.stimulus.specs.Places.{packed, place_at}
 use Rattle.stimulus.specs.Faults.{CanBegin, IsFirstForbidden, HasNoLasso}
 use Rattle.stimulus.proofs.PlaceLemmas.{IsPlaceMap, IsPlaceMap-none, IsPlaceMap-push}
-use Rattle.stimulus.proofs.RunLemmas.{state_after-push, simulated-push, length-simulated, IsRun-from_meets, IsRun-meets, last_position, IsEndOf-none, IsEndOf-push}
+use Rattle.stimulus.proofs.RunLemmas.{state_after-push, simulated-push, IsRun-from_meets, IsRun-meets, last_position, IsEndOf-none, IsEndOf-push}
 
 -- a walk has met the positions with these inputs
 pub record Tracks (c : Circuit) (j : ℕ) (latches : List Bool) (inputs : List (List Bool)) (walk : Walk) : Type 0 where
@@ -94,7 +95,7 @@ Tracks-push c j latches inputs now number old new is fit_latches fit_inputs meet
     }
 
 -- a simulated run begins with the state that it is simulated from
-IsInitialRun-simulated : (c : Circuit) (latches : List Bool) (inputs : List (List Bool)) → IsInitial c latches → IsRun c (simulated c latches inputs) → IsInitialRun c (simulated c latches inputs)
+pub IsInitialRun-simulated : (c : Circuit) (latches : List Bool) (inputs : List (List Bool)) → IsInitial c latches → IsRun c (simulated c latches inputs) → IsInitialRun c (simulated c latches inputs)
 unfolding simulated
 IsInitialRun-simulated c latches [] initial run = tt
 IsInitialRun-simulated c latches (now ∷ inputs) initial run = (initial, run)

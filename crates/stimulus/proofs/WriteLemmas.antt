@@ -17,7 +17,7 @@ pub rows_lack : (rows : List (List Bool)) → All (λ line. Lacks line 10) (map 
 rows_lack [] = All-nil _
 rows_lack (row ∷ rows) = All-cons (λ line. Lacks line 10) (map digit_of row) (map (map digit_of) rows) (digits_lack row) (rows_lack rows)
 
-digits_kept : (row : List Bool) → is_skipped (map digit_of row) ≡ false
+pub digits_kept : (row : List Bool) → is_skipped (map digit_of row) ≡ false
 digits_kept [] = refl
 digits_kept (false ∷ row) = refl
 digits_kept (true ∷ row) = refl

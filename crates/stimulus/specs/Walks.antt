@@ -1,5 +1,5 @@
 -- A run under way: the state that comes next, and where states and literals were met (scaffolding).
-use Rattle.std.specs.Prelude.{◌≡◌, ◌≢◌, ℕ, ◌-◌, ◌<◌, Bool, List, drop, map, slice_get, Some, unwrap_or, IsTrue, All, Any, if◌then◌else◌}
+use Rattle.std.specs.Prelude.{◌≡◌, ◌≢◌, ℕ, ◌-◌, ◌<◌, Bool, List, drop, map, Some, unwrap_or, IsTrue, All, Any, if◌then◌else◌}
 use Rattle.aig_semantics.specs.Circuits.{Circuit}
 use Rattle.aig_semantics.specs.Runs.{position_of, successor, literal_at}
 use Rattle.stimulus.specs.declared.walks.Walk.{Walk}
@@ -26,11 +26,6 @@ pub record GoesOn (c : Circuit) (inputs : List Bool) (number : ℕ) (old new : W
   pub next : new.next ≡ successor c (position_of old.next inputs)
   pub key : new.key.items ≡ packed new.next
   pub watched : new.watched.items ≡ map (watched_after (literal_at c (position_of old.next inputs)) number) old.watched.items
-
--- a loop from this place closes and has all that is watched
-pub record LoopsFrom (states : List (List Bool)) (next : List Bool) (watched : List Watched) (from : ℕ) : Type 0 where
-  pub closes : slice_get states from ≡ Some next
-  pub seen : All (λ w. from < w.end) watched
 
 -- the first place that is kept for the state that comes next, where a loop from there has all that is watched
 pub record ClosesFrom (walk : Walk) (from : ℕ) : Type 0 where

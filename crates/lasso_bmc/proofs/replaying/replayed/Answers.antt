@@ -1,4 +1,4 @@
-use Rattle.lasso_bmc.proofs.Telling.{never_a_fault}
+use Rattle.stimulus.proofs.FaultLemmas.{never_a_fault}
 use Rattle.lasso_bmc.proofs.replaying.replayed.Goals as goal
 
 pub unreachable-requires : goal.unreachable-requires
