@@ -1,5 +1,5 @@
 -- Laws of how a proof is written.
-use Rattle.std.proofs.Common.{◌≡◌, ℕ, zero, suc, ◌+◌, ◌-◌, ◌^◌, ◌<◌, ◌≤◌, Bool, true, false, not, ◌&&◌, cond, eqb, List, [], ◌∷◌, ◌++◌, length, map, Option, Some, None, Result, Ok, Err, refl, ap, sym, ◌∙◌, ◌⊎◌, inl, inr, arith, rules, eqb-true}
+use Rattle.std.proofs.Common.{◌≡◌, ℕ, zero, suc, ◌+◌, ◌-◌, ◌^◌, ◌<◌, ◌≤◌, Bool, true, false, not, ◌&&◌, cond, eqb, List, [], ◌∷◌, ◌++◌, length, map, Option, Some, None, Ok, Err, refl, ap, sym, ◌∙◌, ◌⊎◌, inl, inr, arith, rules, eqb-true}
 use Rattle.std.specs.Prelude.{slice_get, is_some, nat_le, nat_lt}
 use Rattle.std.specs.List.{list_any, list_all, AllByRecursion}
 use Rattle.std.proofs.lemmas.Bool.{cases_Bool, false≢true, and_parts, and_from, or_left, or_right, cond-true, cond-false, lt-leb, leb-true, le-leb}
@@ -8,13 +8,14 @@ use Rattle.std.proofs.lemmas.Option.{none-some, same_Some}
 use Rattle.proof_semantics.specs.Clauses.{negation}
 use Rattle.proof_semantics.specs.Propagation.{open_literals, only_literal, with_clause, with_unit, conflict_fault, hints_fault}
 use Rattle.proof_semantics.specs.Lines.{IsSize, HasSizes, text_of, AreSized}
-use Rattle.proof_semantics.specs.Proofs.{ProofState, is_empty, numbered, start, clause_at, with_addition, ids_of, ok_without_fault, judge_line, judge, judge_next, judge_all}
+use Rattle.proof_semantics.specs.Proofs.{ProofState, is_empty, numbered, start, clause_at, with_addition, ids_of, ok_without_fault, judge_line, judge, judge_all}
 use Rattle.proof_semantics.specs.declared.literals.Lit.{Lit}
 use Rattle.proof_semantics.specs.declared.faults.LratFault.{LratFault}
 use Rattle.proof_semantics.specs.declared.faults.LratFault.TheVariants.{IdOrder, RatRefused}
 use Rattle.proof_semantics.proofs.LineLaws.{reads_spelled}
 use Rattle.proof_semantics.proofs.LiteralLaws.{lit_eq-same}
 use Rattle.cnf.specs.Clauses.{clause_numbered}
+use Rattle.proof_semantics.proofs.Soundness.{judge_push}
 use Rattle.cdcl_log.specs.LoggedClauses.{LoggedClauses, added_of}
 use Rattle.cdcl_log.specs.Writing.{hint_by, line_by, IsPartialProof, Proves}
 
@@ -191,16 +192,6 @@ line_accepted s ids id c hints sized sized_clause sized_hints later follows =
     ap (judge_line s) ((reads_spelled (text_of line) line).1 (sizes, refl))
     ∙ judged_ok (nat_le id s.last) (list_any (λ (h : Lit). not h.positive) (map (hint_by ids) hints)) _ (with_addition s id c)
     (lt-leb id s.last later) (no_negative ids hints) (ap (hints_fault (clause_at s.held) (map negation c)) (ids_are ids hints) ∙ follows)
-
-next_judged : (r : Result ProofState LratFault) (first second : ProofState → Result ProofState LratFault) (t u : ProofState) → judge_next r first ≡ Ok t
-    → ((x : ProofState) → first x ≡ Ok t → second x ≡ Ok u) → judge_next r second ≡ Ok u
-next_judged (Ok x) first second t u e f = f x e
-next_judged (Err fault) first second t u e f = absurd (cc)
-
-judge_push : (s t u : ProofState) (lines : List (List ℕ)) (line : List ℕ) → judge_all s lines ≡ Ok t → judge t line ≡ Ok u → judge_all s (lines ++ line ∷ []) ≡ Ok u
-judge_push s t u [] line e f = let same : s ≡ t = cc in ap (λ r. judge_next r (λ x. judge_all x [])) (ap (λ x. judge x line) same ∙ f)
-judge_push s t u (first ∷ lines) line e f =
-    next_judged (judge s first) (λ x. judge_all x lines) (λ x. judge_all x (lines ++ line ∷ [])) t u e (λ x g. judge_push x t u lines line g f)
 
 -- The state after a line.
 

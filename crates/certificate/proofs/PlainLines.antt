@@ -1,6 +1,6 @@
 -- The lines that are written are read again: none has a line feed, and none is skipped.
-use Rattle.std.proofs.Common.{◌≡◌, ◌≢◌, ◌<◌, ◌^◌, ℕ, Bool, true, false, not, eqb, List, [], ◌∷◌, ◌++◌, map, refl, sym, ap, ◌∙◌, subst, arith, All, Option, Some, None, Result, Ok, Err}
-use Rattle.std.specs.Prelude.{codes, decimal, ◌&&◌, ◌≤◌, IsOkAnd}
+use Rattle.std.proofs.Common.{◌≡◌, ◌≢◌, ◌<◌, ◌^◌, ℕ, Bool, true, false, not, eqb, List, [], ◌∷◌, ◌++◌, map, refl, ap, ◌∙◌, arith, All}
+use Rattle.std.specs.Prelude.{codes, decimal, ◌&&◌, ◌≤◌}
 use Rattle.std.specs.List.{join_with_byte, list_all}
 use Rattle.std.specs.Str.Parse.{AllDigits}
 use Rattle.std.proofs.lemmas.Bool.{ne_eqb, eqb-false, false≢true}
@@ -11,10 +11,8 @@ use Rattle.text_grammar.specs.Pieces.{Lacks}
 use Rattle.text_grammar.specs.Lines.{lines_of, ended_lines}
 use Rattle.text_grammar.proofs.LineLaws.{reads_written_lines}
 use Rattle.proof_semantics.specs.declared.literals.Lit.{Lit}
-use Rattle.proof_semantics.specs.declared.faults.LratFault.{LratFault}
-use Rattle.proof_semantics.specs.Lines.{Line, addition, deletion, signed_text, fields_of as proof_fields, IsSize, HasSizes, line_of}
-use Rattle.proof_semantics.specs.Proofs.{ProofState, start, judge_line, judge, judge_next, judge_all, Refutes}
-use Rattle.proof_semantics.proofs.LineLaws.{reads_spelled}
+use Rattle.proof_semantics.specs.Lines.{Line, addition, deletion, signed_text, fields_of as proof_fields, IsSize, HasSizes}
+use Rattle.proof_semantics.specs.Proofs.{Refutes}
 use Rattle.fair_semantics.specs.declared.entries.Side.{Side}
 use Rattle.fair_semantics.specs.declared.entries.Side.TheVariants.{Any, In, Out}
 use Rattle.fair_semantics.specs.declared.entries.Kind.{Kind}
@@ -28,6 +26,7 @@ use Rattle.certificate_lines.specs.Fields.{IsNumber}
 use Rattle.certificate_lines.specs.Words.{kind_text, word_line_text, HasNumbers}
 use Rattle.certificate_lines.specs.Uses.{sign_text, use_text, uses_text, MayStand}
 use Rattle.certificate_lines.specs.Clauses.{clause_text}
+use Rattle.proof_semantics.proofs.AcceptanceLaws.{refuting_lines}
 use Rattle.certificate.specs.Lines.{kept_in, bare}
 use Rattle.certificate_texts.specs.Writing.{property_line}
 use Rattle.certificate.proofs.WrittenGood.{kept-bare}
@@ -167,35 +166,9 @@ fields_plain (deletion id ids) sizes =
     let behind = All-cons IsPlain (100 ∷ []) (map decimal ids ++ (48 ∷ []) ∷ []) (plain_word (100 ∷ []) refl refl) ends in
     All-cons IsPlain (decimal id) ((100 ∷ []) ∷ (map decimal ids ++ (48 ∷ []) ∷ [])) (plain_decimal id sizes.0.1) behind
 
-judged_by : (s t : ProofState) (bytes : List ℕ) (o : Option Line) → line_of bytes ≡ o → judge_line s o ≡ Ok t → IsPlain bytes
-judged_by s t bytes None read e = absurd (cc)
-judged_by s t bytes (Some line) read e =
-    let spelled = (reads_spelled bytes line).0 read in
-    subst IsPlain (sym spelled.1) (joined_plain (proof_fields line) (fields_plain line spelled.0))
-
--- a line that is accepted
-judged_plain : (s t : ProofState) (bytes : List ℕ) → judge s bytes ≡ Ok t → IsPlain bytes
-judged_plain s t bytes e = judged_by s t bytes (line_of bytes) refl e
-
-first_judged : (r : Result ProofState LratFault) (rest : ProofState → Result ProofState LratFault) (t : ProofState) → judge_next r rest ≡ Ok t
-    → (s : ProofState) × (r ≡ Ok s) × (rest s ≡ Ok t)
-first_judged (Ok s) rest t e = (s, refl, e)
-first_judged (Err fault) rest t e = absurd (cc)
-
-all_judged : (s t : ProofState) (proof : List (List ℕ)) → judge_all s proof ≡ Ok t → All IsPlain proof
-all_judged s t [] e = All-nil IsPlain
-all_judged s t (line ∷ proof) e =
-    let (later, first, others) = first_judged (judge s line) (λ u. judge_all u proof) t e in
-    All-cons IsPlain line proof (judged_plain s later line first) (all_judged later t proof others)
-
-refuting_by : (given : List (List Lit)) (proof : List (List ℕ)) (r : Result ProofState LratFault) → judge_all (start given) proof ≡ r
-    → IsOkAnd r (λ s. s.finished ≡ true) → All IsPlain proof
-refuting_by given proof (Ok t) is h = all_judged (start given) t proof is
-refuting_by given proof (Err fault) is h = absurd h
-
 -- The lines of a proof that refutes something.
 pub refuting_plain : (given : List (List Lit)) (proof : List (List ℕ)) → Refutes given proof → All IsPlain proof
-refuting_plain given proof h = refuting_by given proof (judge_all (start given) proof) refl h
+refuting_plain = refuting_lines IsPlain (λ line sizes. joined_plain (proof_fields line) (fields_plain line sizes))
 
 -- ---- what is read again
 

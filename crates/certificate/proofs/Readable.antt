@@ -1,6 +1,6 @@
 -- The lines of a text that begins with given lines, each with its line feed.
-use Rattle.std.proofs.Common.{◌≡◌, ℕ, ◌+◌, ◌-◌, ◌≤◌, ◌<◌, Bool, true, false, cond, if◌then◌else◌, eqb, List, [], ◌∷◌, ◌++◌, length, take, refl, ap, sym, ◌∙◌, arith, append_assoc, append-nil, length-append}
-use Rattle.std.specs.List.{onto_first, All}
+use Rattle.std.proofs.Common.{◌≡◌, ℕ, ◌+◌, ◌-◌, ◌≤◌, ◌<◌, Bool, true, false, if◌then◌else◌, List, [], ◌∷◌, ◌++◌, length, take, refl, ap, sym, ◌∙◌, arith, append_assoc, append-nil, length-append}
+use Rattle.std.specs.List.{All}
 use Rattle.std.specs.Prelude.{nat_le}
 use Rattle.std.proofs.lemmas.Bool.{le-leb, lt-leb}
 use Rattle.std.proofs.lemmas.List.{take-append-le}
@@ -9,7 +9,7 @@ use Rattle.std.proofs.Math.Seq.{take-append-add}
 use Rattle.text_grammar.specs.Pieces.{Lacks, cut_at}
 use Rattle.text_grammar.specs.Lines.{lines_of, ended_lines}
 use Rattle.text_grammar.proofs.PieceLaws.{cuts_first, cuts_none}
-use Rattle.text_grammar.proofs.LineLaws.{first_line}
+use Rattle.text_grammar.proofs.LineLaws.{first_line, cut_has}
 use Rattle.certificate.specs.Lines.{but_last}
 
 -- the first line stands in front of its line feed, and the others follow
@@ -31,22 +31,6 @@ cut_ended (line ∷ lines) rest lack =
     cuts_first 10 line (ended_lines (line ∷ lines) ++ rest) (ended_lines lines ++ rest)
     (record { spelled = spelled_first line lines rest; first = All-head (λ p. Lacks p 10) line lines lack })
     ∙ ap (λ (ls : List (List ℕ)). line ∷ ls) (cut_ended lines rest (All-tail (λ p. Lacks p 10) line lines lack))
-
--- there is a first piece
-abbrev HasFirst : List (List ℕ) → Type 0
-HasFirst ps = (piece : List ℕ) × (pieces : List (List ℕ)) × (ps ≡ piece ∷ pieces)
-
-onto_first_has : (b : ℕ) (ps : List (List ℕ)) → HasFirst (onto_first b ps)
-onto_first_has b [] = (b ∷ [], [], refl)
-onto_first_has b (piece ∷ pieces) = (b ∷ piece, pieces, refl)
-
-step_has : (b : ℕ) (ps : List (List ℕ)) (test : Bool) → HasFirst (cond test ([] ∷ ps) (onto_first b ps))
-step_has b ps true = ([], ps, refl)
-step_has b ps false = onto_first_has b ps
-
-cut_has : (byte : ℕ) (bytes : List ℕ) → HasFirst (cut_at byte bytes)
-cut_has byte [] = ([], [], refl)
-cut_has byte (b ∷ bytes) = step_has b (cut_at byte bytes) (eqb b byte)
 
 but_last_behind : (given : List (List ℕ)) (piece : List ℕ) (pieces : List (List ℕ)) → but_last (given ++ piece ∷ pieces) ≡ given ++ take (length pieces) (piece ∷ pieces)
 but_last_behind given piece pieces =

@@ -1,17 +1,16 @@
 -- Laws of fields.
-use Rattle.std.proofs.Common.{zero, suc, take, length, ◌≤◌, ◌≡◌, ◌≢◌, ℕ, ◌-◌, ◌^◌, Bool, true, false, cond, eqb, List, [], ◌∷◌, map, Option, Some, None, refl, ap, sym, subst, ◌∙◌, arith}
+use Rattle.std.proofs.Common.{zero, suc, take, length, ◌≤◌, ◌≡◌, ℕ, ◌-◌, ◌^◌, List, [], ◌∷◌, map, Option, Some, None, refl, ap, sym, subst, ◌∙◌, arith}
 use Rattle.std.specs.Prelude.{decimal, All, option_map, option_and_then}
-use Rattle.std.specs.List.{join_with_byte, onto_first}
-use Rattle.std.specs.Str.Parse.{AllDigits}
+use Rattle.std.specs.List.{join_with_byte}
 use Rattle.std.proofs.lemmas.Fmt.{decimal_is_IsNumeral}
 use Rattle.std.proofs.lemmas.List.{append-nil}
 use Rattle.std.proofs.lemmas.Option.{same_Some}
-use Rattle.std.proofs.lemmas.Str.Parse.{digit_from_value}
 use Rattle.std.proofs.lemmas.List.Elements.{All-nil, All-cons, All-head, All-tail, All-map, All-weaker}
 use Rattle.text_grammar.specs.Numerals.{IsNumeral}
 use Rattle.text_grammar.specs.Pieces.{Lacks, fields}
-use Rattle.text_grammar.proofs.NumeralLaws.{read_stands, stands_read}
+use Rattle.text_grammar.proofs.NumeralLaws.{read_stands, stands_read, digits_lack}
 use Rattle.text_grammar.proofs.PieceLaws.{joins_pieces, cuts_joined}
+use Rattle.text_grammar.proofs.LineLaws.{HasFirst, cut_has}
 use Rattle.certificate_lines.specs.Fields.{IsNumber, whole, number_in, read_each, only}
 
 -- what a chain of readings gives
@@ -24,20 +23,8 @@ map_given f None y e = absurd (cc)
 map_given f (Some x) y e = (x, refl, same_Some _ _ e)
 
 -- a text has a field
-abbrev pub HasField : List (List ℕ) → Type 0
-HasField fs = (field : List ℕ) × (more : List (List ℕ)) × (fs ≡ field ∷ more)
-
-onto_has : (byte : ℕ) (fs : List (List ℕ)) → HasField (onto_first byte fs)
-onto_has byte [] = (byte ∷ [], [], refl)
-onto_has byte (field ∷ more) = (byte ∷ field, more, refl)
-
-step_has : (byte : ℕ) (fs : List (List ℕ)) (b : Bool) → HasField (cond b ([] ∷ fs) (onto_first byte fs))
-step_has byte fs true = ([], fs, refl)
-step_has byte fs false = onto_has byte fs
-
-pub has_field : (bytes : List ℕ) → HasField (fields bytes)
-has_field [] = ([], [], refl)
-has_field (byte ∷ bytes) = step_has byte (fields bytes) (eqb byte 32)
+pub has_field : (bytes : List ℕ) → HasFirst (fields bytes)
+has_field bytes = cut_has 32 bytes
 
 -- two fields are not the only one
 pub only_none : {A : Type 0} → (read : List ℕ → Option A) (field bytes : List ℕ) → only read (field ∷ fields bytes) ≡ None
@@ -63,14 +50,6 @@ pub number_back : (n : ℕ) → IsNumber n → number_in (decimal n) ≡ Some n
 number_back n small =
     let stands : IsNumeral (2 ^ 63 - 1) n (decimal n) [] = record { small = omega arith; spelled = sym (append-nil (decimal n)); whole = refl } in
     ap whole (stands_read (2 ^ 63 - 1) n (decimal n) [] (omega arith) stands)
-
--- what stands behind a number that is no digit ends it
-digits_lack : (digits : List ℕ) → AllDigits 10 digits → Lacks digits 32
-digits_lack [] all = All-nil (λ b. b ≢ 32)
-digits_lack (d ∷ digits) all =
-    let range = digit_from_value d all.0 in
-    let differs : d ≢ 32 = omega (arith, range.0) in
-    All-cons (λ b. b ≢ 32) d digits differs (digits_lack digits all.1)
 
 pub decimal_lacks : (n : ℕ) → IsNumber n → Lacks (decimal n) 32
 decimal_lacks n small = digits_lack (decimal n) (decimal_is_IsNumeral n (omega arith)).0.1

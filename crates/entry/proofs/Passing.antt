@@ -1,20 +1,11 @@
 -- The lines of a proof that passed, by a line at a time.
-use Rattle.std.proofs.Common.{◌≡◌, ℕ, zero, suc, ◌+◌, ◌<◌, ◌≤◌, List, [], ◌∷◌, ◌++◌, length, get_or, take, drop, refl, sym, ap, subst, ◌∙◌, Option, Ok, Err, Result, add-one, arith}
+use Rattle.std.proofs.Common.{◌≡◌, ℕ, zero, suc, ◌+◌, ◌<◌, ◌≤◌, List, [], ◌∷◌, length, get_or, take, drop, refl, sym, ap, subst, ◌∙◌, Option, Ok, add-one, arith}
 use Rattle.std.proofs.Math.Seq.{take-suc}
 use Rattle.std.proofs.lemmas.List.{take_all}
 use Rattle.proof_semantics.specs.declared.faults.LratFault.{LratFault}
-use Rattle.proof_semantics.specs.Proofs.{ProofState, judge, judge_next, judge_all}
+use Rattle.proof_semantics.specs.Proofs.{ProofState, judge, judge_all}
+use Rattle.proof_semantics.proofs.Soundness.{judge_push}
 use Rattle.entry.specs.Faults.{line_fault, fault_from}
-
-next_judged : (r : Result ProofState LratFault) (first second : ProofState → Result ProofState LratFault) (t u : ProofState) → judge_next r first ≡ Ok t
-    → ((x : ProofState) → first x ≡ Ok t → second x ≡ Ok u) → judge_next r second ≡ Ok u
-next_judged (Ok x) first second t u e f = f x e
-next_judged (Err fault) first second t u e f = absurd (cc)
-
-judge_push : (s t u : ProofState) (lines : List (List ℕ)) (line : List ℕ) → judge_all s lines ≡ Ok t → judge t line ≡ Ok u → judge_all s (lines ++ line ∷ []) ≡ Ok u
-judge_push s t u [] line e f = let same : s ≡ t = cc in ap (λ r. judge_next r (λ x. judge_all x [])) (ap (λ x. judge x line) same ∙ f)
-judge_push s t u (first ∷ lines) line e f =
-    next_judged (judge s first) (λ x. judge_all x lines) (λ x. judge_all x (lines ++ line ∷ [])) t u e (λ x g. judge_push x t u lines line g f)
 
 pub passed_more : (s t u : ProofState) (lines : List (List ℕ)) (k : ℕ) (line : List ℕ) → k < length lines → line ≡ get_or lines k line
     → judge t line ≡ Ok u → judge_all s (take k lines) ≡ Ok t → judge_all s (take (k + 1) lines) ≡ Ok u

@@ -1,19 +1,20 @@
 -- The judgement of a line is the relation of accepted lines.
 use Rattle.std.proofs.Common.{◌≡◌, ℕ, zero, suc, ◌<◌, Bool, true, false, not, ◌||◌, cond, leb, List, [], ◌∷◌, ◌++◌, map, length, get_or, Option, Some, None, Result, Ok, Err, refl, ap, sym, subst, ◌∙◌, inl, inr, arith}
-use Rattle.std.specs.Prelude.{All, Contains, IsSome, is_some}
+use Rattle.std.specs.Prelude.{All, Contains, IsSome, is_some, IsOkAnd}
 use Rattle.std.specs.List.{list_all, list_any}
 use Rattle.std.proofs.lemmas.Bool.{false≢true, true≢false, cases_Bool, or_cases, or_left, or_right, or_parts, or_from, and_parts, and_from, leb-false, lt-leb, not-false, false_from_ne_true}
 use Rattle.std.proofs.lemmas.List.Elements.{All-nil, All-cons, All-head, All-tail}
 use Rattle.proof_semantics.specs.Clauses.{lit_eq, negation, has_literal}
 use Rattle.proof_semantics.specs.Propagation.{is_false, open_literals, only_literal, with_clause, with_unit, conflict_fault, hints_fault}
 use Rattle.proof_semantics.specs.Lines.{Line, addition, deletion, HasSizes, text_of, line_of}
-use Rattle.proof_semantics.specs.Proofs.{ProofState, clause_at, first_missing, with_addition, with_deletion, ids_of, ok_without_fault, judge_addition, deletion_result, judge_deletion, judge_line}
+use Rattle.proof_semantics.specs.Proofs.{ProofState, start, judge, judge_all, Refutes, clause_at, first_missing, with_addition, with_deletion, ids_of, ok_without_fault, judge_addition, deletion_result, judge_deletion, judge_line}
 use Rattle.proof_semantics.specs.Acceptance.{IsFalse, IsUnit, EndsInConflict, Accepts, JudgesAccepted}
 use Rattle.proof_semantics.specs.declared.literals.Lit.{Lit}
 use Rattle.proof_semantics.specs.declared.faults.LratFault.{LratFault}
 use Rattle.proof_semantics.specs.declared.faults.LratFault.TheVariants.{IdOrder, RatRefused}
 use Rattle.proof_semantics.proofs.LiteralLaws.{lit_eq-true, lit_eq-same}
 use Rattle.proof_semantics.proofs.LineLaws.{reads_spelled}
+use Rattle.proof_semantics.proofs.Soundness.{next_given}
 
 -- the test for a literal in a list tells whether it is there
 pub contains_given : (lits : List Lit) (a : Lit) → has_literal lits a ≡ true → Contains lits a
@@ -292,3 +293,26 @@ judges_accepted s t bytes = (
   read_given s t bytes (line_of bytes) refl,
   λ h. ap (judge_line s) ((reads_spelled bytes h.0).1 h.1) ∙ accepted_back s t h.0 h.2,
 )
+
+-- ---- what is so of each line that is spelled is so of each that is judged without a fault
+
+module _ (P : List ℕ → Type 0) (each : (line : Line) → HasSizes line → P (text_of line)) where
+  judged_line : (s t : ProofState) (bytes : List ℕ) (o : Option Line) → line_of bytes ≡ o → judge_line s o ≡ Ok t → P bytes
+  judged_line s t bytes None read e = absurd (cc)
+  judged_line s t bytes (Some line) read e =
+      let spelled = (reads_spelled bytes line).0 read in
+      subst P (sym spelled.1) (each line spelled.0)
+
+  judged_lines : (s t : ProofState) (proof : List (List ℕ)) → judge_all s proof ≡ Ok t → All P proof
+  judged_lines s t [] e = All-nil P
+  judged_lines s t (line ∷ proof) e =
+      let (later, first, others) = next_given t (judge s line) (λ u. judge_all u proof) e in
+      All-cons P line proof (judged_line s later line (line_of line) refl first) (judged_lines later t proof others)
+
+  refuting_by : (given : List (List Lit)) (proof : List (List ℕ)) (r : Result ProofState LratFault) → judge_all (start given) proof ≡ r
+      → IsOkAnd r (λ s. s.finished ≡ true) → All P proof
+  refuting_by given proof (Ok t) is h = judged_lines (start given) t proof is
+  refuting_by given proof (Err fault) is h = absurd h
+
+  pub refuting_lines : (given : List (List Lit)) (proof : List (List ℕ)) → Refutes given proof → All P proof
+  refuting_lines given proof h = refuting_by given proof (judge_all (start given) proof) refl h

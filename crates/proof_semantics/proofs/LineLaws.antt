@@ -3,15 +3,13 @@ use Rattle.std.proofs.Common.{◌≡◌, ◌≢◌, ℕ, ◌-◌, ◌<◌, ◌^�
 use Rattle.std.specs.Prelude.{decimal, All}
 use Rattle.std.specs.List.{list_all, join_with_byte}
 use Rattle.std.specs.Option.{option_map}
-use Rattle.std.specs.Str.Parse.{AllDigits}
 use Rattle.std.proofs.lemmas.Bool.{false≢true, cases_Bool, eqb-false, ne_eqb, and_parts}
 use Rattle.std.proofs.lemmas.Option.{some_pair_parts}
 use Rattle.std.proofs.lemmas.Fmt.{decimal_is_IsNumeral}
-use Rattle.std.proofs.lemmas.Str.Parse.{digit_from_value}
 use Rattle.std.proofs.lemmas.List.Elements.{All-nil, All-cons, All-head, All-tail, All-append, All-map}
 use Rattle.text_grammar.specs.Numerals.{number_at, IsNumeral}
 use Rattle.text_grammar.specs.Pieces.{Lacks, fields}
-use Rattle.text_grammar.proofs.NumeralLaws.{read_stands, stands_read}
+use Rattle.text_grammar.proofs.NumeralLaws.{read_stands, stands_read, digits_lack}
 use Rattle.text_grammar.proofs.PieceLaws.{joins_pieces, cuts_joined}
 use Rattle.proof_semantics.specs.Lines.{Line, addition, deletion, signed_text, fields_of, text_of, IsSize, HasSizes, ◌>>=◌, whole_number, size_in, signed_in, is_byte, signed_to_zero, at_end, addition_of, deletion_of, line_behind, line_in, line_of, ReadsSpelled}
 use Rattle.proof_semantics.specs.declared.literals.Lit.{Lit}
@@ -288,13 +286,6 @@ line_back (deletion id ids) sizes =
     let behind : List (List ℕ) = map decimal ids ++ (48 ∷ []) ∷ [] in
     ap (λ o. o >>= λ n. line_behind n ((100 ∷ []) ∷ behind)) (size_back (decimal id) id sizes.0 refl)
     ∙ deletion_back id ids sizes.1
-
-digits_lack : (digits : List ℕ) → AllDigits 10 digits → Lacks digits 32
-digits_lack [] all = All-nil (λ b. b ≢ 32)
-digits_lack (d ∷ digits) all =
-    let range = digit_from_value d all.0 in
-    let differs : d ≢ 32 = omega (arith, range.0) in
-    All-cons (λ b. b ≢ 32) d digits differs (digits_lack digits all.1)
 
 decimal_lacks : (n : ℕ) → IsSize n → Lacks (decimal n) 32
 decimal_lacks n size = digits_lack (decimal n) (decimal_is_IsNumeral n (omega arith)).0.1

@@ -227,15 +227,15 @@ pub judge-implied : (s t : ProofState) (bytes : List ℕ) (id : ℕ) (clause hin
 judge-implied s t bytes id clause hints sound e is =
     judge_addition-implied s t id clause hints sound (ap (judge_line s) (sym is) ∙ e)
 
-next_given : (s t : ProofState) (first : Result ProofState LratFault) (rest : ProofState → Result ProofState LratFault)
+pub next_given : (t : ProofState) (first : Result ProofState LratFault) (rest : ProofState → Result ProofState LratFault)
     → judge_next first rest ≡ Ok t → (u : ProofState) × (first ≡ Ok u) × (rest u ≡ Ok t)
-next_given s t (Ok u) rest e = (u, refl, e)
-next_given s t (Err fault) rest e = absurd (cc)
+next_given t (Ok u) rest e = (u, refl, e)
+next_given t (Err fault) rest e = absurd (cc)
 
 pub judge_all-IsSound : (s t : ProofState) (lines : List (List ℕ)) → IsSound s → judge_all s lines ≡ Ok t → IsSound t
 judge_all-IsSound s t [] sound e = let same : s ≡ t = cc in subst IsSound same sound
 judge_all-IsSound s t (line ∷ lines) sound e =
-    let first = next_given s t (judge s line) _ e in
+    let first = next_given t (judge s line) _ e in
     judge_all-IsSound first.0 t lines (judge-IsSound s first.0 line sound first.1) first.2
 
 addition_given : (s t : ProofState) (id : ℕ) (clause hints : List Lit) → judge_addition s id clause hints ≡ Ok t → t.given ≡ s.given
@@ -259,7 +259,7 @@ judge-given s t bytes e = line_given s t (line_of bytes) e
 pub judge_all-given : (s t : ProofState) (lines : List (List ℕ)) → judge_all s lines ≡ Ok t → t.given ≡ s.given
 judge_all-given s t [] e = let same : s ≡ t = cc in sym (ap (λ (u : ProofState). u.given) same)
 judge_all-given s t (line ∷ lines) e =
-    let first = next_given s t (judge s line) _ e in
+    let first = next_given t (judge s line) _ e in
     judge_all-given first.0 t lines first.2 ∙ judge-given s first.0 line first.1
 
 pub judge_all-sound : KeepsSound
@@ -273,3 +273,15 @@ refuted_at given lines (Ok t) e h =
 
 pub refuted-unsatisfiable : RefutedHasNoModel
 refuted-unsatisfiable given lines h = refuted_at given lines (judge_all (start given) lines) refl h
+
+-- ---- lines one behind the other
+
+next_judged : (r : Result ProofState LratFault) (first second : ProofState → Result ProofState LratFault) (t u : ProofState) → judge_next r first ≡ Ok t
+    → ((x : ProofState) → first x ≡ Ok t → second x ≡ Ok u) → judge_next r second ≡ Ok u
+next_judged (Ok x) first second t u e f = f x e
+next_judged (Err fault) first second t u e f = absurd (cc)
+
+pub judge_push : (s t u : ProofState) (lines : List (List ℕ)) (line : List ℕ) → judge_all s lines ≡ Ok t → judge t line ≡ Ok u → judge_all s (lines ++ line ∷ []) ≡ Ok u
+judge_push s t u [] line e f = let same : s ≡ t = cc in ap (λ r. judge_next r (λ x. judge_all x [])) (ap (λ x. judge x line) same ∙ f)
+judge_push s t u (first ∷ lines) line e f =
+    next_judged (judge s first) (λ x. judge_all x lines) (λ x. judge_all x (lines ++ line ∷ [])) t u e (λ x g. judge_push x t u lines line g f)

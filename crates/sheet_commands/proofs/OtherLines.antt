@@ -1,6 +1,6 @@
 -- No line of an entry, of a refutation or of a stimulus begins as the first line of a block with a stimulus does.
-use Rattle.std.proofs.Common.{◌≡◌, ◌≢◌, ◌≤◌, ◌<◌, ◌^◌, ℕ, Bool, true, false, eqb, List, [], ◌∷◌, ◌++◌, map, flat_map, length, get_or, refl, sym, ap, ◌∙◌, subst, arith, All, Option, Some, None, Result, Ok, Err}
-use Rattle.std.specs.Prelude.{codes, decimal, IsOkAnd}
+use Rattle.std.proofs.Common.{◌≡◌, ◌≢◌, ◌≤◌, ◌<◌, ◌^◌, ℕ, Bool, false, eqb, List, [], ◌∷◌, ◌++◌, map, flat_map, length, get_or, refl, sym, ap, ◌∙◌, subst, arith, All, Some, None}
+use Rattle.std.specs.Prelude.{codes, decimal}
 use Rattle.std.specs.List.{join_with_byte}
 use Rattle.std.specs.Str.Parse.{AllDigits}
 use Rattle.std.proofs.lemmas.Bool.{ne_eqb, eqb-false}
@@ -11,10 +11,8 @@ use Rattle.std.proofs.lemmas.List.Elements.{All-nil, All-cons, All-head, All-tai
 use Rattle.aig_semantics.specs.declared.traces.Stimulus.{Stimulus}
 use Rattle.aig_semantics.specs.Circuits.{Circuit}
 use Rattle.proof_semantics.specs.declared.literals.Lit.{Lit}
-use Rattle.proof_semantics.specs.declared.faults.LratFault.{LratFault}
-use Rattle.proof_semantics.specs.Lines.{Line, addition, deletion, signed_text, fields_of as proof_fields, HasSizes, line_of}
-use Rattle.proof_semantics.specs.Proofs.{ProofState, start, judge_line, judge, judge_next, judge_all, Refutes}
-use Rattle.proof_semantics.proofs.LineLaws.{reads_spelled}
+use Rattle.proof_semantics.specs.Lines.{Line, addition, deletion, signed_text, fields_of as proof_fields, HasSizes}
+use Rattle.proof_semantics.specs.Proofs.{Refutes}
 use Rattle.fair_semantics.specs.declared.entries.Side.{Side}
 use Rattle.fair_semantics.specs.declared.entries.Side.TheVariants.{Any, In, Out}
 use Rattle.fair_semantics.specs.declared.entries.Kind.{Kind}
@@ -38,6 +36,7 @@ use Rattle.certificate.specs.Certificates.{entry_with, AreProvedBehind}
 use Rattle.certificate.proofs.CompletingProofs.{heads}
 use Rattle.certificate.proofs.PlainLines.{IsPlain, plain_append, plain_word}
 use Rattle.sheet_answers.specs.Sheets.{refuting}
+use Rattle.proof_semantics.proofs.AcceptanceLaws.{refuting_lines}
 
 abbrev pub begins : List ℕ → ℕ
 begins [] = 0
@@ -114,30 +113,8 @@ other_fields (addition id clause hints) sizes =
     other_joined (decimal id) (map signed_text clause ++ (48 ∷ []) ∷ (map signed_text hints ++ (48 ∷ []) ∷ [])) (other_decimal id sizes.0.1)
 other_fields (deletion id ids) sizes = other_joined (decimal id) ((100 ∷ []) ∷ (map decimal ids ++ (48 ∷ []) ∷ [])) (other_decimal id sizes.0.1)
 
-judged_by : (s t : ProofState) (bytes : List ℕ) (o : Option Line) → line_of bytes ≡ o → judge_line s o ≡ Ok t → IsOther bytes
-judged_by s t bytes None read e = absurd (cc)
-judged_by s t bytes (Some line) read e =
-    let spelled = (reads_spelled bytes line).0 read in
-    subst IsOther (sym spelled.1) (other_fields line spelled.0)
-
-first_judged : (r : Result ProofState LratFault) (rest : ProofState → Result ProofState LratFault) (t : ProofState) → judge_next r rest ≡ Ok t
-    → (s : ProofState) × (r ≡ Ok s) × (rest s ≡ Ok t)
-first_judged (Ok s) rest t e = (s, refl, e)
-first_judged (Err fault) rest t e = absurd (cc)
-
-all_judged : (s t : ProofState) (proof : List (List ℕ)) → judge_all s proof ≡ Ok t → All IsOther proof
-all_judged s t [] e = All-nil IsOther
-all_judged s t (line ∷ proof) e =
-    let (later, first, others) = first_judged (judge s line) (λ u. judge_all u proof) t e in
-    All-cons IsOther line proof (judged_by s later line (line_of line) refl first) (all_judged later t proof others)
-
-refuting_by : (given : List (List Lit)) (proof : List (List ℕ)) (r : Result ProofState LratFault) → judge_all (start given) proof ≡ r
-    → IsOkAnd r (λ s. s.finished ≡ true) → All IsOther proof
-refuting_by given proof (Ok t) is h = all_judged (start given) t proof is
-refuting_by given proof (Err fault) is h = absurd h
-
 other_proof : (given : List (List Lit)) (proof : List (List ℕ)) → Refutes given proof → All IsOther proof
-other_proof given proof h = refuting_by given proof (judge_all (start given) proof) refl h
+other_proof = refuting_lines IsOther other_fields
 
 -- ---- entries and refutations
 

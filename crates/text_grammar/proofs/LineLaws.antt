@@ -8,7 +8,7 @@ use Rattle.text_grammar.specs.Laws.{FirstLine, LastLine, LinesLackLineFeed, Read
 use Rattle.text_grammar.proofs.PieceLaws.{joins_pieces, pieces_lack_byte, cuts_first, cuts_none}
 
 -- the pieces are a first one and others
-abbrev HasFirst : List (List ℕ) → Type 0
+abbrev pub HasFirst : List (List ℕ) → Type 0
 HasFirst ps = (piece : List ℕ) × (pieces : List (List ℕ)) × (ps ≡ piece ∷ pieces)
 
 onto_first_has : (b : ℕ) (ps : List (List ℕ)) → HasFirst (onto_first b ps)
@@ -19,7 +19,7 @@ step_has : (b : ℕ) (ps : List (List ℕ)) (test : Bool) → HasFirst (cond tes
 step_has b ps true = ([], ps, refl)
 step_has b ps false = onto_first_has b ps
 
-cut_has : (byte : ℕ) (bytes : List ℕ) → HasFirst (cut_at byte bytes)
+pub cut_has : (byte : ℕ) (bytes : List ℕ) → HasFirst (cut_at byte bytes)
 cut_has byte [] = ([], [], refl)
 cut_has byte (b ∷ bytes) = step_has b (cut_at byte bytes) (eqb b byte)
 

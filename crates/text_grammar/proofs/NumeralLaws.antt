@@ -1,5 +1,5 @@
 -- The laws of numbers in decimal.
-use Rattle.std.proofs.Common.{◌≡◌, ℕ, ◌<◌, ◌≤◌, ◌^◌, Bool, true, false, not, ◌&&◌, cond, leb, List, [], ◌∷◌, ◌++◌, length, get_or, drop, Option, Some, None, refl, ap, sym, ◌∙◌, subst, true≢false, inl, inr, eq-zero-or-pos, arith}
+use Rattle.std.proofs.Common.{◌≡◌, ◌≢◌, ℕ, ◌<◌, ◌≤◌, ◌^◌, Bool, true, false, not, ◌&&◌, cond, leb, List, [], ◌∷◌, ◌++◌, length, get_or, drop, Option, Some, None, refl, ap, sym, ◌∙◌, subst, true≢false, inl, inr, eq-zero-or-pos, arith}
 use Rattle.std.specs.Prelude.{decimal, take_while}
 use Rattle.std.specs.Int.{IsInRange}
 use Rattle.std.specs.Str.Parse.{AllDigits, digits_value}
@@ -9,8 +9,10 @@ use Rattle.std.proofs.lemmas.Option.{cond_some, same_Some, none-some}
 use Rattle.std.proofs.lemmas.Str.{digit_value_digit}
 use Rattle.std.proofs.lemmas.Str.Parse.{numerals_by_value, tells_digits, digit_from_value}
 use Rattle.std.proofs.lemmas.Fmt.{decimal_is_IsNumeral, decimal_digit, decimal_nonempty, first_decimal, decimal-digits_value}
+use Rattle.std.proofs.lemmas.List.Elements.{All-nil, All-cons}
 use Rattle.std.proofs.lemmas.List.Prefix.{front_rest}
 use Rattle.std.proofs.lemmas.List.Sums.{take_while-cons}
+use Rattle.text_grammar.specs.Pieces.{Lacks}
 use Rattle.text_grammar.specs.Numerals.{IsNumeral, is_digit, begins_with_digit, is_plain, number_at}
 use Rattle.text_grammar.specs.Laws.{ReadsNumerals, HasOneNumeral}
 
@@ -139,3 +141,11 @@ reads_plain limit bytes digits rest front behind plain small =
 -- where nothing is read, no number stands
 pub none_stands : (limit : ℕ) (bytes : List ℕ) → limit < 2 ^ 63 → number_at limit bytes ≡ None → (n : ℕ) (rest : List ℕ) → IsNumeral limit n bytes rest → ⊥
 none_stands limit bytes low none n rest stands = none-some _ (sym none ∙ stands_read limit n bytes rest low stands)
+
+-- there is no space among digits
+pub digits_lack : (digits : List ℕ) → AllDigits 10 digits → Lacks digits 32
+digits_lack [] all = All-nil (λ b. b ≢ 32)
+digits_lack (d ∷ digits) all =
+    let range = digit_from_value d all.0 in
+    let differs : d ≢ 32 = omega (arith, range.0) in
+    All-cons (λ b. b ≢ 32) d digits differs (digits_lack digits all.1)
