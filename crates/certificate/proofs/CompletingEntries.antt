@@ -30,7 +30,8 @@ use Rattle.entry.specs.Clauses.{clause_of}
 use Rattle.entry.specs.Faults.{first_bad_use, baseless_from, first_baseless, proofs_fault, or_else, first_fault}
 use Rattle.entry.specs.Proved.{obligation_of, IsProved}
 use Rattle.entry.proofs.Over.{clause_over}
-use Rattle.entry.proofs.Faultless.{faultless_is_proved}
+use Rattle.entry.proofs.Faultless.{faultless_is_proved, else-none}
+use Rattle.entry.proofs.Closed.{split-none}
 use Rattle.certificate.specs.declared.ends.Accepted.{Accepted}
 use Rattle.certificate.specs.declared.ends.AnswerFault.TheVariants as faults
 use Rattle.certificate.specs.Certificates.{AreClausesOf}
@@ -45,14 +46,10 @@ use Rattle.certificate.proofs.CompletingProofs.{heads, differs, refuting_next, r
 abbrev pub IsBased : Circuit → Kind → List Lit → Type 0
 IsBased c kind clause = has_base c kind clause ≡ true
 
-split_none : (test : Bool) (rest : Option ℕ) (n : ℕ) → cond test rest (Some n) ≡ None → (test ≡ true) × (rest ≡ None)
-split_none true rest n h = (refl, h)
-split_none false rest n h = absurd (cc)
-
 reach_based : (c : Circuit) (i : ℕ) (clauses : List (List Lit)) → baseless_from i (initial_cube c) clauses ≡ None → All (IsBased c Reach) clauses
 reach_based c i [] h = All-nil (IsBased c Reach)
 reach_based c i (clause ∷ clauses) h =
-    let both = split_none (list_any (has_literal (initial_cube c)) clause) _ i h in
+    let both = split-none (list_any (has_literal (initial_cube c)) clause) _ i h in
     All-cons (IsBased c Reach) clause clauses both.0 (reach_based c (i + 1) clauses both.1)
 
 reach_none : (c : Circuit) (i : ℕ) (clauses : List (List Lit)) → All (IsBased c Reach) clauses → baseless_from i (initial_cube c) clauses ≡ None
@@ -90,10 +87,6 @@ as_many c (ls ∷ literals) (k ∷ clauses) are =
 
 -- ---- a proved entry, by what each of its lines is tested for
 
-else_parts : {X : Type 0} (r : Option X) (f : X → EntryFault) (rest : Option EntryFault) → or_else r f rest ≡ None → (r ≡ None) × (rest ≡ None)
-else_parts None f rest h = (refl, h)
-else_parts (Some x) f rest h = absurd (cc)
-
 abbrev pub PassesEach : Circuit → List Entry → Entry → List (List (List ℕ)) → Type 0
 PassesEach c before e proofs =
     (first_bad_use (users.Entry e.kind) before e.uses ≡ None) × All (IsBased c e.kind) e.clauses × (proofs_fault (obligation_of c before e) 0 proofs ≡ None)
@@ -101,8 +94,8 @@ PassesEach c before e proofs =
 pub passes_each : (c : Circuit) (before : List Entry) (e : Entry) (proofs : List (List (List ℕ))) → IsProved c before e proofs → PassesEach c before e proofs
 passes_each c before e proofs is =
     let none = (faultless_is_proved c before e proofs is.over is.each.count).1 is in
-    let uses = else_parts (first_bad_use (users.Entry e.kind) before e.uses) BadUse _ none in
-    let clauses = else_parts (first_baseless c e.kind e.clauses) Base _ uses.1 in
+    let uses = else-none (first_bad_use (users.Entry e.kind) before e.uses) BadUse _ none in
+    let clauses = else-none (first_baseless c e.kind e.clauses) Base _ uses.1 in
     (uses.0, based_from_none c e.kind e.clauses clauses.0, clauses.1)
 
 pub proved_by_each : (c : Circuit) (before : List Entry) (e : Entry) (proofs : List (List (List ℕ))) → AreOver (length c.latches) e.clauses

@@ -13,10 +13,10 @@ use Rattle.certificate_lines.specs.declared.words.WordLine.TheVariants as lines
 use Rattle.certificate_lines.specs.Fields.{IsNumber}
 use Rattle.certificate_lines.specs.Words.{word_line_text, word_line_of}
 use Rattle.certificate_lines.proofs.WordLaws.{word_given_line, word_back}
-use Rattle.entry.specs.declared.faults.EntryFault.{EntryFault}
 use Rattle.entry.specs.declared.faults.EntryFault.TheVariants.{Proof}
 use Rattle.entry.specs.Faults.{unfinished_at, line_fault, fault_from, proof_fault, clause_fault, proofs_fault}
 use Rattle.entry.specs.Proved.{obligation_of}
+use Rattle.entry.proofs.Faultless.{finished-from_none, clause-none}
 use Rattle.certificate.specs.declared.ends.Accepted.{Accepted}
 use Rattle.certificate.specs.declared.ends.AnswerFault.TheVariants as faults
 use Rattle.certificate_texts.specs.Certificates.{proof_lines}
@@ -30,10 +30,6 @@ heads x y xs ys e = (cc, cc)
 pub differs : (m n : ℕ) → (m == n) ≡ false → m ≡ n → ⊥
 differs m n test same = false≢true (sym test ∙ eq-eqb m n same)
 
-pub finished : (line : ℕ) (b : Bool) → unfinished_at line b ≡ None → b ≡ true
-finished line true h = refl
-finished line false h = absurd (cc)
-
 -- ---- the refutation
 
 module _ (c : Circuit) (b : Body) (a : Accepted) where
@@ -41,7 +37,7 @@ module _ (c : Circuit) (b : Body) (a : Accepted) where
       → fault_from p.read p.state proof ≡ None → IsGoodAtEnd c (Ended b) a → (t : Bool) → (p.read == p.count) ≡ t
       → After c (if t then (if p.state.finished then Ok (Certified b Last) else Err (faults.Refutation p.count Unfinished)) else Ok (Certified b (RefutationLine p))) left a
   refuting_next_by p left [] spelled count passes end true test =
-      subst (λ f. After c (if f then Ok (Certified b Last) else Err (faults.Refutation p.count Unfinished)) left a) (sym (finished p.read p.state.finished passes)) (spelled, end)
+      subst (λ f. After c (if f then Ok (Certified b Last) else Err (faults.Refutation p.count Unfinished)) left a) (sym (finished-from_none p.read p.state.finished passes)) (spelled, end)
   refuting_next_by p left (line ∷ more) spelled count passes end true test = absurd (omega (arith, eqb-true p.read p.count test, count))
   refuting_next_by p left proof spelled count passes end false test =
       (record { proof = proof; spelled = spelled; count = count; passes = passes; end = end }, differs p.read p.count test)
@@ -129,10 +125,6 @@ pub no_more : {X : Type 0} → (text : X → List (List ℕ)) (i n : ℕ) (xs : 
 no_more text i n [] left rest spelled count test = spelled
 no_more text i n (x ∷ xs) left rest spelled count test = absurd (omega (arith, eqb-true i n test, count))
 
-pub clause_parts : (i : ℕ) (r : Option (ℕ × LratFault)) (rest : Option EntryFault) → clause_fault i r rest ≡ None → (r ≡ None) × (rest ≡ None)
-clause_parts i None rest h = (refl, h)
-clause_parts i (Some found) rest h = absurd (cc)
-
 module _ (c : Circuit) (b : Body) (e : Entry) (a : Accepted) where
   proof_next_by : (i : ℕ) (left : List (List ℕ)) → ProofsTail c b e i left a → (t : Bool) → (i == length e.clauses) ≡ t
       → After c (if t then Ok (Certified (with_entry b e) Start) else Ok (Certified b (EntryProof e i))) left a
@@ -163,7 +155,7 @@ module _ (c : Circuit) (b : Body) (e : Entry) (a : Accepted) where
       → fault_from p.read p.state proof ≡ None → ProofsTail c b e (i + 1) rest a → (t : Bool) → (p.read == p.count) ≡ t
       → After c (if t then (if p.state.finished then next_proof b e (i + 1) else entry_fault b (Proof i p.count Unfinished)) else Ok (Certified b (EntryLine e i p))) left a
   line_next_by i p left [] rest spelled count passes others true test =
-      subst (λ f. After c (if f then next_proof b e (i + 1) else entry_fault b (Proof i p.count Unfinished)) left a) (sym (finished p.read p.state.finished passes))
+      subst (λ f. After c (if f then next_proof b e (i + 1) else entry_fault b (Proof i p.count Unfinished)) left a) (sym (finished-from_none p.read p.state.finished passes))
       (proof_next (i + 1) left (subst (λ ls. ProofsTail c b e (i + 1) ls a) (sym spelled) others))
   line_next_by i p left (line ∷ more) rest spelled count passes others true test = absurd (omega (arith, eqb-true p.read p.count test, count))
   line_next_by i p left proof rest spelled count passes others false test =
@@ -243,7 +235,7 @@ module _ (c : Circuit) (b : Body) (e : Entry) (a : Accepted) where
       let parts = heads line (word_line_text (lines.Proof (length proof))) left ((proof ++ flat_map proof_lines proofs) ++ rest) spelled in
       let small : IsNumber (length proof) = All-head (λ proof. IsNumber (length proof)) proof proofs sizes in
       let read : word_line_of line ≡ Some (lines.Proof (length proof)) = word_back line (lines.Proof (length proof)) (record { numbers = small; spelled = parts.0 }) in
-      let both = clause_parts i (proof_fault (obligation_of c b.entries e i) proof) _ passes in
+      let both = clause-none i (proof_fault (obligation_of c b.entries e i) proof) _ passes in
       let tail : LinesTail c b e i (begin_proof (length proof) (obligation_of c b.entries e i)) left a = record {
         proof = proof;
         rest = flat_map proof_lines proofs ++ rest;

@@ -141,7 +141,7 @@ module _ (c : Circuit) (text : List ℕ) (short : length text ≤ most_bytes) wh
         };
       })
 
-good_short : (c : Circuit) (text : List ℕ) (a : Accepted) → IsGood c text a → length text ≤ most_bytes
+pub good_short : (c : Circuit) (text : List ℕ) (a : Accepted) → IsGood c text a → length text ≤ most_bytes
 good_short c text (Lasso n positions from) h = h.1
 good_short c text (Holds n entries) h = h.1
 

@@ -1,28 +1,16 @@
 -- A refutation has no bad use and no fault in its proof exactly where it is good.
-use Rattle.std.proofs.Common.{◌≡◌, ℕ, true, not, List, refl, None}
+use Rattle.std.proofs.Common.{◌≡◌, ℕ, List, None}
 use Rattle.std.specs.Prelude.{◌↔◌}
 use Rattle.aig_semantics.specs.Circuits.{Circuit}
 use Rattle.proof_semantics.specs.declared.literals.Lit.{Lit}
-use Rattle.fair_semantics.specs.declared.entries.Side.{Side}
-use Rattle.fair_semantics.specs.declared.entries.Side.TheVariants as sides
 use Rattle.fair_semantics.specs.declared.entries.Use.{Use}
 use Rattle.fair_semantics.specs.Entries.{Entry, used_entries}
 use Rattle.entry.specs.declared.uses.User.TheVariants as users
-use Rattle.entry.specs.Faults.{is_signed, first_bad_use, proof_fault}
+use Rattle.entry.specs.Faults.{first_bad_use, proof_fault}
 use Rattle.entry.proofs.Closed.{closed-from_none, none-from_closed}
-use Rattle.entry.proofs.Faultless.{refutes-from_none, none-from_refutes, faultless_is_good}
+use Rattle.entry.proofs.Faultless.{refutes-from_none, none-from_refutes, faultless_is_good, unsigned, not-signed}
 use Rattle.certificate.specs.declared.state.Refuted.TheVariants.{Skeletons, States}
 use Rattle.certificate.specs.Refuted.{Refuted, state_clauses, refuted_clauses, IsStateRefutation, IsRefutation}
-
-unsigned : (side : Side) → ((side ≡ sides.Any → ⊥) → ⊥) → not (is_signed side) ≡ true
-unsigned sides.Any h = refl
-unsigned sides.In h = absurd (h (λ e. cc))
-unsigned sides.Out h = absurd (h (λ e. cc))
-
-not-signed : (side : Side) → not (is_signed side) ≡ true → (side ≡ sides.Any → ⊥) → ⊥
-not-signed sides.Any h signed = signed refl
-not-signed sides.In h signed = absurd (cc)
-not-signed sides.Out h signed = absurd (cc)
 
 -- the refutation has no fault
 abbrev IsFaultless : Circuit → Refuted → List Entry → ℕ → List Use → List (List ℕ) → Type 0

@@ -1,5 +1,6 @@
 -- The obligations of a valid entry have no model, and proofs of them are the entry's.
 use Rattle.std.proofs.Common.{◌≡◌, ℕ, zero, suc, ◌<◌, Bool, true, List, [], ◌∷◌, ◌++◌, length, get_or, refl, sym, ap, subst, ◌∙◌, arith, Result, Ok, Err, IfOk}
+use Rattle.std.proofs.lemmas.List.{get_or_default}
 use Rattle.std.specs.List.{All, list_all}
 use Rattle.std.proofs.lemmas.Bool.{and_parts, true≢false, false_from_ne_true}
 use Rattle.aig_semantics.specs.Circuits.{Circuit}
@@ -17,11 +18,6 @@ use Rattle.entry.specs.Proved.{obligation_of, AreProofs}
 use Rattle.entry.specs.Laws.{IsGoodList}
 use Rattle.entry.proofs.Readable.{uses_readable, own_named}
 use Rattle.certify.specs.Refuted.{AreRefuted}
-
-same_at : (xs : List (List Lit)) (i : ℕ) (d f : List Lit) → i < length xs → get_or xs i d ≡ get_or xs i f
-same_at [] i d f below = absurd (omega arith)
-same_at (x ∷ xs) zero d f below = refl
-same_at (x ∷ xs) (suc i) d f below = same_at xs i d f (omega arith)
 
 one_of : (p : List Lit → Bool) (clauses : List (List Lit)) (i : ℕ) → i < length clauses → list_all p clauses ≡ true → p (get_or clauses i []) ≡ true
 one_of p [] i below h = absurd (omega arith)
@@ -52,14 +48,14 @@ pub broken_at : (c : Circuit) (i : ℕ) (added given items clauses : List (List 
 broken_at c i added given items clauses clause d literals kept same below is are =
     ap (λ cs. cs ++ units literals) kept
     ∙ ap (λ ls. given ++ units ls) are
-    ∙ ap (λ x. given ++ units (broken_literals c x)) (is ∙ same_at items i d [] below ∙ ap (λ cs. get_or cs i []) same)
+    ∙ ap (λ x. given ++ units (broken_literals c x)) (is ∙ get_or_default items i d [] below ∙ ap (λ cs. get_or cs i []) same)
 
 -- no clause of a valid entry can be broken
 pub none_broken : (c : Circuit) (before : List Entry) (e : Entry) (added : List (List Lit)) → ObligationsTell c → IsGoodList c before → IsValid c before e
     → AreOver (length c.latches) e.clauses → added ≡ shared_clauses c (used_entries before e.uses) e.uses e.clauses
     → All (λ clause. IsUnsatisfiable (added ++ units (broken_literals c clause))) e.clauses
 none_broken c before e added tell good valid over shared = λ i d below v.
-    ap (λ x. clauses_value v (added ++ units (broken_literals c x))) (same_at e.clauses i d [] below)
+    ap (λ x. clauses_value v (added ++ units (broken_literals c x))) (get_or_default e.clauses i d [] below)
     ∙ ap (λ cs. clauses_value v (cs ++ units (broken_literals c (get_or e.clauses i [])))) shared
     ∙ no_model c before e i tell good valid over below v
 

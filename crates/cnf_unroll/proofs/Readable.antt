@@ -11,7 +11,7 @@ use Rattle.fair_semantics.specs.Entries.{Entry, entry_at, used_entries, IsSigned
 use Rattle.fair_semantics.proofs.Alone.{Uses-each}
 use Rattle.cnf_unroll.specs.Laws.{AreOver, NameKnown, walls_for, walls_with, walls_among, AreReadable, IsPlain, IsUnderstood}
 
-uses-cases : (u : Use) (rest : List Use) (n : ℕ) → Uses (u ∷ rest) n → (u.entry ≡ n) ⊎ Uses rest n
+pub uses-cases : (u : Use) (rest : List Use) (n : ℕ) → Uses (u ∷ rest) n → (u.entry ≡ n) ⊎ Uses rest n
 uses-cases u rest n (zero, x, below, at, is) = inl (ap (λ w. w.entry) at ∙ is)
 uses-cases u rest n (suc k, x, below, at, is) = inr (k, x, omega arith, at, is)
 
@@ -22,7 +22,7 @@ above_first u rest ascend n (suc k, x, below, at, is) =
     let lt = ascend 0 (suc k) x (omega arith) below in
     omega arith
 
-named_by : (kind : Kind) (walls : List ℕ) (uses : List Use) → (kind ≡ Reach → All (λ u. IsSigned u → ⊥) uses) → All (λ u. IsSigned u → Contains walls u.entry) uses → NameKnown (walls_for kind walls) uses
+pub named_by : (kind : Kind) (walls : List ℕ) (uses : List Use) → (kind ≡ Reach → All (λ u. IsSigned u → ⊥) uses) → All (λ u. IsSigned u → Contains walls u.entry) uses → NameKnown (walls_for kind walls) uses
 named_by Reach walls uses none known = λ k d below signed. absurd (none refl k d below signed)
 named_by Wall walls uses none known = known
 

@@ -79,7 +79,7 @@ uses-left : (earlier later : List Use) (n : ℕ) → Uses earlier n → Uses (ea
 uses-left earlier later n (k, v, inside, at, same) =
     (k, v, let h : k < length (earlier ++ later) = omega (arith, length-append earlier later) in h, get_or_append_left earlier later v k inside ∙ at, same)
 
-known-at : (earlier : List Use) (n : ℕ) → list_any (λ v. v.entry == n) earlier ≡ true → Uses earlier n
+pub known-at : (earlier : List Use) (n : ℕ) → list_any (λ v. v.entry == n) earlier ≡ true → Uses earlier n
 known-at earlier n h =
     let found : Any (λ v. (v.entry == n) ≡ true) earlier = Any-from_list_any (λ v. v.entry == n) earlier h in
     (found.0, found.1, found.2, found.3, eqb-true found.1.entry n found.4)

@@ -2,7 +2,7 @@
 use Rattle.std.proofs.Common.{◌≡◌, ℕ, zero, suc, ◌+◌, ◌<◌, Bool, true, false, not, List, [], ◌∷◌, length, get_or, refl, ap, subst, ◌∙◌, arith, Some, None, Option, Ok, Err, Result}
 use Rattle.std.specs.Prelude.{IsOkAnd}
 use Rattle.std.specs.List.{All, list_any}
-use Rattle.std.proofs.lemmas.List.Elements.{All-cons, All-nil, All-head, All-tail}
+use Rattle.std.proofs.lemmas.List.Elements.{All-cons, All-nil, All-head, All-tail, All-weaker}
 use Rattle.aig_semantics.specs.Circuits.{Circuit}
 use Rattle.proof_semantics.specs.declared.literals.Lit.{Lit}
 use Rattle.proof_semantics.specs.declared.faults.LratFault.{LratFault}
@@ -16,6 +16,7 @@ use Rattle.fair_semantics.specs.States.{initial_cube}
 use Rattle.fair_semantics.specs.Entries.{Entry, used_entries}
 use Rattle.cnf_unroll.specs.Obligations.{skeleton_clauses}
 use Rattle.cnf_unroll.specs.Laws.{AreOver}
+use Rattle.proof_semantics.proofs.LiteralLaws.{common-swap}
 use Rattle.entry.specs.declared.uses.User.TheVariants as users
 use Rattle.entry.specs.declared.faults.EntryFault.{EntryFault}
 use Rattle.entry.specs.declared.faults.EntryFault.TheVariants.{BadUse, Base}
@@ -49,7 +50,7 @@ none-baseless c Wall clauses h = refl
 abbrev pub IsDone : ProofState → Type 0
 IsDone s = s.finished ≡ true
 
-finished-from_none : (line : ℕ) (b : Bool) → unfinished_at line b ≡ None → b ≡ true
+pub finished-from_none : (line : ℕ) (b : Bool) → unfinished_at line b ≡ None → b ≡ true
 finished-from_none line true h = refl
 finished-from_none line false h = absurd (cc)
 
@@ -79,7 +80,7 @@ refutes-from_none given lines h = done-from_none 0 (start given) lines h
 pub none-from_refutes : (given : List (List Lit)) (lines : List (List ℕ)) → Refutes given lines → proof_fault given lines ≡ None
 none-from_refutes given lines h = none-from_done 0 (start given) lines h
 
-clause-none : (i : ℕ) (r : Option (ℕ × LratFault)) (rest : Option EntryFault) → clause_fault i r rest ≡ None → (r ≡ None) × (rest ≡ None)
+pub clause-none : (i : ℕ) (r : Option (ℕ × LratFault)) (rest : Option EntryFault) → clause_fault i r rest ≡ None → (r ≡ None) × (rest ≡ None)
 clause-none i None rest h = (refl, h)
 clause-none i (Some found) rest h = absurd (cc)
 
@@ -109,7 +110,7 @@ reach-kind Reach Reach side h is = refl
 reach-kind Reach Wall side h is = absurd (cc)
 reach-kind Wall used side h is = absurd (cc)
 
-unsigned : (side : Side) → ((side ≡ sides.Any → ⊥) → ⊥) → not (is_signed side) ≡ true
+pub unsigned : (side : Side) → ((side ≡ sides.Any → ⊥) → ⊥) → not (is_signed side) ≡ true
 unsigned sides.Any h = refl
 unsigned sides.In h = absurd (h (λ e. cc))
 unsigned sides.Out h = absurd (h (λ e. cc))
@@ -128,7 +129,7 @@ entry-may Wall Wall side reach wall = refl
 
 -- ---- the whole
 
-else-none : {X : Type 0} (r : Option X) (f : X → EntryFault) (rest : Option EntryFault) → or_else r f rest ≡ None → (r ≡ None) × (rest ≡ None)
+pub else-none : {X : Type 0} (r : Option X) (f : X → EntryFault) (rest : Option EntryFault) → or_else r f rest ≡ None → (r ≡ None) × (rest ≡ None)
 else-none None f rest h = (refl, h)
 else-none (Some x) f rest h = absurd (cc)
 
@@ -174,7 +175,7 @@ faultless_is_proved c before e proofs over count = (proved c before e proofs ove
 
 -- ---- refutations
 
-not-signed : (side : Side) → not (is_signed side) ≡ true → (side ≡ sides.Any → ⊥) → ⊥
+pub not-signed : (side : Side) → not (is_signed side) ≡ true → (side ≡ sides.Any → ⊥) → ⊥
 not-signed sides.Any h signed = signed refl
 not-signed sides.In h signed = absurd (cc)
 not-signed sides.Out h signed = absurd (cc)
@@ -198,3 +199,10 @@ faultless_is_good c entries j uses proof =
     )
     in
     (good, back)
+
+-- a base, from the clause or from the initial cube
+pub base-swap : (c : Circuit) (clauses : List (List Lit))
+    → All (λ clause. list_any (has_literal clause) (initial_cube c) ≡ true) clauses → All (holds_initial c) clauses
+base-swap c clauses h =
+    All-weaker (λ clause. list_any (has_literal clause) (initial_cube c) ≡ true) (holds_initial c)
+    (λ clause e. common-swap clause (initial_cube c) e) clauses h

@@ -1,5 +1,5 @@
 -- Closed uses of a good list can be understood by themselves.
-use Rattle.std.proofs.Common.{◌≡◌, ℕ, zero, suc, ◌<◌, List, [], ◌∷◌, ◌++◌, length, get_or, take, drop, refl, sym, ap, subst, ◌∙◌, inl, inr, ◌⊎◌, arith, append_assoc, append-nil}
+use Rattle.std.proofs.Common.{◌≡◌, ℕ, zero, suc, ◌<◌, List, [], ◌∷◌, length, get_or, take, drop, refl, sym, ap, subst, ◌∙◌, inl, inr, ◌⊎◌, arith}
 use Rattle.std.specs.List.{All, AllPairs, Contains}
 use Rattle.std.proofs.lemmas.List.{take-append-drop}
 use Rattle.std.proofs.lemmas.List.Elements.{All-head, All-tail}
@@ -8,19 +8,14 @@ use Rattle.fair_semantics.specs.declared.entries.Kind.{Kind}
 use Rattle.fair_semantics.specs.declared.entries.Kind.TheVariants.{Reach, Wall}
 use Rattle.fair_semantics.specs.declared.entries.Use.{Use}
 use Rattle.fair_semantics.specs.Entries.{Entry, entry_at, used_entries, IsSigned, Uses, AreClosed}
-use Rattle.fair_semantics.specs.Validity.{IsValid, AreValid, AreValidBehind}
+use Rattle.fair_semantics.specs.Validity.{IsValid, AreValid}
 use Rattle.fair_semantics.proofs.Sets.{entry_at-earlier, Uses-least}
-use Rattle.cnf_unroll.specs.Laws.{NameKnown, walls_for, walls_with, walls_among, IsReadable, AreReadable}
+use Rattle.cnf_unroll.specs.Laws.{NameKnown, walls_with, walls_among, IsReadable, AreReadable}
+use Rattle.cnf_unroll.proofs.Readable.{uses-cases, named_by}
+use Rattle.fair_semantics.proofs.Lists.{valid-at}
 use Rattle.entry.specs.Laws.{IsGoodList}
 
 -- ---- what is good of each entry of the list
-
-pub valid-at : (c : Circuit) (before after : List Entry) (n : ℕ) → AreValidBehind c before after → n < length after
-    → IsValid c (before ++ take n after) (entry_at after n)
-valid-at c before [] n valid below = absurd (omega arith)
-valid-at c before (e ∷ after) zero valid below = subst (λ es. IsValid c es e) (sym (append-nil before)) valid.0
-valid-at c before (e ∷ after) (suc n) valid below =
-    subst (λ es. IsValid c es (entry_at after n)) (append_assoc before (e ∷ []) (take n after)) (valid-at c (before ++ e ∷ []) after n valid.1 (omega arith))
 
 reach-not-wall : (kind : Kind) → kind ≡ Reach → kind ≡ Wall → ⊥
 reach-not-wall Reach r w = cc
@@ -37,7 +32,7 @@ front-kind entries n m below = sym (entry_at-earlier (take n entries) (drop n en
 pub names_walls : (c : Circuit) (entries : List Entry) (n : ℕ) → AreValid c entries → n < length entries → NamesWalls entries n
 names_walls c entries n valid below =
     let e : Entry = entry_at entries n in
-    let here : IsValid c (take n entries) e = valid-at c [] entries n valid below in
+    let here : IsValid c (take n entries) e = valid-at c entries n valid below in
     record {
       walls = λ k d inside signed.
           ap (λ f. f.kind) (sym (front-kind entries n _ (here.uses.present k d inside))) ∙ here.uses.walls k d inside signed;
@@ -88,15 +83,6 @@ abbrev pub IsNamedWell : List Entry → List ℕ → List Use → Use → Type 0
 IsNamedWell entries walls uses u =
     All (λ v. IsSigned v → (v.entry < u.entry) × (Contains walls v.entry ⊎ Uses uses v.entry)) (entry_at entries u.entry).uses
 
-first-or-later : (u : Use) (uses : List Use) (n : ℕ) → Uses (u ∷ uses) n → (u.entry ≡ n) ⊎ Uses uses n
-first-or-later u uses n (zero, v, inside, at, same) = inl (ap (λ x. x.entry) at ∙ same)
-first-or-later u uses n (suc k, v, inside, at, same) = inr (k, v, omega arith, at, same)
-
-named-known : (kind : Kind) (walls : List ℕ) (uses : List Use) → (kind ≡ Reach → All (λ v. IsSigned v → ⊥) uses)
-    → All (λ v. IsSigned v → Contains walls v.entry) uses → NameKnown (walls_for kind walls) uses
-named-known Reach walls uses none known = λ k d inside signed. absurd (none refl k d inside signed)
-named-known Wall walls uses none known = known
-
 pub readable : (c : Circuit) (entries : List Entry) (seen walls : List ℕ) (uses : List Use) → IsGoodList c entries
     → Ascend uses → All (λ u. u.entry < length entries) uses
     → ((n : ℕ) → Contains seen n → All (λ u. n < u.entry) uses)
@@ -133,7 +119,7 @@ readable c entries seen walls (u ∷ uses) good ascend present older named =
     elim h.1 [
       | inl is ↦ inl (with-kept e.kind u.entry walls n is)
       | inr used ↦
-          elim (first-or-later u uses n used) [
+          elim (uses-cases u uses n used) [
             | inl same ↦
                 let wall : e.kind ≡ Wall = ap (λ m. (entry_at entries m).kind) same ∙ walls_of.walls i f within signed in
                 inl (subst (Contains more) same (with-new e.kind u.entry walls wall))
@@ -146,7 +132,7 @@ readable c entries seen walls (u ∷ uses) good ascend present older named =
     let first : IsReadable (length c.latches) seen walls (record { number = u.entry; entry = e }) = record {
       fresh = λ is. (let r = All-head (λ x. u.entry < x.entry) u uses (older u.entry is) in omega arith);
       over = good.over u.entry (record { kind = Reach; clauses = []; uses = [] }) there;
-      named = named-known e.kind walls e.uses names.reach known;
+      named = named_by e.kind walls e.uses names.reach known;
     }
     in (
       first,

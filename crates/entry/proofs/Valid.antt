@@ -41,13 +41,13 @@ pub wall-side : (kind : Kind) (set : List Bool → Bool) (s t : List Bool) → k
 wall-side Reach set s t is h = absurd (cc)
 wall-side Wall set s t is h = same_side (set s) (set t) h
 
-side-kept : (side : Side) (kind : Kind) (set : List Bool → Bool) (s t : List Bool) → ((side ≡ sides.Any → ⊥) → kind ≡ Wall)
+pub side-kept : (side : Side) (kind : Kind) (set : List Bool → Bool) (s t : List Bool) → ((side ≡ sides.Any → ⊥) → kind ≡ Wall)
     → allows_by kind set (s ∷ t ∷ []) ≡ true → lies_on side (set s) ≡ true → lies_on side (set t) ≡ true
 side-kept sides.Any kind set s t wall h lies = refl
 side-kept sides.In kind set s t wall h lies = sym (wall-side kind set s t (wall (λ e. cc)) h) ∙ lies
 side-kept sides.Out kind set s t wall h lies = ap not (sym (wall-side kind set s t (wall (λ e. cc)) h)) ∙ lies
 
-sides-kept : (sets : ℕ → List Bool → Bool) (before : List Entry) (uses : List Use) (s t : List Bool)
+pub sides-kept : (sets : ℕ → List Bool → Bool) (before : List Entry) (uses : List Use) (s t : List Bool)
     → All (λ u. IsSigned u → (entry_at before u.entry).kind ≡ Wall) uses
     → all_allow sets (used_entries before uses) (s ∷ t ∷ []) ≡ true
     → list_all (λ u. lies_on u.side (sets u.entry s)) uses ≡ true → list_all (λ u. lies_on u.side (sets u.entry t)) uses ≡ true
@@ -73,7 +73,7 @@ none-named sets (u ∷ uses) s h =
 
 -- ---- clauses
 
-each-true : (p : List Lit → Bool) (clauses : List (List Lit)) → ((i : ℕ) → i < length clauses → p (get_or clauses i []) ≡ true) → list_all p clauses ≡ true
+pub each-true : (p : List Lit → Bool) (clauses : List (List Lit)) → ((i : ℕ) → i < length clauses → p (get_or clauses i []) ≡ true) → list_all p clauses ≡ true
 each-true p [] h = refl
 each-true p (clause ∷ clauses) h = and_from _ _ (h 0 (omega arith)) (each-true p clauses (λ i below. h (suc i) (omega arith)))
 

@@ -1,18 +1,16 @@
 -- What the answers of the search for a path come to for a skeleton: runs that fit it, or entries that exclude it.
-use Rattle.std.proofs.Common.{◌≡◌, ◌≢◌, ℕ, ◌%◌, max, zero, suc, ◌+◌, ◌-◌, ◌*◌, ◌<◌, ◌≤◌, Bool, true, false, ◌||◌, List, [], ◌∷◌, ◌++◌, ◌⊎◌, inl, inr, map, length, get_or, set, refl, sym, ap, ◌∙◌, subst, IsTrue, arith}
+use Rattle.std.proofs.Common.{◌≡◌, ◌≢◌, ℕ, ◌%◌, max, zero, suc, ◌+◌, ◌-◌, ◌*◌, ◌<◌, ◌≤◌, Bool, true, false, List, [], ◌∷◌, ◌++◌, inl, inr, map, length, get_or, set, refl, sym, ap, ◌∙◌, subst, IsTrue, arith}
 use Rattle.std.specs.List.{list_any, flat_map, All}
-use Rattle.std.proofs.lemmas.Bool.{false≢true}
 use Rattle.std.proofs.lemmas.List.{same_from_push, get_or-map, map-set, get_or-set_same, get_or-set_other, length-set, get_or_append_left, get_or-append-add, length-append}
 use Rattle.std.proofs.Math.Nat.{mod_self, mod-eq_of_lt}
 use Rattle.std.proofs.Math.Seq.{get_or-append_seam}
 use Rattle.std.proofs.lemmas.Bool.{cases_lt}
-use Rattle.std.proofs.lemmas.List.Elements.{All-nil, All-get_or, All-weaker}
+use Rattle.std.proofs.lemmas.List.Elements.{All-nil, All-get_or}
 use Rattle.aig_semantics.specs.declared.traces.Position.{Position}
 use Rattle.aig_semantics.specs.Circuits.{Circuit, fair_literals, IsWithinLimits}
 use Rattle.aig_semantics.specs.Runs.{literal_at, successor}
 use Rattle.proof_semantics.specs.declared.literals.Lit.{Lit}
-use Rattle.proof_semantics.specs.Clauses.{lit_eq, has_literal, cube_value, values_of}
-use Rattle.proof_semantics.proofs.LiteralLaws.{lit_eq-true, lit_eq-same}
+use Rattle.proof_semantics.specs.Clauses.{has_literal, cube_value, values_of}
 use Rattle.fair_semantics.specs.declared.entries.Kind.TheVariants.{Reach, Wall}
 use Rattle.fair_semantics.specs.declared.entries.Use.{Use}
 use Rattle.fair_semantics.specs.declared.skeletons.Situation.{Situation}
@@ -20,7 +18,6 @@ use Rattle.fair_semantics.specs.States.{initial_cube}
 use Rattle.fair_semantics.specs.Entries.{Entry}
 use Rattle.fair_semantics.specs.Skeletons.{states_of, IsSituation, IsSkeleton}
 use Rattle.fair_semantics.specs.Validity.{set_behind, IsValid}
-use Rattle.entry.specs.Proved.{holds_initial}
 use Rattle.cnf_unroll.specs.Laws.{AreOver}
 use Rattle.lasso_join.specs.Fitting.{LeadsTo, IsStemTo, Fit}
 use Rattle.ic3_semantics.specs.declared.questions.Start.TheVariants.{Initial, State}
@@ -30,6 +27,7 @@ use Rattle.ic3_semantics.specs.declared.questions.Reached.TheVariants.{Path, Clo
 use Rattle.ic3_semantics.specs.Arenas.{in_arena}
 use Rattle.ic3_semantics.specs.Searching.{Question, IsPath, IsPathTo, IsPathToLiteral, MeetsLiteral, IsReached, Separates, closed_entry}
 use Rattle.skeleton.specs.Finding.{IsAllowed}
+use Rattle.entry.proofs.Faultless.{base-swap}
 use Rattle.fair_round.specs.declared.walking.Advance.{Advance}
 use Rattle.fair_round.specs.declared.walking.Advance.TheVariants as advances
 use Rattle.fair_round.specs.declared.ways.Way.{Way}
@@ -57,47 +55,6 @@ state-at situations k d inside = sym (get_or-map (λ (s : Situation). s.position
 pub successor-at : (situations : List Situation) (k : ℕ) (d : Situation) → k < length situations
     → (get_or situations k d).successor ≡ get_or (successors situations) k []
 successor-at situations k d inside = sym (get_or-map (λ (s : Situation). s.successor) situations k d [] inside)
-
--- ---- a literal of the initial cube
-
-lit-swap : (a b : Lit) → lit_eq a b ≡ true → lit_eq b a ≡ true
-lit-swap a b h = let e : a ≡ b = lit_eq-true a b h in ap (lit_eq b) e ∙ lit_eq-same b
-
-or-left : (a b : Bool) → a ≡ true → (a || b) ≡ true
-or-left a b h = ap (λ c. c || b) h
-
-or-right : (a b : Bool) → b ≡ true → (a || b) ≡ true
-or-right true b h = refl
-or-right false b h = h
-
-or-cases : (a b : Bool) → (a || b) ≡ true → (a ≡ true) ⊎ (b ≡ true)
-or-cases true b h = inl refl
-or-cases false b h = inr h
-
-any-weaker : (p q : Lit → Bool) → ((l : Lit) → p l ≡ true → q l ≡ true) → (xs : List Lit) → list_any p xs ≡ true → list_any q xs ≡ true
-any-weaker p q w [] h = h
-any-weaker p q w (x ∷ xs) h =
-    elim (or-cases (p x) (list_any p xs) h) [
-      | inl here ↦ or-left (q x) (list_any q xs) (w x here)
-      | inr later ↦ or-right (q x) (list_any q xs) (any-weaker p q w xs later)
-    ]
-
-pub common-swap : (xs ys : List Lit)
-    → list_any (has_literal xs) ys ≡ true → list_any (has_literal ys) xs ≡ true
-common-swap xs [] h = absurd (false≢true h)
-common-swap xs (y ∷ ys) h =
-    elim (or-cases (has_literal xs y) (list_any (has_literal xs) ys) h) [
-      | inl here ↦
-          any-weaker (lit_eq y) (has_literal (y ∷ ys)) (λ l e. or-left (lit_eq l y) (list_any (lit_eq l) ys) (lit-swap y l e)) xs here
-      | inr later ↦
-          any-weaker (has_literal ys) (has_literal (y ∷ ys)) (λ l e. or-right (lit_eq l y) (list_any (lit_eq l) ys) e) xs (common-swap xs ys later)
-    ]
-
-pub base-swap : (c : Circuit) (clauses : List (List Lit))
-    → All (λ clause. list_any (has_literal clause) (initial_cube c) ≡ true) clauses → All (holds_initial c) clauses
-base-swap c clauses h =
-    All-weaker (λ clause. list_any (has_literal clause) (initial_cube c) ≡ true) (holds_initial c)
-    (λ clause e. common-swap clause (initial_cube c) e) clauses h
 
 -- ---- the stem
 

@@ -33,6 +33,7 @@ use Rattle.ic3_questions.proofs.Sides.{sides_are_arena, own_uses_are, own_closed
 use Rattle.ic3_semantics.proofs.Separated.{separated}
 use Rattle.ic3_loops.proofs.Narrowing.{all_true, misses_within}
 use Rattle.ic3_loops.proofs.Sounds.{Levels, all_parts}
+use Rattle.ic3_semantics.proofs.Asked.{reach_alone}
 
 all_frame : (P : List Lit → Type 0) (levels : Levels) (k : ℕ) → All P (frame_at levels 0) → All P (frame_at levels k)
 all_frame P [] zero h = h
@@ -88,10 +89,6 @@ starts_lie view start s is = all_starts_on view start s (restricting start view)
 -- from the initial states reach entries alone are used
 abbrev IsReachEntry : Numbered → Type 0
 IsReachEntry e = e.entry.kind ≡ Reach
-
-reach_alone : (kind : Kind) → restricts Initial kind ≡ true → kind ≡ Reach
-reach_alone Reach h = refl
-reach_alone Wall h = absurd (false≢true h)
 
 one_reach : (b : Bool) (e : Numbered) (es : List Numbered) → restricts Initial e.entry.kind ≡ b → All IsReachEntry es
     → All IsReachEntry (cond b (e ∷ es) es)

@@ -1,14 +1,14 @@
 -- Clauses without uses that stand by themselves, and each of which holds a literal of the initial cube, separate the
 -- initial states from the goal.
-use Rattle.std.proofs.Common.{◌≡◌, Bool, true, List, [], ◌∷◌, length, refl, sym, ap, ◌∙◌, subst, inl, inr}
+use Rattle.std.proofs.Common.{◌≡◌, Bool, true, List, [], length, refl, sym, subst}
 use Rattle.std.specs.List.{All, list_any}
-use Rattle.std.proofs.lemmas.Bool.{and_from, or_cases, or_left, or_right, false≢true}
+use Rattle.std.proofs.lemmas.Bool.{and_from}
 use Rattle.std.proofs.lemmas.List.Elements.{All-nil, All-weaker}
 use Rattle.aig_semantics.specs.Circuits.{Circuit}
 use Rattle.aig_semantics.specs.Runs.{IsInitial}
 use Rattle.proof_semantics.specs.declared.literals.Lit.{Lit}
-use Rattle.proof_semantics.specs.Clauses.{lit_eq, has_literal}
-use Rattle.proof_semantics.proofs.LiteralLaws.{lit_eq-true, lit_eq-same}
+use Rattle.proof_semantics.specs.Clauses.{has_literal}
+use Rattle.proof_semantics.proofs.LiteralLaws.{common-swap}
 use Rattle.fair_semantics.specs.declared.entries.Kind.TheVariants.{Reach}
 use Rattle.fair_semantics.specs.declared.entries.Use.{Use}
 use Rattle.fair_semantics.specs.States.{initial_cube, meets_clauses}
@@ -29,32 +29,11 @@ use Rattle.ic3_closing.proofs.Unbroken.{stays}
 
 -- ---- a literal of the initial cube
 
-lit_swap : (a b : Lit) → lit_eq a b ≡ true → lit_eq b a ≡ true
-lit_swap a b h = let e : a ≡ b = lit_eq-true a b h in ap (lit_eq b) e ∙ lit_eq-same b
-
-any_weaker : (p q : Lit → Bool) → ((l : Lit) → p l ≡ true → q l ≡ true) → (xs : List Lit) → list_any p xs ≡ true → list_any q xs ≡ true
-any_weaker p q w [] h = h
-any_weaker p q w (x ∷ xs) h =
-    elim (or_cases (p x) (list_any p xs) h) [
-      | inl here ↦ or_left (q x) (list_any q xs) (w x here)
-      | inr later ↦ or_right (q x) (list_any q xs) (any_weaker p q w xs later)
-    ]
-
-common_swap : (xs ys : List Lit) → list_any (has_literal xs) ys ≡ true → list_any (has_literal ys) xs ≡ true
-common_swap xs [] h = absurd (false≢true h)
-common_swap xs (y ∷ ys) h =
-    elim (or_cases (has_literal xs y) (list_any (has_literal xs) ys) h) [
-      | inl here ↦
-          any_weaker (lit_eq y) (has_literal (y ∷ ys)) (λ l e. or_left (lit_eq l y) (list_any (lit_eq l) ys) (lit_swap y l e)) xs here
-      | inr later ↦
-          any_weaker (has_literal ys) (has_literal (y ∷ ys)) (λ l e. or_right (lit_eq l y) (list_any (lit_eq l) ys) e) xs (common_swap xs ys later)
-    ]
-
 seen_base : (c : Circuit) (clauses : List (List Lit)) → All (holds_initial c) clauses
     → All (λ clause. list_any (has_literal clause) (initial_cube c) ≡ true) clauses
 seen_base c clauses h =
     All-weaker (holds_initial c) (λ clause. list_any (has_literal clause) (initial_cube c) ≡ true)
-    (λ clause e. common_swap (initial_cube c) clause e) clauses h
+    (λ clause e. common-swap (initial_cube c) clause e) clauses h
 
 -- ---- the entry
 

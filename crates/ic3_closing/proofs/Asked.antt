@@ -1,5 +1,6 @@
 -- The obligations that were asked for so far.
-use Rattle.std.proofs.Common.{◌≡◌, ℕ, zero, suc, ◌+◌, ◌<◌, List, [], ◌∷◌, length, get_or, refl, sym, ap, subst, ◌∙◌, inl, inr, arith}
+use Rattle.std.proofs.Common.{◌≡◌, ℕ, ◌+◌, ◌<◌, List, [], length, get_or, sym, ap, subst, ◌∙◌, inl, inr, arith}
+use Rattle.std.proofs.lemmas.List.{get_or_default}
 use Rattle.std.proofs.lemmas.Bool.{cases_lt}
 use Rattle.aig_semantics.specs.Circuits.{Circuit}
 use Rattle.proof_semantics.specs.declared.literals.Lit.{Lit}
@@ -8,11 +9,6 @@ use Rattle.fair_semantics.specs.Entries.{Entry}
 use Rattle.cdcl.specs.Solving.{HasNoModel}
 use Rattle.cnf_unroll.specs.Obligations.{broken_literals}
 use Rattle.ic3_closing.specs.Standing.{shared_by, NoneBreaks}
-
-same_at : (xs : List (List Lit)) (i : ℕ) (d f : List Lit) → i < length xs → get_or xs i d ≡ get_or xs i f
-same_at [] i d f below = absurd (omega arith)
-same_at (x ∷ xs) zero d f below = refl
-same_at (x ∷ xs) (suc i) d f below = same_at xs i d f (omega arith)
 
 -- one obligation more
 pub one_more : (c : Circuit) (view : List Entry) (clauses items : List (List Lit)) (uses : List Use) (n : ℕ) (added : List (List Lit)) (clause d : List Lit)
@@ -26,5 +22,5 @@ one_more c view clauses items uses n added clause d same below is here before la
           let place : n < length clauses = subst (λ cs. n < length cs) same below in
           subst (λ k. HasNoModel (shared_by c view clauses uses) (broken_literals c (get_or clauses k []))) (sym at)
           (subst (λ cs. HasNoModel cs (broken_literals c (get_or clauses n []))) is
-          (subst (λ x. HasNoModel added (broken_literals c x)) (here ∙ ap (λ cs. get_or cs n d) same ∙ same_at clauses n d [] place) last))
+          (subst (λ x. HasNoModel added (broken_literals c x)) (here ∙ ap (λ cs. get_or cs n d) same ∙ get_or_default clauses n d [] place) last))
     ]

@@ -1,21 +1,17 @@
 -- A part of a closed set whose obligations have no model is closed.
-use Rattle.std.proofs.Common.{◌≡◌, ℕ, suc, ◌<◌, Bool, true, false, not, ◌&&◌, ◌||◌, List, [], ◌∷◌, length, get_or, refl, sym, ap, subst, ◌∙◌, arith}
+use Rattle.std.proofs.Common.{◌≡◌, ℕ, ◌<◌, Bool, true, false, not, ◌||◌, List, [], ◌∷◌, length, get_or, refl, sym, subst, ◌∙◌}
 use Rattle.std.specs.Prelude.{◌==◌}
-use Rattle.std.specs.List.{All, Any, AllPairs, list_any, list_all}
-use Rattle.std.proofs.lemmas.Bool.{and_parts, and_from, eqb-true, true_from_ne_false}
-use Rattle.std.proofs.lemmas.List.Elements.{All-head, All-tail, All-nil, All-cons}
-use Rattle.std.proofs.lemmas.List.Folds.{Any-from_list_any}
+use Rattle.std.specs.List.{All, AllPairs, list_any, list_all}
+use Rattle.std.proofs.lemmas.Bool.{and_parts, and_from, true_from_ne_false}
+use Rattle.std.proofs.lemmas.List.Elements.{All-nil, All-cons}
 use Rattle.aig_semantics.specs.Circuits.{Circuit}
 use Rattle.proof_semantics.specs.declared.literals.Lit.{Lit}
-use Rattle.proof_semantics.specs.Clauses.{bool_eq, literal_value, clause_value, clauses_value, cube_value, values_of}
-use Rattle.fair_semantics.specs.declared.entries.Kind.{Kind}
-use Rattle.fair_semantics.specs.declared.entries.Kind.TheVariants.{Reach, Wall}
-use Rattle.fair_semantics.specs.declared.entries.Side.{Side}
-use Rattle.fair_semantics.specs.declared.entries.Side.TheVariants as sides
+use Rattle.proof_semantics.specs.Clauses.{literal_value, clause_value, clauses_value, cube_value, values_of}
+use Rattle.fair_semantics.specs.declared.entries.Kind.TheVariants.{Wall}
 use Rattle.fair_semantics.specs.declared.entries.Use.{Use}
 use Rattle.fair_semantics.specs.States.{meets_clauses}
-use Rattle.fair_semantics.specs.Entries.{Entry, entry_at, used_entries, set_at, lies_on, IsSigned, Uses, AreClosed}
-use Rattle.fair_semantics.specs.Allowing.{allows_by, all_allow}
+use Rattle.fair_semantics.specs.Entries.{Entry, entry_at, used_entries, set_at, IsSigned, Uses, AreClosed}
+use Rattle.fair_semantics.specs.Allowing.{all_allow}
 use Rattle.fair_semantics.specs.Validity.{set_behind, NoStepLeaves}
 use Rattle.fair_semantics.specs.Laws.{StandAlone}
 use Rattle.fair_semantics.proofs.Alone.{uses_stand_alone}
@@ -24,22 +20,14 @@ use Rattle.cnf_unroll.specs.Laws.{ObligationsTell, BreaksClause, IsUnderstood, A
 use Rattle.cnf_unroll.proofs.Truth.{both}
 use Rattle.entry.specs.Faults.{is_signed, are_known}
 use Rattle.entry.specs.Laws.{IsGoodList}
-use Rattle.entry.proofs.Closed.{signed-true}
+use Rattle.entry.proofs.Closed.{signed-true, known-at, one-known}
 use Rattle.entry.proofs.Readable.{uses_readable, own_named}
+use Rattle.entry.proofs.Valid.{sides-kept, each-true}
 use Rattle.ic3_closing.specs.Keeping.{kept_uses}
 use Rattle.ic3_closing.specs.Standing.{shared_by, NoneBreaks}
 use Rattle.ic3_closing.proofs.Kept.{uses_all, uses_ascend}
 
 -- ---- the uses that are kept are closed
-
-use_at : (uses : List Use) (n : ℕ) → list_any (λ v. v.entry == n) uses ≡ true → Uses uses n
-use_at uses n h =
-    let found : Any (λ v. (v.entry == n) ≡ true) uses = Any-from_list_any (λ v. v.entry == n) uses h in
-    (found.0, found.1, found.2, found.3, eqb-true found.1.entry n found.4)
-
-where_signed : (signed known : Bool) → (not signed || known) ≡ true → signed ≡ true → known ≡ true
-where_signed true known h signed = h
-where_signed false known h signed = absurd (cc)
 
 known_each : (uses named : List Use) → are_known uses named ≡ true → All (λ x. IsSigned x → Uses uses x.entry) named
 known_each uses [] h = All-nil (λ x. IsSigned x → Uses uses x.entry)
@@ -47,7 +35,7 @@ known_each uses (x ∷ named) h =
     let test : Bool = list_any (λ v. v.entry == x.entry) uses in
     let parts = and_parts (not (is_signed x.side) || test) (are_known uses named) h in
     All-cons (λ y. IsSigned y → Uses uses y.entry) x named
-    (λ signed. use_at uses x.entry (where_signed (is_signed x.side) test parts.0 (signed-true x.side signed)))
+    (λ signed. known-at uses x.entry (one-known (is_signed x.side) test parts.0 (signed-true x.side signed)))
     (known_each uses named parts.1)
 
 each_true : (test : Use → Bool) (uses : List Use) → list_all test uses ≡ true → All (λ u. test u ≡ true) uses
@@ -104,38 +92,6 @@ unbroken c view e tell good closed over none i below breaks =
 
 -- ---- sides over a step
 
-same_side : (a b : Bool) → ((bool_eq true a && (bool_eq true b && true)) || (bool_eq false a && (bool_eq false b && true))) ≡ true → a ≡ b
-same_side true true h = refl
-same_side true false h = sym h
-same_side false true h = h
-same_side false false h = refl
-
-wall_side : (kind : Kind) (set : List Bool → Bool) (s t : List Bool) → kind ≡ Wall → allows_by kind set (s ∷ t ∷ []) ≡ true → set s ≡ set t
-wall_side Reach set s t is h = absurd (cc)
-wall_side Wall set s t is h = same_side (set s) (set t) h
-
-side_kept : (side : Side) (kind : Kind) (set : List Bool → Bool) (s t : List Bool) → ((side ≡ sides.Any → ⊥) → kind ≡ Wall)
-    → allows_by kind set (s ∷ t ∷ []) ≡ true → lies_on side (set s) ≡ true → lies_on side (set t) ≡ true
-side_kept sides.Any kind set s t wall h lies = refl
-side_kept sides.In kind set s t wall h lies = sym (wall_side kind set s t (wall (λ e. cc)) h) ∙ lies
-side_kept sides.Out kind set s t wall h lies = ap not (sym (wall_side kind set s t (wall (λ e. cc)) h)) ∙ lies
-
-sides_kept : (sets : ℕ → List Bool → Bool) (view : List Entry) (uses : List Use) (s t : List Bool)
-    → All (λ u. IsSigned u → (entry_at view u.entry).kind ≡ Wall) uses
-    → all_allow sets (used_entries view uses) (s ∷ t ∷ []) ≡ true
-    → list_all (λ u. lies_on u.side (sets u.entry s)) uses ≡ true → list_all (λ u. lies_on u.side (sets u.entry t)) uses ≡ true
-sides_kept sets view [] s t walls h lies = refl
-sides_kept sets view (u ∷ uses) s t walls h lies =
-    let P : Use → Type 0 = λ v. IsSigned v → (entry_at view v.entry).kind ≡ Wall in
-    let all = and_parts _ _ h in
-    let parts = and_parts _ _ lies in
-    and_from _ _ (side_kept u.side (entry_at view u.entry).kind (sets u.entry) s t (All-head P u uses walls) all.0 parts.0)
-    (sides_kept sets view uses s t (All-tail P u uses walls) all.1 parts.1)
-
-each_clause : (p : List Lit → Bool) (clauses : List (List Lit)) → ((i : ℕ) → i < length clauses → p (get_or clauses i []) ≡ true) → list_all p clauses ≡ true
-each_clause p [] h = refl
-each_clause p (clause ∷ clauses) h = and_from _ _ (h 0 (omega arith)) (each_clause p clauses (λ i below. h (suc i) (omega arith)))
-
 -- No step that the uses allow leaves the set of an entry whose obligations have no model.
 pub stays : (c : Circuit) (view : List Entry) (e : Entry) → ObligationsTell c → IsGoodList c view → AreClosed view e.uses
     → AreOver (length c.latches) e.clauses → NoneBreaks c view e.clauses e.uses (length e.clauses)
@@ -144,7 +100,7 @@ stays c view e tell good closed over none s t step allowed inside =
     let alone : StandAlone view e.uses = uses_stand_alone view e.uses closed in
     let parts = and_parts _ _ inside in
     let clauses : meets_clauses e.clauses t ≡ true =
-    each_clause (clause_value (values_of t)) e.clauses (λ i below.
+    each-true (clause_value (values_of t)) e.clauses (λ i below.
     true_from_ne_false (clause_value (values_of t) (get_or e.clauses i [])) (λ broken.
     unbroken c view e tell good closed over none i below (record {
       from = s;
@@ -155,4 +111,4 @@ stays c view e tell good closed over none s t step allowed inside =
       broken = broken;
     })))
     in
-    and_from _ _ clauses (sides_kept (set_at view) view e.uses s t closed.walls allowed parts.1)
+    and_from _ _ clauses (sides-kept (set_at view) view e.uses s t closed.walls allowed parts.1)

@@ -2,7 +2,6 @@
 -- named are closed uses of the list.
 use Rattle.std.proofs.Common.{◌≡◌, ◌≢◌, ℕ, zero, suc, ◌+◌, ◌<◌, ◌≤◌, Bool, true, false, ◌&&◌, ◌||◌, not, cond, List, [], ◌∷◌, ◌++◌, map, length, get_or, refl, sym, ap, ap₂, subst, ◌∙◌, arith, append_assoc, length-append}
 use Rattle.std.specs.List.{All, AllByRecursion, AllPairs, list_all, filter}
-use Rattle.std.proofs.lemmas.Bool.{false≢true}
 use Rattle.std.proofs.lemmas.List.Elements.{All-from_recursion, recursion_from_All}
 use Rattle.std.proofs.lemmas.List.Kept.{AllPairs-cons, AllPairs-filter}
 use Rattle.proof_semantics.specs.Clauses.{bool_eq}
@@ -19,6 +18,7 @@ use Rattle.fair_semantics.proofs.Sets.{entry_at-place}
 use Rattle.ic3_semantics.specs.declared.questions.Start.{Start}
 use Rattle.ic3_semantics.specs.declared.questions.Start.TheVariants.{Initial, State}
 use Rattle.ic3_semantics.specs.Arenas.{restricts, restricting, keeps_to, in_arena}
+use Rattle.ic3_semantics.proofs.Asked.{every_kind, reach_alone}
 use Rattle.ic3_questions.specs.SteppingClauses.{side_of, start_side, own_use, own_uses}
 
 -- ---- one entry
@@ -199,14 +199,6 @@ signed_wall : (start : Start) (kind : Kind) (set : List Bool → Bool) → (star
 signed_wall Initial kind set h = absurd (h refl)
 signed_wall (State from) Reach set h = absurd (h refl)
 signed_wall (State from) Wall set h = refl
-
-every_kind : (from : List Bool) (kind : Kind) → restricts (State from) kind ≡ true
-every_kind from Reach = refl
-every_kind from Wall = refl
-
-reach_alone : (kind : Kind) → restricts Initial kind ≡ true → kind ≡ Reach
-reach_alone Reach h = refl
-reach_alone Wall h = absurd (false≢true h)
 
 -- from a state each entry is used
 uses-behind : (u : Use) (us : List Use) (n : ℕ) → Uses us n → Uses (u ∷ us) n

@@ -1,2 +1,3 @@
+pub mod Asked
 pub mod Arenas
 pub mod Separated

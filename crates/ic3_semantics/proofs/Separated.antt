@@ -7,8 +7,6 @@ use Rattle.aig_semantics.specs.declared.traces.Position.{Position}
 use Rattle.aig_semantics.specs.Circuits.{Circuit}
 use Rattle.aig_semantics.specs.Runs.{successor}
 use Rattle.proof_semantics.specs.declared.literals.Lit.{Lit}
-use Rattle.fair_semantics.specs.declared.entries.Kind.{Kind}
-use Rattle.fair_semantics.specs.declared.entries.Kind.TheVariants.{Reach, Wall}
 use Rattle.fair_semantics.specs.declared.entries.Use.{Use}
 use Rattle.fair_semantics.specs.States.{IsStep}
 use Rattle.fair_semantics.specs.Entries.{Entry, Numbered, numbered, used_entries, entry_at, set_at}
@@ -22,6 +20,7 @@ use Rattle.ic3_semantics.specs.declared.questions.Goal.TheVariants as goals
 use Rattle.ic3_semantics.specs.Arenas.{restricts, allows_step}
 use Rattle.ic3_semantics.specs.Searching.{Question, Leads, IsPathTo, Separates, closed_entry}
 use Rattle.ic3_semantics.specs.Laws.{SeparatedIsNotReached}
+use Rattle.ic3_semantics.proofs.Asked.{every_kind}
 
 -- What a view allows, the uses of an entry behind it allow.
 
@@ -63,10 +62,6 @@ uses_allow_step c view start e valid restricting s t allowed =
     let_be (restricts start (entry_at view u.entry).kind) (allows_by (entry_at view u.entry).kind (set_at view u.entry) (s ∷ t ∷ []))
     (restricting k d inside)
     (numbered-at (λ n. not (keep n) || test n) 0 view u.entry u.entry (valid.uses.present k d inside) (omega arith) all))
-
-every_kind : (from : List Bool) (kind : Kind) → restricts (State from) kind ≡ true
-every_kind from Reach = refl
-every_kind from Wall = refl
 
 made_restricting : (c : Circuit) (view : List Entry) (start : Start) (clauses : List (List Lit)) (uses : List Use)
     → IsValid c view (closed_entry start clauses uses) → AreRestricting view start (closed_entry start clauses uses)

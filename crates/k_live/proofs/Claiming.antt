@@ -4,7 +4,7 @@ use Rattle.std.specs.List.{All, list_any}
 use Rattle.std.proofs.lemmas.Bool.{and_parts, and_from, or_left, or_right, cases_Bool, false≢true}
 use Rattle.std.proofs.lemmas.Option.{unwrap_or-slice_get}
 use Rattle.std.proofs.lemmas.List.Folds.{list_all-append}
-use Rattle.std.proofs.lemmas.List.Elements.{All-nil, All-cons, All-append, All-head, All-weaker}
+use Rattle.std.proofs.lemmas.List.Elements.{All-nil, All-cons, All-append, All-head}
 use Rattle.aig_semantics.specs.declared.parts.Latch.{Latch}
 use Rattle.aig_semantics.specs.declared.parts.Reset.TheVariants.{Zero}
 use Rattle.aig_semantics.specs.declared.traces.Position.{Position}
@@ -12,12 +12,12 @@ use Rattle.aig_semantics.specs.Circuits.{Circuit}
 use Rattle.aig_semantics.specs.Runs.{literal_at}
 use Rattle.proof_semantics.specs.declared.literals.Lit.{Lit}
 use Rattle.proof_semantics.specs.Clauses.{lit_eq, has_literal, clause_value, values_of}
-use Rattle.proof_semantics.proofs.LiteralLaws.{lit_eq-same, lit_eq-true}
+use Rattle.proof_semantics.proofs.LiteralLaws.{lit_eq-same}
 use Rattle.fair_semantics.specs.declared.entries.Use.{Use}
 use Rattle.fair_semantics.specs.Laws.{HoldsInitialStates}
 use Rattle.fair_semantics.specs.States.{IsStep, meets_clauses, reset_literals, initial_literals, initial_cube}
 use Rattle.fair_semantics.specs.Validity.{set_behind}
-use Rattle.entry.specs.Proved.{holds_initial}
+use Rattle.entry.proofs.Faultless.{base-swap}
 use Rattle.k_live.specs.Asking.{next_of_last, reach_entry, last_false, IsClosedSet, IsClaim}
 use Rattle.k_live.proofs.Paths.{no_latch, last-next}
 
@@ -50,35 +50,6 @@ cube-has n zero m (latch ∷ latches) below is begins =
 cube-has n (suc i) m (latch ∷ latches) below is begins =
     any-behind (has_literal (record { var = m; positive = false } ∷ [])) (reset_literals n latch.reset) (initial_literals (n + 1) latches)
     (cube-has (n + 1) i m latches (omega (arith, below)) (omega (arith, is)) begins)
-
--- ---- a literal of the initial cube, either way
-
-lit-swap : (a b : Lit) → lit_eq a b ≡ true → lit_eq b a ≡ true
-lit-swap a b h = let e : a ≡ b = lit_eq-true a b h in ap (lit_eq b) e ∙ lit_eq-same b
-
-any-weaker : (p q : Lit → Bool) → ((l : Lit) → p l ≡ true → q l ≡ true) → (xs : List Lit) → list_any p xs ≡ true → list_any q xs ≡ true
-any-weaker p q w [] h = h
-any-weaker p q w (x ∷ xs) h =
-    elim (or-cases (p x) (list_any p xs) h) [
-      | inl here ↦ or_left (q x) (list_any q xs) (w x here)
-      | inr later ↦ or_right (q x) (list_any q xs) (any-weaker p q w xs later)
-    ]
-
-common-swap : (xs ys : List Lit) → list_any (has_literal xs) ys ≡ true → list_any (has_literal ys) xs ≡ true
-common-swap xs [] h = absurd (false≢true h)
-common-swap xs (y ∷ ys) h =
-    elim (or-cases (has_literal xs y) (list_any (has_literal xs) ys) h) [
-      | inl here ↦
-          any-weaker (lit_eq y) (has_literal (y ∷ ys)) (λ l e. or_left (lit_eq l y) (list_any (lit_eq l) ys) (lit-swap y l e)) xs here
-      | inr later ↦
-          any-weaker (has_literal ys) (has_literal (y ∷ ys)) (λ l e. or_right (lit_eq l y) (list_any (lit_eq l) ys) e) xs (common-swap xs ys later)
-    ]
-
-base-swap : (c : Circuit) (clauses : List (List Lit))
-    → All (λ clause. list_any (has_literal clause) (initial_cube c) ≡ true) clauses → All (holds_initial c) clauses
-base-swap c clauses h =
-    All-weaker (λ clause. list_any (has_literal clause) (initial_cube c) ≡ true) (holds_initial c)
-    (λ clause e. common-swap clause (initial_cube c) e) clauses h
 
 not-false : (b : Bool) → (not b || false) ≡ true → b ≡ false
 not-false true h = absurd (false≢true h)

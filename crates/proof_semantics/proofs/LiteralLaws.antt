@@ -1,6 +1,7 @@
 -- Laws of literals, and of tests over lists of them.
 use Rattle.std.proofs.Common.{◌≡◌, ℕ, Bool, true, false, not, ◌&&◌, ◌||◌, List, [], ◌∷◌, ◌++◌, map, refl, sym, ap, ◌∙◌, inl, inr, eqb-true, eq-eqb}
 use Rattle.std.proofs.lemmas.Bool.{false≢true, and_parts, or_cases, or_left, or_right, and_from}
+use Rattle.std.specs.List.{list_any}
 use Rattle.proof_semantics.specs.Clauses.{bool_eq, lit_eq, negation, literal_value, clause_value, cube_value, has_literal}
 use Rattle.proof_semantics.specs.declared.literals.Lit.{Lit}
 
@@ -91,3 +92,26 @@ pub has_literal-push : (lits : List Lit) (a b : Lit) → has_literal (lits ++ a 
 has_literal-push [] a b = or-false (lit_eq b a)
 has_literal-push (c ∷ lits) a b =
     ap (λ t. lit_eq b c || t) (has_literal-push lits a b) ∙ sym (or-assoc (lit_eq b c) (has_literal lits b) (lit_eq b a))
+
+-- ---- a literal of two lists, either way
+
+lit-swap : (a b : Lit) → lit_eq a b ≡ true → lit_eq b a ≡ true
+lit-swap a b h = let e : a ≡ b = lit_eq-true a b h in ap (lit_eq b) e ∙ lit_eq-same b
+
+any-weaker : (p q : Lit → Bool) → ((l : Lit) → p l ≡ true → q l ≡ true) → (xs : List Lit) → list_any p xs ≡ true → list_any q xs ≡ true
+any-weaker p q w [] h = h
+any-weaker p q w (x ∷ xs) h =
+    elim (or_cases (p x) (list_any p xs) h) [
+      | inl here ↦ or_left (q x) (list_any q xs) (w x here)
+      | inr later ↦ or_right (q x) (list_any q xs) (any-weaker p q w xs later)
+    ]
+
+pub common-swap : (xs ys : List Lit) → list_any (has_literal xs) ys ≡ true → list_any (has_literal ys) xs ≡ true
+common-swap xs [] h = absurd (false≢true h)
+common-swap xs (y ∷ ys) h =
+    elim (or_cases (has_literal xs y) (list_any (has_literal xs) ys) h) [
+      | inl here ↦
+          any-weaker (lit_eq y) (has_literal (y ∷ ys)) (λ l e. or_left (lit_eq l y) (list_any (lit_eq l) ys) (lit-swap y l e)) xs here
+      | inr later ↦
+          any-weaker (has_literal ys) (has_literal (y ∷ ys)) (λ l e. or_right (lit_eq l y) (list_any (lit_eq l) ys) e) xs (common-swap xs ys later)
+    ]

@@ -6,7 +6,7 @@ use Rattle.std.proofs.lemmas.Bool.{false≢true, true≢false}
 use Rattle.std.proofs.lemmas.Slice.Eq.{bytes_eq-Decides}
 use Rattle.aig_semantics.specs.Circuits.{Circuit}
 use Rattle.answer_lines.specs.Left.{most_bytes}
-use Rattle.edge.specs.Told.{IfTold, MayBe}
+use Rattle.edge.specs.Told.{MayBe}
 use Rattle.certificate.specs.declared.ends.Accepted.{Accepted}
 use Rattle.certificate.specs.declared.ends.Accepted.TheVariants.{Lasso, Holds}
 use Rattle.certificate.specs.declared.ends.AnswerFault.{AnswerFault}
@@ -20,7 +20,7 @@ use Rattle.certificate.specs.Ends.{IsFirstFault as IsAnswersFault, IsRefused, De
 use Rattle.certificate.specs.Ends.{has_unread as answer_unread}
 use Rattle.certificate.specs.Reading.{opens_rounds}
 use Rattle.certificate.specs.Reading as answers
-use Rattle.certificate.proofs.GoodRead.{all_readable}
+use Rattle.certificate.proofs.GoodRead.{all_readable, good_short as answer_short}
 use Rattle.round_answers.specs.declared.ends.Judged.{Judged}
 use Rattle.round_answers.specs.declared.ends.Judged.TheVariants.{Answer as Answered, Rounds}
 use Rattle.round_answers.specs.declared.ends.JudgeEnd.{JudgeEnd}
@@ -76,10 +76,6 @@ decided c text (Err (Answer (ends.Refused fault))) about reads = subst (λ b. Is
 decided c text (Err (Answer ends.ReadFault)) about reads = reads
 decided c text (Err (Answer ends.Memory)) about reads = reads
 decided c text (Err (LargerThan variable)) about reads = (about, reads)
-
-answer_short : (c : Circuit) (text : List ℕ) (accepted : Accepted) → IsGood c text accepted → length text ≤ most_bytes
-answer_short c text (Lasso n positions from) h = h.1
-answer_short c text (Holds n entries) h = h.1
 
 pub no_answer : (c : Circuit) (text : List ℕ) (accepted : Accepted) → is_about text ≡ true → IsGoodText c text (Answered accepted) → ⊥
 no_answer c text accepted about (other, good) =

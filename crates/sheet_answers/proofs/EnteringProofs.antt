@@ -19,7 +19,8 @@ use Rattle.entry.specs.Proved.{obligation_of}
 use Rattle.certificate.specs.declared.ends.AnswerFault.TheVariants as faults
 use Rattle.certificate_texts.specs.Certificates.{proof_lines}
 use Rattle.certificate.specs.Reading.{Body, Proving, Start, EntryProof, EntryLine, RefutationLine, Last, Certified, with_entry, entry_fault, next_proof, next_line, next_refuting_line, begin_proof, with_line, proof_step, line_step, refuting_step}
-use Rattle.certificate.proofs.CompletingProofs.{heads, differs, finished, no_more, clause_parts}
+use Rattle.certificate.proofs.CompletingProofs.{heads, differs, no_more}
+use Rattle.entry.proofs.Faultless.{finished-from_none, clause-none}
 use Rattle.sheet_answers.proofs.Entering.{ProofsTail, LinesTail, RefutationTail, Continues, After}
 
 -- ---- the refutation
@@ -29,7 +30,7 @@ module _ (c : Circuit) (b : Body) (K : Body → List (List ℕ) → Type 0) wher
       → fault_from p.read p.state proof ≡ None → K b rest → (t : Bool) → (p.read == p.count) ≡ t
       → After c (if t then (if p.state.finished then Ok (Certified b Last) else Err (faults.Refutation p.count Unfinished)) else Ok (Certified b (RefutationLine p))) left K
   refuting_next_by p left [] rest spelled count passes others true test =
-      subst (λ f. After c (if f then Ok (Certified b Last) else Err (faults.Refutation p.count Unfinished)) left K) (sym (finished p.read p.state.finished passes)) (subst (K b) (sym spelled) others)
+      subst (λ f. After c (if f then Ok (Certified b Last) else Err (faults.Refutation p.count Unfinished)) left K) (sym (finished-from_none p.read p.state.finished passes)) (subst (K b) (sym spelled) others)
   refuting_next_by p left (line ∷ more) rest spelled count passes others true test = absurd (omega (arith, eqb-true p.read p.count test, count))
   refuting_next_by p left proof rest spelled count passes others false test =
       (record { proof = proof; rest = rest; spelled = spelled; count = count; passes = passes; others = others }, differs p.read p.count test)
@@ -124,7 +125,7 @@ module _ (c : Circuit) (b : Body) (e : Entry) (K : Body → List (List ℕ) → 
       → fault_from p.read p.state proof ≡ None → ProofsTail c b e (i + 1) rest K → (t : Bool) → (p.read == p.count) ≡ t
       → After c (if t then (if p.state.finished then next_proof b e (i + 1) else entry_fault b (Proof i p.count Unfinished)) else Ok (Certified b (EntryLine e i p))) left K
   line_next_by i p left [] rest spelled count passes others true test =
-      subst (λ f. After c (if f then next_proof b e (i + 1) else entry_fault b (Proof i p.count Unfinished)) left K) (sym (finished p.read p.state.finished passes))
+      subst (λ f. After c (if f then next_proof b e (i + 1) else entry_fault b (Proof i p.count Unfinished)) left K) (sym (finished-from_none p.read p.state.finished passes))
       (proof_next (i + 1) left (subst (λ ls. ProofsTail c b e (i + 1) ls K) (sym spelled) others))
   line_next_by i p left (line ∷ more) rest spelled count passes others true test = absurd (omega (arith, eqb-true p.read p.count test, count))
   line_next_by i p left proof rest spelled count passes others false test =
@@ -204,7 +205,7 @@ module _ (c : Circuit) (b : Body) (e : Entry) (K : Body → List (List ℕ) → 
       let parts = heads line (word_line_text (lines.Proof (length proof))) left ((proof ++ flat_map proof_lines proofs) ++ rest) spelled in
       let small : IsNumber (length proof) = All-head (λ proof. IsNumber (length proof)) proof proofs sizes in
       let read : word_line_of line ≡ Some (lines.Proof (length proof)) = word_back line (lines.Proof (length proof)) (record { numbers = small; spelled = parts.0 }) in
-      let both = clause_parts i (proof_fault (obligation_of c b.entries e i) proof) _ passes in
+      let both = clause-none i (proof_fault (obligation_of c b.entries e i) proof) _ passes in
       let tail : LinesTail c b e i (begin_proof (length proof) (obligation_of c b.entries e i)) left K = record {
         proof = proof;
         rest = flat_map proof_lines proofs ++ rest;

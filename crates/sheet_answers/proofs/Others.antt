@@ -8,7 +8,7 @@ use Rattle.certificate.specs.declared.ends.Accepted.{Accepted}
 use Rattle.certificate.specs.declared.ends.Accepted.TheVariants.{Lasso, Holds}
 use Rattle.certificate.specs.Lines.{kept_in, bare}
 use Rattle.certificate.specs.Answers.{IsGood}
-use Rattle.certificate.proofs.GoodRead.{all_readable}
+use Rattle.certificate.proofs.GoodRead.{all_readable, good_short as good_answer_short}
 use Rattle.round_answers.specs.declared.ends.Judged.{Judged as TextJudged}
 use Rattle.round_answers.specs.declared.ends.Judged.TheVariants.{Answer as Answered, Rounds}
 use Rattle.round_answers.specs.declared.ends.JudgeEnd.{JudgeEnd as TextEnd}
@@ -24,10 +24,6 @@ use Rattle.sheet_answers.specs.Ends.{RefusesAs, Decides, EndsWith}
 use Rattle.sheet_answers.specs.First.{as_text, unknown}
 
 -- ---- good texts that are no sheets
-
-good_answer_short : (c : Circuit) (text : List ℕ) (accepted : Accepted) → IsGood c text accepted → length text ≤ most_bytes
-good_answer_short c text (Lasso n positions from) h = h.1
-good_answer_short c text (Holds n entries) h = h.1
 
 good_answer_other : (c : Circuit) (text : List ℕ) (accepted : Accepted) → IsGood c text accepted → is_sheet (bare (kept_in text)) ≡ false
 good_answer_other c text (Lasso n positions from) (_, _, stimulus, (others, (small, opens), spells), stands) = ap is_sheet opens

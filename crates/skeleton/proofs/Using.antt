@@ -11,7 +11,8 @@ use Rattle.fair_semantics.specs.Entries.{Entry, numbered_from, numbered, entry_a
 use Rattle.fair_semantics.specs.Validity.{IsValid}
 use Rattle.cnf_unroll.specs.Laws.{AreReadable}
 use Rattle.entry.specs.Laws.{IsGoodList}
-use Rattle.entry.proofs.Readable.{valid-at, uses_readable}
+use Rattle.entry.proofs.Readable.{uses_readable}
+use Rattle.fair_semantics.proofs.Lists.{valid-at}
 use Rattle.skeleton.specs.Reading.{uses_from}
 
 -- ---- the uses, one by one
@@ -82,7 +83,7 @@ closed_all c entries good =
       closed = λ k d below i f within signed.
           let a = number k d below in
           let there : k < length entries = omega (arith, count) in
-          let valid : IsValid c (take k entries) (entry_at entries k) = valid-at c [] entries k good.valid there in
+          let valid : IsValid c (take k entries) (entry_at entries k) = valid-at c entries k good.valid there in
           let same : (entry_at entries (get_or (uses_from 0 entries) k d).entry).uses ≡ (entry_at entries k).uses = ap (λ m. (entry_at entries m).uses) a in
           let within_k : i < length (entry_at entries k).uses = subst (λ us. i < length us) same within in
           let e : get_or (entry_at entries (get_or (uses_from 0 entries) k d).entry).uses i f ≡ get_or (entry_at entries k).uses i f = ap (λ us. get_or us i f) same in
