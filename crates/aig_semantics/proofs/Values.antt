@@ -176,6 +176,14 @@ valuation-only c latches inputs values rank ranks h =
 
 -- ---- the valuation meets the equations
 
+-- a gate's variable has a higher rank than what the gate reads
+pub rank-of : (c : Circuit) (rank : ℕ → ℕ) → IsRanking c.gates rank → (v : ℕ) (gate : Gate) → gate_of c v ≡ Some gate
+    → (rank (variable_of gate.rhs0) < rank v) × (rank (variable_of gate.rhs1) < rank v)
+rank-of c rank ranks v gate f =
+    let P : Gate → Type 0 = λ g. (rank (variable_of g.rhs0) < rank g.var) × (rank (variable_of g.rhs1) < rank g.var) in
+    let found = find-some P (λ g. g.var == v) c.gates gate ranks.above f in
+    rw (eqb-true gate.var v found.1) at found.0
+
 module _ (c : Circuit) (latches inputs : List Bool) (rank : ℕ → ℕ) (ranks : IsRanking c.gates rank) (in_range : All (λ v. (1 ≤ v) × (v ≤ c.max)) (defined c)) (once : AllDiffer (defined c)) (latches_fit : length latches ≡ length c.latches) (inputs_fit : length inputs ≡ length c.inputs) where
   abbrev given_of : ℕ → Option Bool
   given_of v = given_value c latches inputs v
@@ -186,19 +194,13 @@ module _ (c : Circuit) (latches inputs : List Bool) (rank : ℕ → ℕ) (ranks 
   length-given : length (given_variables c) ≡ length (inputs ++ latches)
   length-given = omega (arith, length-append c.inputs (map (λ latch. latch.var) c.latches), length-map c.latches (λ latch. latch.var), length-append inputs latches)
 
-  rank-of : (v : ℕ) (gate : Gate) → gate_of c v ≡ Some gate → (rank (variable_of gate.rhs0) < rank v) × (rank (variable_of gate.rhs1) < rank v)
-  rank-of v gate f =
-      let P : Gate → Type 0 = λ g. (rank (variable_of g.rhs0) < rank g.var) × (rank (variable_of g.rhs1) < rank g.var) in
-      let found = find-some P (λ g. g.var == v) c.gates gate ranks.above f in
-      rw (eqb-true gate.var v found.1) at found.0
-
   -- a step more changes nothing at a variable whose rank was reached
   through-stays : (depth v : ℕ) → rank v ≤ depth → through depth v ≡ through (suc depth) v
   through-stays zero v low =
       elim (cases_option (given_of v)) [
         | inl (b, e) ↦ value_through-given zero c.gates given_of v b e ∙ sym (value_through-given 1 c.gates given_of v b e)
         | inr e ↦ elim (cases_option (gate_of c v)) [
-          | inl (gate, f) ↦ let g = rank-of v gate f in absurd (omega arith)
+          | inl (gate, f) ↦ let g = rank-of c rank ranks v gate f in absurd (omega arith)
           | inr f ↦ value_through-nowhere zero c.gates given_of v e f ∙ sym (value_through-nowhere 1 c.gates given_of v e f)
         ]
       ]
@@ -207,7 +209,7 @@ module _ (c : Circuit) (latches inputs : List Bool) (rank : ℕ → ℕ) (ranks 
         | inl (b, e) ↦ value_through-given (suc depth) c.gates given_of v b e ∙ sym (value_through-given (suc (suc depth)) c.gates given_of v b e)
         | inr e ↦ elim (cases_option (gate_of c v)) [
           | inl (gate, f) ↦
-              let g = rank-of v gate f in
+              let g = rank-of c rank ranks v gate f in
               value_through-gate depth c.gates given_of v gate e f
               ∙ (conjunction-same (through depth) (through (suc depth)) gate
               (through-stays depth (variable_of gate.rhs0) (omega arith))

@@ -4,7 +4,6 @@ use Rattle.std.specs.Prelude.{codes}
 use Rattle.std.specs.List.{All, AllByRecursion, flat_map, range_with_len}
 use Rattle.std.proofs.lemmas.List.Elements.{recursion_from_All, All-map}
 use Rattle.aig_semantics.specs.declared.limits.TheConstants.{MAX_NUMBER, MAX_VARIABLE}
-use Rattle.aig_semantics.specs.declared.parts.Latch.{Latch}
 use Rattle.aig_semantics.specs.declared.parts.Gate.{Gate}
 use Rattle.circuit.proofs.Counting.{All-joined}
 use Rattle.aiger_grammar.specs.Models.{heading_of}
@@ -16,7 +15,7 @@ use Rattle.aiger_grammar.specs.Ordered.{IsDescending, WritesBinary}
 use Rattle.aiger_grammar.specs.Spelling.{header_text, number_lines, next_line, gate_deltas, symbol_line, comment_text, binary_text}
 use Rattle.aiger_grammar.proofs.DeltaLaws.{delta_stands}
 use Rattle.aiger_grammar.proofs.LineSpelling.{numbers_stand, LatchIsLow, next_stands}
-use Rattle.aiger_grammar.proofs.SpellingLaws.{shown_of, header_stands, fitting, symbols_stand}
+use Rattle.aiger_grammar.proofs.SpellingLaws.{shown_of, header_stands, fitting, low_latches, symbols_stand}
 use Rattle.aiger_binary.specs.Numbered.{AreNumbered}
 use Rattle.aiger_binary.proofs.Order.{numbered_range, from_ordered}
 
@@ -64,12 +63,6 @@ comment_written (Some text) = refl
 
 low_literals : (max : ℕ) (literals : List ℕ) → max ≤ MAX_VARIABLE → All (λ n. n ≤ 2 * max + 1) literals → All (λ n. n ≤ MAX_NUMBER) literals
 low_literals max literals m all = λ k d below. let h : _ ≤ 2 * max + 1 = all k d below in omega arith
-
-low_latches : (max : ℕ) (latches : List Latch) → max ≤ MAX_VARIABLE → All (λ latch. (1 ≤ latch.var) × (latch.var ≤ max)) latches → All (λ latch. latch.next ≤ 2 * max + 1) latches → All LatchIsLow latches
-low_latches max latches m vars nexts = λ k d below.
-    let v = (vars k d below).1 in
-    let n = nexts k d below in
-    record { var = omega (arith, m, v); next = omega (arith, m, n) }
 
 low_gates : (max : ℕ) (gates : List Gate) → max ≤ MAX_VARIABLE → All (λ gate. (1 ≤ gate.var) × (gate.var ≤ max)) gates → All IsDescending gates → All GateIsWritable gates
 low_gates max gates m vars descending = λ k d below.

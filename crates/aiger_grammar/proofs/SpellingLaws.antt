@@ -158,7 +158,7 @@ Literals max literals = All (λ n. n ≤ 2 * max + 1) literals
 low_literals : (max : ℕ) (literals : List ℕ) → max ≤ MAX_VARIABLE → Literals max literals → All (λ n. n ≤ MAX_NUMBER) literals
 low_literals max literals m all = λ k d below. let h : _ ≤ 2 * max + 1 = all k d below in omega arith
 
-low_latches : (max : ℕ) (latches : List Latch) → max ≤ MAX_VARIABLE → All (λ latch. (1 ≤ latch.var) × (latch.var ≤ max)) latches → All (λ latch. latch.next ≤ 2 * max + 1) latches → All LatchIsLow latches
+pub low_latches : (max : ℕ) (latches : List Latch) → max ≤ MAX_VARIABLE → All (λ latch. (1 ≤ latch.var) × (latch.var ≤ max)) latches → All (λ latch. latch.next ≤ 2 * max + 1) latches → All LatchIsLow latches
 low_latches max latches m vars nexts = λ k d below.
     let v = (vars k d below).1 in
     let n = nexts k d below in

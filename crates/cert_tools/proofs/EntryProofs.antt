@@ -2,6 +2,7 @@
 use Rattle.std.proofs.Common.{◌≡◌, ℕ, zero, suc, ◌+◌, ◌<◌, ◌≤◌, ◌^◌, Bool, true, false, ◌||◌, List, [], ◌∷◌, ◌++◌, length, take, get_or, take_all, length-append, append_assoc, refl, sym, ap, ap₂, ◌∙◌, subst, arith, All, Option, Some, None, Result, Ok}
 use Rattle.std.specs.Prelude.{◌↔◌, slice_get, slice_index_or}
 use Rattle.std.specs.List.{AllZip}
+use Rattle.std.proofs.lemmas.Option.{slice_get_within}
 use Rattle.std.proofs.lemmas.List.Elements.{All-head, All-tail, All-weaker}
 use Rattle.aig_semantics.specs.Circuits.{Circuit}
 use Rattle.proof_semantics.specs.declared.literals.Lit.{Lit}
@@ -19,6 +20,7 @@ use Rattle.certificate_texts.specs.declared.certificates.Written.{Written}
 use Rattle.certificate_texts.specs.declared.certificates.Certificate.{Certificate}
 use Rattle.certificate.specs.Certificates.{AreClausesOf, entry_with, AreProvedBehind, IsGoodCertificate}
 use Rattle.certificate.proofs.GoodRead.{all_proved}
+use Rattle.fair_semantics.proofs.Sets.{entry_at-place}
 use Rattle.cert_tools.specs.declared.reaching.Numbers.{Numbers}
 use Rattle.cert_tools.specs.Reaching.{is_in, IsReachedFrom}
 use Rattle.cert_tools.specs.Empty.{has_empty, entry_empties, uses_empty}
@@ -27,7 +29,7 @@ use Rattle.cert_tools.specs.TrimmingProofs.{AreRefuted}
 use Rattle.cert_tools.specs.Trimmed.{Numbered, IsTrimmedEntry, IsTrimmedCertificate}
 use Rattle.cert_tools.specs.TrimmingEntries.{numbers_of, entry_nodes, needed_entries, ArePlaces, at_places, no_literals, spells_empty, if_given, written_empties, any_empties, IsEntryOf, GetsEntry}
 use Rattle.cert_tools.proofs.TrimmedCertificates.{at_front, there}
-use Rattle.cert_tools.proofs.TrimmedAgain.{written_below, seam, behind_there}
+use Rattle.cert_tools.proofs.TrimmedAgain.{written_below, behind_there}
 use Rattle.cert_tools.proofs.EmptyClauses.{obligation_empty, skeleton_empty}
 use Rattle.cert_tools.proofs.EntryNodes.{needed_are_kept}
 use Rattle.cert_tools.proofs.EntryPlaces.{at_their_places, needed_there, needed_not}
@@ -58,7 +60,7 @@ stands_behind c before (x ∷ es) all zero e (clauses, are, first, others) at =
     (record {
       clauses = clauses;
       are = are;
-      is = ap (entry_at all) number ∙ ap (λ es2. entry_at es2 (length before)) whole ∙ seam before (entry_with x clauses) more;
+      is = ap (entry_at all) number ∙ ap (λ es2. entry_at es2 (length before)) whole ∙ entry_at-place before (entry_with x clauses) more;
       before = before;
       more = entry_with x clauses ∷ more;
       split = whole;
@@ -150,14 +152,9 @@ uses_bare c es all proved (u ∷ uses) low =
     ap₂ (λ a b. a || b) (used_bare c es all proved u.entry (All-head (λ (v : Use). v.entry < length es) u uses low))
     (uses_bare c es all proved uses (All-tail (λ (v : Use). v.entry < length es) u uses low))
 
-pub get_below : (es : List Written) (k : ℕ) (e : Written) → slice_get es k ≡ Some e → k < length es
-get_below [] k e at = absurd (cc at)
-get_below (x ∷ es) zero e at = omega arith
-get_below (x ∷ es) (suc k) e at = (let h = get_below es k e at in omega (arith, h))
-
 pub uses_inside : (c : Circuit) (es : List Written) (all : List Entry) (k : ℕ) (e : Written) → IsEntryOf c es all k e → All (λ u. u.entry < length es) e.uses
 uses_inside c es all k e (proved, at) =
-    let inside = get_below es k e at in
+    let inside = slice_get_within es k e at in
     All-weaker (λ (u : Use). u.entry < 0 + k) (λ (u : Use). u.entry < length es) (λ u h. omega (arith, h, inside)) e.uses (written_below c [] es all k e proved at)
 
 pub entry_bare : (c : Circuit) (es : List Written) (all : List Entry) (k : ℕ) (e : Written) → IsEntryOf c es all k e

@@ -37,7 +37,7 @@ use Rattle.cert_tools.specs.Dimacs.{dimacs_text, StandsForClauses}
 use Rattle.cert_tools.specs.Exported.{Item, after_skeleton, obligation_item, refutation_item, IsItemText, IsItemOf, IsExported, HasItem}
 use Rattle.cert_tools.specs.Exporting.{EntriesAreOver, HasObligation, StandsForObligation, StandsForSkeleton, EndsWithItem}
 use Rattle.cert_tools.proofs.TrimmingLaws.{refuted_at}
-use Rattle.cert_tools.proofs.EntryProofs.{Stands, stands, entry_refuted, get_below, uses_inside}
+use Rattle.cert_tools.proofs.EntryProofs.{Stands, stands, entry_refuted, uses_inside}
 use Rattle.cert_tools.proofs.Bounds.{InClause, InSet, Over, UsesOver, AreLow, IsLowGate, IsLowLatch, AreLowLiterals, obligation_in, skeleton_in}
 
 -- ---- the circuit's variables are low
@@ -261,7 +261,7 @@ has_obligation c es all k i e proof proved at there =
     let s : Stands c all k e = stands c es all k e (proved, at) in
     let count : length e.proofs ≡ length s.clauses = s.proved.each.count in
     let size = all_proved c [] es all proved in
-    let inside = get_below es k e at in
+    let inside = slice_get_within es k e at in
     let below = slice_get_within e.proofs i proof there in
     let clauses : length (entry_at all k).clauses ≡ length s.clauses = ap (λ (x : Entry). length x.clauses) s.is in
     let low : All (λ (u : Use). u.entry < length all) e.uses =
@@ -318,7 +318,7 @@ no_obligation : (n : ℕ) (certificate : Certificate) (e i : ℕ) (written : Wri
     → HasItem (Holds n certificate) e i → ⊥
 no_obligation n certificate e i written at none (inl (other, there, below)) =
     none (subst (λ (w : Written). i < length w.clauses) (one_written other written (sym there ∙ at)) below)
-no_obligation n certificate e i written at none (inr (last, first)) = (let inside = get_below certificate.entries e written at in omega (arith, inside, last))
+no_obligation n certificate e i written at none (inr (last, first)) = (let inside = slice_get_within certificate.entries e written at in omega (arith, inside, last))
 
 no_refutation : (n : ℕ) (certificate : Certificate) (e i : ℕ) → slice_get certificate.entries e ≡ None → ((e ≡ length certificate.entries) × (i ≡ 0) → ⊥) → HasItem (Holds n certificate) e i → ⊥
 no_refutation n certificate e i at none (inl (other, there, below)) = (let wrong : ◌≡◌ {A = Option Written} None (Some other) = sym at ∙ there in cc wrong)

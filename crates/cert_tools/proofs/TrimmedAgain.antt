@@ -2,6 +2,7 @@
 use Rattle.std.proofs.Common.{◌≡◌, ℕ, zero, suc, ◌+◌, ◌<◌, ◌≤◌, List, [], ◌∷◌, ◌++◌, map, length, get_or, refl, sym, ap, ap₂, ◌∙◌, subst, inl, inr, arith, append_assoc, length-append, Option, Some, Result, Ok, All}
 use Rattle.std.specs.Prelude.{slice_get, nat_lt}
 use Rattle.std.specs.List.{Any, AllZip}
+use Rattle.std.proofs.lemmas.Option.{slice_get_within}
 use Rattle.std.proofs.lemmas.List.{length-map, get_or-map, append-nil}
 use Rattle.std.proofs.lemmas.List.Elements.{All-head, All-tail, All-contains, All-weaker}
 use Rattle.aig_semantics.specs.Circuits.{Circuit}
@@ -15,6 +16,7 @@ use Rattle.entry.specs.Proved.{obligation_of}
 use Rattle.certificate_texts.specs.declared.certificates.Written.{Written}
 use Rattle.certificate_texts.specs.declared.certificates.Certificate.{Certificate}
 use Rattle.certificate.specs.Certificates.{entry_with, AreProvedBehind, IsGoodCertificate}
+use Rattle.fair_semantics.proofs.Sets.{entry_at-place}
 use Rattle.cert_tools.specs.Kept.{Keeps, Reaches}
 use Rattle.cert_tools.specs.TrimmedProofs.{IsTrimmedProof, AreTrimmedProofs}
 use Rattle.cert_tools.specs.Trimmed.{Numbered, numbered_from, UsesEntry, IsReachedEntry, place_among, renumbered, IsTrimmedEntry, IsTrimmedCertificate}
@@ -95,10 +97,6 @@ written_below c before (x ∷ es) all (suc i) e (clauses, are, first, others) at
     All-weaker (λ u. u.entry < length (before ++ entry_with x clauses ∷ []) + i) (λ u. u.entry < length before + suc i) (λ u h. omega (arith, h, size)) e.uses
     (written_below c (before ++ entry_with x clauses ∷ []) es all i e others at)
 
-pub seam : (xs : List Entry) (y : Entry) (ys : List Entry) → entry_at (xs ++ y ∷ ys) (length xs) ≡ y
-seam [] y ys = refl
-seam (z ∷ xs) y ys = seam xs y ys
-
 pub behind_there : (c : Circuit) (before : List Entry) (es : List Written) (all : List Entry) → AreProvedBehind c before es all → (more : List Entry) × (all ≡ before ++ more)
 behind_there c before [] all is = ([], is ∙ sym (append-nil before))
 behind_there c before (e ∷ es) all (clauses, are, first, others) =
@@ -113,7 +111,7 @@ entry_is c before (x ∷ es) all zero e (clauses, are, first, others) at =
     let (more, split) = behind_there c (before ++ entry_with x clauses ∷ []) es all others in
     let number : length before + 0 ≡ length before = omega arith in (
       clauses,
-      ap (entry_at all) number ∙ ap (λ es2. entry_at es2 (length before)) (split ∙ append_assoc before (entry_with x clauses ∷ []) more) ∙ seam before (entry_with x clauses) more
+      ap (entry_at all) number ∙ ap (λ es2. entry_at es2 (length before)) (split ∙ append_assoc before (entry_with x clauses ∷ []) more) ∙ entry_at-place before (entry_with x clauses) more
           ∙ ap (λ (y : Written). entry_with y clauses) same,
     )
 entry_is c before (x ∷ es) all (suc i) e (clauses, are, first, others) at =
@@ -130,11 +128,6 @@ numbered_get n (x ∷ es) (suc i) e (inl same) = absurd (let h : n + suc i ≡ n
 numbered_get n (x ∷ es) zero e (inr at) = absurd (let h = numbered_none (n + 1) es (n + 0, e) at in omega (arith, h))
 numbered_get n (x ∷ es) (suc i) e (inr at) =
     let next : n + suc i ≡ (n + 1) + i = omega arith in numbered_get (n + 1) es i e (subst (λ k. In (k, e) (numbered_from (n + 1) es)) next at)
-
-get_within : (es : List Written) (i : ℕ) (e : Written) → slice_get es i ≡ Some e → i < length es
-get_within [] i e at = absurd (cc at)
-get_within (x ∷ es) zero e at = omega arith
-get_within (x ∷ es) (suc i) e at = (let h = get_within es i e at in omega (arith, h))
 
 zip_at : (P : Numbered → Written → Type 0) (ks : List Numbered) (ts : List Written) (i : ℕ) (k : Numbered) → AllZip P ks ts → slice_get ks i ≡ Some k
     → (t : Written) × (slice_get ts i ≡ Some t) × P k t
@@ -206,7 +199,7 @@ module _ (c : Circuit) (whole trimmed : Certificate) (kept : List Numbered) (rea
       let same_entry : first ≡ e = some_same (sym (kept_get v first at) ∙ place) in
       let here : In (v, e) kept = subst (λ (x : Written). In (v, x) kept) same_entry at in
       let low = written_below c [] whole.entries all v e proved place in
-      let within = get_within whole.entries v e place in
+      let within = slice_get_within whole.entries v e place in
       let below : u.entry < length whole.entries = (let h = All-contains (λ (x : Use). x.entry < 0 + v) e.uses u low (k, inside, is) in omega (arith, h, within)) in
       let counts : C u.entry = entry_counts c whole kept reached v e place here u (k, inside, is) below in
       let (t, t_at, to) = zip_at (IsTrimmedEntry c all kept) kept trimmed.entries (r v) (v, e) zip (kept_slice 0 whole.entries kept (v, e) reached here) in
@@ -261,7 +254,7 @@ module _ (c : Circuit) (whole trimmed : Certificate) (kept : List Numbered) (rea
   unfolding Counts
   entry_again n k e t here place to =
       let at : slice_get whole.entries n ≡ Some e = kept_get n e here in
-      let within : n < length all = (let h = get_within whole.entries n e at in omega (arith, h, count)) in
+      let within : n < length all = (let h = slice_get_within whole.entries n e at in omega (arith, h, count)) in
       let (clauses, found) = entry_is c [] whole.entries all n e proved at in
       let number : n ≡ 0 + n = omega arith in
       let is : entry_at all n ≡ entry_with e clauses = ap (entry_at all) number ∙ found in

@@ -17,6 +17,7 @@ use Rattle.entry.specs.Proved.{obligation_of, IsProved}
 use Rattle.certificate_texts.specs.declared.certificates.Written.{Written}
 use Rattle.certificate_texts.specs.declared.certificates.Certificate.{Certificate}
 use Rattle.certificate.specs.Certificates.{entry_with, AreClausesOf, AreProvedBehind}
+use Rattle.fair_semantics.proofs.Sets.{entry_at-place}
 use Rattle.cert_tools.specs.Kept.{Keeps}
 use Rattle.cert_tools.specs.TrimmedProofs.{IsTrimmedProof, AreTrimmedProofs}
 use Rattle.cert_tools.specs.Trimmed.{Numbered, numbered_from, UsesEntry, IsReachedEntry, place_among, renumbered, IsTrimmedEntry}
@@ -42,10 +43,6 @@ pub at_front : (xs ys : List Entry) (n : ℕ) → n < length xs → entry_at (xs
 at_front [] ys n below = absurd (omega (arith, below))
 at_front (x ∷ xs) ys zero below = refl
 at_front (x ∷ xs) ys (suc n) below = at_front xs ys n (omega (arith, below))
-
-at_seam : (xs : List Entry) (x : Entry) (ys : List Entry) → entry_at (xs ++ x ∷ ys) (length xs) ≡ x
-at_seam [] x ys = refl
-at_seam (y ∷ xs) x ys = at_seam xs x ys
 
 numbered_high : (n : ℕ) (es : List Written) (k : ℕ) (e : Written) → In (k, e) (numbered_from n es) → n ≤ k
 numbered_high n [] k e at = absurd at
@@ -280,8 +277,8 @@ module _ (c : Circuit) (whole : Certificate) (kept : List Numbered) (reached : K
       | inl same ↦ (
           let here : r m ≡ length front = ap r same ∙ place (subst Counts same counts) in (
             (let a = length-append front (y ∷ []) in omega (arith, a, here)),
-            ap (entry_at (front ++ y ∷ [])) here ∙ at_seam front y [] ∙ is
-                ∙ ap as_entry (sym (at_seam before x [])) ∙ ap (λ k. as_entry (entry_at (before ++ x ∷ []) k)) (sym (same ∙ number)),
+            ap (entry_at (front ++ y ∷ [])) here ∙ entry_at-place front y [] ∙ is
+                ∙ ap as_entry (sym (entry_at-place before x [])) ∙ ap (λ k. as_entry (entry_at (before ++ x ∷ []) k)) (sym (same ∙ number)),
           ))
       | inr other ↦ elim other [
         | inl less_than ↦ (
@@ -313,7 +310,7 @@ module _ (c : Circuit) (whole : Certificate) (kept : List Numbered) (reached : K
   with_earlier : (before : List Entry) (n : ℕ) (x : Entry) → n ≡ length before → Earlier before → (Counts n → AllCounted x.uses) → Earlier (before ++ x ∷ [])
   with_earlier before n x number earlier here = record {
     uses = λ m counts below. elim (cases_order m n) [
-      | inl same ↦ subst (λ (e : Entry). AllCounted e.uses) (sym (ap (entry_at (before ++ x ∷ [])) (same ∙ number) ∙ at_seam before x [])) (here (subst Counts same counts))
+      | inl same ↦ subst (λ (e : Entry). AllCounted e.uses) (sym (ap (entry_at (before ++ x ∷ [])) (same ∙ number) ∙ entry_at-place before x [])) (here (subst Counts same counts))
       | inr other ↦ elim other [
         | inl less_than ↦ (
             let within : m < length before = omega (arith, less_than, number) in
@@ -393,7 +390,7 @@ module _ (c : Circuit) (whole : Certificate) (kept : List Numbered) (reached : K
       let image : y ≡ as_entry x = trimmed_with clauses e t to.kind to.uses in
       let (more, split_all) = behind_is (before ++ x ∷ []) es all others in
       let all_split : all ≡ before ++ x ∷ more = split_all ∙ append_assoc before (x ∷ []) more in
-      let at_n : entry_at all n ≡ x = ap (λ es2. entry_at es2 n) all_split ∙ at_seam before x more in
+      let at_n : entry_at all n ≡ x = ap (λ es2. entry_at es2 n) all_split ∙ entry_at-place before x more in
       let inside : In (n, e) kept = subst (In (n, e)) (sym stage.split) (in_right (n, e) from ((n, e) ∷ rest) (inl refl)) in
       let place_n : slice_get whole.entries n ≡ Some e =
       ap (λ ws. slice_get ws n) stage.whole_split ∙ ap (slice_get (done ++ e ∷ es)) (sym stage.number) ∙ slice_at_seam done e es in

@@ -1,14 +1,14 @@
 -- What the gates put in order make of a list of inputs and latches: the simulation.
 use Rattle.std.proofs.Common.{◌≡◌, ℕ, zero, suc, ◌+◌, ◌<◌, ◌≤◌, ◌==◌, List, [], ◌∷◌, ◌++◌, map, length, get_or, drop, fold, Option, Some, None, unwrap_or, refl, sym, ap, ◌∙◌, subst, inl, inr, arith}
 use Rattle.std.specs.List.{All, Contains, find}
-use Rattle.std.proofs.lemmas.Bool.{cases_eq, cases_lt, eqb-true}
+use Rattle.std.proofs.lemmas.Bool.{cases_eq, cases_lt}
 use Rattle.std.proofs.lemmas.List.{length-map, get_or-map, length-set, ext_get_or, get_or-set_same, get_or-set_other, get_or_append_left, get_or_push, length_push}
 use Rattle.std.proofs.lemmas.List.Elements.{All-head, All-tail}
 use Rattle.aig_semantics.specs.declared.parts.Gate.{Gate}
 use Rattle.aig_semantics.specs.Literals.{variable_of}
 use Rattle.aig_semantics.specs.Circuits.{Circuit, IsChecked}
-use Rattle.aig_semantics.proofs.Lists.{All-left, AllDiffer-right, AllDiffer-across, find-some, find-at}
-use Rattle.aig_semantics.proofs.Values.{IsRanking, given_variables, gate_variables, gate_of, cases_option, gate_of-absent}
+use Rattle.aig_semantics.proofs.Lists.{All-left, AllDiffer-right, AllDiffer-across, find-at}
+use Rattle.aig_semantics.proofs.Values.{IsRanking, given_variables, gate_variables, gate_of, cases_option, gate_of-absent, rank-of}
 use Rattle.circuit.specs.Orders.{HasRightSide, variables_of, IsEvaluationOrder}
 use Rattle.circuit.proofs.Evaluated.{gates_in_range, not_there, in-order_variable}
 use Rattle.circuit.proofs.Ranking.{rank_in, order-ranking}
@@ -108,19 +108,13 @@ module _ (c : Circuit) (order : List Gate) (latches inputs : List Value3) (check
   abbrev through : ℕ → ℕ → Value3
   through depth v = value3_through depth c.gates given_of v
 
-  rank-of : (v : ℕ) (gate : Gate) → gate_of c v ≡ Some gate → (rank (variable_of gate.rhs0) < rank v) × (rank (variable_of gate.rhs1) < rank v)
-  rank-of v gate f =
-      let P : Gate → Type 0 = λ g. (rank (variable_of g.rhs0) < rank g.var) × (rank (variable_of g.rhs1) < rank g.var) in
-      let found = find-some P (λ g. g.var == v) c.gates gate ranks.above f in
-      rw (eqb-true gate.var v found.1) at found.0
-
   -- a step more changes nothing at a variable whose rank was reached
   through-stays : (depth v : ℕ) → rank v ≤ depth → through depth v ≡ through (suc depth) v
   through-stays zero v low =
       elim (cases_option (given_of v)) [
         | inl (b, e) ↦ through-given zero c.gates given_of v b e ∙ sym (through-given 1 c.gates given_of v b e)
         | inr e ↦ elim (cases_option (gate_of c v)) [
-          | inl (gate, f) ↦ let g = rank-of v gate f in absurd (omega arith)
+          | inl (gate, f) ↦ let g : (rank (variable_of gate.rhs0) < rank v) × (rank (variable_of gate.rhs1) < rank v) = rank-of c rank ranks v gate f in absurd (omega arith)
           | inr f ↦ through-nowhere zero c.gates given_of v e f ∙ sym (through-nowhere 1 c.gates given_of v e f)
         ]
       ]
@@ -129,7 +123,7 @@ module _ (c : Circuit) (order : List Gate) (latches inputs : List Value3) (check
         | inl (b, e) ↦ through-given (suc depth) c.gates given_of v b e ∙ sym (through-given (suc (suc depth)) c.gates given_of v b e)
         | inr e ↦ elim (cases_option (gate_of c v)) [
           | inl (gate, f) ↦
-              let g = rank-of v gate f in
+              let g : (rank (variable_of gate.rhs0) < rank v) × (rank (variable_of gate.rhs1) < rank v) = rank-of c rank ranks v gate f in
               through-gate depth c.gates given_of v gate e f
               ∙ (conjunction3-same (through depth) (through (suc depth)) gate
               (through-stays depth (variable_of gate.rhs0) (omega arith))
