@@ -1,4 +1,4 @@
-mod Globals
+mod Making
 mod Values
 mod Exports
 mod Shortest

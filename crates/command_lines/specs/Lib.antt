@@ -1,4 +1,5 @@
 pub mod Words
+pub mod Making
 pub mod Solve
 pub mod Check
 pub mod Gen

@@ -2,9 +2,9 @@
 
 ghost use Rattle.std.specs.Prelude.{◌≡◌, ◌≤◌, ℕ, Some, codes, option_map, IfOk, IfSome, IfNone, false};
 ghost use Rattle.clap.specs.Simple.{App, app_of, new_app, with_rule, with_subcommand};
-ghost use Rattle.clap.specs.Walk.{Rule, rows_of, rule_of, first_of};
+ghost use Rattle.clap.specs.Walk.{rows_of, rule_of, first_of};
 ghost use Rattle.clap.specs.Matches.{found_of};
-ghost use Rattle.clap.specs.declared.builder.command.Command.TheViews.{out-Command as fields_of};
+ghost use Rattle.command_lines.specs.Making.{MakesCommand, TakesMore};
 ghost use Rattle.command_lines.specs.Words.{flag, flag_in, number_option, text_option, wanted, wanted_number, IsNumberIn, IsNumberGiven, IsNumberOr};
 
 use clap::builder::ValueParser;
@@ -17,10 +17,7 @@ fn with_argument<'a>(
     argument: Arg<'a>,
 ) -> Result<Command<'a>, AllocError>
     requires { argument.global ≡ false }
-    ensures shape { (app : App) (rule : Rule) → rule_of argument.entry ≡ rule → IfOk made.entry (λ command. app_of command ≡ app)
-        → IfOk result (λ more. app_of more ≡ with_rule app rule) }
-    ensures local { IfOk made.entry (λ command. (fields_of command).has_globals ≡ false)
-        → IfOk result (λ more. (fields_of more).has_globals ≡ false) }
+    ensures { TakesMore made.entry (rule_of argument.entry) result }
 {
     match made {
         Ok(command) => command.arg(argument),
@@ -37,10 +34,7 @@ pub(crate) fn with_wanted<'a>(
     made: Result<Command<'a>, AllocError>,
     name: &'a str,
 ) -> Result<Command<'a>, AllocError>
-    ensures shape { (app : App) → IfOk made.entry (λ command. app_of command ≡ app)
-        → IfOk result (λ more. app_of more ≡ with_rule app (wanted name.now)) }
-    ensures local { IfOk made.entry (λ command. (fields_of command).has_globals ≡ false)
-        → IfOk result (λ more. (fields_of more).has_globals ≡ false) }
+    ensures { TakesMore made.entry (wanted name.now) result }
 {
     with_argument(made, Arg::new(alloc, name).required(true))
 }
@@ -53,10 +47,7 @@ pub(crate) fn with_wanted_number<'a>(
     low: u64,
     high: u64,
 ) -> Result<Command<'a>, AllocError>
-    ensures shape { (app : App) → IfOk made.entry (λ command. app_of command ≡ app)
-        → IfOk result (λ more. app_of more ≡ with_rule app (wanted_number name.now low high)) }
-    ensures local { IfOk made.entry (λ command. (fields_of command).has_globals ≡ false)
-        → IfOk result (λ more. (fields_of more).has_globals ≡ false) }
+    ensures { TakesMore made.entry (wanted_number name.now low high) result }
 {
     let argument = Arg::new(alloc, name)
         .required(true)
@@ -70,10 +61,7 @@ pub(crate) fn with_flag<'a>(
     made: Result<Command<'a>, AllocError>,
     name: &'a str,
 ) -> Result<Command<'a>, AllocError>
-    ensures shape { (app : App) → IfOk made.entry (λ command. app_of command ≡ app)
-        → IfOk result (λ more. app_of more ≡ with_rule app (flag name.now)) }
-    ensures local { IfOk made.entry (λ command. (fields_of command).has_globals ≡ false)
-        → IfOk result (λ more. (fields_of more).has_globals ≡ false) }
+    ensures { TakesMore made.entry (flag name.now) result }
 {
     let argument = Arg::new(alloc, name).long(name).action(ArgAction::SetTrue);
     with_argument(made, argument)
@@ -87,10 +75,7 @@ pub(crate) fn with_number_option<'a>(
     low: u64,
     high: u64,
 ) -> Result<Command<'a>, AllocError>
-    ensures shape { (app : App) → IfOk made.entry (λ command. app_of command ≡ app)
-        → IfOk result (λ more. app_of more ≡ with_rule app (number_option name.now low high)) }
-    ensures local { IfOk made.entry (λ command. (fields_of command).has_globals ≡ false)
-        → IfOk result (λ more. (fields_of more).has_globals ≡ false) }
+    ensures { TakesMore made.entry (number_option name.now low high) result }
 {
     let argument = Arg::new(alloc, name)
         .long(name)
@@ -104,10 +89,7 @@ pub(crate) fn with_text_option<'a>(
     made: Result<Command<'a>, AllocError>,
     name: &'a str,
 ) -> Result<Command<'a>, AllocError>
-    ensures shape { (app : App) → IfOk made.entry (λ command. app_of command ≡ app)
-        → IfOk result (λ more. app_of more ≡ with_rule app (text_option name.now)) }
-    ensures local { IfOk made.entry (λ command. (fields_of command).has_globals ≡ false)
-        → IfOk result (λ more. (fields_of more).has_globals ≡ false) }
+    ensures { TakesMore made.entry (text_option name.now) result }
 {
     with_argument(made, Arg::new(alloc, name).long(name))
 }
@@ -118,8 +100,7 @@ pub(crate) fn for_value<'a>(
     name: &'a str,
     value: &'a str,
 ) -> Result<Command<'a>, AllocError>
-    ensures shape { IfOk result (λ command. app_of command ≡ with_rule (new_app name.now) (wanted value.now)) }
-    ensures local { IfOk result (λ command. (fields_of command).has_globals ≡ false) }
+    ensures { MakesCommand (with_rule (new_app name.now) (wanted value.now)) result }
 {
     with_wanted(alloc, Ok(Command::new(alloc, name)), value)
 }
@@ -129,18 +110,15 @@ pub(crate) fn for_model_and_answer<'a>(
     alloc: Global,
     name: &'a str,
 ) -> Result<Command<'a>, AllocError>
-    ensures shape { IfOk result (λ command. app_of command
-        ≡ with_rule (with_rule (new_app name.now) (wanted (codes "MODEL"))) (wanted (codes "ANSWER"))) }
-    ensures local { IfOk result (λ command. (fields_of command).has_globals ≡ false) }
+    ensures { MakesCommand (with_rule (with_rule (new_app name.now) (wanted (codes "MODEL"))) (wanted (codes "ANSWER"))) result }
 {
     with_wanted(alloc, for_value(alloc, name, "MODEL"), "ANSWER")
 }
 
 /// A command of this name that wants the name of a model, and takes the number of a property.
 pub(crate) fn for_property<'a>(alloc: Global, name: &'a str) -> Result<Command<'a>, AllocError>
-    ensures shape { IfOk result (λ command. app_of command
-        ≡ with_rule (with_rule (new_app name.now) (wanted (codes "MODEL"))) (number_option (codes "property") 0 4294967295)) }
-    ensures local { IfOk result (λ command. (fields_of command).has_globals ≡ false) }
+    ensures { MakesCommand
+        (with_rule (with_rule (new_app name.now) (wanted (codes "MODEL"))) (number_option (codes "property") 0 4294967295)) result }
 {
     let command = for_value(alloc, name, "MODEL");
     with_number_option(alloc, command, "property", 0, 4_294_967_295)
@@ -151,9 +129,7 @@ pub(crate) fn attached<'a>(
     program: Result<Command<'a>, AllocError>,
     made: Result<Command<'a>, AllocError>,
 ) -> Result<Command<'a>, AllocError>
-    requires { IfOk made (λ command. (fields_of command).has_globals ≡ false) }
-    ensures { (before app : App) → IfOk program.entry (λ command. app_of command ≡ before)
-        → IfOk made.entry (λ command. app_of command ≡ app)
+    ensures { (before app : App) → IfOk program.entry (λ command. app_of command ≡ before) → MakesCommand app made.entry
         → IfOk result (λ more. app_of more ≡ with_subcommand before app.top) }
 {
     match program {
@@ -169,8 +145,7 @@ fn with_made<'a>(
     program: Command<'a>,
     made: Result<Command<'a>, AllocError>,
 ) -> Result<Command<'a>, AllocError>
-    requires { IfOk made (λ command. (fields_of command).has_globals ≡ false) }
-    ensures { (app : App) → IfOk made.entry (λ command. app_of command ≡ app)
+    ensures { (app : App) → MakesCommand app made.entry
         → IfOk result (λ more. app_of more ≡ with_subcommand (app_of program.entry) app.top) }
 {
     match made {

@@ -1,11 +1,10 @@
 //! The words of the command `shortest`.
 
-ghost use Rattle.std.specs.Prelude.{◌≡◌, codes, false, IfOk, IfSome, IfNone};
-ghost use Rattle.clap.specs.Simple.{app_of};
+ghost use Rattle.std.specs.Prelude.{codes, IfSome, IfNone};
 ghost use Rattle.clap.specs.Walk.{rows_of};
 ghost use Rattle.clap.specs.Matches.{found_of};
-ghost use Rattle.clap.specs.declared.builder.command.Command.TheViews.{out-Command as fields_of};
 ghost use Rattle.command_lines.specs.Commands.{Asked as AskedFor, meant, Means};
+ghost use Rattle.command_lines.specs.Making.{MakesCommand};
 ghost use Rattle.command_lines.specs.Shortest.{shortest_command};
 
 use crate::commands::{Asked, DEFAULTS};
@@ -26,8 +25,7 @@ pub struct ShortestRequest {
 
 /// The command `shortest`, with its arguments.
 pub(crate) fn shortest_command<'a>(alloc: Global) -> Result<Command<'a>, AllocError>
-    ensures shape { IfOk result (λ command. app_of command ≡ shortest_command) }
-    ensures local { IfOk result (λ command. (fields_of command).has_globals ≡ false) }
+    ensures { MakesCommand shortest_command result }
 {
     let command = for_property(alloc, "shortest");
     let command = with_number_option(alloc, command, "conflicts", 0, 4_294_967_295);

@@ -1,11 +1,10 @@
 //! The words of the command `rounds`.
 
-ghost use Rattle.std.specs.Prelude.{◌≡◌, codes, false, IfOk, IfSome, IfNone};
-ghost use Rattle.clap.specs.Simple.{app_of};
+ghost use Rattle.std.specs.Prelude.{codes, IfSome, IfNone};
 ghost use Rattle.clap.specs.Walk.{rows_of};
 ghost use Rattle.clap.specs.Matches.{found_of};
-ghost use Rattle.clap.specs.declared.builder.command.Command.TheViews.{out-Command as fields_of};
 ghost use Rattle.command_lines.specs.Commands.{Asked as AskedFor, meant, Means};
+ghost use Rattle.command_lines.specs.Making.{MakesCommand};
 ghost use Rattle.command_lines.specs.Rounds.{rounds_command};
 
 use crate::commands::{Asked, DEFAULTS};
@@ -30,8 +29,7 @@ pub struct RoundsRequest {
 
 /// The command `rounds`, with its arguments.
 pub(crate) fn rounds_command<'a>(alloc: Global) -> Result<Command<'a>, AllocError>
-    ensures shape { IfOk result (λ command. app_of command ≡ rounds_command) }
-    ensures local { IfOk result (λ command. (fields_of command).has_globals ≡ false) }
+    ensures { MakesCommand rounds_command result }
 {
     let command = for_value(alloc, "rounds", "MODEL");
     let command = with_wanted_number(alloc, command, "K", 1, 64);

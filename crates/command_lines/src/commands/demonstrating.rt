@@ -1,11 +1,10 @@
 //! The words of the command `demo`.
 
-ghost use Rattle.std.specs.Prelude.{◌≡◌, codes, false, IfOk, IfSome, IfNone};
-ghost use Rattle.clap.specs.Simple.{app_of};
+ghost use Rattle.std.specs.Prelude.{codes, IfSome, IfNone};
 ghost use Rattle.clap.specs.Walk.{rows_of};
 ghost use Rattle.clap.specs.Matches.{found_of};
-ghost use Rattle.clap.specs.declared.builder.command.Command.TheViews.{out-Command as fields_of};
 ghost use Rattle.command_lines.specs.Commands.{Asked as AskedFor, meant, Means};
+ghost use Rattle.command_lines.specs.Making.{MakesCommand};
 ghost use Rattle.command_lines.specs.Demo.{demo_command};
 
 use crate::commands::Asked;
@@ -24,8 +23,7 @@ pub struct DemoRequest {
 
 /// The command `demo`, with its arguments.
 pub(crate) fn demo_command<'a>(alloc: Global) -> Result<Command<'a>, AllocError>
-    ensures shape { IfOk result (λ command. app_of command ≡ demo_command) }
-    ensures local { IfOk result (λ command. (fields_of command).has_globals ≡ false) }
+    ensures { MakesCommand demo_command result }
 {
     let command = Ok(Command::new(alloc, "demo"));
     let command = with_wanted_number(alloc, command, "SEED", 0, 4_294_967_295);

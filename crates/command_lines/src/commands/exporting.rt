@@ -1,12 +1,11 @@
 //! The words of the command `export`.
 
-ghost use Rattle.std.specs.Prelude.{◌≡◌, codes, false, IfOk, IfSome, IfNone};
-ghost use Rattle.clap.specs.Simple.{app_of};
+ghost use Rattle.std.specs.Prelude.{codes, IfSome, IfNone};
 ghost use Rattle.clap.specs.Walk.{rows_of};
 ghost use Rattle.clap.specs.Matches.{found_of};
-ghost use Rattle.clap.specs.declared.builder.command.Command.TheViews.{out-Command as fields_of};
 ghost use Rattle.command_lines.specs.declared.commands.exporting.ExportRequest.{ExportRequest as RequestOf};
 ghost use Rattle.command_lines.specs.Commands.{Asked as AskedFor, meant, Means};
+ghost use Rattle.command_lines.specs.Making.{MakesCommand};
 ghost use Rattle.command_lines.specs.Export.{export_command, IsItemGiven};
 
 use crate::commands::Asked;
@@ -29,8 +28,7 @@ pub struct ExportRequest {
 
 /// The command `export`, with its arguments.
 pub(crate) fn export_command<'a>(alloc: Global) -> Result<Command<'a>, AllocError>
-    ensures shape { IfOk result (λ command. app_of command ≡ export_command) }
-    ensures local { IfOk result (λ command. (fields_of command).has_globals ≡ false) }
+    ensures { MakesCommand export_command result }
 {
     let command = for_model_and_answer(alloc, "export");
     let command = with_wanted_number(alloc, command, "ENTRY", 0, 4_294_967_295);

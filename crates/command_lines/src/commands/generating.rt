@@ -1,13 +1,12 @@
 //! The words of the command `gen`.
 
-ghost use Rattle.std.specs.Prelude.{◌≡◌, Some, codes, false, IfOk, IfSome, IfNone};
-ghost use Rattle.clap.specs.Simple.{app_of};
+ghost use Rattle.std.specs.Prelude.{◌≡◌, Some, codes, IfSome, IfNone};
 ghost use Rattle.clap.specs.Walk.{rows_of};
 ghost use Rattle.clap.specs.Matches.{found_of};
-ghost use Rattle.clap.specs.declared.builder.command.Command.TheViews.{out-Command as fields_of};
 ghost use Rattle.command_lines.specs.declared.commands.generating.GenKind.{GenKind as KindOf};
 ghost use Rattle.command_lines.specs.declared.commands.generating.GenRequest.{GenRequest as RequestOf};
 ghost use Rattle.command_lines.specs.Commands.{Asked as AskedFor, meant, Means};
+ghost use Rattle.command_lines.specs.Making.{MakesCommand};
 ghost use Rattle.command_lines.specs.Gen.{gen_command, name_of_kind, MeansGen};
 
 use crate::commands::Asked;
@@ -38,8 +37,7 @@ pub enum GenKind {
 
 /// The command `gen`, with its arguments. KIND is tested by the program itself, see `kind_of`.
 pub(crate) fn gen_command<'a>(alloc: Global) -> Result<Command<'a>, AllocError>
-    ensures shape { IfOk result (λ command. app_of command ≡ gen_command) }
-    ensures local { IfOk result (λ command. (fields_of command).has_globals ≡ false) }
+    ensures { MakesCommand gen_command result }
 {
     let command = for_value(alloc, "gen", "KIND");
     let command = with_wanted_number(alloc, command, "SEED", 0, 4_294_967_295);

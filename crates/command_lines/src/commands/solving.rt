@@ -1,11 +1,10 @@
 //! The words of the command `solve`.
 
-ghost use Rattle.std.specs.Prelude.{◌≡◌, codes, false, IfOk, IfSome, IfNone};
-ghost use Rattle.clap.specs.Simple.{app_of};
+ghost use Rattle.std.specs.Prelude.{codes, false, IfSome, IfNone};
 ghost use Rattle.clap.specs.Walk.{rows_of};
 ghost use Rattle.clap.specs.Matches.{found_of};
-ghost use Rattle.clap.specs.declared.builder.command.Command.TheViews.{out-Command as fields_of};
 ghost use Rattle.command_lines.specs.Commands.{Asked as AskedFor, meant, Means};
+ghost use Rattle.command_lines.specs.Making.{MakesCommand};
 ghost use Rattle.command_lines.specs.Solve.{solve_command};
 
 use crate::commands::Asked;
@@ -50,8 +49,7 @@ pub const DEFAULTS: SolveRequest = SolveRequest {
 
 /// The command `solve`, with its arguments.
 pub(crate) fn solve_command<'a>(alloc: Global) -> Result<Command<'a>, AllocError>
-    ensures shape { IfOk result (λ command. app_of command ≡ solve_command) }
-    ensures local { IfOk result (λ command. (fields_of command).has_globals ≡ false) }
+    ensures { MakesCommand solve_command result }
 {
     let command = for_property(alloc, "solve");
     let command = with_number_option(alloc, command, "workers", 1, 64);

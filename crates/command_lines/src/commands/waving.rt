@@ -1,11 +1,10 @@
 //! The words of the command `wave`.
 
-ghost use Rattle.std.specs.Prelude.{◌≡◌, codes, false, IfOk, IfSome, IfNone};
-ghost use Rattle.clap.specs.Simple.{app_of};
+ghost use Rattle.std.specs.Prelude.{codes, IfSome, IfNone};
 ghost use Rattle.clap.specs.Walk.{rows_of};
 ghost use Rattle.clap.specs.Matches.{found_of};
-ghost use Rattle.clap.specs.declared.builder.command.Command.TheViews.{out-Command as fields_of};
 ghost use Rattle.command_lines.specs.Commands.{Asked as AskedFor, meant, Means};
+ghost use Rattle.command_lines.specs.Making.{MakesCommand};
 ghost use Rattle.command_lines.specs.Wave.{wave_command};
 
 use crate::commands::Asked;
@@ -15,8 +14,7 @@ use std::alloc::{AllocError, Global};
 
 /// The command `wave`, with its arguments.
 pub(crate) fn wave_command<'a>(alloc: Global) -> Result<Command<'a>, AllocError>
-    ensures shape { IfOk result (λ command. app_of command ≡ wave_command) }
-    ensures local { IfOk result (λ command. (fields_of command).has_globals ≡ false) }
+    ensures { MakesCommand wave_command result }
 {
     let command = for_model_and_answer(alloc, "wave");
     with_number_option(alloc, command, "property", 0, 4_294_967_295)

@@ -1,7 +1,4 @@
 use Rattle.command_lines.proofs.words.for_property.Goals as goal
 
-pub returns-clause-shape : goal.returns-clause-shape
-returns-clause-shape c = c.with_number_option.ensures.shape _ c.for_value-command.ensures.shape
-
-pub returns-clause-local : goal.returns-clause-local
-returns-clause-local c = c.with_number_option.ensures.local c.for_value-command.ensures.local
+pub returns : goal.returns
+returns c = c.with_number_option.ensures _ c.for_value-command.ensures

@@ -1,9 +1,10 @@
-use Rattle.std.proofs.Common.{rules}
+use Rattle.std.proofs.Common.{◌≡◌, rules, subst}
+use Rattle.clap.specs.Walk.{Rule, rule_of}
 use Rattle.command_lines.specs.Words.{flag}
+use Rattle.command_lines.specs.Making.{TakesMore}
 use Rattle.command_lines.proofs.words.with_flag.Goals as goal
 
-pub returns-clause-shape : goal.returns-clause-shape
-returns-clause-shape c app made = c.with_argument.ensures.shape app (flag c.args.name.now) (search rules) made
-
-pub returns-clause-local : goal.returns-clause-local
-returns-clause-local c = c.with_argument.ensures.local
+pub returns : goal.returns
+returns c =
+    let is : rule_of c.action-argument.result ≡ flag c.args.name.now = search rules in
+    subst (λ (rule : Rule). TakesMore c.args.made rule c.with_argument.result) is c.with_argument.ensures
