@@ -12,7 +12,7 @@ use Rattle.command_lines.specs.Slice.{MeansSlice}
 use Rattle.command_lines.specs.Safety.{MeansSafety}
 use Rattle.command_lines.specs.Rounds.{MeansRounds}
 use Rattle.command_lines.specs.Shortest.{MeansShortest}
-use Rattle.command_lines.specs.Commands.{Asked, Solve, Check, Gen, Demo, Wave, Slice, Convert, Safety, Rounds, Shortest, Trim, Export, Means}
+use Rattle.command_lines.specs.Commands.{Request, Solve, Check, Gen, Demo, Wave, Slice, Convert, Safety, Rounds, Shortest, Trim, Export, Means}
 use Rattle.command_lines.proofs.Values.{SomeOrNone, Asks, solve_or_none, names_or_none, request_or_none, demo_or_none, one_solve, one_pair, one_request, one_demo, Wants, safety_or_none, one_wanted, AsksRounds, rounds_or_none, one_rounds}
 use Rattle.command_lines.specs.Export.{IsItemGiven}
 use Rattle.command_lines.specs.declared.commands.exporting.ExportRequest.{ExportRequest}
@@ -22,12 +22,12 @@ use Rattle.command_lines.specs.Wave.{MeansWave}
 use Rattle.command_lines.proofs.Waves.{Waves, wave_or_none, one_wave}
 
 -- what the values of a command ask for, if they do
-asked_from : {T : Type 0} {P : T → Type 0} → (T → Asked) → SomeOrNone P → Option Asked
+asked_from : {T : Type 0} {P : T → Type 0} → (T → Request) → SomeOrNone P → Option Request
 asked_from form (inl found) = Some (form found.0)
 asked_from form (inr none) = None
 
 -- what a command of this name with these values asks for
-request_in : List ℕ → List Row → Option Asked
+request_in : List ℕ → List Row → Option Request
 request_in name rows =
     cond (bytes_eq name (codes "solve")) (asked_from (λ (asks : Asks). Solve asks.0 asks.1 asks.2) (solve_or_none rows))
     (cond (bytes_eq name (codes "check")) (asked_from (λ (names : List ℕ × List ℕ). Check names.0 names.1) (names_or_none rows))
@@ -43,7 +43,7 @@ request_in name rows =
     (cond (bytes_eq name (codes "export")) (asked_from (λ (exports : Exports). Export exports.0 exports.1 exports.2) (export_or_none rows))
     None)))))))))))
 
-is_picked : (name own : List ℕ) (rows : List Row) (asked : Asked) (this other : Option Asked) → (name ≡ own → this ≡ Some asked → Means asked name rows)
+is_picked : (name own : List ℕ) (rows : List Row) (asked : Request) (this other : Option Request) → (name ≡ own → this ≡ Some asked → Means asked name rows)
     → (other ≡ Some asked → Means asked name rows) → cond (bytes_eq name own) this other ≡ Some asked → Means asked name rows
 is_picked name own rows asked this other first second = by (bytes_eq name own) refl
   where
@@ -51,17 +51,17 @@ is_picked name own rows asked this other first second = by (bytes_eq name own) r
     by true e h = first ((bytes_eq-Decides name own).0 e) h
     by false e h = second h
 
-from_means : {T : Type 0} {P : T → Type 0} (name : List ℕ) (rows : List Row) (asked : Asked) (form : T → Asked) (either : SomeOrNone P)
+from_means : {T : Type 0} {P : T → Type 0} (name : List ℕ) (rows : List Row) (asked : Request) (form : T → Request) (either : SomeOrNone P)
     → ((t : T) → P t → Means (form t) name rows) → asked_from form either ≡ Some asked → Means asked name rows
 unfolding asked_from
 from_means name rows asked form (inl found) each e =
-    subst (λ (a : Asked). Means a name rows) (ap (λ (o : Option Asked). unwrap_or o (form found.0)) e) (each found.0 found.1)
-from_means name rows asked form (inr none) each e = let wrong : ◌≡◌ {A = Option Asked} None (Some asked) = e in absurd (cc)
+    subst (λ (a : Request). Means a name rows) (ap (λ (o : Option Request). unwrap_or o (form found.0)) e) (each found.0 found.1)
+from_means name rows asked form (inr none) each e = let wrong : ◌≡◌ {A = Option Request} None (Some asked) = e in absurd (cc)
 
-none_asked : (name : List ℕ) (rows : List Row) (asked : Asked) → ◌≡◌ {A = Option Asked} None (Some asked) → Means asked name rows
+none_asked : (name : List ℕ) (rows : List Row) (asked : Request) → ◌≡◌ {A = Option Request} None (Some asked) → Means asked name rows
 none_asked name rows asked e = absurd (cc)
 
-reads_means : (name : List ℕ) (rows : List Row) (asked : Asked) → request_in name rows ≡ Some asked → Means asked name rows
+reads_means : (name : List ℕ) (rows : List Row) (asked : Request) → request_in name rows ≡ Some asked → Means asked name rows
 unfolding request_in
 reads_means name rows asked =
     is_picked name (codes "solve") rows asked _ _ (λ is. from_means name rows asked (λ (asks : Asks). Solve asks.0 asks.1 asks.2) (solve_or_none rows) (λ t h. (is, h)))
@@ -79,13 +79,13 @@ reads_means name rows asked =
     (none_asked name rows asked))))))))))))
 
 -- the values of a command that ask for something ask for nothing else
-from_found : {T : Type 0} {P : T → Type 0} (form : T → Asked) (either : SomeOrNone P) (t : T) → P t
+from_found : {T : Type 0} {P : T → Type 0} (form : T → Request) (either : SomeOrNone P) (t : T) → P t
     → ((a b : T) → P a → P b → form a ≡ form b) → asked_from form either ≡ Some (form t)
 unfolding asked_from
-from_found form (inl found) t h one = ap (λ (a : Asked). Some a) (one found.0 t found.1 h)
+from_found form (inl found) t h one = ap (λ (a : Request). Some a) (one found.0 t found.1 h)
 from_found form (inr none) t h one = absurd (none t h)
 
-means_reads : (name : List ℕ) (rows : List Row) (asked : Asked) → Means asked name rows → request_in name rows ≡ Some asked
+means_reads : (name : List ℕ) (rows : List Row) (asked : Request) → Means asked name rows → request_in name rows ≡ Some asked
 unfolding request_in
 means_reads name rows (Solve model request resume) h =
     ap (λ (n : List ℕ). request_in n rows) h.0
@@ -126,56 +126,56 @@ means_reads name rows (Export model answer request) h =
     ∙ from_found (λ (exports : Exports). Export exports.0 exports.1 exports.2) (export_or_none rows) (model, answer, request) h.1 (one_export rows)
 
 -- the values are of one request at most
-pub one_meant : (name : List ℕ) (rows : List Row) (a b : Asked) → Means a name rows → Means b name rows → a ≡ b
+pub one_meant : (name : List ℕ) (rows : List Row) (a b : Request) → Means a name rows → Means b name rows → a ≡ b
 one_meant name rows a b h k =
-    ap (λ (o : Option Asked). unwrap_or o a) (sym (means_reads name rows a h) ∙ means_reads name rows b k)
+    ap (λ (o : Option Request). unwrap_or o a) (sym (means_reads name rows a h) ∙ means_reads name rows b k)
 
-none_read : (name : List ℕ) (rows : List Row) → request_in name rows ≡ None → (asked : Asked) → Means asked name rows → ⊥
-none_read name rows e asked h = let wrong : ◌≡◌ {A = Option Asked} None (Some asked) = sym e ∙ means_reads name rows asked h in cc
+none_read : (name : List ℕ) (rows : List Row) → request_in name rows ≡ None → (asked : Request) → Means asked name rows → ⊥
+none_read name rows e asked h = let wrong : ◌≡◌ {A = Option Request} None (Some asked) = sym e ∙ means_reads name rows asked h in cc
 
-pub asked_or_none : (name : List ℕ) (rows : List Row) → SomeOrNone (λ (asked : Asked). Means asked name rows)
+pub asked_or_none : (name : List ℕ) (rows : List Row) → SomeOrNone (λ (asked : Request). Means asked name rows)
 asked_or_none name rows = by (request_in name rows) refl
   where
-    by : (read : Option Asked) → request_in name rows ≡ read → SomeOrNone (λ (asked : Asked). Means asked name rows)
+    by : (read : Option Request) → request_in name rows ≡ read → SomeOrNone (λ (asked : Request). Means asked name rows)
     by (Some asked) e = inl (asked, reads_means name rows asked e)
     by None e = inr (none_read name rows e)
 
-from_none : {T : Type 0} {P : T → Type 0} (form : T → Asked) (either : SomeOrNone P) → ((t : T) → P t → ⊥) → asked_from form either ≡ None
+from_none : {T : Type 0} {P : T → Type 0} (form : T → Request) (either : SomeOrNone P) → ((t : T) → P t → ⊥) → asked_from form either ≡ None
 unfolding asked_from
 from_none form (inl found) none = absurd (none found.0 found.1)
 from_none form (inr other) none = refl
 
 -- ---- where a command's values ask for nothing, of commands that want it said
 
-pub no_solve : (rows : List Row) → ((asks : Asks) → MeansSolve rows asks.0 asks.1 asks.2 → ⊥) → (asked : Asked) → Means asked (codes "solve") rows → ⊥
+pub no_solve : (rows : List Row) → ((asks : Asks) → MeansSolve rows asks.0 asks.1 asks.2 → ⊥) → (asked : Request) → Means asked (codes "solve") rows → ⊥
 unfolding request_in
 no_solve rows none = none_read (codes "solve") rows (from_none (λ (asks : Asks). Solve asks.0 asks.1 asks.2) (solve_or_none rows) none)
 
-pub no_safety : (rows : List Row) → ((wants : Wants) → MeansSafety rows wants.0 wants.1 → ⊥) → (asked : Asked) → Means asked (codes "safety") rows → ⊥
+pub no_safety : (rows : List Row) → ((wants : Wants) → MeansSafety rows wants.0 wants.1 → ⊥) → (asked : Request) → Means asked (codes "safety") rows → ⊥
 unfolding request_in
 no_safety rows none = none_read (codes "safety") rows (from_none (λ (wants : Wants). Safety wants.0 wants.1) (safety_or_none rows) none)
 
-pub no_slice : (rows : List Row) → ((wants : Wants) → MeansSlice rows wants.0 wants.1 → ⊥) → (asked : Asked) → Means asked (codes "slice") rows → ⊥
+pub no_slice : (rows : List Row) → ((wants : Wants) → MeansSlice rows wants.0 wants.1 → ⊥) → (asked : Request) → Means asked (codes "slice") rows → ⊥
 unfolding request_in
 no_slice rows none = none_read (codes "slice") rows (from_none (λ (wants : Wants). Slice wants.0 wants.1) (safety_or_none rows) none)
 
-pub no_wave : (rows : List Row) → ((waves : Waves) → MeansWave rows waves.0 waves.1 waves.2 → ⊥) → (asked : Asked) → Means asked (codes "wave") rows → ⊥
+pub no_wave : (rows : List Row) → ((waves : Waves) → MeansWave rows waves.0 waves.1 waves.2 → ⊥) → (asked : Request) → Means asked (codes "wave") rows → ⊥
 unfolding request_in
 no_wave rows none = none_read (codes "wave") rows (from_none (λ (waves : Waves). Wave waves.0 waves.1 waves.2) (wave_or_none rows) none)
 
-pub no_demo : (rows : List Row) → ((request : DemoRequest) → MeansDemo rows request → ⊥) → (asked : Asked) → Means asked (codes "demo") rows → ⊥
+pub no_demo : (rows : List Row) → ((request : DemoRequest) → MeansDemo rows request → ⊥) → (asked : Request) → Means asked (codes "demo") rows → ⊥
 unfolding request_in
 no_demo rows none = none_read (codes "demo") rows (from_none (λ (request : DemoRequest). Demo request) (demo_or_none rows) none)
 
-pub no_rounds : (rows : List Row) → ((asks : AsksRounds) → MeansRounds rows asks.0 asks.1 → ⊥) → (asked : Asked) → Means asked (codes "rounds") rows → ⊥
+pub no_rounds : (rows : List Row) → ((asks : AsksRounds) → MeansRounds rows asks.0 asks.1 → ⊥) → (asked : Request) → Means asked (codes "rounds") rows → ⊥
 unfolding request_in
 no_rounds rows none = none_read (codes "rounds") rows (from_none (λ (asks : AsksRounds). Rounds asks.0 asks.1) (rounds_or_none rows) none)
 
-pub no_shortest : (rows : List Row) → ((asks : AsksShortest) → MeansShortest rows asks.0 asks.1 → ⊥) → (asked : Asked) → Means asked (codes "shortest") rows → ⊥
+pub no_shortest : (rows : List Row) → ((asks : AsksShortest) → MeansShortest rows asks.0 asks.1 → ⊥) → (asked : Request) → Means asked (codes "shortest") rows → ⊥
 unfolding request_in
 no_shortest rows none = none_read (codes "shortest") rows (from_none (λ (asks : AsksShortest). Shortest asks.0 asks.1) (shortest_or_none rows) none)
 
-pub no_export : (rows : List Row) → ((request : ExportRequest) → IsItemGiven rows request → ⊥) → (asked : Asked) → Means asked (codes "export") rows → ⊥
+pub no_export : (rows : List Row) → ((request : ExportRequest) → IsItemGiven rows request → ⊥) → (asked : Request) → Means asked (codes "export") rows → ⊥
 unfolding request_in
 no_export rows none =
     none_read (codes "export") rows (from_none (λ (exports : Exports). Export exports.0 exports.1 exports.2) (export_or_none rows) (λ exports h. none exports.2 h.1))

@@ -9,10 +9,10 @@ use Rattle.clap.specs.Walk.{Held, Names, Row, Text, finished, nothing_held, sett
 use Rattle.clap.specs.Simple.{Shape, argument_words, built, entered, names_of, subcommand_of}
 use Rattle.clap.specs.Kinds.{Kinds, or_else, check_kinds}
 use Rattle.clap.specs.Faults.{fault_of, level_fault, entered_fault, check_fault, defaults_fault, settle_fault, walk_fault}
-use Rattle.command_lines.specs.declared.commands.Asked.{Asked as AskedInCode}
+use Rattle.command_lines.specs.declared.commands.Request.{Request as RequestInCode}
 use Rattle.command_lines.specs.declared.commands.WordsEnd.{WordsEnd}
 use Rattle.command_lines.specs.declared.commands.WordsEnd.TheVariants as ends
-use Rattle.command_lines.specs.Commands.{Asked, meant, fairlive, Means}
+use Rattle.command_lines.specs.Commands.{Request, meant, fairlive, Means}
 use Rattle.command_lines.specs.Asking.{IsTaken, AsksFor, IsUsage, IsTakenOrUsage, IsTold}
 use Rattle.command_lines.specs.Met.{MetFor, IsRead}
 use Rattle.command_lines.proofs.Values.{SomeOrNone}
@@ -68,7 +68,7 @@ some_met words e = by (subcommand_of fairlive words) refl (there words e)
     by (Some (name, rows)) same some = (name, rows, same)
     by None same some = absurd (false≢true some)
 
-of_taken : (words : List Text) (name : Text) (rows : List Row) → IsTaken words name rows → SomeOrNone (λ (asked : Asked). Means asked name rows) → IsTakenOrUsage words
+of_taken : (words : List Text) (name : Text) (rows : List Row) → IsTaken words name rows → SomeOrNone (λ (asked : Request). Means asked name rows) → IsTakenOrUsage words
 of_taken words name rows taken (inl found) = inr (found.0, record { name = name; rows = rows; taken = taken; means = found.1 })
 of_taken words name rows taken (inr none) = inl (inr (record { name = name; rows = rows; taken = taken; refused = none }))
 
@@ -84,7 +84,7 @@ taken_or_usage words = by (fault_of fairlive words) refl
 -- ---- what was met is what the words are
 
 pub no_request : (words : List Text) (met : Option (Text × List Row)) → fault_of fairlive words ≡ [] → met ≡ subcommand_of fairlive words
-    → ((asked : Asked) → MetFor met asked → ⊥) → IsUsage words
+    → ((asked : Request) → MetFor met asked → ⊥) → IsUsage words
 no_request words met none same refused =
     let found = some_met words none in
     inr (record {
@@ -101,32 +101,32 @@ same_taken name other rows others e =
     let pair : ◌≡◌ {A = Text × List Row} (name, rows) (other, others) = cc in
     (ap (λ (p : Text × List Row). p.0) pair, ap (λ (p : Text × List Row). p.1) pair)
 
-moved : (name other : Text) (rows others : List Row) (asked : Asked) → (name ≡ other) × (rows ≡ others) → Means asked other others → Means asked name rows
+moved : (name other : Text) (rows others : List Row) (asked : Request) → (name ≡ other) × (rows ≡ others) → Means asked other others → Means asked name rows
 moved name other rows others asked same h =
     subst (λ (n : Text). Means asked n rows) (sym same.0) (subst (λ (r : List Row). Means asked other r) (sym same.1) h)
 
-pub one_asked : (words : List Text) (a b : Asked) → AsksFor words a → AsksFor words b → a ≡ b
+pub one_asked : (words : List Text) (a b : Request) → AsksFor words a → AsksFor words b → a ≡ b
 one_asked words a b h k =
     one_meant h.name h.rows a b h.means
     (moved h.name k.name h.rows k.rows b (same_taken h.name k.name h.rows k.rows (sym h.taken.command ∙ k.taken.command)) k.means)
 
-pub not_usage : (words : List Text) (asked : Asked) → AsksFor words asked → IsUsage words → ⊥
+pub not_usage : (words : List Text) (asked : Request) → AsksFor words asked → IsUsage words → ⊥
 not_usage words asked h (inl fault) = fault h.taken.faultless
 not_usage words asked h (inr k) =
     k.refused asked (moved k.name h.name k.rows h.rows asked (same_taken k.name h.name k.rows h.rows (sym k.taken.command ∙ h.taken.command)) h.means)
 
 -- ---- what words that are read are told to be
 
-pub found_read : (words : List Text) (r : Result AskedInCode WordsEnd) → IsRead words r → IfOk r (λ told. AsksFor words (meant told))
+pub found_read : (words : List Text) (r : Result RequestInCode WordsEnd) → IsRead words r → IfOk r (λ told. AsksFor words (meant told))
 found_read words (Ok told) read = read
 found_read words (Err end) read = tt
 
-pub told_read : (words : List Text) (r : Result AskedInCode WordsEnd) → IsRead words r → (asked : Asked) → AsksFor words asked → IsTold asked r
+pub told_read : (words : List Text) (r : Result RequestInCode WordsEnd) → IsRead words r → (asked : Request) → AsksFor words asked → IsTold asked r
 told_read words (Ok told) read asked asks = one_asked words (meant told) asked read asks
 told_read words (Err ends.Usage) read asked asks = absurd (not_usage words asked asks read)
 told_read words (Err ends.Memory) read asked asks = refl
 
-pub ended_read : (words : List Text) (r : Result AskedInCode WordsEnd) → IsRead words r
+pub ended_read : (words : List Text) (r : Result RequestInCode WordsEnd) → IsRead words r
     → IfErr r (λ end. ((end ≡ ends.Usage) × IsUsage words) ⊎ (end ≡ ends.Memory))
 ended_read words (Ok told) read = tt
 ended_read words (Err ends.Usage) read = inl (refl, read)

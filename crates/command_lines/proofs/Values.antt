@@ -16,7 +16,7 @@ use Rattle.command_lines.specs.declared.commands.generating.GenRequest.{GenReque
 use Rattle.command_lines.specs.declared.commands.solving.SolveRequest.{SolveRequest}
 use Rattle.command_lines.specs.declared.commands.demonstrating.DemoRequest.{DemoRequest}
 use Rattle.command_lines.specs.declared.commands.counting.RoundsRequest.{RoundsRequest}
-use Rattle.command_lines.specs.Commands.{Asked, Solve, Rounds}
+use Rattle.command_lines.specs.Commands.{Request, Solve, Rounds}
 use Rattle.command_lines.specs.Words.{IsGiven, given_in, IsNumberIn, IsNumberGiven, IsNumberOr, flag_in}
 use Rattle.command_lines.specs.Check.{MeansCheck}
 use Rattle.command_lines.specs.Solve.{MeansSolve}
@@ -244,7 +244,7 @@ one_demo rows a b h k =
     (one_number rows (codes "SIZE") 1 256 a.size b.size h.size_number k.size_number)
 
 -- two names, of a command that has them
-pub one_pair : (rows : List Row) (form : List ℕ → List ℕ → Asked) (a b : List ℕ × List ℕ) → MeansCheck rows a.0 a.1 → MeansCheck rows b.0 b.1 → form a.0 a.1 ≡ form b.0 b.1
+pub one_pair : (rows : List Row) (form : List ℕ → List ℕ → Request) (a b : List ℕ × List ℕ) → MeansCheck rows a.0 a.1 → MeansCheck rows b.0 b.1 → form a.0 a.1 ≡ form b.0 b.1
 one_pair rows form a b h k =
     ap₂ form (one_text (first_of (codes "MODEL") rows) a.0 b.0 h.model_name k.model_name) (one_text (first_of (codes "ANSWER") rows) a.1 b.1 h.answer_name k.answer_name)
 
@@ -263,7 +263,7 @@ safety_or_none rows = by (first_of (codes "MODEL") rows) refl (number_or_none_gi
     by None e p = inr (λ wants h. (let wrong : None ≡ Some wants.0 = sym e ∙ h.model_name in cc))
     by (Some model) e (inr none) = inr (λ wants h. none wants.1 h.number)
 
-pub one_wanted : (rows : List Row) (form : List ℕ → ℕ → Asked) (a b : Wants) → MeansSafety rows a.0 a.1 → MeansSafety rows b.0 b.1 → form a.0 a.1 ≡ form b.0 b.1
+pub one_wanted : (rows : List Row) (form : List ℕ → ℕ → Request) (a b : Wants) → MeansSafety rows a.0 a.1 → MeansSafety rows b.0 b.1 → form a.0 a.1 ≡ form b.0 b.1
 one_wanted rows form a b h k =
     ap₂ form (one_text (first_of (codes "MODEL") rows) a.0 b.0 h.model_name k.model_name)
     (one_number_or rows (codes "property") 0 4294967295 0 a.1 b.1 h.number k.number)

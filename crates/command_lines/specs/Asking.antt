@@ -3,10 +3,10 @@ use Rattle.std.specs.Prelude.{◌≡◌, ◌≢◌, ◌⊎◌, ℕ, List, [], So
 use Rattle.clap.specs.Walk.{Row}
 use Rattle.clap.specs.Simple.{subcommand_of}
 use Rattle.clap.specs.Faults.{fault_of}
-use Rattle.command_lines.specs.declared.commands.Asked.{Asked as AskedInCode}
+use Rattle.command_lines.specs.declared.commands.Request.{Request as RequestInCode}
 use Rattle.command_lines.specs.declared.commands.WordsEnd.{WordsEnd}
 use Rattle.command_lines.specs.declared.commands.WordsEnd.TheVariants.{Memory}
-use Rattle.command_lines.specs.Commands.{Asked, meant, fairlive, Means}
+use Rattle.command_lines.specs.Commands.{Request, meant, fairlive, Means}
 
 -- `clap` takes the words, as the command of this name with these values
 pub record IsTaken (words : List (List ℕ)) (name : List ℕ) (rows : List Row) : Type 0 where
@@ -14,7 +14,7 @@ pub record IsTaken (words : List (List ℕ)) (name : List ℕ) (rows : List Row)
   pub command : subcommand_of fairlive words ≡ Some (name, rows)
 
 -- the words ask for this
-pub record AsksFor (words : List (List ℕ)) (asked : Asked) : Type 0 where
+pub record AsksFor (words : List (List ℕ)) (asked : Request) : Type 0 where
   pub name : List ℕ
   pub rows : List Row
   pub taken : IsTaken words name rows
@@ -25,7 +25,7 @@ pub record AsksForNothing (words : List (List ℕ)) : Type 0 where
   pub name : List ℕ
   pub rows : List Row
   pub taken : IsTaken words name rows
-  pub refused : (asked : Asked) → Means asked name rows → ⊥
+  pub refused : (asked : Request) → Means asked name rows → ⊥
 
 -- the words are no command: `clap` does not take them (so a request for help), for another cause than memory, or their
 -- values are no request
@@ -34,9 +34,9 @@ IsUsage words = (fault_of fairlive words ≢ []) ⊎ AsksForNothing words
 
 -- the words ask for something, or are no command
 abbrev pub IsTakenOrUsage : List (List ℕ) → Type 0
-IsTakenOrUsage words = IsUsage words ⊎ ((asked : Asked) × AsksFor words asked)
+IsTakenOrUsage words = IsUsage words ⊎ ((asked : Request) × AsksFor words asked)
 
 -- the words are told to ask for this, unless memory was refused
-abbrev pub IsTold : Asked → Result AskedInCode WordsEnd → Type 0
+abbrev pub IsTold : Request → Result RequestInCode WordsEnd → Type 0
 IsTold asked (Ok told) = meant told ≡ asked
 IsTold asked (Err end) = end ≡ Memory

@@ -3,8 +3,8 @@
 use Rattle.std.specs.Prelude.{◌≡◌, ℕ, List, [], ◌∷◌, Option, None, Some, option_map, codes, true}
 use Rattle.clap.specs.Walk.{Row}
 use Rattle.clap.specs.Simple.{App, new_app, on_top, with_subcommand}
-use Rattle.command_lines.specs.declared.commands.Asked.{Asked as AskedInCode}
-use Rattle.command_lines.specs.declared.commands.Asked.TheVariants as code
+use Rattle.command_lines.specs.declared.commands.Request.{Request as RequestInCode}
+use Rattle.command_lines.specs.declared.commands.Request.TheVariants as code
 use Rattle.command_lines.specs.declared.commands.solving.SolveRequest.{SolveRequest}
 use Rattle.command_lines.specs.declared.commands.generating.GenRequest.{GenRequest}
 use Rattle.command_lines.specs.declared.commands.demonstrating.DemoRequest.{DemoRequest}
@@ -25,32 +25,32 @@ use Rattle.command_lines.specs.Trim.{trim_command, MeansTrim}
 use Rattle.command_lines.specs.Export.{export_command, MeansExport}
 
 -- what the words may ask for
-pub data Asked : Type 0 where
+pub data Request : Type 0 where
   -- decide a property, or all, of the model under the name, by a list that begins with the entries of the answer under another,
   -- where one is given
-  Solve : (model : List ℕ) (request : SolveRequest) (resume : Option (List ℕ)) → Asked
+  Solve : (model : List ℕ) (request : SolveRequest) (resume : Option (List ℕ)) → Request
   -- check the answer under one name against the model under the other
-  Check : (model : List ℕ) (answer : List ℕ) → Asked
+  Check : (model : List ℕ) (answer : List ℕ) → Request
   -- write a generated model
-  Gen : (request : GenRequest) → Asked
+  Gen : (request : GenRequest) → Request
   -- decide a property of a generated model, and print a summary
-  Demo : (request : DemoRequest) → Asked
+  Demo : (request : DemoRequest) → Request
   -- write the waves of the answer's lasso; of a sheet those of the lasso of this property
-  Wave : (model : List ℕ) (answer : List ℕ) (property : ℕ) → Asked
+  Wave : (model : List ℕ) (answer : List ℕ) (property : ℕ) → Request
   -- write what of the model lies in the cone of a property
-  Slice : (model : List ℕ) (property : ℕ) → Asked
+  Slice : (model : List ℕ) (property : ℕ) → Request
   -- write the answer in the current version
-  Convert : (model : List ℕ) (answer : List ℕ) → Asked
+  Convert : (model : List ℕ) (answer : List ℕ) → Request
   -- write a property of the model as a model for checkers of safety
-  Safety : (model : List ℕ) (property : ℕ) → Asked
+  Safety : (model : List ℕ) (property : ℕ) → Request
   -- decide whether some run has so many rounds of a property of the model
-  Rounds : (model : List ℕ) (request : RoundsRequest) → Asked
+  Rounds : (model : List ℕ) (request : RoundsRequest) → Request
   -- print a shortest lasso of a property of the model, or that there is none of so many positions
-  Shortest : (model : List ℕ) (request : ShortestRequest) → Asked
+  Shortest : (model : List ℕ) (request : ShortestRequest) → Request
   -- write the answer without what it does not need
-  Trim : (model : List ℕ) (answer : List ℕ) → Asked
+  Trim : (model : List ℕ) (answer : List ℕ) → Request
   -- write the clauses of an obligation of the answer, or its proof, for other checkers
-  Export : (model : List ℕ) (answer : List ℕ) (request : ExportRequest) → Asked
+  Export : (model : List ℕ) (answer : List ℕ) (request : ExportRequest) → Request
 
 -- a name, if there is one
 abbrev pub name_in : Option (List ℕ) → List (List ℕ)
@@ -58,7 +58,7 @@ name_in None = []
 name_in (Some name) = name ∷ []
 
 -- the names whose texts are read for it, in this order: MODEL's is the first
-abbrev pub names_in : Asked → List (List ℕ)
+abbrev pub names_in : Request → List (List ℕ)
 names_in (Solve model request resume) = model ∷ name_in resume
 names_in (Check model answer) = model ∷ answer ∷ []
 names_in (Gen request) = []
@@ -73,7 +73,7 @@ names_in (Trim model answer) = model ∷ answer ∷ []
 names_in (Export model answer request) = model ∷ answer ∷ []
 
 -- what a value in the code asks for
-abbrev pub meant : AskedInCode → Asked
+abbrev pub meant : RequestInCode → Request
 meant (code.Solve model request resume) = Solve model.now request (option_map (λ name. name.now) resume)
 meant (code.Check model answer) = Check model.now answer.now
 meant (code.Gen request) = Gen request
@@ -101,7 +101,7 @@ fairlive =
     slice_command.top) convert_command.top) safety_command.top) rounds_command.top) shortest_command.top) trim_command.top) export_command.top
 
 -- the command of this name, with the values of these rows, asks for this
-abbrev pub Means : Asked → List ℕ → List Row → Type 0
+abbrev pub Means : Request → List ℕ → List Row → Type 0
 Means (Solve model request resume) name rows = (name ≡ codes "solve") × MeansSolve rows model request resume
 Means (Check model answer) name rows = (name ≡ codes "check") × MeansCheck rows model answer
 Means (Gen request) name rows = (name ≡ codes "gen") × MeansGen rows request

@@ -13,7 +13,7 @@ ghost use Rattle.clap.specs.Matches.{found_of};
 ghost use Rattle.clap.specs.Kinds.{FailsBy};
 ghost use Rattle.clap.specs.Faults.{fault_of};
 ghost use Rattle.command_lines.specs.Words.{bytes_of};
-ghost use Rattle.command_lines.specs.Commands.{Asked as AskedFor, meant, fairlive, Means};
+ghost use Rattle.command_lines.specs.Commands.{Request as AskedFor, meant, fairlive, Means};
 ghost use Rattle.command_lines.specs.Asking.{AsksFor, IsUsage, IsTakenOrUsage, IsTold};
 ghost use Rattle.command_lines.specs.Met.{MetFor, IsRead};
 
@@ -55,7 +55,7 @@ use waving::{wave_command, wave_of};
 
 /// A command with its values.
 #[derive(Clone, Copy)]
-pub enum Asked<'a> {
+pub enum Request<'a> {
     /// Decide a property, or all, of the model under the name, by a list that begins with the entries of the answer under
     /// another, where one is given.
     Solve {
@@ -131,7 +131,7 @@ pub enum WordsEnd {
 
 /// What the words ask for, of which the first is the program's own name: where `clap` takes them, and their values are such
 /// as the command takes. `Usage` comes exactly where they are no command, unless memory is wanted; `Memory` where it is.
-pub fn asked_of<'a>(alloc: Global, words: &'a [String]) -> Result<Asked<'a>, WordsEnd>
+pub fn asked_of<'a>(alloc: Global, words: &'a [String]) -> Result<Request<'a>, WordsEnd>
     // What is told is asked for; and whatever is asked for is told, unless memory is refused.
     ensures found { IfOk result (λ asked. AsksFor (bytes_of words.now) (meant asked)) }
     ensures exactly { (asked : AskedFor) → AsksFor (bytes_of words.now) asked → IsTold asked result }
@@ -142,7 +142,7 @@ pub fn asked_of<'a>(alloc: Global, words: &'a [String]) -> Result<Asked<'a>, Wor
     read_words(alloc, words)
 }
 
-fn read_words<'a>(alloc: Global, words: &'a [String]) -> Result<Asked<'a>, WordsEnd>
+fn read_words<'a>(alloc: Global, words: &'a [String]) -> Result<Request<'a>, WordsEnd>
     ensures { IsRead (bytes_of words.now) result }
 {
     match matches_of(alloc, words) {
@@ -196,7 +196,7 @@ fn program<'a>(alloc: Global) -> Result<Command<'a>, AllocError>
 }
 
 /// What the command that was met asks for, if it is one of the program's and its values are a request.
-fn asked_by<'a>(matches: &ArgMatches<'a>) -> Option<Asked<'a>>
+fn asked_by<'a>(matches: &ArgMatches<'a>) -> Option<Request<'a>>
     ensures found { IfSome result (λ asked. MetFor (subcommand_rows_of matches.now) (meant asked)) }
     ensures none { IfNone result ((asked : AskedFor) → MetFor (subcommand_rows_of matches.now) asked → ⊥) }
 {
@@ -214,7 +214,7 @@ fn met<'a, 'm>(matches: &'m ArgMatches<'a>) -> Option<(&'a str, &'m ArgMatches<'
 }
 
 /// What the command of this name asks for: a case for each.
-fn asked_as<'a>(name: &str, given: &ArgMatches<'a>) -> Option<Asked<'a>>
+fn asked_as<'a>(name: &str, given: &ArgMatches<'a>) -> Option<Request<'a>>
     ensures found { IfSome result (λ asked. Means (meant asked) name.now (rows_of (found_of given.now))) }
     ensures none { IfNone result ((asked : AskedFor) → Means asked name.now (rows_of (found_of given.now)) → ⊥) }
 {

@@ -6,7 +6,7 @@
 //!
 //! | Word | Means |
 //! |---|---|
-//! | `Asked` | a command with its values: names of texts, a number of a property, or a request |
+//! | `Request` | what the words ask for: a command with its values |
 //! | `SolveRequest` | what `solve` is asked for; `DEFAULTS`: where only a model is named |
 //! | `GenRequest` with `GenKind`, `DemoRequest`, `RoundsRequest`, `ShortestRequest`, `ExportRequest` | what `gen`, `demo`, `rounds`, `shortest` and `export` are asked for |
 //! | `WordsEnd` | why the words ask for nothing |
@@ -20,6 +20,6 @@ mod commands;
 mod words;
 
 pub use commands::{
-    Asked, DEFAULTS, DemoRequest, ExportRequest, GenKind, GenRequest, RoundsRequest,
+    DEFAULTS, DemoRequest, ExportRequest, GenKind, GenRequest, Request, RoundsRequest,
     ShortestRequest, SolveRequest, USAGE, WordsEnd, asked_of,
 };

@@ -6,7 +6,7 @@ use Rattle.given_entries.specs.Beginning.{told_of}
 use Rattle.plain_commands.specs.declared.status.Status.{Status}
 use Rattle.plain_commands.specs.declared.status.Status.TheVariants as statuses
 use Rattle.plain_commands.specs.Convert.{IsConversion}
-use Rattle.command_lines.specs.Commands.{Asked, Solve, Check, Gen, Demo, Wave, Slice, Convert, Safety, Rounds, Shortest, Trim, Export}
+use Rattle.command_lines.specs.Commands.{Request, Solve, Check, Gen, Demo, Wave, Slice, Convert, Safety, Rounds, Shortest, Trim, Export}
 use Rattle.plain_commands.specs.Trim.{IsTrimming}
 use Rattle.fair_top.specs.Commands.{CommandGives}
 use Rattle.fair_top.specs.Solved.{SolvesAsked}
@@ -21,7 +21,7 @@ use Rattle.plain_commands.proofs.Exported.{of_export}
 
 -- ---- where memory is refused
 
-pub memory_solves : (held : List ℕ → Option (List ℕ)) (asked : Asked) (result : Status) → result ≡ statuses.Memory → SolvesAsked held asked result
+pub memory_solves : (held : List ℕ → Option (List ℕ)) (asked : Request) (result : Status) → result ≡ statuses.Memory → SolvesAsked held asked result
 memory_solves held (Solve model request resume) result e = λ given. inr e
 memory_solves held (Check model answer) result e = tt
 memory_solves held (Gen request) result e = tt
@@ -37,7 +37,7 @@ memory_solves held (Export model answer request) result e = tt
 
 -- ---- what a sink saw
 
-pub of_command : {Sink : Type 0} (Write : Sink → Bool → Sink → Type 0) (held : List ℕ → Option (List ℕ)) (asked : Asked)
+pub of_command : {Sink : Type 0} (Write : Sink → Bool → Sink → Type 0) (held : List ℕ → Option (List ℕ)) (asked : Request)
     (status : Status) (text : List ℕ) (old new : Sink) → CommandGives held asked status text → Writes Write false old new → HasWritten Write status old new
 of_command Write held (Solve model request resume) status text old new gives writes =
     of_solve Write (held model) (told_of held resume) request status text old new gives writes

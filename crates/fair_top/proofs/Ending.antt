@@ -13,7 +13,7 @@ use Rattle.fair_top.specs.Demo.{GivesDemo, IsSummedUp, demo_circuit}
 use Rattle.fair_top.specs.Solved.{SolvesAsked}
 use Rattle.plain_commands.specs.ModelGiven.{OfSomeText}
 use Rattle.plain_commands.specs.Check.{JudgesAs, GivesCheck}
-use Rattle.command_lines.specs.Commands.{Asked, Gen, Demo, names_in}
+use Rattle.command_lines.specs.Commands.{Request, Gen, Demo, names_in}
 use Rattle.fair_top.specs.Commands.{CommandGives, Decides}
 use Rattle.command_lines.specs.Asking.{AsksFor, IsUsage, IsTakenOrUsage}
 use Rattle.fair_top.specs.Headline.{Ends, IsVerdict, HasTaken, ReadFailed, HasRead}
@@ -28,12 +28,12 @@ use Rattle.fair_top.proofs.Decided.{silent_aloud}
 use Rattle.command_lines.proofs.Taken.{one_asked, not_usage}
 
 -- what is decided for what is asked for is decided for the words
-pub exact_for : (held : List ℕ → Option (List ℕ)) (words : List (List ℕ)) (asked : Asked) (result : Status) → AsksFor words asked
+pub exact_for : (held : List ℕ → Option (List ℕ)) (words : List (List ℕ)) (asked : Request) (result : Status) → AsksFor words asked
     → ((verdict : Status) → Decides held asked verdict → IsAnswered verdict result)
     → (verdict : Status) → IsVerdict held words verdict → IsAnswered verdict result
 exact_for held words asked result asks exact verdict (inl usage) = absurd (not_usage words asked asks usage.0)
 exact_for held words asked result asks exact verdict (inr (other, others, d)) =
-    exact verdict (subst (λ (a : Asked). Decides held a verdict) (one_asked words other asked others asks) d)
+    exact verdict (subst (λ (a : Request). Decides held a verdict) (one_asked words other asked others asks) d)
 
 -- another status in the place of one that is answered: that status, or want of memory
 pub still_answered : (verdict status result : Status) → (result ≡ status) ⊎ (result ≡ statuses.Memory) → IsAnswered verdict status → IsAnswered verdict result
@@ -53,7 +53,7 @@ pub is_printed : (held : List ℕ → Option (List ℕ)) (words : List (List ℕ
 is_printed held words before now request status asks exact read = by (exact (statuses.Done Printed) (inr (Gen request, asks, refl)))
   where
     unread : ReadFailed held words before now → ⊥
-    unread (other, others, failed, there) = subst (λ (a : Asked). FailedOf held (names_in a) before now) (one_asked words other (Gen request) others asks) failed
+    unread (other, others, failed, there) = subst (λ (a : Request). FailedOf held (names_in a) before now) (one_asked words other (Gen request) others asks) failed
 
     by : IsAnswered (statuses.Done Printed) status → (status ≡ statuses.Done Printed) ⊎ ((status ≡ statuses.Memory) ⊎ (status ≡ statuses.WriteFault))
     by (inl (inl (inl e))) = inl e
@@ -73,15 +73,15 @@ refused_ends held words status (Ok outcome) (inr memory) text aloud = let wrong 
 
 -- `solve` is answered with a verdict or a report
 
-pub solves_for : (held : List ℕ → Option (List ℕ)) (words : List (List ℕ)) (asked : Asked) (result : Status) → AsksFor words asked → SolvesAsked held asked result
-    → (other : Asked) → AsksFor words other → SolvesAsked held other result
+pub solves_for : (held : List ℕ → Option (List ℕ)) (words : List (List ℕ)) (asked : Request) (result : Status) → AsksFor words asked → SolvesAsked held asked result
+    → (other : Request) → AsksFor words other → SolvesAsked held other result
 solves_for held words asked result asks solves other others =
-    subst (λ (a : Asked). SolvesAsked held a result) (one_asked words asked other asks others) solves
+    subst (λ (a : Request). SolvesAsked held a result) (one_asked words asked other asks others) solves
 
 -- words that ask for something are refused for want of memory alone
 pub unsolved : (held : List ℕ → Option (List ℕ)) (words : List (List ℕ)) (status result : Status)
     → ((status ≡ statuses.Usage) × IsUsage words) ⊎ (status ≡ statuses.Memory) → (result ≡ status) ⊎ (result ≡ statuses.Memory)
-    → (asked : Asked) → AsksFor words asked → SolvesAsked held asked result
+    → (asked : Request) → AsksFor words asked → SolvesAsked held asked result
 unsolved held words status result (inl usage) same asked asks = absurd (not_usage words asked asks usage.1)
 unsolved held words status result (inr e) (inl same) asked asks = memory_solves held asked result (same ∙ e)
 unsolved held words status result (inr e) (inr memory) asked asks = memory_solves held asked result memory
@@ -92,7 +92,7 @@ pub demo_sums_up : (held : List ℕ → Option (List ℕ)) (words : List (List �
     → AsksFor words (Demo request) → Ends held words status text → GivesSome statuses.Memory (λ end. IsSummedUp end ⊎ (end ≡ statuses.WriteFault)) status
 demo_sums_up held words request status text asks (inl (usage, _, _)) = absurd (not_usage words (Demo request) asks usage)
 demo_sums_up held words request status text asks (inr (other, others, gives)) =
-    let summed : GivesDemo request status text = subst (λ (a : Asked). CommandGives held a status text) (one_asked words other (Demo request) others asks) gives in
+    let summed : GivesDemo request status text = subst (λ (a : Request). CommandGives held a status text) (one_asked words other (Demo request) others asks) gives in
     inl (inl (sums_up (demo_circuit request) request status text summed))
 
 pub demo_is_silent : (held : List ℕ → Option (List ℕ)) (words : List (List ℕ)) (before now : List ℕ → ℕ) (request : DemoRequest) (status : Status)
@@ -101,7 +101,7 @@ pub demo_is_silent : (held : List ℕ → Option (List ℕ)) (words : List (List
 demo_is_silent held words before now request status asks (inl e) read = absurd (unread (read e))
   where
     unread : ReadFailed held words before now → ⊥
-    unread (other, others, failed, there) = subst (λ (a : Asked). FailedOf held (names_in a) before now) (one_asked words other (Demo request) others asks) failed
+    unread (other, others, failed, there) = subst (λ (a : Request). FailedOf held (names_in a) before now) (one_asked words other (Demo request) others asks) failed
 demo_is_silent held words before now request status asks (inr e) read = inr e
 
 -- no read failed where the text of the end was not written whole

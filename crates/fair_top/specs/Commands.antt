@@ -2,7 +2,7 @@
 -- definition.
 use Rattle.std.specs.Prelude.{ℕ, List, Option}
 use Rattle.sheet_answers.specs.declared.ends.Judged.{Judged}
-use Rattle.command_lines.specs.Commands.{Asked, Solve, Check, Gen, Demo, Wave, Slice, Convert, Safety, Rounds, Shortest, Trim, Export}
+use Rattle.command_lines.specs.Commands.{Request, Solve, Check, Gen, Demo, Wave, Slice, Convert, Safety, Rounds, Shortest, Trim, Export}
 use Rattle.given_entries.specs.Beginning.{told_of}
 use Rattle.plain_commands.specs.declared.status.Status.{Status}
 use Rattle.fair_top.specs.Solve.{GivesSolve, DecidesSolve, ShownBySolve}
@@ -20,7 +20,7 @@ use Rattle.plain_commands.specs.Trim.{GivesTrim}
 use Rattle.plain_commands.specs.Export.{GivesExport, DecidesExport}
 
 -- What is so of the texts that the shelf tells where a run that asks for this ends with this status, and writes this text.
-abbrev pub CommandGives : (List ℕ → Option (List ℕ)) → Asked → Status → List ℕ → Type 0
+abbrev pub CommandGives : (List ℕ → Option (List ℕ)) → Request → Status → List ℕ → Type 0
 CommandGives held (Solve model request resume) status text = GivesSolve (held model) (told_of held resume) request status text
 CommandGives held (Check model answer) status text = GivesCheck (held model) (held answer) status text
 CommandGives held (Gen request) status text = GivesGen request status text
@@ -35,7 +35,7 @@ CommandGives held (Trim model answer) status text = GivesTrim (held model) (held
 CommandGives held (Export model answer request) status text = GivesExport (held model) (held answer) request status text
 
 -- the status is the only right one, by what is asked for and by the texts that the shelf tells; of `demo` none is
-abbrev pub Decides : (List ℕ → Option (List ℕ)) → Asked → Status → Type 0
+abbrev pub Decides : (List ℕ → Option (List ℕ)) → Request → Status → Type 0
 Decides held (Solve model request resume) status = DecidesSolve (held model) (told_of held resume) request status
 Decides held (Check model answer) status = DecidesCheck (held model) (held answer) status
 Decides held (Gen request) status = DecidesGen request status
@@ -51,7 +51,7 @@ Decides held (Export model answer request) status = DecidesExport (held model) (
 
 -- what is so of the texts on the shelf where a run that asks for this accepts or prints an answer, a text about rounds or a
 -- sheet; `gen`, `demo`, `wave`, `slice`, `convert`, `safety`, `trim` and `export` never do
-abbrev pub ShownBy : (List ℕ → Option (List ℕ)) → Asked → Judged → Type 0
+abbrev pub ShownBy : (List ℕ → Option (List ℕ)) → Request → Judged → Type 0
 ShownBy held (Solve model request resume) accepted = ShownBySolve (held model) accepted
 ShownBy held (Check model answer) accepted = ShownByCheck (held model) accepted
 ShownBy held (Gen request) accepted = ⊥

@@ -10,7 +10,7 @@ use Rattle.plain_commands.specs.declared.status.Status.TheVariants as statuses
 use Rattle.plain_commands.specs.ModelTexts.{OfModel}
 use Rattle.plain_commands.specs.Check.{done_by}
 use Rattle.command_lines.specs.declared.commands.solving.SolveRequest.{SolveRequest}
-use Rattle.command_lines.specs.Commands.{Asked, Solve, names_in, usage_text}
+use Rattle.command_lines.specs.Commands.{Request, Solve, names_in, usage_text}
 use Rattle.command_lines.specs.Asking.{AsksFor, IsUsage}
 use Rattle.fair_top.specs.Solve.{HasProperty}
 use Rattle.fair_top.specs.Commands.{CommandGives, Decides, ShownBy}
@@ -21,7 +21,7 @@ use Rattle.plain_commands.specs.Answering.{FailedOf, IsSilent, ReadsModelFirst}
 
 -- nothing is read for the words
 abbrev pub ReadsNothing : List (List ℕ) → Type 0
-ReadsNothing words = IsUsage words ⊎ ((asked : Asked) × AsksFor words asked × (names_in asked ≡ []))
+ReadsNothing words = IsUsage words ⊎ ((asked : Request) × AsksFor words asked × (names_in asked ≡ []))
 
 -- How a run ends.
 
@@ -30,7 +30,7 @@ ReadsNothing words = IsUsage words ⊎ ((asked : Asked) × AsksFor words asked �
 abbrev pub Ends : (List ℕ → Option (List ℕ)) → List (List ℕ) → Status → List ℕ → Type 0
 Ends held words status text =
     (IsUsage words × (status ≡ statuses.Usage) × (text ≡ usage_text))
-    ⊎ ((asked : Asked) × AsksFor words asked × CommandGives held asked status text)
+    ⊎ ((asked : Request) × AsksFor words asked × CommandGives held asked status text)
 
 -- what holds where a run answers a status; after a failed write the status that it would have answered says so
 abbrev pub IsFound : (List ℕ → Option (List ℕ)) → List (List ℕ) → Status → Type 0
@@ -50,7 +50,7 @@ HasTaken held words old new status =
 -- the status is the only right one
 abbrev pub IsVerdict : (List ℕ → Option (List ℕ)) → List (List ℕ) → Status → Type 0
 IsVerdict held words verdict =
-    (IsUsage words × (verdict ≡ statuses.Usage)) ⊎ ((asked : Asked) × AsksFor words asked × Decides held asked verdict)
+    (IsUsage words × (verdict ≡ statuses.Usage)) ⊎ ((asked : Request) × AsksFor words asked × Decides held asked verdict)
 
 -- What is true.
 
@@ -59,7 +59,7 @@ IsVerdict held words verdict =
 abbrev pub IsShown : (List ℕ → Option (List ℕ)) → List (List ℕ) → Status → Type 0
 IsShown held words status =
     (accepted : Judged) → status ≡ statuses.Done (done_by accepted)
-    → (asked : Asked) × AsksFor words asked × ShownBy held asked accepted
+    → (asked : Request) × AsksFor words asked × ShownBy held asked accepted
 
 -- What a run reads.
 
@@ -69,13 +69,13 @@ FailedFor held model request before now =
     Rose (before model) (now model) ⊎ IfTold (held model) (λ text. OfModel text (λ c. HasProperty c request))
 
 -- the answer that is named for a search is read only where the model has what is asked for
-abbrev pub MayHaveFailed : (List ℕ → Option (List ℕ)) → Asked → (List ℕ → ℕ) → (List ℕ → ℕ) → Type 0
+abbrev pub MayHaveFailed : (List ℕ → Option (List ℕ)) → Request → (List ℕ → ℕ) → (List ℕ → ℕ) → Type 0
 MayHaveFailed held (Solve model request resume) before now = FailedFor held model request before now
 MayHaveFailed held _ before now = Unit {0}
 
 abbrev pub ReadFailed : (List ℕ → Option (List ℕ)) → List (List ℕ) → (List ℕ → ℕ) → (List ℕ → ℕ) → Type 0
 ReadFailed held words before now =
-    (asked : Asked) × AsksFor words asked × FailedOf held (names_in asked) before now × MayHaveFailed held asked before now
+    (asked : Request) × AsksFor words asked × FailedOf held (names_in asked) before now × MayHaveFailed held asked before now
 
 -- Which reads lead from one state of a shelf to another, where `Read old name from room failed new` says that one read does.
 -- A failed read is the last one.
@@ -85,4 +85,4 @@ ReadFailed held words before now =
 abbrev pub HasRead : {Shelf : Type 0} → ReadsOf Shelf → (List ℕ → Option (List ℕ)) → List (List ℕ) → Status → Shelf → Shelf → Type 0
 HasRead Read held words status old new =
     (IsUsage words × (new ≡ old) × (is_read_fault status ≡ false))
-    ⊎ ((asked : Asked) × AsksFor words asked × ReadsModelFirst Read held (names_in asked) (is_read_fault status) old new)
+    ⊎ ((asked : Request) × AsksFor words asked × ReadsModelFirst Read held (names_in asked) (is_read_fault status) old new)

@@ -19,7 +19,7 @@ use Rattle.sheet_answers.specs.declared.counts.Counts.{Counts}
 use Rattle.sheet_answers.specs.Sheets.{IsSheetWith, ShowsSheet}
 use Rattle.sheet_commands.specs.Boards.{IsSheetOf}
 use Rattle.plain_commands.specs.Check.{done_of, done_by}
-use Rattle.command_lines.specs.Commands.{Asked, Solve}
+use Rattle.command_lines.specs.Commands.{Request, Solve}
 use Rattle.fair_top.specs.Solve.{limits_of, task_for, task_of, most_of, property_of, IsWithinList, BeginsWithGiven, IsSheetOfReport, HasAsked, IsSolved}
 use Rattle.plain_commands.specs.Spelled.{IsWrittenAs}
 use Rattle.plain_commands.specs.Answering.{IsCut}
@@ -86,7 +86,7 @@ SolvesUnlessCut all status = GivesSome statuses.Memory (λ end. IsSolved all end
 
 -- where `solve` is asked for, of a model that has the property, and of an answer that gives entries, the status is that of a
 -- verdict or of a report
-abbrev pub SolvesAsked : (List ℕ → Option (List ℕ)) → Asked → Status → Type 0
+abbrev pub SolvesAsked : (List ℕ → Option (List ℕ)) → Request → Status → Type 0
 SolvesAsked held (Solve model request resume) status = HasAsked (held model) (told_of held resume) request → SolvesUnlessCut request.all status
 SolvesAsked held _ status = Unit {0}
 

@@ -13,7 +13,7 @@ ghost use Rattle.edge.specs.Reads.{KeepsTexts};
 ghost use Rattle.sheet_answers.specs.declared.ends.Judged.{Judged as JudgedOf};
 ghost use Rattle.command_lines.specs.Words.{bytes_of};
 ghost use Rattle.plain_commands.specs.Check.{done_by};
-ghost use Rattle.command_lines.specs.Commands.{Asked as AskedFor, names_in, meant};
+ghost use Rattle.command_lines.specs.Commands.{Request as AskedFor, names_in, meant};
 ghost use Rattle.fair_top.specs.Commands.{CommandGives, Decides, ShownBy};
 ghost use Rattle.command_lines.specs.Asking.{AsksFor, IsUsage, IsTakenOrUsage};
 ghost use Rattle.fair_top.specs.Headline.{ReadsNothing, Ends, IsVerdict, IsShown, MayHaveFailed, ReadFailed, HasRead};
@@ -30,7 +30,7 @@ mod waving;
 use crate::beginnings::Beginning;
 use checking::check;
 pub(crate) use checking::status_of_end;
-use command_lines::{Asked, SolveRequest, WordsEnd, asked_of};
+use command_lines::{Request, SolveRequest, WordsEnd, asked_of};
 use demonstrating::demonstrate;
 use edge::Shelf;
 use fair_workers::{Ended, Report};
@@ -72,7 +72,7 @@ pub(crate) fn outcome_of<S: Fn(&Beginning, SolveRequest) -> Result<Report, Ended
 }
 
 /// What the words ask for. The status is `Usage` where they are no command or its values no request, or `Memory`.
-fn asked_for<'a>(alloc: Global, words: &'a [String]) -> Result<Asked<'a>, Status>
+fn asked_for<'a>(alloc: Global, words: &'a [String]) -> Result<Request<'a>, Status>
     ensures found { IfOk result (λ asked. AsksFor (bytes_of words.now) (meant asked)) }
     ensures either { IsTakenOrUsage (bytes_of words.now) }
     ensures ended { IfErr result (λ status. ((status ≡ Status.Usage) × IsUsage (bytes_of words.now)) ⊎ (status ≡ Status.Memory)) }
@@ -88,7 +88,7 @@ fn asked_for<'a>(alloc: Global, words: &'a [String]) -> Result<Asked<'a>, Status
 fn outcome_for<S: Fn(&Beginning, SolveRequest) -> Result<Report, Ended>, H: Shelf>(
     search: &S,
     alloc: Global,
-    asked: Asked,
+    asked: Request,
     shelf: &mut H,
 ) -> Result<Outcome, Status>
     requires search { IsSearch (λ q. circuit_in q.now) (λ q. served_in q.now) (λ q. given_in q.now) (S.pre search.now) (S.post search.now) }
@@ -106,26 +106,26 @@ fn outcome_for<S: Fn(&Beginning, SolveRequest) -> Result<Report, Ended>, H: Shel
     ensures kept { KeepsTexts (H.held shelf.old) (H.held shelf.new) }
 {
     match asked {
-        Asked::Solve {
+        Request::Solve {
             model,
             request,
             resume,
         } => solve(search, alloc, shelf, model, resume, &request),
-        Asked::Check { model, answer } => with_text(alloc, check(alloc, shelf, model, answer)),
-        Asked::Gen(request) => generate(alloc, &request),
-        Asked::Demo(request) => demonstrate(alloc, &request),
-        Asked::Wave {
+        Request::Check { model, answer } => with_text(alloc, check(alloc, shelf, model, answer)),
+        Request::Gen(request) => generate(alloc, &request),
+        Request::Demo(request) => demonstrate(alloc, &request),
+        Request::Wave {
             model,
             answer,
             property,
         } => wave(alloc, shelf, model, answer, property),
-        Asked::Slice { model, property } => write_slice(alloc, shelf, model, property),
-        Asked::Convert { model, answer } => remake(alloc, shelf, model, answer, &Conversion {}),
-        Asked::Safety { model, property } => safety(alloc, shelf, model, property),
-        Asked::Rounds { model, request } => count_rounds(alloc, shelf, model, &request),
-        Asked::Shortest { model, request } => find_shortest(alloc, shelf, model, &request),
-        Asked::Trim { model, answer } => remake(alloc, shelf, model, answer, &Trimming {}),
-        Asked::Export {
+        Request::Slice { model, property } => write_slice(alloc, shelf, model, property),
+        Request::Convert { model, answer } => remake(alloc, shelf, model, answer, &Conversion {}),
+        Request::Safety { model, property } => safety(alloc, shelf, model, property),
+        Request::Rounds { model, request } => count_rounds(alloc, shelf, model, &request),
+        Request::Shortest { model, request } => find_shortest(alloc, shelf, model, &request),
+        Request::Trim { model, answer } => remake(alloc, shelf, model, answer, &Trimming {}),
+        Request::Export {
             model,
             answer,
             request,

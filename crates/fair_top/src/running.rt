@@ -8,7 +8,7 @@ ghost use Rattle.fair_top.specs.Solved.{AreWithin, MayBegin, IsSearch};
 ghost use Rattle.edge.specs.Faults.{Rose, NoneFell};
 ghost use Rattle.edge.specs.Reads.{KeepsTexts};
 ghost use Rattle.command_lines.specs.Words.{bytes_of};
-ghost use Rattle.command_lines.specs.Commands.Asked.{Solve, Gen, Demo};
+ghost use Rattle.command_lines.specs.Commands.Request.{Solve, Gen, Demo};
 ghost use Rattle.fair_top.specs.Solve.{HasAsked, IsSolved, limits_of, task_for};
 ghost use Rattle.fair_top.specs.Demo.{IsSummedUp};
 ghost use Rattle.command_lines.specs.Asking.{AsksFor, IsTakenOrUsage};

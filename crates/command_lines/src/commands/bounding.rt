@@ -3,11 +3,11 @@
 ghost use Rattle.std.specs.Prelude.{codes, IfSome, IfNone};
 ghost use Rattle.clap.specs.Walk.{rows_of};
 ghost use Rattle.clap.specs.Matches.{found_of};
-ghost use Rattle.command_lines.specs.Commands.{Asked as AskedFor, meant, Means};
+ghost use Rattle.command_lines.specs.Commands.{Request as AskedFor, meant, Means};
 ghost use Rattle.command_lines.specs.Making.{MakesCommand};
 ghost use Rattle.command_lines.specs.Shortest.{shortest_command};
 
-use crate::commands::{Asked, DEFAULTS};
+use crate::commands::{DEFAULTS, Request};
 use crate::words::{for_property, number_or, value_of, with_number_option};
 use clap::{ArgMatches, Command};
 use std::alloc::{AllocError, Global};
@@ -33,7 +33,7 @@ pub(crate) fn shortest_command<'a>(alloc: Global) -> Result<Command<'a>, AllocEr
 }
 
 /// The name and the numbers that `shortest` is given, with the defaults of `solve`, and of 100 positions.
-pub(crate) fn shortest_of<'a>(given: &ArgMatches<'a>) -> Option<Asked<'a>>
+pub(crate) fn shortest_of<'a>(given: &ArgMatches<'a>) -> Option<Request<'a>>
     ensures found { IfSome result (λ asked. Means (meant asked) (codes "shortest") (rows_of (found_of given.now))) }
     ensures none { IfNone result ((asked : AskedFor) → Means asked (codes "shortest") (rows_of (found_of given.now)) → ⊥) }
 {
@@ -46,5 +46,5 @@ pub(crate) fn shortest_of<'a>(given: &ArgMatches<'a>) -> Option<Asked<'a>>
         conflicts,
         depth: depth as u32,
     };
-    Some(Asked::Shortest { model, request })
+    Some(Request::Shortest { model, request })
 }

@@ -3,11 +3,11 @@
 ghost use Rattle.std.specs.Prelude.{codes, IfSome, IfNone};
 ghost use Rattle.clap.specs.Walk.{rows_of};
 ghost use Rattle.clap.specs.Matches.{found_of};
-ghost use Rattle.command_lines.specs.Commands.{Asked as AskedFor, meant, Means};
+ghost use Rattle.command_lines.specs.Commands.{Request as AskedFor, meant, Means};
 ghost use Rattle.command_lines.specs.Making.{MakesCommand};
 ghost use Rattle.command_lines.specs.Rounds.{rounds_command};
 
-use crate::commands::{Asked, DEFAULTS};
+use crate::commands::{DEFAULTS, Request};
 use crate::words::{
     for_value, number_of, number_or, value_of, with_number_option, with_wanted_number,
 };
@@ -39,7 +39,7 @@ pub(crate) fn rounds_command<'a>(alloc: Global) -> Result<Command<'a>, AllocErro
 }
 
 /// The name and the numbers that `rounds` is given, with the defaults of `solve`.
-pub(crate) fn rounds_of<'a>(given: &ArgMatches<'a>) -> Option<Asked<'a>>
+pub(crate) fn rounds_of<'a>(given: &ArgMatches<'a>) -> Option<Request<'a>>
     ensures found { IfSome result (λ asked. Means (meant asked) (codes "rounds") (rows_of (found_of given.now))) }
     ensures none { IfNone result ((asked : AskedFor) → Means asked (codes "rounds") (rows_of (found_of given.now)) → ⊥) }
 {
@@ -54,5 +54,5 @@ pub(crate) fn rounds_of<'a>(given: &ArgMatches<'a>) -> Option<Asked<'a>>
         conflicts,
         steps,
     };
-    Some(Asked::Rounds { model, request })
+    Some(Request::Rounds { model, request })
 }

@@ -3,11 +3,11 @@
 ghost use Rattle.std.specs.Prelude.{codes, IfSome, IfNone};
 ghost use Rattle.clap.specs.Walk.{rows_of};
 ghost use Rattle.clap.specs.Matches.{found_of};
-ghost use Rattle.command_lines.specs.Commands.{Asked as AskedFor, meant, Means};
+ghost use Rattle.command_lines.specs.Commands.{Request as AskedFor, meant, Means};
 ghost use Rattle.command_lines.specs.Making.{MakesCommand};
 ghost use Rattle.command_lines.specs.Demo.{demo_command};
 
-use crate::commands::Asked;
+use crate::commands::Request;
 use crate::words::{number_of, with_wanted_number};
 use clap::{ArgMatches, Command};
 use std::alloc::{AllocError, Global};
@@ -31,11 +31,11 @@ pub(crate) fn demo_command<'a>(alloc: Global) -> Result<Command<'a>, AllocError>
 }
 
 /// The request that the values of `demo` are.
-pub(crate) fn demo_of<'a>(given: &ArgMatches<'a>) -> Option<Asked<'a>>
+pub(crate) fn demo_of<'a>(given: &ArgMatches<'a>) -> Option<Request<'a>>
     ensures found { IfSome result (λ asked. Means (meant asked) (codes "demo") (rows_of (found_of given.now))) }
     ensures none { IfNone result ((asked : AskedFor) → Means asked (codes "demo") (rows_of (found_of given.now)) → ⊥) }
 {
     let seed = number_of(given, "SEED", 0, 4_294_967_295)?;
     let size = number_of(given, "SIZE", 1, 256)?;
-    Some(Asked::Demo(DemoRequest { seed, size }))
+    Some(Request::Demo(DemoRequest { seed, size }))
 }

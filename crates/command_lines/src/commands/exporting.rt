@@ -4,11 +4,11 @@ ghost use Rattle.std.specs.Prelude.{codes, IfSome, IfNone};
 ghost use Rattle.clap.specs.Walk.{rows_of};
 ghost use Rattle.clap.specs.Matches.{found_of};
 ghost use Rattle.command_lines.specs.declared.commands.exporting.ExportRequest.{ExportRequest as RequestOf};
-ghost use Rattle.command_lines.specs.Commands.{Asked as AskedFor, meant, Means};
+ghost use Rattle.command_lines.specs.Commands.{Request as AskedFor, meant, Means};
 ghost use Rattle.command_lines.specs.Making.{MakesCommand};
 ghost use Rattle.command_lines.specs.Export.{export_command, IsItemGiven};
 
-use crate::commands::Asked;
+use crate::commands::Request;
 use crate::words::{
     flag_of, for_model_and_answer, number_of, value_of, with_flag, with_wanted_number,
 };
@@ -37,14 +37,14 @@ pub(crate) fn export_command<'a>(alloc: Global) -> Result<Command<'a>, AllocErro
 }
 
 /// The names and the item that `export` is given.
-pub(crate) fn export_of<'a>(given: &ArgMatches<'a>) -> Option<Asked<'a>>
+pub(crate) fn export_of<'a>(given: &ArgMatches<'a>) -> Option<Request<'a>>
     ensures found { IfSome result (λ asked. Means (meant asked) (codes "export") (rows_of (found_of given.now))) }
     ensures none { IfNone result ((asked : AskedFor) → Means asked (codes "export") (rows_of (found_of given.now)) → ⊥) }
 {
     let model = value_of(given, "MODEL")?;
     let answer = value_of(given, "ANSWER")?;
     let request = item_of(given)?;
-    Some(Asked::Export {
+    Some(Request::Export {
         model,
         answer,
         request,

@@ -5,11 +5,11 @@ ghost use Rattle.clap.specs.Walk.{rows_of};
 ghost use Rattle.clap.specs.Matches.{found_of};
 ghost use Rattle.command_lines.specs.declared.commands.generating.GenKind.{GenKind as KindOf};
 ghost use Rattle.command_lines.specs.declared.commands.generating.GenRequest.{GenRequest as RequestOf};
-ghost use Rattle.command_lines.specs.Commands.{Asked as AskedFor, meant, Means};
+ghost use Rattle.command_lines.specs.Commands.{Request as AskedFor, meant, Means};
 ghost use Rattle.command_lines.specs.Making.{MakesCommand};
 ghost use Rattle.command_lines.specs.Gen.{gen_command, name_of_kind, MeansGen};
 
-use crate::commands::Asked;
+use crate::commands::Request;
 use crate::words::{flag_of, for_value, number_of, value_of, with_flag, with_wanted_number};
 use clap::{ArgMatches, Command};
 use std::alloc::{AllocError, Global};
@@ -46,11 +46,11 @@ pub(crate) fn gen_command<'a>(alloc: Global) -> Result<Command<'a>, AllocError>
 }
 
 /// The request that the values of `gen` are.
-pub(crate) fn gen_of<'a>(given: &ArgMatches<'a>) -> Option<Asked<'a>>
+pub(crate) fn gen_of<'a>(given: &ArgMatches<'a>) -> Option<Request<'a>>
     ensures found { IfSome result (λ asked. Means (meant asked) (codes "gen") (rows_of (found_of given.now))) }
     ensures none { IfNone result ((asked : AskedFor) → Means asked (codes "gen") (rows_of (found_of given.now)) → ⊥) }
 {
-    Some(Asked::Gen(request_of(given)?))
+    Some(Request::Gen(request_of(given)?))
 }
 
 fn request_of(given: &ArgMatches) -> Option<GenRequest>

@@ -3,11 +3,11 @@
 ghost use Rattle.std.specs.Prelude.{codes, false, IfSome, IfNone};
 ghost use Rattle.clap.specs.Walk.{rows_of};
 ghost use Rattle.clap.specs.Matches.{found_of};
-ghost use Rattle.command_lines.specs.Commands.{Asked as AskedFor, meant, Means};
+ghost use Rattle.command_lines.specs.Commands.{Request as AskedFor, meant, Means};
 ghost use Rattle.command_lines.specs.Making.{MakesCommand};
 ghost use Rattle.command_lines.specs.Solve.{solve_command};
 
-use crate::commands::Asked;
+use crate::commands::Request;
 use crate::words::{
     flag_of, for_property, number_or, value_of, with_flag, with_number_option, with_text_option,
 };
@@ -63,7 +63,7 @@ pub(crate) fn solve_command<'a>(alloc: Global) -> Result<Command<'a>, AllocError
 }
 
 /// The names and the numbers that `solve` is given, with the numbers' defaults.
-pub(crate) fn solve_of<'a>(given: &ArgMatches<'a>) -> Option<Asked<'a>>
+pub(crate) fn solve_of<'a>(given: &ArgMatches<'a>) -> Option<Request<'a>>
     ensures found { IfSome result (λ asked. Means (meant asked) (codes "solve") (rows_of (found_of given.now))) }
     ensures none { IfNone result ((asked : AskedFor) → Means asked (codes "solve") (rows_of (found_of given.now)) → ⊥) }
 {
@@ -93,7 +93,7 @@ pub(crate) fn solve_of<'a>(given: &ArgMatches<'a>) -> Option<Asked<'a>>
         depth: depth as u32,
         all,
     };
-    Some(Asked::Solve {
+    Some(Request::Solve {
         model,
         request,
         resume,

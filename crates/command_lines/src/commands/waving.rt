@@ -3,11 +3,11 @@
 ghost use Rattle.std.specs.Prelude.{codes, IfSome, IfNone};
 ghost use Rattle.clap.specs.Walk.{rows_of};
 ghost use Rattle.clap.specs.Matches.{found_of};
-ghost use Rattle.command_lines.specs.Commands.{Asked as AskedFor, meant, Means};
+ghost use Rattle.command_lines.specs.Commands.{Request as AskedFor, meant, Means};
 ghost use Rattle.command_lines.specs.Making.{MakesCommand};
 ghost use Rattle.command_lines.specs.Wave.{wave_command};
 
-use crate::commands::Asked;
+use crate::commands::Request;
 use crate::words::{for_model_and_answer, number_or, value_of, with_number_option};
 use clap::{ArgMatches, Command};
 use std::alloc::{AllocError, Global};
@@ -21,14 +21,14 @@ pub(crate) fn wave_command<'a>(alloc: Global) -> Result<Command<'a>, AllocError>
 }
 
 /// The names and the number that `wave` is given.
-pub(crate) fn wave_of<'a>(given: &ArgMatches<'a>) -> Option<Asked<'a>>
+pub(crate) fn wave_of<'a>(given: &ArgMatches<'a>) -> Option<Request<'a>>
     ensures found { IfSome result (λ asked. Means (meant asked) (codes "wave") (rows_of (found_of given.now))) }
     ensures none { IfNone result ((asked : AskedFor) → Means asked (codes "wave") (rows_of (found_of given.now)) → ⊥) }
 {
     let model = value_of(given, "MODEL")?;
     let answer = value_of(given, "ANSWER")?;
     let property = number_or(given, "property", 0, 4_294_967_295, 0)?;
-    Some(Asked::Wave {
+    Some(Request::Wave {
         model,
         answer,
         property: property as u32,

@@ -1,6 +1,6 @@
 use Rattle.std.proofs.Common.{refl, inl, inr}
 use Rattle.command_lines.specs.Words.{bytes_of}
-use Rattle.command_lines.specs.Commands.Asked.{Solve}
+use Rattle.command_lines.specs.Commands.Request.{Solve}
 use Rattle.fair_top.proofs.Ending.{is_printed, demo_sums_up, demo_is_silent, read_before, written, part_written, good_writes, silent_writes, not_a_write}
 use Rattle.fair_top.proofs.running.run_by.Goals as goal
 
