@@ -23,7 +23,7 @@ use Rattle.waves.specs.Dumps.{waves_text}
 use Rattle.plain_commands.specs.declared.status.Status.{Status}
 use Rattle.plain_commands.specs.declared.status.Status.TheVariants as statuses
 use Rattle.plain_commands.specs.declared.status.Done.TheVariants.{Printed}
-use Rattle.plain_commands.specs.declared.texts.Outcome.{Outcome}
+use Rattle.plain_commands.specs.declared.texts.Ending.{Ending}
 use Rattle.plain_commands.specs.Check.{status_of_end}
 use Rattle.fair_top.specs.Wave.{block_status}
 use Rattle.plain_commands.specs.Written.{IsWritten, accepts}
@@ -95,10 +95,10 @@ lasso_good c m told n found same says =
     let (text, may, decides) = sheet_lasso c told n found says in
     good_in m text n found (is_sheet (bare (kept_readable text))) (subst (λ (k : Circuit). DecidesBlock k text n (Ok found)) same decides)
 
-pub lasso_waved : (c : Circuit) (m : Model) (told : Option (List ℕ)) (n : ℕ) (found : BlockLasso) (result : Result Outcome Status) → c ≡ m.circuit → BlockSays c told n (Ok found)
+pub lasso_waved : (c : Circuit) (m : Model) (told : Option (List ℕ)) (n : ℕ) (found : BlockLasso) (result : Result Ending Status) → c ≡ m.circuit → BlockSays c told n (Ok found)
     → IsWritten result (statuses.Done Printed) (waves_text m found.property found.lasso) → BlockWaved m told n result
 lasso_waved c m told n found (Err status) same says written = inr written
-lasso_waved c m told n found (Ok outcome) same says written =
+lasso_waved c m told n found (Ok ending) same says written =
     let (text, may, decides) = sheet_lasso c told n found says in
     (text, may, inl (found, subst (λ (k : Circuit). DecidesBlock k text n (Ok found)) same decides, written.0, written.1))
 
@@ -107,7 +107,7 @@ as_status end verdict (inl (inl same)) = inl (inl (inl (ap block_status same)))
 as_status end verdict (inl (inr unread)) = inl (inr (inl (ap block_status unread)))
 as_status end verdict (inr memory) = inr (ap block_status memory)
 
-pub lasso_exactly : (c : Circuit) (m : Model) (told : Option (List ℕ)) (n : ℕ) (found : BlockLasso) (result : Result Outcome Status) → c ≡ m.circuit
+pub lasso_exactly : (c : Circuit) (m : Model) (told : Option (List ℕ)) (n : ℕ) (found : BlockLasso) (result : Result Ending Status) → c ≡ m.circuit
     → ((text : List ℕ) (verdict : Cut) → told ≡ Some text → DecidesBlock c text n verdict → EndsBlock (Ok found) verdict)
     → IsWritten result (statuses.Done Printed) (waves_text m found.property found.lasso)
     → (claimed : List ℕ) (end : Cut) → told ≡ Some claimed → DecidesBlock m.circuit claimed n end → IsAnswered (block_status end) (status_in result)
@@ -116,7 +116,7 @@ lasso_exactly c m told n found result same exactly written claimed end is d =
     (written_status result (statuses.Done Printed) (waves_text m found.property found.lasso) written)
     (as_status (Ok found) end (exactly claimed end is (subst (λ (k : Circuit). DecidesBlock k claimed n end) (sym same) d)))
 
-pub lasso_hidden : (result : Result Outcome Status) (text : List ℕ) → IsWritten result (statuses.Done Printed) text → accepts (status_in result) ≡ false
+pub lasso_hidden : (result : Result Ending Status) (text : List ℕ) → IsWritten result (statuses.Done Printed) text → accepts (status_in result) ≡ false
 unfolding accepts
 lasso_hidden result text written = by (written_status result (statuses.Done Printed) text written)
   where
@@ -152,14 +152,14 @@ is_silent (statuses.TooLarge n) e = absurd (cc e)
 is_silent (statuses.NoItem entry clause) e = absurd (cc e)
 is_silent statuses.Usage e = absurd (cc e)
 
-pub refused_waved : (c : Circuit) (m : Model) (told : Option (List ℕ)) (n : ℕ) (end : JudgeEnd) (status : Status) (result : Result Outcome Status) → c ≡ m.circuit
+pub refused_waved : (c : Circuit) (m : Model) (told : Option (List ℕ)) (n : ℕ) (end : JudgeEnd) (status : Status) (result : Result Ending Status) → c ≡ m.circuit
     → BlockSays c told n (Err end) → status ≡ status_of_end end
-    → IfOk result (λ outcome. (outcome.status ≡ status) × (outcome.text.items ≡ text_of status)) → IfErr result (λ other. ends_silently other ≡ true)
-    → IfOk result (λ outcome. ends_silently status ≡ false) → BlockWaved m told n result
+    → IfOk result (λ ending. (ending.status ≡ status) × (ending.text.items ≡ text_of status)) → IfErr result (λ other. ends_silently other ≡ true)
+    → IfOk result (λ ending. ends_silently status ≡ false) → BlockWaved m told n result
 refused_waved c m told n end status (Err other) same says is text silent aloud = is_silent other silent
-refused_waved c m told n end status (Ok outcome) same says is text silent aloud = by (says_end c told n end says)
+refused_waved c m told n end status (Ok ending) same says is text silent aloud = by (says_end c told n end says)
   where
-    by : (IsSilent (status_of_end end)) ⊎ ((claimed : List ℕ) × MayBe told claimed × DecidesBlock c claimed n (Err end)) → BlockWaved m told n (Ok outcome)
+    by : (IsSilent (status_of_end end)) ⊎ ((claimed : List ℕ) × MayBe told claimed × DecidesBlock c claimed n (Err end)) → BlockWaved m told n (Ok ending)
     by (inl quiet) = let wrong : true ≡ false = sym (silent_so (status_of_end end) quiet) ∙ sym (ap ends_silently is) ∙ aloud in absurd (cc wrong)
     by (inr (claimed, may, decides)) =
         (claimed, may, inr (end, subst (λ (k : Circuit). DecidesBlock k claimed n (Err end)) same decides, text.0 ∙ is, text.1 ∙ sym (ap text_of text.0)))
@@ -192,11 +192,11 @@ pub reads_so : {Shelf : Type 0} (Read : ReadsOf Shelf) (name : List ℕ) (known 
     → Reads Read name failed old new
 reads_so Read name known failed old new same h = subst (λ (b : Bool). Reads Read name b old new) (sym same) h
 
-pub lasso_aloud : (result : Result Outcome Status) (text : List ℕ) → IsWritten result (statuses.Done Printed) text → IfOk result (λ outcome. is_read_fault outcome.status ≡ false)
-lasso_aloud (Ok outcome) text written = ap is_read_fault written.0
+pub lasso_aloud : (result : Result Ending Status) (text : List ℕ) → IsWritten result (statuses.Done Printed) text → IfOk result (λ ending. is_read_fault ending.status ≡ false)
+lasso_aloud (Ok ending) text written = ap is_read_fault written.0
 lasso_aloud (Err other) text written = tt
 
-pub lasso_read : (result : Result Outcome Status) (text : List ℕ) → IsWritten result (statuses.Done Printed) text → is_read_fault (status_in result) ≡ false
+pub lasso_read : (result : Result Ending Status) (text : List ℕ) → IsWritten result (statuses.Done Printed) text → is_read_fault (status_in result) ≡ false
 lasso_read result text written = written_unread result (statuses.Done Printed) text refl written
 
 pub never_failed : (status : Status) → is_read_fault status ≡ false → status ≡ statuses.ReadFault → ⊥
@@ -209,10 +209,10 @@ end_loud (sheet_ends.Text (text_ends.Answer answers.Memory)) e = refl
 end_loud (sheet_ends.Text (text_ends.TooLarge n)) e = refl
 end_loud (sheet_ends.Block n fault) e = refl
 
-pub refused_aloud : (end : JudgeEnd) (status : Status) (result : Result Outcome Status) → status ≡ status_of_end end
-    → IfOk result (λ outcome. (outcome.status ≡ status) × (outcome.text.items ≡ text_of status)) → IfOk result (λ outcome. ends_silently status ≡ false)
-    → IfOk result (λ outcome. is_read_fault outcome.status ≡ false)
-refused_aloud end status (Ok outcome) is text aloud = ap is_read_fault (text.0 ∙ is) ∙ end_loud end (sym (ap ends_silently is) ∙ aloud)
+pub refused_aloud : (end : JudgeEnd) (status : Status) (result : Result Ending Status) → status ≡ status_of_end end
+    → IfOk result (λ ending. (ending.status ≡ status) × (ending.text.items ≡ text_of status)) → IfOk result (λ ending. ends_silently status ≡ false)
+    → IfOk result (λ ending. is_read_fault ending.status ≡ false)
+refused_aloud end status (Ok ending) is text aloud = ap is_read_fault (text.0 ∙ is) ∙ end_loud end (sym (ap ends_silently is) ∙ aloud)
 refused_aloud end status (Err other) is text aloud = tt
 
 pub refused_read : (end : JudgeEnd) (status result : Status) → status ≡ status_of_end end → is_read_fault result ≡ is_read_fault status → is_read_fault result ≡ end_unread end

@@ -40,7 +40,7 @@ use Rattle.search_reports.specs.declared.limits.Report.{Report}
 use Rattle.command_lines.specs.declared.commands.solving.SolveRequest.{SolveRequest}
 use Rattle.plain_commands.specs.declared.status.Status.{Status}
 use Rattle.plain_commands.specs.declared.status.Status.TheVariants as statuses
-use Rattle.plain_commands.specs.declared.texts.Outcome.{Outcome}
+use Rattle.plain_commands.specs.declared.texts.Ending.{Ending}
 use Rattle.plain_commands.specs.Check.{done_by}
 use Rattle.certificate.specs.Writing.{written_entry}
 use Rattle.given_entries.specs.Beginning.{BeginsWith}
@@ -86,40 +86,40 @@ begins_with_given c j given more entries (Some (outcomes.Holds refutation)) (acc
     (more, refutation, t ∙ ap₂ (λ (i : ℕ) (es : List CheckedEntry). certificate_text i (certificate_of es refutation)) (sym of_j) same)
 
 -- the board has the limit of the task, and its list begins with what was given
-pub printed_by : (c : Circuit) (request : SolveRequest) (given more : List CheckedEntry) (b : BoardState) (result : Result Outcome Status) → request.all ≡ false
-    → b.limit ≡ most_of request given → b.entries ≡ given ++ more → IfOk result (λ outcome. IsPrinted c request b.limit outcome.status outcome.text.items)
-    → IfOk result (λ outcome. IsTextOfOutcome c request.property b.entries (outcome_of b.served request.property) outcome.text.items)
-    → IfOk result (λ outcome. EndsFor c request given outcome.status outcome.text.items)
-printed_by c request given more b (Ok outcome) one limit same p t =
-    let q : IsPrinted c request (most_of request given) outcome.status outcome.text.items = subst (λ (n : ℕ). IsPrinted c request n outcome.status outcome.text.items) limit p in
-    let begins : BeginsWithGiven given q.0 outcome.text.items =
-    begins_with_given c request.property given more b.entries (outcome_of b.served request.property) q.0 outcome.text.items q.2 q.5 same t in
-    let all_of : IsPrintedFor c request given outcome.status outcome.text.items = (q.0, q.1, q.2, q.3, q.4, q.5, q.6, begins) in
-    subst (λ (all : Bool). EndsAs all c request given outcome.status outcome.text.items) (sym one) (inl all_of)
+pub printed_by : (c : Circuit) (request : SolveRequest) (given more : List CheckedEntry) (b : BoardState) (result : Result Ending Status) → request.all ≡ false
+    → b.limit ≡ most_of request given → b.entries ≡ given ++ more → IfOk result (λ ending. IsPrinted c request b.limit ending.status ending.text.items)
+    → IfOk result (λ ending. IsTextOfOutcome c request.property b.entries (outcome_of b.served request.property) ending.text.items)
+    → IfOk result (λ ending. EndsFor c request given ending.status ending.text.items)
+printed_by c request given more b (Ok ending) one limit same p t =
+    let q : IsPrinted c request (most_of request given) ending.status ending.text.items = subst (λ (n : ℕ). IsPrinted c request n ending.status ending.text.items) limit p in
+    let begins : BeginsWithGiven given q.0 ending.text.items =
+    begins_with_given c request.property given more b.entries (outcome_of b.served request.property) q.0 ending.text.items q.2 q.5 same t in
+    let all_of : IsPrintedFor c request given ending.status ending.text.items = (q.0, q.1, q.2, q.3, q.4, q.5, q.6, begins) in
+    subst (λ (all : Bool). EndsAs all c request given ending.status ending.text.items) (sym one) (inl all_of)
 printed_by c request given more b (Err status) one limit same p t = tt
 
-pub sheet_by : (c : Circuit) (request : SolveRequest) (given : List CheckedEntry) (b : BoardState) (result : Result Outcome Status) → request.all ≡ true
-    → IsAnsweredBy (task_of c request given) b → IfOk result (λ outcome. IsSheetPrinted c b outcome.status outcome.text.items)
-    → IfOk result (λ outcome. EndsFor c request given outcome.status outcome.text.items)
-sheet_by c request given b (Ok outcome) each answered p =
-    subst (λ (all : Bool). EndsAs all c request given outcome.status outcome.text.items) (sym each) (inl (b, answered, p))
+pub sheet_by : (c : Circuit) (request : SolveRequest) (given : List CheckedEntry) (b : BoardState) (result : Result Ending Status) → request.all ≡ true
+    → IsAnsweredBy (task_of c request given) b → IfOk result (λ ending. IsSheetPrinted c b ending.status ending.text.items)
+    → IfOk result (λ ending. EndsFor c request given ending.status ending.text.items)
+sheet_by c request given b (Ok ending) each answered p =
+    subst (λ (all : Bool). EndsAs all c request given ending.status ending.text.items) (sym each) (inl (b, answered, p))
 sheet_by c request given b (Err status) each answered p = tt
 
-pub unknown_by : (c : Circuit) (request : SolveRequest) (given : List CheckedEntry) (report : Report) (result : Result Outcome Status) → request.all ≡ false
+pub unknown_by : (c : Circuit) (request : SolveRequest) (given : List CheckedEntry) (report : Report) (result : Result Ending Status) → request.all ≡ false
     → IsReport (task_of c request given) report
-    → IfOk result (λ outcome. (outcome.status ≡ statuses.Unknown report) × (outcome.text.items ≡ text_of (statuses.Unknown report)))
-    → IfOk result (λ outcome. EndsFor c request given outcome.status outcome.text.items)
-unknown_by c request given report (Ok outcome) one is text =
-    subst (λ (all : Bool). EndsAs all c request given outcome.status outcome.text.items) (sym one)
+    → IfOk result (λ ending. (ending.status ≡ statuses.Unknown report) × (ending.text.items ≡ text_of (statuses.Unknown report)))
+    → IfOk result (λ ending. EndsFor c request given ending.status ending.text.items)
+unknown_by c request given report (Ok ending) one is text =
+    subst (λ (all : Bool). EndsAs all c request given ending.status ending.text.items) (sym one)
     (inr ((report, text.0, is), text.1 ∙ sym (ap text_of text.0)))
 unknown_by c request given report (Err status) one is text = tt
 
-pub open_by : (c : Circuit) (request : SolveRequest) (given : List CheckedEntry) (report : Report) (result : Result Outcome Status) → request.all ≡ true
-    → IsReport (task_of c request given) report → IfOk result (λ outcome. outcome.status ≡ statuses.Unknown report)
-    → IfOk result (λ outcome. IsSheetOfReport c report outcome.text.items)
-    → IfOk result (λ outcome. EndsFor c request given outcome.status outcome.text.items)
-open_by c request given report (Ok outcome) each is status text =
-    subst (λ (all : Bool). EndsAs all c request given outcome.status outcome.text.items) (sym each) (inr (report, status, is, text))
+pub open_by : (c : Circuit) (request : SolveRequest) (given : List CheckedEntry) (report : Report) (result : Result Ending Status) → request.all ≡ true
+    → IsReport (task_of c request given) report → IfOk result (λ ending. ending.status ≡ statuses.Unknown report)
+    → IfOk result (λ ending. IsSheetOfReport c report ending.text.items)
+    → IfOk result (λ ending. EndsFor c request given ending.status ending.text.items)
+open_by c request given report (Ok ending) each is status text =
+    subst (λ (all : Bool). EndsAs all c request given ending.status ending.text.items) (sym each) (inr (report, status, is, text))
 open_by c request given report (Err status) each is e text = tt
 
 gives : (all : Bool) (model : Option (List ℕ)) (answer : Option (Option (List ℕ))) (request : SolveRequest) (q : Beginning) (status : Status) (text : List ℕ) → IsBeginning model answer request q
@@ -219,11 +219,11 @@ gives true model answer request q status text h (inr (report, e, is, sheet)) = i
   ),
 )
 
-pub solved_gives : (model : Option (List ℕ)) (answer : Option (Option (List ℕ))) (request : SolveRequest) (q : Beginning) (result : Result Outcome Status) → IsBeginning model answer request q
-    → IfOk result (λ outcome. EndsFor (circuit_in q) request (given_in q) outcome.status outcome.text.items)
-    → IfOk result (λ outcome. GivesSolve model answer request outcome.status outcome.text.items)
+pub solved_gives : (model : Option (List ℕ)) (answer : Option (Option (List ℕ))) (request : SolveRequest) (q : Beginning) (result : Result Ending Status) → IsBeginning model answer request q
+    → IfOk result (λ ending. EndsFor (circuit_in q) request (given_in q) ending.status ending.text.items)
+    → IfOk result (λ ending. GivesSolve model answer request ending.status ending.text.items)
 solved_gives model answer request q (Err status) h ends = tt
-solved_gives model answer request q (Ok outcome) h ends = inr (inr (inr (gives request.all model answer request q outcome.status outcome.text.items h ends)))
+solved_gives model answer request q (Ok ending) h ends = inr (inr (inr (gives request.all model answer request q ending.status ending.text.items h ends)))
 
 -- what is so of each text that the answer may be, and speaks of the model's circuit alone, is so of that
 model_shows : (bytes : List ℕ) (answer : Option (Option (List ℕ))) (q : Beginning) (found : Judged)
@@ -232,12 +232,12 @@ model_shows : (bytes : List ℕ) (answer : Option (Option (List ℕ))) (q : Begi
 model_shows bytes None q found (m, form, (same, begins)) shown = (m, form, subst (λ (c : Circuit). ShowsText c found) same shown)
 model_shows bytes (Some told) q found (text, may, (m, form, (same, begins))) shown = (m, form, subst (λ (c : Circuit). ShowsText c found) same shown)
 
-pub solved_shown : (model : Option (List ℕ)) (answer : Option (Option (List ℕ))) (request : SolveRequest) (q : Beginning) (result : Result Outcome Status) → IsBeginning model answer request q
-    → IfOk result (λ outcome. EndsFor (circuit_in q) request (given_in q) outcome.status outcome.text.items) → IfErr result (λ status. status ≡ statuses.Memory)
+pub solved_shown : (model : Option (List ℕ)) (answer : Option (Option (List ℕ))) (request : SolveRequest) (q : Beginning) (result : Result Ending Status) → IsBeginning model answer request q
+    → IfOk result (λ ending. EndsFor (circuit_in q) request (given_in q) ending.status ending.text.items) → IfErr result (λ status. status ≡ statuses.Memory)
     → (found : Judged) → status_in result ≡ statuses.Done (done_by found) → ShownBySolve model found
 solved_shown model answer request q (Err status) h ends ended found e = let wrong : statuses.Memory ≡ statuses.Done (done_by found) = sym ended ∙ e in cc
-solved_shown model answer request q (Ok outcome) h ends ended found e =
-    (h.asked.0, h.asked.1, model_shows h.asked.0 answer q found h.asked.2 (shows request.all (circuit_in q) request (given_in q) outcome.status outcome.text.items found ends e))
+solved_shown model answer request q (Ok ending) h ends ended found e =
+    (h.asked.0, h.asked.1, model_shows h.asked.0 answer q found h.asked.2 (shows request.all (circuit_in q) request (given_in q) ending.status ending.text.items found ends e))
 
 ends_solved : (all : Bool) (c : Circuit) (request : SolveRequest) (given : List CheckedEntry) (status : Status) (text : List ℕ) → EndsAs all c request given status text → SolvesUnlessCut all status
 ends_solved false c request given status text (inl p) = inl (inl (inl (p.0, p.1)))
@@ -245,11 +245,11 @@ ends_solved false c request given status text (inr (r, e)) = inl (inl (inr (r.0,
 ends_solved true c request given status text (inl (b, answered, (counts, entries, e, counted, good, none, sheet, shown))) = inl (inl (inl (counts, entries, e)))
 ends_solved true c request given status text (inr r) = inl (inl (inr (r.0, r.1)))
 
-pub solved_asked : (c : Circuit) (request : SolveRequest) (given : List CheckedEntry) (result : Result Outcome Status)
-    → IfOk result (λ outcome. EndsFor c request given outcome.status outcome.text.items) → IfErr result (λ status. status ≡ statuses.Memory)
+pub solved_asked : (c : Circuit) (request : SolveRequest) (given : List CheckedEntry) (result : Result Ending Status)
+    → IfOk result (λ ending. EndsFor c request given ending.status ending.text.items) → IfErr result (λ status. status ≡ statuses.Memory)
     → SolvesUnlessCut request.all (status_in result)
 solved_asked c request given (Err status) ends ended = inr ended
-solved_asked c request given (Ok outcome) ends ended = ends_solved request.all c request given outcome.status outcome.text.items ends
+solved_asked c request given (Ok ending) ends ended = ends_solved request.all c request given ending.status ending.text.items ends
 
 solved_unread : (all : Bool) (c : Circuit) (request : SolveRequest) (given : List CheckedEntry) (status : Status) (text : List ℕ) → EndsAs all c request given status text → is_read_fault status ≡ false
 solved_unread false c request given status text (inl p) = ap is_read_fault p.1
@@ -257,16 +257,16 @@ solved_unread false c request given status text (inr (r, e)) = ap is_read_fault 
 solved_unread true c request given status text (inl (b, answered, (counts, entries, e, counted, good, none, sheet, shown))) = ap is_read_fault e
 solved_unread true c request given status text (inr r) = ap is_read_fault r.1
 
-pub solved_read : (c : Circuit) (request : SolveRequest) (given : List CheckedEntry) (result : Result Outcome Status)
-    → IfOk result (λ outcome. EndsFor c request given outcome.status outcome.text.items) → IfErr result (λ status. status ≡ statuses.Memory)
+pub solved_read : (c : Circuit) (request : SolveRequest) (given : List CheckedEntry) (result : Result Ending Status)
+    → IfOk result (λ ending. EndsFor c request given ending.status ending.text.items) → IfErr result (λ status. status ≡ statuses.Memory)
     → is_read_fault (status_in result) ≡ false
 solved_read c request given (Err status) ends ended = ap is_read_fault ended
-solved_read c request given (Ok outcome) ends ended = solved_unread request.all c request given outcome.status outcome.text.items ends
+solved_read c request given (Ok ending) ends ended = solved_unread request.all c request given ending.status ending.text.items ends
 
-pub solved_aloud : (c : Circuit) (request : SolveRequest) (given : List CheckedEntry) (result : Result Outcome Status)
-    → IfOk result (λ outcome. EndsFor c request given outcome.status outcome.text.items) → IfOk result (λ outcome. is_read_fault outcome.status ≡ false)
+pub solved_aloud : (c : Circuit) (request : SolveRequest) (given : List CheckedEntry) (result : Result Ending Status)
+    → IfOk result (λ ending. EndsFor c request given ending.status ending.text.items) → IfOk result (λ ending. is_read_fault ending.status ≡ false)
 solved_aloud c request given (Err status) ends = tt
-solved_aloud c request given (Ok outcome) ends = solved_unread request.all c request given outcome.status outcome.text.items ends
+solved_aloud c request given (Ok ending) ends = solved_unread request.all c request given ending.status ending.text.items ends
 
 -- Where there is no search.
 
@@ -280,14 +280,14 @@ pub silent_aloud : (status : Status) → IsSilent status → ends_silently statu
 silent_aloud status (inl e) aloud = let wrong : true ≡ false = sym (ap ends_silently e) ∙ aloud in cc
 silent_aloud status (inr e) aloud = let wrong : true ≡ false = sym (ap ends_silently e) ∙ aloud in cc
 
-pub unsearched_gives : (model : Option (List ℕ)) (answer : Option (Option (List ℕ))) (request : SolveRequest) (status : Status) (result : Result Outcome Status)
-    → EndsBefore model answer request status → IfOk result (λ outcome. (outcome.status ≡ status) × (outcome.text.items ≡ text_of status))
-    → IfOk result (λ outcome. ends_silently status ≡ false) → IfOk result (λ outcome. GivesSolve model answer request outcome.status outcome.text.items)
+pub unsearched_gives : (model : Option (List ℕ)) (answer : Option (Option (List ℕ))) (request : SolveRequest) (status : Status) (result : Result Ending Status)
+    → EndsBefore model answer request status → IfOk result (λ ending. (ending.status ≡ status) × (ending.text.items ≡ text_of status))
+    → IfOk result (λ ending. ends_silently status ≡ false) → IfOk result (λ ending. GivesSolve model answer request ending.status ending.text.items)
 unsearched_gives model answer request status (Err other) h text aloud = tt
-unsearched_gives model answer request status (Ok outcome) h text aloud = by h.says
+unsearched_gives model answer request status (Ok ending) h text aloud = by h.says
   where
-    by : SaysBefore model answer request status ⊎ IsSilent status → GivesSolve model answer request outcome.status outcome.text.items
-    by (inl says) = before_gives model answer request outcome.status outcome.text.items (subst (SaysBefore model answer request) (sym text.0) says) (text.1 ∙ sym (ap text_of text.0))
+    by : SaysBefore model answer request status ⊎ IsSilent status → GivesSolve model answer request ending.status ending.text.items
+    by (inl says) = before_gives model answer request ending.status ending.text.items (subst (SaysBefore model answer request) (sym text.0) says) (text.1 ∙ sym (ap text_of text.0))
     by (inr silent) = absurd (silent_aloud status silent aloud)
 
 before_hidden : (model : Option (List ℕ)) (answer : Option (Option (List ℕ))) (request : SolveRequest) (status : Status) (found : Judged)
@@ -341,10 +341,10 @@ sheet_reported c report counts text sheet good shown = (counts, sheet, good, sho
 -- What is printed.
 
 -- of the two calls that may write a text the one that was made
-pub is_printed : (E : Type 0) (c : Circuit) (request : SolveRequest) (most : ℕ) (made written : Result Outcome E) (outcome : Outcome) → written ≡ made → written ≡ Ok outcome
-    → IfOk made (λ o. IsPrinted c request most o.status o.text.items) → IsPrinted c request most outcome.status outcome.text.items
-is_printed E c request most made written outcome is ended p =
-    subst (λ (r : Result Outcome E). IfOk r (λ o. IsPrinted c request most o.status o.text.items)) (sym is ∙ ended) p
+pub is_printed : (E : Type 0) (c : Circuit) (request : SolveRequest) (most : ℕ) (made written : Result Ending E) (ending : Ending) → written ≡ made → written ≡ Ok ending
+    → IfOk made (λ o. IsPrinted c request most o.status o.text.items) → IsPrinted c request most ending.status ending.text.items
+is_printed E c request most made written ending is ended p =
+    subst (λ (r : Result Ending E). IfOk r (λ o. IsPrinted c request most o.status o.text.items)) (sym is ∙ ended) p
 
 pub good_stimulus : (c : Circuit) (request : SolveRequest) (most : ℕ) (s : Stimulus) (positions from : ℕ) (text : List ℕ) → WrittenIsGood c → GoodIsTrue c
     → request.property < 2 ^ 63 → length s.inputs ≡ positions → StandsFor c request.property s positions from → text ≡ answer_text request.property s

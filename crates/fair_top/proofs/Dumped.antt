@@ -33,7 +33,7 @@ use Rattle.waves.proofs.Lines.{length_simulated}
 use Rattle.plain_commands.specs.declared.status.Status.{Status}
 use Rattle.plain_commands.specs.declared.status.Status.TheVariants as statuses
 use Rattle.plain_commands.specs.declared.status.Done.TheVariants.{Printed}
-use Rattle.plain_commands.specs.declared.texts.Outcome.{Outcome}
+use Rattle.plain_commands.specs.declared.texts.Ending.{Ending}
 use Rattle.plain_commands.specs.ModelGiven.{OfSomeText}
 use Rattle.plain_commands.specs.Check.{done_by, status_of_end}
 use Rattle.sheet_answers.specs.Reading.{opens_as_sheet}
@@ -90,7 +90,7 @@ lasso_is_kept m (Ok (Holds n entries)) kept found j p f carried e same none = ab
 lasso_is_kept m (Err end) kept found j p f carried e same none = absurd (cc)
 
 -- the status is that of the end, or want of memory
-pub waved_status : (m : Model) (end : End) (kept : Option LassoOf) (result : Result Outcome Status) → CarriesLasso m end kept → IsWaved m end kept result
+pub waved_status : (m : Model) (end : End) (kept : Option LassoOf) (result : Result Ending Status) → CarriesLasso m end kept → IsWaved m end kept result
     → (status_in result ≡ wave_status end) ⊎ (status_in result ≡ statuses.Memory)
 waved_status m (Ok (Lasso n positions from)) kept result (lasso, is, good) h =
     written_status result (statuses.Done Printed) (waves_text m n lasso) (h lasso is)
@@ -107,21 +107,21 @@ good_lasso c text n lasso positions from (there, short, stimulus, has, stands, i
     subst (λ (k : ℕ). IsGood c text (Lasso n positions k)) place
     (subst (λ (k : ℕ). IsGood c text (Lasso n k lasso.from)) many (there, short, stimulus, has, stands))
 
-of_answer : (m : Model) (answer : Option (List ℕ)) (end : End) (kept : Option LassoOf) (outcome : Outcome) → CheckSays m.circuit answer end
-    → IfOk end (λ accepted. KeepsLasso m.circuit answer accepted kept) → IsWaved m end kept (Ok outcome)
-    → OfSomeText answer (λ claimed. DecidesEnd m.circuit claimed end × EndsWaved m claimed outcome.status outcome.text.items)
-of_answer m answer (Ok (Lasso n positions from)) kept outcome says (text, may, lasso, is, good, many, place) h =
+of_answer : (m : Model) (answer : Option (List ℕ)) (end : End) (kept : Option LassoOf) (ending : Ending) → CheckSays m.circuit answer end
+    → IfOk end (λ accepted. KeepsLasso m.circuit answer accepted kept) → IsWaved m end kept (Ok ending)
+    → OfSomeText answer (λ claimed. DecidesEnd m.circuit claimed end × EndsWaved m claimed ending.status ending.text.items)
+of_answer m answer (Ok (Lasso n positions from)) kept ending says (text, may, lasso, is, good, many, place) h =
     (text, may, (good_lasso m.circuit text n lasso positions from good many place, inl (n, lasso, good, (h lasso is).0, (h lasso is).1)))
-of_answer m answer (Ok (Holds n entries)) kept outcome (inl (inr (text, may, good))) keeps h =
+of_answer m answer (Ok (Holds n entries)) kept ending (inl (inr (text, may, good))) keeps h =
     (text, may, (good, inr (UnknownStatus, inr (refl, n, entries, good), h.0, h.1 ∙ sym (ap text_of h.0))))
-of_answer m answer (Ok (Holds n entries)) kept outcome (inl (inl wrong)) keeps h = absurd (cc wrong)
-of_answer m answer (Ok (Holds n entries)) kept outcome (inr wrong) keeps h = absurd (cc wrong)
-of_answer m answer (Err (ends.Refused fault)) kept outcome (inl (inr (text, may, bad))) keeps h =
+of_answer m answer (Ok (Holds n entries)) kept ending (inl (inl wrong)) keeps h = absurd (cc wrong)
+of_answer m answer (Ok (Holds n entries)) kept ending (inr wrong) keeps h = absurd (cc wrong)
+of_answer m answer (Err (ends.Refused fault)) kept ending (inl (inr (text, may, bad))) keeps h =
     (text, may, (bad, inr (fault, inl bad, h.0, h.1 ∙ sym (ap text_of h.0))))
-of_answer m answer (Err (ends.Refused fault)) kept outcome (inl (inl wrong)) keeps h = absurd (cc wrong)
-of_answer m answer (Err (ends.Refused fault)) kept outcome (inr wrong) keeps h = absurd (cc wrong)
-of_answer m answer (Err ends.ReadFault) kept outcome says keeps h = absurd (cc h)
-of_answer m answer (Err ends.Memory) kept outcome says keeps h = absurd (cc h)
+of_answer m answer (Err (ends.Refused fault)) kept ending (inl (inl wrong)) keeps h = absurd (cc wrong)
+of_answer m answer (Err (ends.Refused fault)) kept ending (inr wrong) keeps h = absurd (cc wrong)
+of_answer m answer (Err ends.ReadFault) kept ending says keeps h = absurd (cc h)
+of_answer m answer (Err ends.Memory) kept ending says keeps h = absurd (cc h)
 
 good_no_sheet : (c : Circuit) (text : List ℕ) (accepted : Accepted) → opens_as_sheet text ≡ true → IsGood c text accepted → ⊥
 good_no_sheet c text (Lasso n positions from) is (there, short, s, (others, (small, opens), spells), stands) =
@@ -140,14 +140,14 @@ no_sheet c text (Err (ends.Refused fault)) true is known h = absurd (known (ap r
 no_sheet c text (Err ends.ReadFault) true is known h = absurd h
 no_sheet c text (Err ends.Memory) true is known h = absurd h
 
-pub waved_found : (m : Model) (answer : Option (List ℕ)) (n : ℕ) (end : End) (kept : Option LassoOf) (result : Result Outcome Status) → (end ≡ unknown → ⊥)
+pub waved_found : (m : Model) (answer : Option (List ℕ)) (n : ℕ) (end : End) (kept : Option LassoOf) (result : Result Ending Status) → (end ≡ unknown → ⊥)
     → CheckSays m.circuit answer end → IfOk end (λ accepted. KeepsLasso m.circuit answer accepted kept) → IsWaved m end kept result
-    → IfOk result (λ outcome. OfSomeText answer (λ claimed. EndsWave m claimed n outcome.status outcome.text.items))
+    → IfOk result (λ ending. OfSomeText answer (λ claimed. EndsWave m claimed n ending.status ending.text.items))
 waved_found m answer n end kept (Err status) known says keeps w = tt
-waved_found m answer n end kept (Ok outcome) known says keeps w =
-    let (text, may, (decides, waves)) = of_answer m answer end kept outcome says keeps w in
+waved_found m answer n end kept (Ok ending) known says keeps w =
+    let (text, may, (decides, waves)) = of_answer m answer end kept ending says keeps w in
     let other : opens_as_sheet text ≡ false = no_sheet m.circuit text end (opens_as_sheet text) refl known decides in
-    (text, may, subst (λ (b : Bool). EndsWaveAs b m text n outcome.status outcome.text.items) (sym other) waves)
+    (text, may, subst (λ (b : Bool). EndsWaveAs b m text n ending.status ending.text.items) (sym other) waves)
 
 -- What is decided.
 
@@ -169,7 +169,7 @@ exact_by c claimed n end verdict false is known exact (other, e, said) =
     subst (λ (v : Status). IsAnswered v (wave_status end)) (sym e) (as_status end other (exact other said))
 exact_by c claimed n end verdict true is known exact said = cut_short end verdict known (exact unknown (sheet_fault c claimed is))
 
-pub waved_exactly : (m : Model) (answer : Option (List ℕ)) (n : ℕ) (end : End) (kept : Option LassoOf) (result : Result Outcome Status) → (end ≡ unknown → ⊥)
+pub waved_exactly : (m : Model) (answer : Option (List ℕ)) (n : ℕ) (end : End) (kept : Option LassoOf) (result : Result Ending Status) → (end ≡ unknown → ⊥)
     → ((text : List ℕ) (v : End) → answer ≡ Some text → DecidesEnd m.circuit text v → EndsWith end v) → CarriesLasso m end kept → IsWaved m end kept result
     → (claimed : List ℕ) (verdict : Status) → answer ≡ Some claimed → DecidesWaveAs (opens_as_sheet claimed) m.circuit claimed n verdict → IsAnswered verdict (status_in result)
 waved_exactly m answer n end kept result known exact carried w claimed verdict told d =
@@ -210,11 +210,11 @@ block_ends m answer n claimed status text false is says may waves =
     let is_unknown = other_status m claimed n status text is waves in
     as_other m answer n claimed status text says may is is_unknown.0 is_unknown.1
 
-pub block_found : (m : Model) (now answer : Option (List ℕ)) (n : ℕ) (result : Result Outcome Status) → now ≡ answer → CheckSays m.circuit answer unknown → BlockWaved m now n result
-    → IfOk result (λ outcome. OfSomeText answer (λ claimed. EndsWave m claimed n outcome.status outcome.text.items))
+pub block_found : (m : Model) (now answer : Option (List ℕ)) (n : ℕ) (result : Result Ending Status) → now ≡ answer → CheckSays m.circuit answer unknown → BlockWaved m now n result
+    → IfOk result (λ ending. OfSomeText answer (λ claimed. EndsWave m claimed n ending.status ending.text.items))
 block_found m now answer n (Err status) told says w = tt
-block_found m now answer n (Ok outcome) told says (claimed, may, waves) =
-    block_ends m answer n claimed outcome.status outcome.text.items (opens_as_sheet claimed) refl says (subst (λ (t : Option (List ℕ)). MayBe t claimed) told may) waves
+block_found m now answer n (Ok ending) told says (claimed, may, waves) =
+    block_ends m answer n claimed ending.status ending.text.items (opens_as_sheet claimed) refl says (subst (λ (t : Option (List ℕ)). MayBe t claimed) told may) waves
 
 block_exact : (c : Circuit) (claimed : List ℕ) (n : ℕ) (verdict result : Status) (test : Bool) → opens_as_sheet claimed ≡ test
     → ((end : Result BlockLasso JudgeEnd) → DecidesBlock c claimed n end → IsAnswered (block_status end) result)
@@ -229,25 +229,25 @@ block_exact c claimed n verdict result false is exact one (other, e, said) =
     only v (inl (inr wrong)) = absurd (cc wrong)
     only v (inr wrong) = absurd (cc wrong)
 
-pub block_exactly : (m : Model) (now answer : Option (List ℕ)) (n : ℕ) (result : Result Outcome Status) → now ≡ answer
+pub block_exactly : (m : Model) (now answer : Option (List ℕ)) (n : ℕ) (result : Result Ending Status) → now ≡ answer
     → ((claimed : List ℕ) (end : Result BlockLasso JudgeEnd) → now ≡ Some claimed → DecidesBlock m.circuit claimed n end → IsAnswered (block_status end) (status_in result))
     → ((text : List ℕ) (v : End) → answer ≡ Some text → DecidesEnd m.circuit text v → EndsWith unknown v)
     → (claimed : List ℕ) (verdict : Status) → answer ≡ Some claimed → DecidesWaveAs (opens_as_sheet claimed) m.circuit claimed n verdict → IsAnswered verdict (status_in result)
 block_exactly m now answer n result told exact one claimed verdict is d =
     block_exact m.circuit claimed n verdict (status_in result) (opens_as_sheet claimed) refl (λ end h. exact claimed end (told ∙ is) h) (λ v h. one claimed v is h) d
 
-pub block_silent : (m : Model) (told : Option (List ℕ)) (n : ℕ) (result : Result Outcome Status) → BlockWaved m told n result → IfErr result IsSilent
-block_silent m told n (Ok outcome) w = tt
+pub block_silent : (m : Model) (told : Option (List ℕ)) (n : ℕ) (result : Result Ending Status) → BlockWaved m told n result → IfErr result IsSilent
+block_silent m told n (Ok ending) w = tt
 block_silent m told n (Err status) w = w
 
 -- What is so of both texts.
 
-pub waves_given : (m : Model) (model now answer : Option (List ℕ)) (n : ℕ) (result : Result Outcome Status) → now ≡ answer → IsModelOf model m
-    → IfOk result (λ outcome. OfSomeText now (λ claimed. EndsWave m claimed n outcome.status outcome.text.items))
-    → IfOk result (λ outcome. GivesWave model answer n outcome.status outcome.text.items)
+pub waves_given : (m : Model) (model now answer : Option (List ℕ)) (n : ℕ) (result : Result Ending Status) → now ≡ answer → IsModelOf model m
+    → IfOk result (λ ending. OfSomeText now (λ claimed. EndsWave m claimed n ending.status ending.text.items))
+    → IfOk result (λ ending. GivesWave model answer n ending.status ending.text.items)
 waves_given m model now answer n (Err status) told h w = tt
-waves_given m model now answer n (Ok outcome) told h w =
-    inr (h.text.0, h.text.1, (m, h.text.2, subst (λ (t : Option (List ℕ)). OfSomeText t (λ claimed. EndsWave m claimed n outcome.status outcome.text.items)) told w))
+waves_given m model now answer n (Ok ending) told h w =
+    inr (h.text.0, h.text.1, (m, h.text.2, subst (λ (t : Option (List ℕ)). OfSomeText t (λ claimed. EndsWave m claimed n ending.status ending.text.items)) told w))
 
 pub waves_exact : (m : Model) (model now answer : Option (List ℕ)) (n : ℕ) (result : Status) → now ≡ answer → IsModelOf model m
     → ((claimed : List ℕ) (verdict : Status) → now ≡ Some claimed → DecidesWaveAs (opens_as_sheet claimed) m.circuit claimed n verdict → IsAnswered verdict result)
@@ -258,24 +258,24 @@ waves_exact m model now answer n result told h exact verdict (inr (text, is, (cl
 
 -- Where there is no model.
 
-pub without_gives : (model answer : Option (List ℕ)) (j : ℕ) (status : Status) (result : Result Outcome Status) → EndsWithoutModel model status
-    → IfOk result (λ outcome. (outcome.status ≡ status) × (outcome.text.items ≡ text_of status)) → IfOk result (λ outcome. ends_silently status ≡ false)
-    → IfOk result (λ outcome. GivesWave model answer j outcome.status outcome.text.items)
+pub without_gives : (model answer : Option (List ℕ)) (j : ℕ) (status : Status) (result : Result Ending Status) → EndsWithoutModel model status
+    → IfOk result (λ ending. (ending.status ≡ status) × (ending.text.items ≡ text_of status)) → IfOk result (λ ending. ends_silently status ≡ false)
+    → IfOk result (λ ending. GivesWave model answer j ending.status ending.text.items)
 without_gives model answer j status (Err other) h text aloud = tt
-without_gives model answer j (statuses.BadModel fault) (Ok outcome) h text aloud = inl ((fault, text.0, h.text), text.1 ∙ sym (ap text_of text.0))
-without_gives model answer j statuses.ReadFault (Ok outcome) h text aloud = absurd (cc aloud)
-without_gives model answer j statuses.Memory (Ok outcome) h text aloud = absurd (cc aloud)
-without_gives model answer j (statuses.Done done) (Ok outcome) h text aloud = absurd h
-without_gives model answer j (statuses.Refused fault) (Ok outcome) h text aloud = absurd h
-without_gives model answer j (statuses.RefusedBlock n fault) (Ok outcome) h text aloud = absurd h
-without_gives model answer j statuses.WriteFault (Ok outcome) h text aloud = absurd h
-without_gives model answer j statuses.Usage (Ok outcome) h text aloud = absurd h
-without_gives model answer j (statuses.Unknown report) (Ok outcome) h text aloud = absurd h
-without_gives model answer j (statuses.NoProperty n) (Ok outcome) h text aloud = absurd h
-without_gives model answer j (statuses.TooLarge n) (Ok outcome) h text aloud = absurd h
-without_gives model answer j (statuses.OpenRounds n spent) (Ok outcome) h text aloud = absurd h
-without_gives model answer j (statuses.OpenDepth n spent) (Ok outcome) h text aloud = absurd h
-without_gives model answer j (statuses.NoItem entry clause) (Ok outcome) h text aloud = absurd h
+without_gives model answer j (statuses.BadModel fault) (Ok ending) h text aloud = inl ((fault, text.0, h.text), text.1 ∙ sym (ap text_of text.0))
+without_gives model answer j statuses.ReadFault (Ok ending) h text aloud = absurd (cc aloud)
+without_gives model answer j statuses.Memory (Ok ending) h text aloud = absurd (cc aloud)
+without_gives model answer j (statuses.Done done) (Ok ending) h text aloud = absurd h
+without_gives model answer j (statuses.Refused fault) (Ok ending) h text aloud = absurd h
+without_gives model answer j (statuses.RefusedBlock n fault) (Ok ending) h text aloud = absurd h
+without_gives model answer j statuses.WriteFault (Ok ending) h text aloud = absurd h
+without_gives model answer j statuses.Usage (Ok ending) h text aloud = absurd h
+without_gives model answer j (statuses.Unknown report) (Ok ending) h text aloud = absurd h
+without_gives model answer j (statuses.NoProperty n) (Ok ending) h text aloud = absurd h
+without_gives model answer j (statuses.TooLarge n) (Ok ending) h text aloud = absurd h
+without_gives model answer j (statuses.OpenRounds n spent) (Ok ending) h text aloud = absurd h
+without_gives model answer j (statuses.OpenDepth n spent) (Ok ending) h text aloud = absurd h
+without_gives model answer j (statuses.NoItem entry clause) (Ok ending) h text aloud = absurd h
 
 bad_exact : (model answer : Option (List ℕ)) (j : ℕ) (fault : ModelFault) → IsFaultOf model fault
     → (verdict : Status) → DecidesWave model answer j verdict → IsAnswered verdict (statuses.BadModel fault)
@@ -314,7 +314,7 @@ waves_accept_none (Err (ends.Refused fault)) = refl
 waves_accept_none (Err ends.ReadFault) = refl
 waves_accept_none (Err ends.Memory) = refl
 
-pub waved_hidden : (m : Model) (end : End) (kept : Option LassoOf) (result : Result Outcome Status) → CarriesLasso m end kept → IsWaved m end kept result → accepts (status_in result) ≡ false
+pub waved_hidden : (m : Model) (end : End) (kept : Option LassoOf) (result : Result Ending Status) → CarriesLasso m end kept → IsWaved m end kept result → accepts (status_in result) ≡ false
 waved_hidden m end kept result carried w = by (waved_status m end kept result carried w)
   where
     by : (status_in result ≡ wave_status end) ⊎ (status_in result ≡ statuses.Memory) → accepts (status_in result) ≡ false
@@ -327,13 +327,13 @@ never_shown a result none is = not_both a result result none (inl refl) is
 -- Reads and silence.
 
 -- the status says that a read failed exactly where the check ended so
-pub waved_unread : (m : Model) (end : End) (kept : Option LassoOf) (result : Result Outcome Status) → CarriesLasso m end kept → IsWaved m end kept result
+pub waved_unread : (m : Model) (end : End) (kept : Option LassoOf) (result : Result Ending Status) → CarriesLasso m end kept → IsWaved m end kept result
     → is_read_fault (status_in result) ≡ has_unread end
 waved_unread m (Ok (Lasso n positions from)) kept result (lasso, is, good) h = written_unread result (statuses.Done Printed) (waves_text m n lasso) refl (h lasso is)
 waved_unread m (Ok (Holds n entries)) kept result c h = written_unread result (statuses.Refused UnknownStatus) (text_of (statuses.Refused UnknownStatus)) refl h
 waved_unread m (Err (ends.Refused fault)) kept result c h = written_unread result (statuses.Refused fault) (text_of (statuses.Refused fault)) refl h
-waved_unread m (Err ends.ReadFault) kept result c h = ap (λ (r : Result Outcome Status). is_read_fault (status_in r)) h
-waved_unread m (Err ends.Memory) kept result c h = ap (λ (r : Result Outcome Status). is_read_fault (status_in r)) h
+waved_unread m (Err ends.ReadFault) kept result c h = ap (λ (r : Result Ending Status). is_read_fault (status_in r)) h
+waved_unread m (Err ends.Memory) kept result c h = ap (λ (r : Result Ending Status). is_read_fault (status_in r)) h
 
 pub unread_end : (end : End) → has_unread end ≡ true → end ≡ Err ends.ReadFault
 unread_end (Ok found) e = absurd (cc e)
@@ -341,26 +341,26 @@ unread_end (Err (ends.Refused fault)) e = absurd (cc e)
 unread_end (Err ends.ReadFault) e = refl
 unread_end (Err ends.Memory) e = absurd (cc e)
 
-pub read_failed : (m : Model) (end : End) (kept : Option LassoOf) (result : Result Outcome Status) → CarriesLasso m end kept → IsWaved m end kept result
+pub read_failed : (m : Model) (end : End) (kept : Option LassoOf) (result : Result Ending Status) → CarriesLasso m end kept → IsWaved m end kept result
     → status_in result ≡ statuses.ReadFault → end ≡ Err ends.ReadFault
 read_failed m end kept result carried w e = unread_end end (sym (waved_unread m end kept result carried w) ∙ ap is_read_fault e)
 
-pub waved_silent : (m : Model) (end : End) (kept : Option LassoOf) (result : Result Outcome Status) → CarriesLasso m end kept → IsWaved m end kept result → IfErr result IsSilent
-waved_silent m end kept (Ok outcome) carried w = tt
+pub waved_silent : (m : Model) (end : End) (kept : Option LassoOf) (result : Result Ending Status) → CarriesLasso m end kept → IsWaved m end kept result → IfErr result IsSilent
+waved_silent m end kept (Ok ending) carried w = tt
 waved_silent m (Ok (Lasso n positions from)) kept (Err other) (lasso, is, good) w = inr (w lasso is)
 waved_silent m (Ok (Holds n entries)) kept (Err other) carried w = inr w
 waved_silent m (Err (ends.Refused fault)) kept (Err other) carried w = inr w
 waved_silent m (Err ends.ReadFault) kept (Err other) carried w = inl (ap status_in w)
 waved_silent m (Err ends.Memory) kept (Err other) carried w = inr (ap status_in w)
 
-pub waved_aloud : (m : Model) (end : End) (kept : Option LassoOf) (result : Result Outcome Status) → CarriesLasso m end kept → IsWaved m end kept result
-    → IfOk result (λ outcome. is_read_fault outcome.status ≡ false)
+pub waved_aloud : (m : Model) (end : End) (kept : Option LassoOf) (result : Result Ending Status) → CarriesLasso m end kept → IsWaved m end kept result
+    → IfOk result (λ ending. is_read_fault ending.status ≡ false)
 waved_aloud m end kept (Err other) carried w = tt
-waved_aloud m (Ok (Lasso n positions from)) kept (Ok outcome) (lasso, is, good) w = ap is_read_fault (w lasso is).0
-waved_aloud m (Ok (Holds n entries)) kept (Ok outcome) carried w = ap is_read_fault w.0
-waved_aloud m (Err (ends.Refused fault)) kept (Ok outcome) carried w = ap is_read_fault w.0
-waved_aloud m (Err ends.ReadFault) kept (Ok outcome) carried w = absurd (cc w)
-waved_aloud m (Err ends.Memory) kept (Ok outcome) carried w = absurd (cc w)
+waved_aloud m (Ok (Lasso n positions from)) kept (Ok ending) (lasso, is, good) w = ap is_read_fault (w lasso is).0
+waved_aloud m (Ok (Holds n entries)) kept (Ok ending) carried w = ap is_read_fault w.0
+waved_aloud m (Err (ends.Refused fault)) kept (Ok ending) carried w = ap is_read_fault w.0
+waved_aloud m (Err ends.ReadFault) kept (Ok ending) carried w = absurd (cc w)
+waved_aloud m (Err ends.Memory) kept (Ok ending) carried w = absurd (cc w)
 
 -- ANSWER was read after a model
 pub model_first : {Shelf : Type 0} (Read : ReadsOf Shelf) (held : List ℕ → Option (List ℕ)) (model answer : List ℕ)

@@ -20,7 +20,7 @@ use Rattle.fair_top.specs.Headline.{Ends, IsVerdict, HasTaken, ReadFailed, HasRe
 use Rattle.plain_commands.specs.Answering.{IsAnswered, IsSilent, HasWritten, FailedOf, ReadsModelFirst}
 use Rattle.plain_commands.specs.Statuses.{is_read_fault, ends_silently}
 use Rattle.plain_commands.specs.Texts.{text_of}
-use Rattle.plain_commands.specs.declared.texts.Outcome.{Outcome}
+use Rattle.plain_commands.specs.declared.texts.Ending.{Ending}
 use Rattle.unless_memory.specs.Answers.{GivesSome}
 use Rattle.fair_top.proofs.EachCommand.{memory_solves, of_command}
 use Rattle.fair_top.proofs.Summed.{sums_up}
@@ -63,13 +63,13 @@ is_printed held words before now request status asks exact read = by (exact (sta
     by (inr e) = inr (inl e)
 
 -- a run of refused words ends with the usage text, or silently
-pub refused_ends : (held : List ℕ → Option (List ℕ)) (words : List (List ℕ)) (status : Status) (result : Result Outcome Status)
+pub refused_ends : (held : List ℕ → Option (List ℕ)) (words : List (List ℕ)) (status : Status) (result : Result Ending Status)
     → ((status ≡ statuses.Usage) × IsUsage words) ⊎ (status ≡ statuses.Memory)
-    → IfOk result (λ outcome. (outcome.status ≡ status) × (outcome.text.items ≡ text_of status)) → IfOk result (λ outcome. ends_silently status ≡ false)
-    → IfOk result (λ outcome. Ends held words outcome.status outcome.text.items)
+    → IfOk result (λ ending. (ending.status ≡ status) × (ending.text.items ≡ text_of status)) → IfOk result (λ ending. ends_silently status ≡ false)
+    → IfOk result (λ ending. Ends held words ending.status ending.text.items)
 refused_ends held words status (Err other) ended text aloud = tt
-refused_ends held words status (Ok outcome) (inl usage) text aloud = inl (usage.1, text.0 ∙ usage.0, text.1 ∙ ap text_of usage.0)
-refused_ends held words status (Ok outcome) (inr memory) text aloud = let wrong : true ≡ false = sym (ap ends_silently memory) ∙ aloud in absurd (cc)
+refused_ends held words status (Ok ending) (inl usage) text aloud = inl (usage.1, text.0 ∙ usage.0, text.1 ∙ ap text_of usage.0)
+refused_ends held words status (Ok ending) (inr memory) text aloud = let wrong : true ≡ false = sym (ap ends_silently memory) ∙ aloud in absurd (cc)
 
 -- `solve` is answered with a verdict or a report
 
@@ -166,13 +166,13 @@ not_a_write held words status text ends e =
 
 -- What `check` gives.
 
-pub check_gives : (model answer : Option (List ℕ)) (status : Status) (result : Result Outcome Status) → JudgesAs OfSomeText model answer status ⊎ IsSilent status
-    → IfOk result (λ outcome. (outcome.status ≡ status) × (outcome.text.items ≡ text_of status)) → IfOk result (λ outcome. ends_silently status ≡ false)
-    → IfOk result (λ outcome. GivesCheck model answer outcome.status outcome.text.items)
+pub check_gives : (model answer : Option (List ℕ)) (status : Status) (result : Result Ending Status) → JudgesAs OfSomeText model answer status ⊎ IsSilent status
+    → IfOk result (λ ending. (ending.status ≡ status) × (ending.text.items ≡ text_of status)) → IfOk result (λ ending. ends_silently status ≡ false)
+    → IfOk result (λ ending. GivesCheck model answer ending.status ending.text.items)
 check_gives model answer status (Err other) says text aloud = tt
-check_gives model answer status (Ok outcome) (inl says) text aloud =
+check_gives model answer status (Ok ending) (inl says) text aloud =
     (subst (λ (s : Status). JudgesAs OfSomeText model answer s) (sym text.0) says, text.1 ∙ sym (ap text_of text.0))
-check_gives model answer status (Ok outcome) (inr silent) text aloud = absurd (silent_aloud status silent aloud)
+check_gives model answer status (Ok ending) (inr silent) text aloud = absurd (silent_aloud status silent aloud)
 
 -- a failed read that is written is that of the status
 pub read_of_status : (status result : Status) → (result ≡ status) ⊎ (result ≡ statuses.Memory) → result ≡ statuses.ReadFault → status ≡ statuses.ReadFault

@@ -19,7 +19,7 @@ use Rattle.command_lines.specs.declared.commands.demonstrating.DemoRequest.{Demo
 use Rattle.plain_commands.specs.declared.status.Status.{Status}
 use Rattle.plain_commands.specs.declared.status.Status.TheVariants as statuses
 use Rattle.plain_commands.specs.declared.status.Done.TheVariants as dones
-use Rattle.plain_commands.specs.declared.texts.Outcome.{Outcome}
+use Rattle.plain_commands.specs.declared.texts.Ending.{Ending}
 use Rattle.plain_commands.specs.Check.{done_by}
 use Rattle.plain_commands.specs.Statuses.{status_in, is_read_fault}
 use Rattle.fair_top.specs.Demo.{SumsUp, IsSummedUp}
@@ -60,20 +60,20 @@ no_answer : (status : Status) → IsSummedUp status → (found : Judged) → sta
 no_answer status (inl (board, e)) found is = not_accepted board found (sym e ∙ is)
 no_answer status (inr (report, e)) found is = let wrong : statuses.Unknown report ≡ statuses.Done (done_by found) = sym e ∙ is in absurd (cc)
 
-pub loud : (c : Circuit) (request : DemoRequest) (result : Result Outcome Status)
-    → IfOk result (λ outcome. SumsUp c request outcome.status outcome.text.items)
-    → IfOk result (λ outcome. is_read_fault outcome.status ≡ false)
-loud c request (Ok outcome) summed = no_fault outcome.status (sums_up c request outcome.status outcome.text.items summed)
+pub loud : (c : Circuit) (request : DemoRequest) (result : Result Ending Status)
+    → IfOk result (λ ending. SumsUp c request ending.status ending.text.items)
+    → IfOk result (λ ending. is_read_fault ending.status ≡ false)
+loud c request (Ok ending) summed = no_fault ending.status (sums_up c request ending.status ending.text.items summed)
 loud c request (Err status) summed = tt
 
-pub unread : (c : Circuit) (request : DemoRequest) (result : Result Outcome Status)
-    → IfOk result (λ outcome. SumsUp c request outcome.status outcome.text.items) → IfErr result (λ status. status ≡ statuses.Memory)
+pub unread : (c : Circuit) (request : DemoRequest) (result : Result Ending Status)
+    → IfOk result (λ ending. SumsUp c request ending.status ending.text.items) → IfErr result (λ status. status ≡ statuses.Memory)
     → is_read_fault (status_in result) ≡ false
-unread c request (Ok outcome) summed ended = no_fault outcome.status (sums_up c request outcome.status outcome.text.items summed)
+unread c request (Ok ending) summed ended = no_fault ending.status (sums_up c request ending.status ending.text.items summed)
 unread c request (Err status) summed ended = ap is_read_fault ended
 
-pub hidden : (c : Circuit) (request : DemoRequest) (result : Result Outcome Status)
-    → IfOk result (λ outcome. SumsUp c request outcome.status outcome.text.items) → IfErr result (λ status. status ≡ statuses.Memory)
+pub hidden : (c : Circuit) (request : DemoRequest) (result : Result Ending Status)
+    → IfOk result (λ ending. SumsUp c request ending.status ending.text.items) → IfErr result (λ status. status ≡ statuses.Memory)
     → (found : Judged) → status_in result ≡ statuses.Done (done_by found) → ⊥
-hidden c request (Ok outcome) summed ended found e = no_answer outcome.status (sums_up c request outcome.status outcome.text.items summed) found e
+hidden c request (Ok ending) summed ended found e = no_answer ending.status (sums_up c request ending.status ending.text.items summed) found e
 hidden c request (Err status) summed ended found e = let wrong : statuses.Memory ≡ statuses.Done (done_by found) = sym ended ∙ e in absurd (cc)

@@ -14,7 +14,7 @@ use Rattle.waves.specs.Dumps.{waves_text}
 use Rattle.plain_commands.specs.declared.status.Status.{Status}
 use Rattle.plain_commands.specs.declared.status.Status.TheVariants as statuses
 use Rattle.plain_commands.specs.declared.status.Done.TheVariants.{Printed}
-use Rattle.plain_commands.specs.declared.texts.Outcome.{Outcome}
+use Rattle.plain_commands.specs.declared.texts.Ending.{Ending}
 use Rattle.plain_commands.specs.Texts.{text_of}
 use Rattle.plain_commands.specs.ModelGiven.{OfSomeText}
 use Rattle.plain_commands.specs.Answering.{IsSilent}
@@ -33,7 +33,7 @@ CarriesLasso m (Ok (Lasso n positions from)) kept = (lasso : LassoOf) × (kept �
 CarriesLasso m (Ok (Holds n entries)) kept = Unit {0}
 CarriesLasso m (Err end) kept = Unit {0}
 
-abbrev pub IsWaved : Model → Result Accepted AnswerEnd → Option LassoOf → Result Outcome Status → Type 0
+abbrev pub IsWaved : Model → Result Accepted AnswerEnd → Option LassoOf → Result Ending Status → Type 0
 IsWaved m (Ok (Lasso n positions from)) kept result =
     (lasso : LassoOf) → kept ≡ Some lasso → IsWritten result (statuses.Done Printed) (waves_text m n lasso)
 IsWaved m (Ok (Holds n entries)) kept result = IsWritten result (statuses.Refused UnknownStatus) (text_of (statuses.Refused UnknownStatus))
@@ -46,6 +46,6 @@ abbrev pub unknown : Result Accepted AnswerEnd
 unknown = Err (ends.Refused UnknownStatus)
 
 -- the waves of a block's lasso, of a text that the shelf may hold, or why there are none; or the run is silent
-abbrev pub BlockWaved : Model → Option (List ℕ) → ℕ → Result Outcome Status → Type 0
-BlockWaved m told n (Ok outcome) = OfSomeText told (λ claimed. EndsBlockWaved m claimed n outcome.status outcome.text.items)
+abbrev pub BlockWaved : Model → Option (List ℕ) → ℕ → Result Ending Status → Type 0
+BlockWaved m told n (Ok ending) = OfSomeText told (λ claimed. EndsBlockWaved m claimed n ending.status ending.text.items)
 BlockWaved m told n (Err status) = IsSilent status

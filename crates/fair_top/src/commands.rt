@@ -1,9 +1,9 @@
 //! The commands, each of which has a module of its own here or in `plain_commands`: here is one case for each in
-//! `outcome_for`. The main call is `outcome_of`, which does what the words ask for. Writes nothing.
+//! `ending_for`. The main call is `ending_of`, which does what the words ask for. Writes nothing.
 //!
 //! A new command has in `command_lines`, which reads its words, a file in `src/commands/` and one in `specs/`, and here, or in
 //! `plain_commands`, again one of each with a file of lemmas. Else it touches the lists: here `specs/Commands.antt`, this
-//! file, `proofs/EachCommand.antt` and `proofs/commands/outcome_for/Answers.antt`; `specs/Lib.antt` and `proofs/Lib.antt` of
+//! file, `proofs/EachCommand.antt` and `proofs/commands/ending_for/Answers.antt`; `specs/Lib.antt` and `proofs/Lib.antt` of
 //! that crate, and of `plain_commands` `src/lib.rt` and `src/commands.rt`; and those that `command_lines/src/commands.rt`
 //! names.
 
@@ -35,7 +35,7 @@ use demonstrating::demonstrate;
 use edge::Shelf;
 use fair_workers::{Ended, Report};
 use plain_commands::{
-    Conversion, Outcome, Status, Trimming, count_rounds, export_item, find_shortest, generate,
+    Conversion, Ending, Status, Trimming, count_rounds, export_item, find_shortest, generate,
     remake, safety, with_text, write_slice,
 };
 pub(crate) use solving::limits_of;
@@ -45,16 +45,16 @@ use waving::wave;
 
 /// The status with which a run ends and the text that it writes, but for its writing; or the status of a run that
 /// writes nothing, `ReadFault` or `Memory`. The workers of `solve` search as `search` lets them.
-pub(crate) fn outcome_of<S: Fn(&Beginning, SolveRequest) -> Result<Report, Ended>, H: Shelf>(
+pub(crate) fn ending_of<S: Fn(&Beginning, SolveRequest) -> Result<Report, Ended>, H: Shelf>(
     search: &S,
     alloc: Global,
     words: &[String],
     shelf: &mut H,
-) -> Result<Outcome, Status>
+) -> Result<Ending, Status>
     requires search { IsSearch (λ q. circuit_in q.now) (λ q. served_in q.now) (λ q. given_in q.now) (S.pre search.now) (S.post search.now) }
-    ensures found { IfOk result (λ outcome. Ends (H.held shelf.old) (bytes_of words.now) outcome.status outcome.text.items) }
+    ensures found { IfOk result (λ ending. Ends (H.held shelf.old) (bytes_of words.now) ending.status ending.text.items) }
     ensures silent { IfErr result IsSilent }
-    ensures aloud { IfOk result (λ outcome. is_read_fault outcome.status ≡ false) }
+    ensures aloud { IfOk result (λ ending. is_read_fault ending.status ≡ false) }
     ensures exactly { (verdict : Status) → IsVerdict (H.held shelf.old) (bytes_of words.now) verdict → IsAnswered verdict (status_in result) }
     ensures shown { IsShown (H.held shelf.old) (bytes_of words.now) (status_in result) }
     ensures words { IsTakenOrUsage (bytes_of words.now) }
@@ -66,7 +66,7 @@ pub(crate) fn outcome_of<S: Fn(&Beginning, SolveRequest) -> Result<Report, Ended
     ensures kept { KeepsTexts (H.held shelf.old) (H.held shelf.new) }
 {
     match asked_for(alloc, words) {
-        Ok(asked) => outcome_for(search, alloc, asked, shelf),
+        Ok(asked) => ending_for(search, alloc, asked, shelf),
         Err(status) => with_text(alloc, status),
     }
 }
@@ -84,18 +84,18 @@ fn asked_for<'a>(alloc: Global, words: &'a [String]) -> Result<Request<'a>, Stat
     }
 }
 
-/// The outcome of what is asked for: a case for each command.
-fn outcome_for<S: Fn(&Beginning, SolveRequest) -> Result<Report, Ended>, H: Shelf>(
+/// The ending of what is asked for: a case for each command.
+fn ending_for<S: Fn(&Beginning, SolveRequest) -> Result<Report, Ended>, H: Shelf>(
     search: &S,
     alloc: Global,
     asked: Request,
     shelf: &mut H,
-) -> Result<Outcome, Status>
+) -> Result<Ending, Status>
     requires search { IsSearch (λ q. circuit_in q.now) (λ q. served_in q.now) (λ q. given_in q.now) (S.pre search.now) (S.post search.now) }
     requires asked { (words : List (List ℕ)) × AsksFor words (meant asked) }
-    ensures found { IfOk result (λ outcome. CommandGives (H.held shelf.old) (meant asked.entry) outcome.status outcome.text.items) }
+    ensures found { IfOk result (λ ending. CommandGives (H.held shelf.old) (meant asked.entry) ending.status ending.text.items) }
     ensures silent { IfErr result IsSilent }
-    ensures aloud { IfOk result (λ outcome. is_read_fault outcome.status ≡ false) }
+    ensures aloud { IfOk result (λ ending. is_read_fault ending.status ≡ false) }
     ensures exactly { (verdict : Status) → Decides (H.held shelf.old) (meant asked.entry) verdict → IsAnswered verdict (status_in result) }
     ensures shown { (accepted : JudgedOf) → status_in result ≡ Status.Done (done_by accepted) → ShownBy (H.held shelf.old) (meant asked.entry) accepted }
     ensures solved { SolvesAsked (H.held shelf.old) (meant asked.entry) (status_in result) }

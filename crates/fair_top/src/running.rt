@@ -21,12 +21,12 @@ ghost use Rattle.unless_memory.specs.Answers.{GivesSome};
 ghost use Rattle.plain_commands.specs.declared.status.Done.TheVariants.{Printed};
 
 use crate::beginnings::Beginning;
-use crate::commands::outcome_of;
+use crate::commands::ending_of;
 use crate::searching::{in_turns, on_threads};
 use command_lines::SolveRequest;
 use edge::{Gate, Shelf, Sink, write_all};
 use fair_workers::{Ended, Report};
-use plain_commands::{Outcome, Status};
+use plain_commands::{Ending, Status};
 use std::alloc::Global;
 use std::sync::Wait;
 use std::thread::Threads;
@@ -164,8 +164,8 @@ fn run_by<S: Fn(&Beginning, SolveRequest) -> Result<Report, Ended>, H: Shelf, O:
     ensures unread { ReadsNothing (bytes_of words.now) → shelf.new ≡ shelf.old }
     ensures writes { O.faults out.old ≤ O.faults out.new }
 {
-    match outcome_of(search, alloc, words, shelf) {
-        Ok(Outcome { status, text }) => match write_all(out, &text) {
+    match ending_of(search, alloc, words, shelf) {
+        Ok(Ending { status, text }) => match write_all(out, &text) {
             Ok(()) => status,
             Err(_) => Status::WriteFault,
         },

@@ -26,7 +26,7 @@ use Rattle.command_lines.specs.declared.commands.bounding.ShortestRequest.{Short
 use Rattle.plain_commands.specs.declared.status.Status.{Status}
 use Rattle.plain_commands.specs.declared.status.Status.TheVariants as statuses
 use Rattle.plain_commands.specs.declared.status.Done.TheVariants as done
-use Rattle.plain_commands.specs.declared.texts.Outcome.{Outcome}
+use Rattle.plain_commands.specs.declared.texts.Ending.{Ending}
 use Rattle.plain_commands.specs.Check.{done_by}
 use Rattle.plain_commands.specs.Shortest.{SaysNoSuch, IsFewest, EndsShortest, GivesShortest, DecidesShortest, ShownByShortest}
 use Rattle.plain_commands.specs.Statuses.{is_read_fault, ends_silently, status_in}
@@ -51,33 +51,33 @@ good_shortest c request s lasso positions from text written true_one small all s
 
 -- What is said.
 
-pub none_is_said : (c : Circuit) (request : ShortestRequest) (result : Result Outcome Status) → request.property < length c.justice
+pub none_is_said : (c : Circuit) (request : ShortestRequest) (result : Result Ending Status) → request.property < length c.justice
     → HasNoneWithin c request.property request.depth
-    → IfOk result (λ outcome. (outcome.status ≡ statuses.Done (done.NoneWithin request.property request.depth))
-    × (outcome.text.items ≡ text_of (statuses.Done (done.NoneWithin request.property request.depth))))
-    → IfOk result (λ outcome. EndsShortest c request outcome.status outcome.text.items)
+    → IfOk result (λ ending. (ending.status ≡ statuses.Done (done.NoneWithin request.property request.depth))
+    × (ending.text.items ≡ text_of (statuses.Done (done.NoneWithin request.property request.depth))))
+    → IfOk result (λ ending. EndsShortest c request ending.status ending.text.items)
 none_is_said c request (Err other) there none text = tt
-none_is_said c request (Ok outcome) there none text = inr (inr (inl ((text.0, there, none), text.1 ∙ sym (ap text_of text.0))))
+none_is_said c request (Ok ending) there none text = inr (inr (inl ((text.0, there, none), text.1 ∙ sym (ap text_of text.0))))
 
-pub cut_is_said : (c : Circuit) (request : ShortestRequest) (meter : Spendings) (end : SearchEnd) (unit : Spent) (most : ℕ) (result : Result Outcome Status)
+pub cut_is_said : (c : Circuit) (request : ShortestRequest) (meter : Spendings) (end : SearchEnd) (unit : Spent) (most : ℕ) (result : Result Ending Status)
     → request.property < length c.justice → IsSearchEnd c request.property 0 request.depth meter end → end ≡ ends.Spent unit most
     → meter.conflict_limit ≡ limit_of request.conflicts
-    → IfOk result (λ outcome. outcome.status ≡ statuses.OpenDepth most meter)
-    → IfOk result (λ outcome. outcome.text.items ≡ depth_text request.property most request.depth meter)
-    → IfOk result (λ outcome. EndsShortest c request outcome.status outcome.text.items)
+    → IfOk result (λ ending. ending.status ≡ statuses.OpenDepth most meter)
+    → IfOk result (λ ending. ending.text.items ≡ depth_text request.property most request.depth meter)
+    → IfOk result (λ ending. EndsShortest c request ending.status ending.text.items)
 cut_is_said c request meter end unit most (Err other) there is same limit status text = tt
-cut_is_said c request meter end unit most (Ok outcome) there is same limit status text =
+cut_is_said c request meter end unit most (Ok ending) there is same limit status text =
     let said = subst (λ (e : SearchEnd). IsSearchEnd c request.property 0 request.depth meter e) same is in
     inr (inr (inr (most, meter, status, text, there, limit, said.0.0, said.3, said.1)))
 
 -- Where the model was read.
 
-pub bounded_gives : (c : Circuit) (m : Model) (told : Option (List ℕ)) (request : ShortestRequest) (result : Result Outcome Status) → c ≡ m.circuit → IsModelOf told m
-    → IfOk result (λ outcome. EndsShortest c request outcome.status outcome.text.items)
-    → IfOk result (λ outcome. GivesShortest told request outcome.status outcome.text.items)
+pub bounded_gives : (c : Circuit) (m : Model) (told : Option (List ℕ)) (request : ShortestRequest) (result : Result Ending Status) → c ≡ m.circuit → IsModelOf told m
+    → IfOk result (λ ending. EndsShortest c request ending.status ending.text.items)
+    → IfOk result (λ ending. GivesShortest told request ending.status ending.text.items)
 bounded_gives c m told request (Err status) same h ends = tt
-bounded_gives c m told request (Ok outcome) same h ends =
-    inr (h.text.0, h.text.1, (m, h.text.2, subst (λ (k : Circuit). EndsShortest k request outcome.status outcome.text.items) same ends))
+bounded_gives c m told request (Ok ending) same h ends =
+    inr (h.text.0, h.text.1, (m, h.text.2, subst (λ (k : Circuit). EndsShortest k request ending.status ending.text.items) same ends))
 
 one_decided : (c : Circuit) (request : ShortestRequest) (status verdict : Status) (text : List ℕ) → EndsShortest c request status text
     → SaysNoSuch c request verdict → status ≡ verdict
@@ -88,14 +88,14 @@ one_decided c request status verdict text (inr (inr (inl ((e, there, none), t)))
 one_decided c request status verdict text (inr (inr (inr (most, spent, e, t, there, limit, met, below, none)))) d =
     let absent = d.1 in absurd (omega (arith, there, absent))
 
-pub bounded_exact : (c : Circuit) (m : Model) (told : Option (List ℕ)) (request : ShortestRequest) (result : Result Outcome Status) → c ≡ m.circuit → IsModelOf told m
-    → IfOk result (λ outcome. EndsShortest c request outcome.status outcome.text.items) → IfErr result (λ status. status ≡ statuses.Memory)
+pub bounded_exact : (c : Circuit) (m : Model) (told : Option (List ℕ)) (request : ShortestRequest) (result : Result Ending Status) → c ≡ m.circuit → IsModelOf told m
+    → IfOk result (λ ending. EndsShortest c request ending.status ending.text.items) → IfErr result (λ status. status ≡ statuses.Memory)
     → (verdict : Status) → DecidesShortest told request verdict → IsAnswered verdict (status_in result)
 bounded_exact c m told request result same h ends ended verdict (inl (fault, e, (text, is, bad))) = absurd (h.faultless text fault is bad)
 bounded_exact c m told request (Err status) same h ends ended verdict (inr (text, is, (n, form, d))) = inr ended
-bounded_exact c m told request (Ok outcome) same h ends ended verdict (inr (text, is, (n, form, d))) =
+bounded_exact c m told request (Ok ending) same h ends ended verdict (inr (text, is, (n, form, d))) =
     let circuits : n.circuit ≡ c = ap (λ (x : Model). x.circuit) (sym (h.one text n is form)) ∙ sym same in
-    inl (inl (inl (one_decided c request outcome.status verdict outcome.text.items ends (subst (λ (k : Circuit). SaysNoSuch k request verdict) circuits d))))
+    inl (inl (inl (one_decided c request ending.status verdict ending.text.items ends (subst (λ (k : Circuit). SaysNoSuch k request verdict) circuits d))))
 
 -- that there is no lasso is no accepted answer
 not_accepted : (n depth : ℕ) (a : Judged) → statuses.Done (done.NoneWithin n depth) ≡ statuses.Done (done_by a) → ⊥
@@ -113,12 +113,12 @@ shown_by c request status text (inr (inr (inl ((e, there, none), t)))) a is = ab
 shown_by c request status text (inr (inr (inr (most, spent, e, t, there, limit, met, below, none)))) a is =
     let wrong : statuses.OpenDepth most spent ≡ statuses.Done (done_by a) = sym e ∙ is in cc
 
-pub bounded_shown : (c : Circuit) (m : Model) (told : Option (List ℕ)) (request : ShortestRequest) (result : Result Outcome Status) → c ≡ m.circuit → IsModelOf told m
-    → IfOk result (λ outcome. EndsShortest c request outcome.status outcome.text.items) → IfErr result (λ status. status ≡ statuses.Memory)
+pub bounded_shown : (c : Circuit) (m : Model) (told : Option (List ℕ)) (request : ShortestRequest) (result : Result Ending Status) → c ≡ m.circuit → IsModelOf told m
+    → IfOk result (λ ending. EndsShortest c request ending.status ending.text.items) → IfErr result (λ status. status ≡ statuses.Memory)
     → (a : Judged) → status_in result ≡ statuses.Done (done_by a) → ShownByShortest told a
 bounded_shown c m told request (Err status) same h ends ended a is = let wrong : statuses.Memory ≡ statuses.Done (done_by a) = sym ended ∙ is in cc
-bounded_shown c m told request (Ok outcome) same h ends ended a is =
-    (h.text.0, h.text.1, (m, h.text.2, subst (λ (k : Circuit). ShowsText k a) same (shown_by c request outcome.status outcome.text.items ends a is)))
+bounded_shown c m told request (Ok ending) same h ends ended a is =
+    (h.text.0, h.text.1, (m, h.text.2, subst (λ (k : Circuit). ShowsText k a) same (shown_by c request ending.status ending.text.items ends a is)))
 
 unread : (c : Circuit) (request : ShortestRequest) (status : Status) (text : List ℕ) → EndsShortest c request status text → is_read_fault status ≡ false
 unread c request status text (inl ((e, none), t)) = ap is_read_fault e
@@ -126,16 +126,16 @@ unread c request status text (inr (inl (positions, from, e, good, written, shows
 unread c request status text (inr (inr (inl ((e, there, none), t)))) = ap is_read_fault e
 unread c request status text (inr (inr (inr (most, spent, e, t, there, limit, met, below, none)))) = ap is_read_fault e
 
-pub bounded_unread : (c : Circuit) (request : ShortestRequest) (result : Result Outcome Status)
-    → IfOk result (λ outcome. EndsShortest c request outcome.status outcome.text.items) → IfErr result (λ status. status ≡ statuses.Memory)
+pub bounded_unread : (c : Circuit) (request : ShortestRequest) (result : Result Ending Status)
+    → IfOk result (λ ending. EndsShortest c request ending.status ending.text.items) → IfErr result (λ status. status ≡ statuses.Memory)
     → is_read_fault (status_in result) ≡ false
 bounded_unread c request (Err status) ends ended = ap is_read_fault ended
-bounded_unread c request (Ok outcome) ends ended = unread c request outcome.status outcome.text.items ends
+bounded_unread c request (Ok ending) ends ended = unread c request ending.status ending.text.items ends
 
-pub bounded_aloud : (c : Circuit) (request : ShortestRequest) (result : Result Outcome Status)
-    → IfOk result (λ outcome. EndsShortest c request outcome.status outcome.text.items) → IfOk result (λ outcome. is_read_fault outcome.status ≡ false)
+pub bounded_aloud : (c : Circuit) (request : ShortestRequest) (result : Result Ending Status)
+    → IfOk result (λ ending. EndsShortest c request ending.status ending.text.items) → IfOk result (λ ending. is_read_fault ending.status ≡ false)
 bounded_aloud c request (Err status) ends = tt
-bounded_aloud c request (Ok outcome) ends = unread c request outcome.status outcome.text.items ends
+bounded_aloud c request (Ok ending) ends = unread c request ending.status ending.text.items ends
 
 -- What a sink saw.
 
@@ -149,24 +149,24 @@ of_shortest Write model request status text old new (inr (_, _, (m, _, inr (inr 
 
 -- Where there is no model.
 
-pub without_gives : (model : Option (List ℕ)) (request : ShortestRequest) (status : Status) (result : Result Outcome Status) → EndsWithoutModel model status
-    → IfOk result (λ outcome. (outcome.status ≡ status) × (outcome.text.items ≡ text_of status)) → IfOk result (λ outcome. ends_silently status ≡ false)
-    → IfOk result (λ outcome. GivesShortest model request outcome.status outcome.text.items)
+pub without_gives : (model : Option (List ℕ)) (request : ShortestRequest) (status : Status) (result : Result Ending Status) → EndsWithoutModel model status
+    → IfOk result (λ ending. (ending.status ≡ status) × (ending.text.items ≡ text_of status)) → IfOk result (λ ending. ends_silently status ≡ false)
+    → IfOk result (λ ending. GivesShortest model request ending.status ending.text.items)
 without_gives model request status (Err other) h text aloud = tt
-without_gives model request (statuses.BadModel fault) (Ok outcome) h text aloud = inl ((fault, text.0, h.text), text.1 ∙ sym (ap text_of text.0))
-without_gives model request statuses.ReadFault (Ok outcome) h text aloud = absurd (cc aloud)
-without_gives model request statuses.Memory (Ok outcome) h text aloud = absurd (cc aloud)
-without_gives model request (statuses.Done d) (Ok outcome) h text aloud = absurd h
-without_gives model request (statuses.Refused fault) (Ok outcome) h text aloud = absurd h
-without_gives model request (statuses.RefusedBlock n fault) (Ok outcome) h text aloud = absurd h
-without_gives model request statuses.WriteFault (Ok outcome) h text aloud = absurd h
-without_gives model request statuses.Usage (Ok outcome) h text aloud = absurd h
-without_gives model request (statuses.Unknown report) (Ok outcome) h text aloud = absurd h
-without_gives model request (statuses.NoProperty n) (Ok outcome) h text aloud = absurd h
-without_gives model request (statuses.TooLarge n) (Ok outcome) h text aloud = absurd h
-without_gives model request (statuses.OpenRounds n spent) (Ok outcome) h text aloud = absurd h
-without_gives model request (statuses.OpenDepth n spent) (Ok outcome) h text aloud = absurd h
-without_gives model request (statuses.NoItem entry clause) (Ok outcome) h text aloud = absurd h
+without_gives model request (statuses.BadModel fault) (Ok ending) h text aloud = inl ((fault, text.0, h.text), text.1 ∙ sym (ap text_of text.0))
+without_gives model request statuses.ReadFault (Ok ending) h text aloud = absurd (cc aloud)
+without_gives model request statuses.Memory (Ok ending) h text aloud = absurd (cc aloud)
+without_gives model request (statuses.Done d) (Ok ending) h text aloud = absurd h
+without_gives model request (statuses.Refused fault) (Ok ending) h text aloud = absurd h
+without_gives model request (statuses.RefusedBlock n fault) (Ok ending) h text aloud = absurd h
+without_gives model request statuses.WriteFault (Ok ending) h text aloud = absurd h
+without_gives model request statuses.Usage (Ok ending) h text aloud = absurd h
+without_gives model request (statuses.Unknown report) (Ok ending) h text aloud = absurd h
+without_gives model request (statuses.NoProperty n) (Ok ending) h text aloud = absurd h
+without_gives model request (statuses.TooLarge n) (Ok ending) h text aloud = absurd h
+without_gives model request (statuses.OpenRounds n spent) (Ok ending) h text aloud = absurd h
+without_gives model request (statuses.OpenDepth n spent) (Ok ending) h text aloud = absurd h
+without_gives model request (statuses.NoItem entry clause) (Ok ending) h text aloud = absurd h
 
 bad_exact : (model : Option (List ℕ)) (request : ShortestRequest) (fault : ModelFault) → IsFaultOf model fault
     → (verdict : Status) → DecidesShortest model request verdict → IsAnswered verdict (statuses.BadModel fault)

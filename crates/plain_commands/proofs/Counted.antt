@@ -27,7 +27,7 @@ use Rattle.command_lines.specs.declared.commands.counting.RoundsRequest.{RoundsR
 use Rattle.plain_commands.specs.declared.status.Status.{Status}
 use Rattle.plain_commands.specs.declared.status.Status.TheVariants as statuses
 use Rattle.plain_commands.specs.declared.status.Done.TheVariants as done
-use Rattle.plain_commands.specs.declared.texts.Outcome.{Outcome}
+use Rattle.plain_commands.specs.declared.texts.Ending.{Ending}
 use Rattle.plain_commands.specs.Check.{done_by}
 use Rattle.plain_commands.specs.Rounds.{SaysNoMonitor, SaysOpen, EndsRounds, GivesRounds, DecidesRounds, ShownByRounds}
 use Rattle.plain_commands.specs.Statuses.{is_read_fault, ends_silently, status_in}
@@ -82,21 +82,21 @@ is_open c request meter spent (same, met, able) conflicts steps = (
   subst IsSpent (sym same) met,
 )
 
-pub open_is_said : (c : Circuit) (request : RoundsRequest) (status : Status) (result : Result Outcome Status) → SaysOpen c request status
-    → IfOk result (λ outcome. (outcome.status ≡ status) × (outcome.text.items ≡ text_of status))
-    → IfOk result (λ outcome. EndsRounds c request outcome.status outcome.text.items)
+pub open_is_said : (c : Circuit) (request : RoundsRequest) (status : Status) (result : Result Ending Status) → SaysOpen c request status
+    → IfOk result (λ ending. (ending.status ≡ status) × (ending.text.items ≡ text_of status))
+    → IfOk result (λ ending. EndsRounds c request ending.status ending.text.items)
 open_is_said c request status (Err other) says text = tt
-open_is_said c request status (Ok outcome) says text =
+open_is_said c request status (Ok ending) says text =
     inr (inr (subst (λ (s : Status). SaysOpen c request s) (sym text.0) says, text.1 ∙ sym (ap text_of text.0)))
 
 -- Where the model was read.
 
-pub counted_gives : (c : Circuit) (m : Model) (told : Option (List ℕ)) (request : RoundsRequest) (result : Result Outcome Status) → c ≡ m.circuit → IsModelOf told m
-    → IfOk result (λ outcome. EndsRounds c request outcome.status outcome.text.items)
-    → IfOk result (λ outcome. GivesRounds told request outcome.status outcome.text.items)
+pub counted_gives : (c : Circuit) (m : Model) (told : Option (List ℕ)) (request : RoundsRequest) (result : Result Ending Status) → c ≡ m.circuit → IsModelOf told m
+    → IfOk result (λ ending. EndsRounds c request ending.status ending.text.items)
+    → IfOk result (λ ending. GivesRounds told request ending.status ending.text.items)
 counted_gives c m told request (Err status) same h ends = tt
-counted_gives c m told request (Ok outcome) same h ends =
-    inr (h.text.0, h.text.1, (m, h.text.2, subst (λ (k : Circuit). EndsRounds k request outcome.status outcome.text.items) same ends))
+counted_gives c m told request (Ok ending) same h ends =
+    inr (h.text.0, h.text.1, (m, h.text.2, subst (λ (k : Circuit). EndsRounds k request ending.status ending.text.items) same ends))
 
 -- of a property without a monitor nothing is decided
 monitored : (c : Circuit) (request : RoundsRequest) (status : Status) → SaysNoMonitor c request status → IsMonitorable c request.property request.k → ⊥
@@ -120,14 +120,14 @@ one_decided c request status verdict text (inr (inl (reached, e, good, true_so))
     absurd (monitored c request verdict d (able_of c text request.property request.k reached good))
 one_decided c request status verdict text (inr (inr (says, t))) d = absurd (monitored c request verdict d says.2)
 
-pub counted_exact : (c : Circuit) (m : Model) (told : Option (List ℕ)) (request : RoundsRequest) (result : Result Outcome Status) → c ≡ m.circuit → IsModelOf told m
-    → IfOk result (λ outcome. EndsRounds c request outcome.status outcome.text.items) → IfErr result (λ status. status ≡ statuses.Memory)
+pub counted_exact : (c : Circuit) (m : Model) (told : Option (List ℕ)) (request : RoundsRequest) (result : Result Ending Status) → c ≡ m.circuit → IsModelOf told m
+    → IfOk result (λ ending. EndsRounds c request ending.status ending.text.items) → IfErr result (λ status. status ≡ statuses.Memory)
     → (verdict : Status) → DecidesRounds told request verdict → IsAnswered verdict (status_in result)
 counted_exact c m told request result same h ends ended verdict (inl (fault, e, (text, is, bad))) = absurd (h.faultless text fault is bad)
 counted_exact c m told request (Err status) same h ends ended verdict (inr (text, is, (n, form, d))) = inr ended
-counted_exact c m told request (Ok outcome) same h ends ended verdict (inr (text, is, (n, form, d))) =
+counted_exact c m told request (Ok ending) same h ends ended verdict (inr (text, is, (n, form, d))) =
     let circuits : n.circuit ≡ c = ap (λ (x : Model). x.circuit) (sym (h.one text n is form)) ∙ sym same in
-    inl (inl (inl (one_decided c request outcome.status verdict outcome.text.items ends (subst (λ (k : Circuit). SaysNoMonitor k request verdict) circuits d))))
+    inl (inl (inl (one_decided c request ending.status verdict ending.text.items ends (subst (λ (k : Circuit). SaysNoMonitor k request verdict) circuits d))))
 
 -- what is printed is true
 shown_by : (c : Circuit) (request : RoundsRequest) (status : Status) (text : List ℕ) → EndsRounds c request status text
@@ -140,12 +140,12 @@ shown_by c request status text (inr (inl (reached, e, good, true_so))) a is =
 shown_by c request status text (inr (inr (says, t))) a is =
     let wrong : statuses.OpenRounds request.property says.0 ≡ statuses.Done (done_by a) = sym says.1 ∙ is in cc
 
-pub counted_shown : (c : Circuit) (m : Model) (told : Option (List ℕ)) (request : RoundsRequest) (result : Result Outcome Status) → c ≡ m.circuit → IsModelOf told m
-    → IfOk result (λ outcome. EndsRounds c request outcome.status outcome.text.items) → IfErr result (λ status. status ≡ statuses.Memory)
+pub counted_shown : (c : Circuit) (m : Model) (told : Option (List ℕ)) (request : RoundsRequest) (result : Result Ending Status) → c ≡ m.circuit → IsModelOf told m
+    → IfOk result (λ ending. EndsRounds c request ending.status ending.text.items) → IfErr result (λ status. status ≡ statuses.Memory)
     → (a : Judged) → status_in result ≡ statuses.Done (done_by a) → ShownByRounds told a
 counted_shown c m told request (Err status) same h ends ended a is = let wrong : statuses.Memory ≡ statuses.Done (done_by a) = sym ended ∙ is in cc
-counted_shown c m told request (Ok outcome) same h ends ended a is =
-    (h.text.0, h.text.1, (m, h.text.2, subst (λ (k : Circuit). ShowsText k a) same (shown_by c request outcome.status outcome.text.items ends a is)))
+counted_shown c m told request (Ok ending) same h ends ended a is =
+    (h.text.0, h.text.1, (m, h.text.2, subst (λ (k : Circuit). ShowsText k a) same (shown_by c request ending.status ending.text.items ends a is)))
 
 unread : (c : Circuit) (request : RoundsRequest) (status : Status) (text : List ℕ) → EndsRounds c request status text → is_read_fault status ≡ false
 unread c request status text (inl (inl (e, none), t)) = ap is_read_fault e
@@ -153,37 +153,37 @@ unread c request status text (inl (inr (e, large), t)) = ap is_read_fault e
 unread c request status text (inr (inl (reached, e, good, true_so))) = ap is_read_fault e
 unread c request status text (inr (inr (says, t))) = ap is_read_fault says.1
 
-pub counted_unread : (c : Circuit) (request : RoundsRequest) (result : Result Outcome Status)
-    → IfOk result (λ outcome. EndsRounds c request outcome.status outcome.text.items) → IfErr result (λ status. status ≡ statuses.Memory)
+pub counted_unread : (c : Circuit) (request : RoundsRequest) (result : Result Ending Status)
+    → IfOk result (λ ending. EndsRounds c request ending.status ending.text.items) → IfErr result (λ status. status ≡ statuses.Memory)
     → is_read_fault (status_in result) ≡ false
 counted_unread c request (Err status) ends ended = ap is_read_fault ended
-counted_unread c request (Ok outcome) ends ended = unread c request outcome.status outcome.text.items ends
+counted_unread c request (Ok ending) ends ended = unread c request ending.status ending.text.items ends
 
-pub counted_aloud : (c : Circuit) (request : RoundsRequest) (result : Result Outcome Status)
-    → IfOk result (λ outcome. EndsRounds c request outcome.status outcome.text.items) → IfOk result (λ outcome. is_read_fault outcome.status ≡ false)
+pub counted_aloud : (c : Circuit) (request : RoundsRequest) (result : Result Ending Status)
+    → IfOk result (λ ending. EndsRounds c request ending.status ending.text.items) → IfOk result (λ ending. is_read_fault ending.status ≡ false)
 counted_aloud c request (Err status) ends = tt
-counted_aloud c request (Ok outcome) ends = unread c request outcome.status outcome.text.items ends
+counted_aloud c request (Ok ending) ends = unread c request ending.status ending.text.items ends
 
 -- Where there is no model.
 
-pub without_gives : (model : Option (List ℕ)) (request : RoundsRequest) (status : Status) (result : Result Outcome Status) → EndsWithoutModel model status
-    → IfOk result (λ outcome. (outcome.status ≡ status) × (outcome.text.items ≡ text_of status)) → IfOk result (λ outcome. ends_silently status ≡ false)
-    → IfOk result (λ outcome. GivesRounds model request outcome.status outcome.text.items)
+pub without_gives : (model : Option (List ℕ)) (request : RoundsRequest) (status : Status) (result : Result Ending Status) → EndsWithoutModel model status
+    → IfOk result (λ ending. (ending.status ≡ status) × (ending.text.items ≡ text_of status)) → IfOk result (λ ending. ends_silently status ≡ false)
+    → IfOk result (λ ending. GivesRounds model request ending.status ending.text.items)
 without_gives model request status (Err other) h text aloud = tt
-without_gives model request (statuses.BadModel fault) (Ok outcome) h text aloud = inl ((fault, text.0, h.text), text.1 ∙ sym (ap text_of text.0))
-without_gives model request statuses.ReadFault (Ok outcome) h text aloud = absurd (cc aloud)
-without_gives model request statuses.Memory (Ok outcome) h text aloud = absurd (cc aloud)
-without_gives model request (statuses.Done done) (Ok outcome) h text aloud = absurd h
-without_gives model request (statuses.Refused fault) (Ok outcome) h text aloud = absurd h
-without_gives model request (statuses.RefusedBlock n fault) (Ok outcome) h text aloud = absurd h
-without_gives model request statuses.WriteFault (Ok outcome) h text aloud = absurd h
-without_gives model request statuses.Usage (Ok outcome) h text aloud = absurd h
-without_gives model request (statuses.Unknown report) (Ok outcome) h text aloud = absurd h
-without_gives model request (statuses.NoProperty n) (Ok outcome) h text aloud = absurd h
-without_gives model request (statuses.TooLarge n) (Ok outcome) h text aloud = absurd h
-without_gives model request (statuses.OpenRounds n spent) (Ok outcome) h text aloud = absurd h
-without_gives model request (statuses.OpenDepth n spent) (Ok outcome) h text aloud = absurd h
-without_gives model request (statuses.NoItem entry clause) (Ok outcome) h text aloud = absurd h
+without_gives model request (statuses.BadModel fault) (Ok ending) h text aloud = inl ((fault, text.0, h.text), text.1 ∙ sym (ap text_of text.0))
+without_gives model request statuses.ReadFault (Ok ending) h text aloud = absurd (cc aloud)
+without_gives model request statuses.Memory (Ok ending) h text aloud = absurd (cc aloud)
+without_gives model request (statuses.Done done) (Ok ending) h text aloud = absurd h
+without_gives model request (statuses.Refused fault) (Ok ending) h text aloud = absurd h
+without_gives model request (statuses.RefusedBlock n fault) (Ok ending) h text aloud = absurd h
+without_gives model request statuses.WriteFault (Ok ending) h text aloud = absurd h
+without_gives model request statuses.Usage (Ok ending) h text aloud = absurd h
+without_gives model request (statuses.Unknown report) (Ok ending) h text aloud = absurd h
+without_gives model request (statuses.NoProperty n) (Ok ending) h text aloud = absurd h
+without_gives model request (statuses.TooLarge n) (Ok ending) h text aloud = absurd h
+without_gives model request (statuses.OpenRounds n spent) (Ok ending) h text aloud = absurd h
+without_gives model request (statuses.OpenDepth n spent) (Ok ending) h text aloud = absurd h
+without_gives model request (statuses.NoItem entry clause) (Ok ending) h text aloud = absurd h
 
 bad_exact : (model : Option (List ℕ)) (request : RoundsRequest) (fault : ModelFault) → IsFaultOf model fault
     → (verdict : Status) → DecidesRounds model request verdict → IsAnswered verdict (statuses.BadModel fault)

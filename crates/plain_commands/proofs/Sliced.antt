@@ -17,7 +17,7 @@ use Rattle.slice.specs.Slicing.{IsSlice}
 use Rattle.plain_commands.specs.declared.status.Status.{Status}
 use Rattle.plain_commands.specs.declared.status.Status.TheVariants as statuses
 use Rattle.plain_commands.specs.declared.status.Done.TheVariants.{Printed}
-use Rattle.plain_commands.specs.declared.texts.Outcome.{Outcome}
+use Rattle.plain_commands.specs.declared.texts.Ending.{Ending}
 use Rattle.plain_commands.specs.Check.{done_by}
 use Rattle.plain_commands.specs.Slice.{DecidesSliceOf, EndsSlice, GivesSlice, DecidesSlice}
 use Rattle.plain_commands.specs.Statuses.{is_read_fault, ends_silently, status_in}
@@ -35,11 +35,11 @@ slice_is_printed m j s text is able exact spelled stands read =
 
 -- Where the model was read.
 
-pub sliced_gives : (m : Model) (told : Option (List ℕ)) (j : ℕ) (result : Result Outcome Status) → IsModelOf told m
-    → IfOk result (λ outcome. EndsSlice m j outcome.status outcome.text.items)
-    → IfOk result (λ outcome. GivesSlice told j outcome.status outcome.text.items)
+pub sliced_gives : (m : Model) (told : Option (List ℕ)) (j : ℕ) (result : Result Ending Status) → IsModelOf told m
+    → IfOk result (λ ending. EndsSlice m j ending.status ending.text.items)
+    → IfOk result (λ ending. GivesSlice told j ending.status ending.text.items)
 sliced_gives m told j (Err status) h ends = tt
-sliced_gives m told j (Ok outcome) h ends = inr (h.text.0, h.text.1, (m, h.text.2, ends))
+sliced_gives m told j (Ok ending) h ends = inr (h.text.0, h.text.1, (m, h.text.2, ends))
 
 -- of a circuit one status is right
 one_decided : (c : Circuit) (j : ℕ) (a b : Status) → DecidesSliceOf c j a → DecidesSliceOf c j b → a ≡ b
@@ -52,14 +52,14 @@ decided : (m : Model) (j : ℕ) (status : Status) (text : List ℕ) → EndsSlic
 decided m j status text (inl (h, t)) = inl h
 decided m j status text (inr (h, t)) = inr h
 
-pub sliced_exact : (m : Model) (told : Option (List ℕ)) (j : ℕ) (result : Result Outcome Status) → IsModelOf told m
-    → IfOk result (λ outcome. EndsSlice m j outcome.status outcome.text.items) → IfErr result (λ status. status ≡ statuses.Memory)
+pub sliced_exact : (m : Model) (told : Option (List ℕ)) (j : ℕ) (result : Result Ending Status) → IsModelOf told m
+    → IfOk result (λ ending. EndsSlice m j ending.status ending.text.items) → IfErr result (λ status. status ≡ statuses.Memory)
     → (verdict : Status) → DecidesSlice told j verdict → IsAnswered verdict (status_in result)
 sliced_exact m told j result h ends ended verdict (inl (fault, e, (text, is, bad))) = absurd (h.faultless text fault is bad)
 sliced_exact m told j (Err status) h ends ended verdict (inr (text, is, (n, form, d))) = inr ended
-sliced_exact m told j (Ok outcome) h ends ended verdict (inr (text, is, (n, form, d))) =
+sliced_exact m told j (Ok ending) h ends ended verdict (inr (text, is, (n, form, d))) =
     let circuits : n.circuit ≡ m.circuit = ap (λ (x : Model). x.circuit) (sym (h.one text n is form)) in
-    inl (inl (inl (one_decided m.circuit j outcome.status verdict (decided m j outcome.status outcome.text.items ends)
+    inl (inl (inl (one_decided m.circuit j ending.status verdict (decided m j ending.status ending.text.items ends)
     (subst (λ (k : Circuit). DecidesSliceOf k j verdict) circuits d))))
 
 -- no answer is accepted
@@ -70,42 +70,42 @@ not_accepted c j status (found_as.Text (texts.Answer (accepted.Holds n entries))
 not_accepted c j status (found_as.Text (texts.Rounds n k r)) (inr (e, h)) is = let wrong : statuses.Done Printed ≡ statuses.Done (done_by (found_as.Text (texts.Rounds n k r))) = sym e ∙ is in cc
 not_accepted c j status (found_as.Sheet counts entries) (inr (e, h)) is = let wrong : statuses.Done Printed ≡ statuses.Done (done_by (found_as.Sheet counts entries)) = sym e ∙ is in cc
 
-pub sliced_shown : (m : Model) (j : ℕ) (result : Result Outcome Status)
-    → IfOk result (λ outcome. EndsSlice m j outcome.status outcome.text.items) → IfErr result (λ status. status ≡ statuses.Memory)
+pub sliced_shown : (m : Model) (j : ℕ) (result : Result Ending Status)
+    → IfOk result (λ ending. EndsSlice m j ending.status ending.text.items) → IfErr result (λ status. status ≡ statuses.Memory)
     → (a : Judged) → status_in result ≡ statuses.Done (done_by a) → ⊥
 sliced_shown m j (Err status) ends ended a is = let wrong : statuses.Memory ≡ statuses.Done (done_by a) = sym ended ∙ is in cc
-sliced_shown m j (Ok outcome) ends ended a is = not_accepted m.circuit j outcome.status a (decided m j outcome.status outcome.text.items ends) is
+sliced_shown m j (Ok ending) ends ended a is = not_accepted m.circuit j ending.status a (decided m j ending.status ending.text.items ends) is
 
 unread : (c : Circuit) (j : ℕ) (status : Status) → DecidesSliceOf c j status → is_read_fault status ≡ false
 unread c j status (inl (e, h)) = ap is_read_fault e
 unread c j status (inr (e, h)) = ap is_read_fault e
 
-pub sliced_unread : (m : Model) (j : ℕ) (result : Result Outcome Status)
-    → IfOk result (λ outcome. EndsSlice m j outcome.status outcome.text.items) → IfErr result (λ status. status ≡ statuses.Memory)
+pub sliced_unread : (m : Model) (j : ℕ) (result : Result Ending Status)
+    → IfOk result (λ ending. EndsSlice m j ending.status ending.text.items) → IfErr result (λ status. status ≡ statuses.Memory)
     → is_read_fault (status_in result) ≡ false
 sliced_unread m j (Err status) ends ended = ap is_read_fault ended
-sliced_unread m j (Ok outcome) ends ended = unread m.circuit j outcome.status (decided m j outcome.status outcome.text.items ends)
+sliced_unread m j (Ok ending) ends ended = unread m.circuit j ending.status (decided m j ending.status ending.text.items ends)
 
 -- Where there is no model.
 
-pub without_slice : (model : Option (List ℕ)) (j : ℕ) (status : Status) (result : Result Outcome Status) → EndsWithoutModel model status
-    → IfOk result (λ outcome. (outcome.status ≡ status) × (outcome.text.items ≡ text_of status)) → IfOk result (λ outcome. ends_silently status ≡ false)
-    → IfOk result (λ outcome. GivesSlice model j outcome.status outcome.text.items)
+pub without_slice : (model : Option (List ℕ)) (j : ℕ) (status : Status) (result : Result Ending Status) → EndsWithoutModel model status
+    → IfOk result (λ ending. (ending.status ≡ status) × (ending.text.items ≡ text_of status)) → IfOk result (λ ending. ends_silently status ≡ false)
+    → IfOk result (λ ending. GivesSlice model j ending.status ending.text.items)
 without_slice model j status (Err other) h text aloud = tt
-without_slice model j (statuses.BadModel fault) (Ok outcome) h text aloud = inl ((fault, text.0, h.text), text.1 ∙ sym (ap text_of text.0))
-without_slice model j statuses.ReadFault (Ok outcome) h text aloud = absurd (cc aloud)
-without_slice model j statuses.Memory (Ok outcome) h text aloud = absurd (cc aloud)
-without_slice model j (statuses.Done done) (Ok outcome) h text aloud = absurd h
-without_slice model j (statuses.Refused fault) (Ok outcome) h text aloud = absurd h
-without_slice model j (statuses.RefusedBlock n fault) (Ok outcome) h text aloud = absurd h
-without_slice model j statuses.WriteFault (Ok outcome) h text aloud = absurd h
-without_slice model j statuses.Usage (Ok outcome) h text aloud = absurd h
-without_slice model j (statuses.Unknown report) (Ok outcome) h text aloud = absurd h
-without_slice model j (statuses.NoProperty n) (Ok outcome) h text aloud = absurd h
-without_slice model j (statuses.TooLarge n) (Ok outcome) h text aloud = absurd h
-without_slice model j (statuses.OpenRounds n spent) (Ok outcome) h text aloud = absurd h
-without_slice model j (statuses.OpenDepth n spent) (Ok outcome) h text aloud = absurd h
-without_slice model j (statuses.NoItem entry clause) (Ok outcome) h text aloud = absurd h
+without_slice model j (statuses.BadModel fault) (Ok ending) h text aloud = inl ((fault, text.0, h.text), text.1 ∙ sym (ap text_of text.0))
+without_slice model j statuses.ReadFault (Ok ending) h text aloud = absurd (cc aloud)
+without_slice model j statuses.Memory (Ok ending) h text aloud = absurd (cc aloud)
+without_slice model j (statuses.Done done) (Ok ending) h text aloud = absurd h
+without_slice model j (statuses.Refused fault) (Ok ending) h text aloud = absurd h
+without_slice model j (statuses.RefusedBlock n fault) (Ok ending) h text aloud = absurd h
+without_slice model j statuses.WriteFault (Ok ending) h text aloud = absurd h
+without_slice model j statuses.Usage (Ok ending) h text aloud = absurd h
+without_slice model j (statuses.Unknown report) (Ok ending) h text aloud = absurd h
+without_slice model j (statuses.NoProperty n) (Ok ending) h text aloud = absurd h
+without_slice model j (statuses.TooLarge n) (Ok ending) h text aloud = absurd h
+without_slice model j (statuses.OpenRounds n spent) (Ok ending) h text aloud = absurd h
+without_slice model j (statuses.OpenDepth n spent) (Ok ending) h text aloud = absurd h
+without_slice model j (statuses.NoItem entry clause) (Ok ending) h text aloud = absurd h
 
 bad_exact : (model : Option (List ℕ)) (j : ℕ) (fault : ModelFault) → IsFaultOf model fault
     → (verdict : Status) → DecidesSlice model j verdict → IsAnswered verdict (statuses.BadModel fault)

@@ -19,7 +19,7 @@ use Rattle.live_to_safe.specs.Ends.{IsTranslatable}
 use Rattle.plain_commands.specs.declared.status.Status.{Status}
 use Rattle.plain_commands.specs.declared.status.Status.TheVariants as statuses
 use Rattle.plain_commands.specs.declared.status.Done.TheVariants.{Printed}
-use Rattle.plain_commands.specs.declared.texts.Outcome.{Outcome}
+use Rattle.plain_commands.specs.declared.texts.Ending.{Ending}
 use Rattle.plain_commands.specs.Check.{done_by}
 use Rattle.plain_commands.specs.Safety.{DecidesFor, EndsSafety, GivesSafety, DecidesSafety}
 use Rattle.plain_commands.specs.Statuses.{is_read_fault, ends_silently, status_in}
@@ -45,12 +45,12 @@ is_printed c j m text is able exact spelled stands read =
 
 -- Where the model was read.
 
-pub translated_gives : (c : Circuit) (m : Model) (told : Option (List ℕ)) (j : ℕ) (result : Result Outcome Status) → c ≡ m.circuit → IsModelOf told m
-    → IfOk result (λ outcome. EndsSafety c j outcome.status outcome.text.items)
-    → IfOk result (λ outcome. GivesSafety told j outcome.status outcome.text.items)
+pub translated_gives : (c : Circuit) (m : Model) (told : Option (List ℕ)) (j : ℕ) (result : Result Ending Status) → c ≡ m.circuit → IsModelOf told m
+    → IfOk result (λ ending. EndsSafety c j ending.status ending.text.items)
+    → IfOk result (λ ending. GivesSafety told j ending.status ending.text.items)
 translated_gives c m told j (Err status) same h ends = tt
-translated_gives c m told j (Ok outcome) same h ends =
-    inr (h.text.0, h.text.1, (m, h.text.2, subst (λ (k : Circuit). EndsSafety k j outcome.status outcome.text.items) same ends))
+translated_gives c m told j (Ok ending) same h ends =
+    inr (h.text.0, h.text.1, (m, h.text.2, subst (λ (k : Circuit). EndsSafety k j ending.status ending.text.items) same ends))
 
 -- of a circuit one status is right
 one_decided : (c : Circuit) (j : ℕ) (a b : Status) → DecidesFor c j a → DecidesFor c j b → a ≡ b
@@ -69,14 +69,14 @@ decided c j status text (inl (h, t)) = inl h
 decided c j status text (inr (inl (h, t))) = inr (inl h)
 decided c j status text (inr (inr (h, t))) = inr (inr h)
 
-pub translated_exact : (c : Circuit) (m : Model) (told : Option (List ℕ)) (j : ℕ) (result : Result Outcome Status) → c ≡ m.circuit → IsModelOf told m
-    → IfOk result (λ outcome. EndsSafety c j outcome.status outcome.text.items) → IfErr result (λ status. status ≡ statuses.Memory)
+pub translated_exact : (c : Circuit) (m : Model) (told : Option (List ℕ)) (j : ℕ) (result : Result Ending Status) → c ≡ m.circuit → IsModelOf told m
+    → IfOk result (λ ending. EndsSafety c j ending.status ending.text.items) → IfErr result (λ status. status ≡ statuses.Memory)
     → (verdict : Status) → DecidesSafety told j verdict → IsAnswered verdict (status_in result)
 translated_exact c m told j result same h ends ended verdict (inl (fault, e, (text, is, bad))) = absurd (h.faultless text fault is bad)
 translated_exact c m told j (Err status) same h ends ended verdict (inr (text, is, (n, form, d))) = inr ended
-translated_exact c m told j (Ok outcome) same h ends ended verdict (inr (text, is, (n, form, d))) =
+translated_exact c m told j (Ok ending) same h ends ended verdict (inr (text, is, (n, form, d))) =
     let circuits : n.circuit ≡ c = ap (λ (x : Model). x.circuit) (sym (h.one text n is form)) ∙ sym same in
-    inl (inl (inl (one_decided c j outcome.status verdict (decided c j outcome.status outcome.text.items ends)
+    inl (inl (inl (one_decided c j ending.status verdict (decided c j ending.status ending.text.items ends)
     (subst (λ (k : Circuit). DecidesFor k j verdict) circuits d))))
 
 -- no answer is accepted
@@ -88,43 +88,43 @@ not_accepted c j status (found_as.Text (texts.Answer (accepted.Holds n entries))
 not_accepted c j status (found_as.Text (texts.Rounds n k r)) (inr (inr (e, h))) is = let wrong : statuses.Done Printed ≡ statuses.Done (done_by (found_as.Text (texts.Rounds n k r))) = sym e ∙ is in cc
 not_accepted c j status (found_as.Sheet counts entries) (inr (inr (e, h))) is = let wrong : statuses.Done Printed ≡ statuses.Done (done_by (found_as.Sheet counts entries)) = sym e ∙ is in cc
 
-pub translated_shown : (c : Circuit) (j : ℕ) (result : Result Outcome Status)
-    → IfOk result (λ outcome. EndsSafety c j outcome.status outcome.text.items) → IfErr result (λ status. status ≡ statuses.Memory)
+pub translated_shown : (c : Circuit) (j : ℕ) (result : Result Ending Status)
+    → IfOk result (λ ending. EndsSafety c j ending.status ending.text.items) → IfErr result (λ status. status ≡ statuses.Memory)
     → (a : Judged) → status_in result ≡ statuses.Done (done_by a) → ⊥
 translated_shown c j (Err status) ends ended a is = let wrong : statuses.Memory ≡ statuses.Done (done_by a) = sym ended ∙ is in cc
-translated_shown c j (Ok outcome) ends ended a is = not_accepted c j outcome.status a (decided c j outcome.status outcome.text.items ends) is
+translated_shown c j (Ok ending) ends ended a is = not_accepted c j ending.status a (decided c j ending.status ending.text.items ends) is
 
 unread : (c : Circuit) (j : ℕ) (status : Status) → DecidesFor c j status → is_read_fault status ≡ false
 unread c j status (inl (e, h)) = ap is_read_fault e
 unread c j status (inr (inl (e, h))) = ap is_read_fault e
 unread c j status (inr (inr (e, h))) = ap is_read_fault e
 
-pub translated_unread : (c : Circuit) (j : ℕ) (result : Result Outcome Status)
-    → IfOk result (λ outcome. EndsSafety c j outcome.status outcome.text.items) → IfErr result (λ status. status ≡ statuses.Memory)
+pub translated_unread : (c : Circuit) (j : ℕ) (result : Result Ending Status)
+    → IfOk result (λ ending. EndsSafety c j ending.status ending.text.items) → IfErr result (λ status. status ≡ statuses.Memory)
     → is_read_fault (status_in result) ≡ false
 translated_unread c j (Err status) ends ended = ap is_read_fault ended
-translated_unread c j (Ok outcome) ends ended = unread c j outcome.status (decided c j outcome.status outcome.text.items ends)
+translated_unread c j (Ok ending) ends ended = unread c j ending.status (decided c j ending.status ending.text.items ends)
 
 -- Where there is no model.
 
-pub without_gives : (model : Option (List ℕ)) (j : ℕ) (status : Status) (result : Result Outcome Status) → EndsWithoutModel model status
-    → IfOk result (λ outcome. (outcome.status ≡ status) × (outcome.text.items ≡ text_of status)) → IfOk result (λ outcome. ends_silently status ≡ false)
-    → IfOk result (λ outcome. GivesSafety model j outcome.status outcome.text.items)
+pub without_gives : (model : Option (List ℕ)) (j : ℕ) (status : Status) (result : Result Ending Status) → EndsWithoutModel model status
+    → IfOk result (λ ending. (ending.status ≡ status) × (ending.text.items ≡ text_of status)) → IfOk result (λ ending. ends_silently status ≡ false)
+    → IfOk result (λ ending. GivesSafety model j ending.status ending.text.items)
 without_gives model j status (Err other) h text aloud = tt
-without_gives model j (statuses.BadModel fault) (Ok outcome) h text aloud = inl ((fault, text.0, h.text), text.1 ∙ sym (ap text_of text.0))
-without_gives model j statuses.ReadFault (Ok outcome) h text aloud = absurd (cc aloud)
-without_gives model j statuses.Memory (Ok outcome) h text aloud = absurd (cc aloud)
-without_gives model j (statuses.Done done) (Ok outcome) h text aloud = absurd h
-without_gives model j (statuses.Refused fault) (Ok outcome) h text aloud = absurd h
-without_gives model j (statuses.RefusedBlock n fault) (Ok outcome) h text aloud = absurd h
-without_gives model j statuses.WriteFault (Ok outcome) h text aloud = absurd h
-without_gives model j statuses.Usage (Ok outcome) h text aloud = absurd h
-without_gives model j (statuses.Unknown report) (Ok outcome) h text aloud = absurd h
-without_gives model j (statuses.NoProperty n) (Ok outcome) h text aloud = absurd h
-without_gives model j (statuses.TooLarge n) (Ok outcome) h text aloud = absurd h
-without_gives model j (statuses.OpenRounds n spent) (Ok outcome) h text aloud = absurd h
-without_gives model j (statuses.OpenDepth n spent) (Ok outcome) h text aloud = absurd h
-without_gives model j (statuses.NoItem entry clause) (Ok outcome) h text aloud = absurd h
+without_gives model j (statuses.BadModel fault) (Ok ending) h text aloud = inl ((fault, text.0, h.text), text.1 ∙ sym (ap text_of text.0))
+without_gives model j statuses.ReadFault (Ok ending) h text aloud = absurd (cc aloud)
+without_gives model j statuses.Memory (Ok ending) h text aloud = absurd (cc aloud)
+without_gives model j (statuses.Done done) (Ok ending) h text aloud = absurd h
+without_gives model j (statuses.Refused fault) (Ok ending) h text aloud = absurd h
+without_gives model j (statuses.RefusedBlock n fault) (Ok ending) h text aloud = absurd h
+without_gives model j statuses.WriteFault (Ok ending) h text aloud = absurd h
+without_gives model j statuses.Usage (Ok ending) h text aloud = absurd h
+without_gives model j (statuses.Unknown report) (Ok ending) h text aloud = absurd h
+without_gives model j (statuses.NoProperty n) (Ok ending) h text aloud = absurd h
+without_gives model j (statuses.TooLarge n) (Ok ending) h text aloud = absurd h
+without_gives model j (statuses.OpenRounds n spent) (Ok ending) h text aloud = absurd h
+without_gives model j (statuses.OpenDepth n spent) (Ok ending) h text aloud = absurd h
+without_gives model j (statuses.NoItem entry clause) (Ok ending) h text aloud = absurd h
 
 bad_exact : (model : Option (List ℕ)) (j : ℕ) (fault : ModelFault) → IsFaultOf model fault
     → (verdict : Status) → DecidesSafety model j verdict → IsAnswered verdict (statuses.BadModel fault)

@@ -9,7 +9,7 @@ use Rattle.certificate.specs.declared.ends.AnswerFault.{AnswerFault}
 use Rattle.certificate.specs.declared.ends.AnswerFault.TheVariants.{NoProperty}
 use Rattle.plain_commands.specs.declared.status.Status.{Status}
 use Rattle.plain_commands.specs.declared.status.Status.TheVariants as statuses
-use Rattle.plain_commands.specs.declared.texts.Outcome.{Outcome}
+use Rattle.plain_commands.specs.declared.texts.Ending.{Ending}
 use Rattle.plain_commands.specs.Check.{done_by}
 use Rattle.plain_commands.specs.Written.{IsWritten, accepts}
 use Rattle.plain_commands.specs.Statuses.{is_read_fault, ends_silently, status_in}
@@ -19,15 +19,15 @@ use Rattle.plain_commands.specs.Judged.{EndsWithoutModel}
 
 -- A status with its text.
 
-pub refused_written : (result : Result Outcome Status) (fault : AnswerFault) → (status_in result ≡ statuses.Refused fault) ⊎ (status_in result ≡ statuses.Memory)
-    → IfOk result (λ outcome. (outcome.status ≡ statuses.Refused fault) × (outcome.text.items ≡ text_of (statuses.Refused fault)))
+pub refused_written : (result : Result Ending Status) (fault : AnswerFault) → (status_in result ≡ statuses.Refused fault) ⊎ (status_in result ≡ statuses.Memory)
+    → IfOk result (λ ending. (ending.status ≡ statuses.Refused fault) × (ending.text.items ≡ text_of (statuses.Refused fault)))
     → IfErr result (λ other. ends_silently other ≡ true) → IsWritten result (statuses.Refused fault) (text_of (statuses.Refused fault))
-refused_written (Ok outcome) fault status text silent = text
+refused_written (Ok ending) fault status text silent = text
 refused_written (Err other) fault (inr e) text silent = e
 refused_written (Err other) fault (inl e) text silent = let wrong : false ≡ true = sym (ap ends_silently e) ∙ silent in absurd (cc wrong)
 
-pub written_status : (result : Result Outcome Status) (status : Status) (text : List ℕ) → IsWritten result status text → (status_in result ≡ status) ⊎ (status_in result ≡ statuses.Memory)
-written_status (Ok outcome) status text h = inl h.0
+pub written_status : (result : Result Ending Status) (status : Status) (text : List ℕ) → IsWritten result status text → (status_in result ≡ status) ⊎ (status_in result ≡ statuses.Memory)
+written_status (Ok ending) status text h = inl h.0
 written_status (Err other) status text h = inr h
 
 -- What is decided.
@@ -78,6 +78,6 @@ without_shown model status result h either a is = not_both a status result (no_m
 
 -- Reads and silence.
 
-pub written_unread : (result : Result Outcome Status) (status : Status) (text : List ℕ) → is_read_fault status ≡ false → IsWritten result status text → is_read_fault (status_in result) ≡ false
-written_unread (Ok outcome) status text none h = ap is_read_fault h.0 ∙ none
+pub written_unread : (result : Result Ending Status) (status : Status) (text : List ℕ) → is_read_fault status ≡ false → IsWritten result status text → is_read_fault (status_in result) ≡ false
+written_unread (Ok ending) status text none h = ap is_read_fault h.0 ∙ none
 written_unread (Err other) status text none h = ap is_read_fault h

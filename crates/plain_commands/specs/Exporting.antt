@@ -7,17 +7,17 @@ use Rattle.certificate.specs.declared.ends.AnswerEnd.TheVariants as ends
 use Rattle.certificate.specs.declared.loaded.Loaded.{Loaded}
 use Rattle.plain_commands.specs.declared.status.Status.{Status}
 use Rattle.plain_commands.specs.declared.status.Status.TheVariants as statuses
-use Rattle.plain_commands.specs.declared.texts.Outcome.{Outcome}
+use Rattle.plain_commands.specs.declared.texts.Ending.{Ending}
 use Rattle.plain_commands.specs.Written.{IsWritten}
 use Rattle.plain_commands.specs.Export.{EndsItem}
 use Rattle.plain_commands.specs.Texts.{text_of}
 
 -- it ends so for the item, or memory was refused
-abbrev pub IsItemEnd : Circuit → Loaded → ExportRequest → Result Outcome Status → Type 0
-IsItemEnd c loaded request (Ok outcome) = EndsItem c loaded request outcome.status outcome.text.items
+abbrev pub IsItemEnd : Circuit → Loaded → ExportRequest → Result Ending Status → Type 0
+IsItemEnd c loaded request (Ok ending) = EndsItem c loaded request ending.status ending.text.items
 IsItemEnd c loaded request (Err other) = other ≡ statuses.Memory
 
-abbrev pub IsExportEnd : Circuit → ExportRequest → Result Loaded AnswerEnd → Result Outcome Status → Type 0
+abbrev pub IsExportEnd : Circuit → ExportRequest → Result Loaded AnswerEnd → Result Ending Status → Type 0
 IsExportEnd c request (Ok loaded) result = IsItemEnd c loaded request result
 IsExportEnd c request (Err (ends.Refused fault)) result = IsWritten result (statuses.Refused fault) (text_of (statuses.Refused fault))
 IsExportEnd c request (Err ends.ReadFault) result = result ≡ Err statuses.ReadFault

@@ -8,7 +8,7 @@ use Rattle.certificate.specs.Loading.{HoldsAnswer}
 use Rattle.plain_commands.specs.declared.status.Status.{Status}
 use Rattle.plain_commands.specs.declared.status.Status.TheVariants as statuses
 use Rattle.plain_commands.specs.declared.status.Done.TheVariants.{Printed}
-use Rattle.plain_commands.specs.declared.texts.Outcome.{Outcome}
+use Rattle.plain_commands.specs.declared.texts.Ending.{Ending}
 use Rattle.plain_commands.specs.Written.{IsWritten}
 use Rattle.plain_commands.specs.Texts.{text_of}
 
@@ -17,11 +17,11 @@ abbrev pub IsMadeOf : (Circuit → List ℕ → List ℕ → Type 0) → Circuit
 IsMadeOf Made c loaded text = (claimed : List ℕ) → HoldsAnswer c claimed loaded → Made c claimed text
 
 -- such a text is printed, or memory was refused
-abbrev pub IsMade : (List ℕ → Type 0) → Result Outcome Status → Type 0
-IsMade P (Ok outcome) = (outcome.status ≡ statuses.Done Printed) × P outcome.text.items
+abbrev pub IsMade : (List ℕ → Type 0) → Result Ending Status → Type 0
+IsMade P (Ok ending) = (ending.status ≡ statuses.Done Printed) × P ending.text.items
 IsMade P (Err other) = other ≡ statuses.Memory
 
-abbrev pub IsRemade : (Circuit → List ℕ → List ℕ → Type 0) → Circuit → Result Loaded AnswerEnd → Result Outcome Status → Type 0
+abbrev pub IsRemade : (Circuit → List ℕ → List ℕ → Type 0) → Circuit → Result Loaded AnswerEnd → Result Ending Status → Type 0
 IsRemade Made c (Ok loaded) result = IsMade (IsMadeOf Made c loaded) result
 IsRemade Made c (Err (ends.Refused fault)) result = IsWritten result (statuses.Refused fault) (text_of (statuses.Refused fault))
 IsRemade Made c (Err ends.ReadFault) result = result ≡ Err statuses.ReadFault

@@ -1,6 +1,6 @@
 -- What a failed read becomes, and the statuses of runs that end without a text.
 use Rattle.std.specs.Prelude.{Bool, true, false, Result, Ok, Err}
-use Rattle.plain_commands.specs.declared.texts.Outcome.{Outcome}
+use Rattle.plain_commands.specs.declared.texts.Ending.{Ending}
 use Rattle.edge.specs.declared.reading.ReadEnd.{ReadEnd}
 use Rattle.edge.specs.declared.reading.ReadEnd.TheVariants as reads
 use Rattle.plain_commands.specs.declared.status.Status.{Status}
@@ -22,8 +22,8 @@ ends_silently statuses.Memory = true
 ends_silently _ = false
 
 -- the status with which a run ends
-abbrev pub status_in : Result Outcome Status → Status
-status_in (Ok outcome) = outcome.status
+abbrev pub status_in : Result Ending Status → Status
+status_in (Ok ending) = ending.status
 status_in (Err status) = status
 
 -- the call ended with a failed read

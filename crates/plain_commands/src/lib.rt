@@ -29,4 +29,4 @@ pub use commands::{
 };
 pub use models::model_of;
 pub use status::{Done, Status};
-pub use texts::{Outcome, with_text};
+pub use texts::{Ending, with_text};

@@ -16,18 +16,18 @@ use std::alloc::{AllocError, Global};
 use stimulus::ReplayFault;
 use text_grammar::push_number;
 
-/// A status, and the text that is written with it.
+/// How a run ends: a status, and the text that is written with it.
 #[derive(Drop)]
-pub struct Outcome {
+pub struct Ending {
     pub status: Status,
     pub text: Vec<u8>,
 }
 
 /// The status with its own text, or the status alone where nothing is written with it; or `Memory`.
-pub fn with_text(alloc: Global, status: Status) -> Result<Outcome, Status>
+pub fn with_text(alloc: Global, status: Status) -> Result<Ending, Status>
     ensures status { (status_in result ≡ status) ⊎ (status_in result ≡ Status.Memory) }
-    ensures text { IfOk result (λ outcome. (outcome.status ≡ status) × (outcome.text.items ≡ text_of status)) }
-    ensures aloud { IfOk result (λ outcome. ends_silently status ≡ false) }
+    ensures text { IfOk result (λ ending. (ending.status ≡ status) × (ending.text.items ≡ text_of status)) }
+    ensures aloud { IfOk result (λ ending. ends_silently status ≡ false) }
     ensures silent { IfErr result (λ other. ends_silently other ≡ true) }
     ensures fault { is_read_fault (status_in result) ≡ is_read_fault status }
 {
@@ -35,7 +35,7 @@ pub fn with_text(alloc: Global, status: Status) -> Result<Outcome, Status>
         return Err(status);
     }
     match status_text(alloc, &status) {
-        Ok(text) => Ok(Outcome { status, text }),
+        Ok(text) => Ok(Ending { status, text }),
         Err(_) => Err(Status::Memory),
     }
 }

@@ -20,7 +20,7 @@ use command_lines::{DEFAULTS, DemoRequest, SolveRequest};
 use edge::{MemShelf, Shelf};
 use fair_workers::{Board, Ended, Report, run_turns};
 use model_gen::scramble;
-use plain_commands::{Done, Outcome, Status};
+use plain_commands::{Done, Ending, Status};
 use std::alloc::{AllocError, Global};
 use std::sync::Arc;
 use text_grammar::push_number;
@@ -34,12 +34,12 @@ const REQUEST: SolveRequest = SolveRequest {
 
 /// Lets two workers decide the property of the generated model: the status with which the command ends, and the summary.
 /// The error is `Memory`.
-pub(crate) fn demonstrate(alloc: Global, request: &DemoRequest) -> Result<Outcome, Status>
+pub(crate) fn demonstrate(alloc: Global, request: &DemoRequest) -> Result<Ending, Status>
     requires some { 1 ≤ request.now.size }
     requires few { request.now.size ≤ 256 }
-    ensures found { IfOk result (λ outcome. GivesDemo request.now outcome.status outcome.text.items) }
+    ensures found { IfOk result (λ ending. GivesDemo request.now ending.status ending.text.items) }
     ensures ended { IfErr result (λ status. status ≡ Status.Memory) }
-    ensures aloud { IfOk result (λ outcome. is_read_fault outcome.status ≡ false) }
+    ensures aloud { IfOk result (λ ending. is_read_fault ending.status ≡ false) }
     ensures unread { is_read_fault (status_in result) ≡ false }
     ensures hidden { (accepted : JudgedOf) → status_in result ≡ Status.Done (done_by accepted) → ⊥ }
 {
@@ -50,9 +50,9 @@ pub(crate) fn demonstrate(alloc: Global, request: &DemoRequest) -> Result<Outcom
 }
 
 // The same for a circuit with one property.
-fn summed_up(alloc: Global, request: &DemoRequest, circuit: Circuit) -> Result<Outcome, Status>
+fn summed_up(alloc: Global, request: &DemoRequest, circuit: Circuit) -> Result<Ending, Status>
     requires { length circuit.justice ≡ 1 }
-    ensures found { IfOk result (λ outcome. SumsUp circuit request.now outcome.status outcome.text.items) }
+    ensures found { IfOk result (λ ending. SumsUp circuit request.now ending.status ending.text.items) }
     ensures ended { IfErr result (λ status. status ≡ Status.Memory) }
 {
     match Arc::new(alloc, circuit) {
@@ -62,9 +62,9 @@ fn summed_up(alloc: Global, request: &DemoRequest, circuit: Circuit) -> Result<O
 }
 
 // The same for a circuit that the workers share.
-fn run_for(alloc: Global, request: &DemoRequest, circuit: &Arc<Circuit>) -> Result<Outcome, Status>
+fn run_for(alloc: Global, request: &DemoRequest, circuit: &Arc<Circuit>) -> Result<Ending, Status>
     requires { length (arc_value circuit.now).justice ≡ 1 }
-    ensures found { IfOk result (λ outcome. SumsUp (arc_value circuit.now) request.now outcome.status outcome.text.items) }
+    ensures found { IfOk result (λ ending. SumsUp (arc_value circuit.now) request.now ending.status ending.text.items) }
     ensures ended { IfErr result (λ status. status ≡ Status.Memory) }
 {
     let limits = limits_of(&REQUEST);
@@ -81,15 +81,15 @@ fn answered(
     request: &DemoRequest,
     circuit: &Circuit,
     report: Report,
-) -> Result<Outcome, Status>
+) -> Result<Ending, Status>
     requires one { length circuit.now.justice ≡ 1 }
     requires answer { IsAnswer (demo_task circuit.now) report }
-    ensures found { IfOk result (λ outcome. SumsUpAnswer circuit.now request.now outcome.status outcome.text.items) }
+    ensures found { IfOk result (λ ending. SumsUpAnswer circuit.now request.now ending.status ending.text.items) }
     ensures ended { IfErr result (λ status. status ≡ Status.Memory) }
 {
     let Report { board, .. } = report;
     match checked_summary(alloc, request, circuit, &board) {
-        Ok(text) => Ok(Outcome {
+        Ok(text) => Ok(Ending {
             status: Status::Done(Done::Demo(board)),
             text,
         }),
@@ -148,14 +148,14 @@ fn reported(
     request: &DemoRequest,
     _circuit: &Circuit,
     report: Report,
-) -> Result<Outcome, Status>
+) -> Result<Ending, Status>
     requires { IsReport (demo_task _circuit.now) report }
-    ensures found { IfOk result (λ outcome. SumsUpReport _circuit.now request.now outcome.status outcome.text.items) }
+    ensures found { IfOk result (λ ending. SumsUpReport _circuit.now request.now ending.status ending.text.items) }
     ensures ended { IfErr result (λ status. status ≡ Status.Memory) }
 {
     let entries = entry_count(&report.board);
     match summary(alloc, request, "2", entries, "none") {
-        Ok(text) => Ok(Outcome {
+        Ok(text) => Ok(Ending {
             status: Status::Unknown(report),
             text,
         }),

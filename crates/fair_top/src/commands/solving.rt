@@ -32,7 +32,7 @@ use command_lines::SolveRequest;
 use edge::Shelf;
 use entry::Refutation;
 use fair_workers::{Board, Ended, Limits, Report};
-use plain_commands::{Done, Outcome, Status, with_text};
+use plain_commands::{Done, Ending, Status, with_text};
 use sheet_commands::{BoardSheet, board_sheet, first_lasso};
 use std::alloc::{AllocError, Global};
 use stimulus::Stimulus;
@@ -48,13 +48,13 @@ pub(crate) fn solve<S: Fn(&Beginning, SolveRequest) -> Result<Report, Ended>, H:
     model: &str,
     resume: Option<&str>,
     request: &SolveRequest,
-) -> Result<Outcome, Status>
+) -> Result<Ending, Status>
     requires search { IsSearch (λ q. circuit_in q.now) (λ q. served_in q.now) (λ q. given_in q.now) (S.pre search.now) (S.post search.now) }
     requires within { AreWithin request.now }
-    ensures found { IfOk result (λ outcome. GivesSolve (H.held shelf.old model.now)
-        (told_of (H.held shelf.old) (option_map (λ name. name.now) resume.entry)) request.now outcome.status outcome.text.items) }
+    ensures found { IfOk result (λ ending. GivesSolve (H.held shelf.old model.now)
+        (told_of (H.held shelf.old) (option_map (λ name. name.now) resume.entry)) request.now ending.status ending.text.items) }
     ensures silent { IfErr result IsSilent }
-    ensures aloud { IfOk result (λ outcome. is_read_fault outcome.status ≡ false) }
+    ensures aloud { IfOk result (λ ending. is_read_fault ending.status ≡ false) }
     ensures exactly { (verdict : Status) → DecidesSolve (H.held shelf.old model.now)
         (told_of (H.held shelf.old) (option_map (λ name. name.now) resume.entry)) request.now verdict → IsAnswered verdict (status_in result) }
     ensures shown { (accepted : JudgedOf) → status_in result ≡ Status.Done (done_by accepted) → ShownBySolve (H.held shelf.old model.now) accepted }
@@ -81,14 +81,14 @@ fn run_for<S: Fn(&Beginning, SolveRequest) -> Result<Report, Ended>>(
     alloc: Global,
     beginning: &Beginning,
     request: &SolveRequest,
-) -> Result<Outcome, Status>
+) -> Result<Ending, Status>
     requires search { IsSearch (λ q. circuit_in q.now) (λ q. served_in q.now) (λ q. given_in q.now) (S.pre search.now) (S.post search.now) }
     requires within { AreWithin request.now }
     requires property { HasProperty (circuit_in beginning.now) request.now }
     requires served { served_in beginning.now ≡ asked_in request.now.all (circuit_in beginning.now) request.now.property }
     requires serves { AreServed (circuit_in beginning.now) (served_in beginning.now) }
     requires begins { MayBegin (circuit_in beginning.now) (given_in beginning.now) }
-    ensures found { IfOk result (λ outcome. EndsFor (circuit_in beginning.now) request.now (given_in beginning.now) outcome.status outcome.text.items) }
+    ensures found { IfOk result (λ ending. EndsFor (circuit_in beginning.now) request.now (given_in beginning.now) ending.status ending.text.items) }
     ensures ended { IfErr result (λ status. status ≡ Status.Memory) }
 {
     match searched(search, beginning, request) {
@@ -121,11 +121,11 @@ fn decided(
     circuit: &Circuit,
     request: &SolveRequest,
     board: &Board,
-) -> Result<Outcome, Status>
+) -> Result<Ending, Status>
     requires answered { (given : List CheckedEntry) × IsAnsweredBy (task_of circuit.now request.now given) board.now }
     requires property { HasProperty circuit.now request.now }
     ensures found { (given : List CheckedEntry) → IsAnsweredBy (task_of circuit.now request.now given) board.now
-        → IfOk result (λ outcome. EndsFor circuit.now request.now given outcome.status outcome.text.items) }
+        → IfOk result (λ ending. EndsFor circuit.now request.now given ending.status ending.text.items) }
     ensures ended { IfErr result (λ status. status ≡ Status.Memory) }
 {
     if request.all {
@@ -135,15 +135,15 @@ fn decided(
 }
 
 // The sheet of a board on which each property has an outcome.
-fn sheet_printed(alloc: Global, circuit: &Circuit, board: &Board) -> Result<Outcome, Status>
+fn sheet_printed(alloc: Global, circuit: &Circuit, board: &Board) -> Result<Ending, Status>
     requires circuit { board.now.circuit ≡ circuit.now }
     requires each { properties_of board.now.served ≡ property_numbers circuit.now }
     requires settled { IsSettled board.now.served }
-    ensures found { IfOk result (λ outcome. IsSheetPrinted circuit.now board.now outcome.status outcome.text.items) }
+    ensures found { IfOk result (λ ending. IsSheetPrinted circuit.now board.now ending.status ending.text.items) }
     ensures ended { IfErr result (λ status. status ≡ Status.Memory) }
 {
     match board_sheet(alloc, circuit, board) {
-        Ok(BoardSheet { counts, text }) => Ok(Outcome {
+        Ok(BoardSheet { counts, text }) => Ok(Ending {
             status: Status::Done(Done::All {
                 lassos: counts.lassos,
                 holds: counts.holds,
@@ -162,10 +162,10 @@ fn undecided(
     circuit: &Circuit,
     request: &SolveRequest,
     report: Report,
-) -> Result<Outcome, Status>
+) -> Result<Ending, Status>
     requires report { (given : List CheckedEntry) × IsReport (task_of circuit.now request.now given) report }
     ensures found { (given : List CheckedEntry) → IsReport (task_of circuit.now request.now given) report
-        → IfOk result (λ outcome. EndsFor circuit.now request.now given outcome.status outcome.text.items) }
+        → IfOk result (λ ending. EndsFor circuit.now request.now given ending.status ending.text.items) }
     ensures ended { IfErr result (λ status. status ≡ Status.Memory) }
 {
     if request.all {
@@ -175,14 +175,14 @@ fn undecided(
 }
 
 // The report with the sheet of its board.
-fn sheet_open(alloc: Global, circuit: &Circuit, report: Report) -> Result<Outcome, Status>
+fn sheet_open(alloc: Global, circuit: &Circuit, report: Report) -> Result<Ending, Status>
     requires { report.board.circuit ≡ circuit.now }
-    ensures status { IfOk result (λ outcome. outcome.status ≡ Status.Unknown report) }
-    ensures text { IfOk result (λ outcome. IsSheetOfReport circuit.now report outcome.text.items) }
+    ensures status { IfOk result (λ ending. ending.status ≡ Status.Unknown report) }
+    ensures text { IfOk result (λ ending. IsSheetOfReport circuit.now report ending.text.items) }
     ensures ended { IfErr result (λ status. status ≡ Status.Memory) }
 {
     match board_sheet(alloc, circuit, &report.board) {
-        Ok(BoardSheet { text, .. }) => Ok(Outcome {
+        Ok(BoardSheet { text, .. }) => Ok(Ending {
             status: Status::Unknown(report),
             text,
         }),
@@ -209,12 +209,12 @@ pub(crate) fn printed(
     circuit: &Circuit,
     request: &SolveRequest,
     board: &Board,
-) -> Result<Outcome, Status>
+) -> Result<Ending, Status>
     requires answered { (given : List CheckedEntry) × IsAnsweredBy (task_for circuit.now (request.now.property ∷ []) request.now given) board.now }
     requires property { request.now.property < length circuit.now.justice }
-    ensures found { IfOk result (λ outcome. IsPrinted circuit.now request.now board.now.limit outcome.status outcome.text.items) }
-    ensures text { IfOk result (λ outcome. IsTextOfOutcome circuit.now request.now.property board.now.entries
-        (outcome_of board.now.served request.now.property) outcome.text.items) }
+    ensures found { IfOk result (λ ending. IsPrinted circuit.now request.now board.now.limit ending.status ending.text.items) }
+    ensures text { IfOk result (λ ending. IsTextOfOutcome circuit.now request.now.property board.now.entries
+        (outcome_of board.now.served request.now.property) ending.text.items) }
     ensures ended { IfErr result (λ status. status ≡ Status.Memory) }
 {
     let written = match board.outcome(request.property) {
@@ -225,7 +225,7 @@ pub(crate) fn printed(
         None => unreachable!(),
     };
     match written {
-        Ok(outcome) => Ok(outcome),
+        Ok(ending) => Ok(ending),
         Err(_) => Err(Status::Memory),
     }
 }
@@ -236,11 +236,11 @@ fn stimulus_text(
     circuit: &Circuit,
     request: &SolveRequest,
     lasso: &Lasso,
-) -> Result<Outcome, AllocError>
+) -> Result<Ending, AllocError>
     requires fair { IsFairLassoOf circuit.now request.now.property lasso.now }
     requires property { request.now.property < length circuit.now.justice }
-    ensures printed { (most : ℕ) → IfOk result (λ outcome. IsPrinted circuit.now request.now most outcome.status outcome.text.items) }
-    ensures text { IfOk result (λ outcome. IsStimulusOf circuit.now request.now.property lasso.now outcome.text.items) }
+    ensures printed { (most : ℕ) → IfOk result (λ ending. IsPrinted circuit.now request.now most ending.status ending.text.items) }
+    ensures text { IfOk result (λ ending. IsStimulusOf circuit.now request.now.property lasso.now ending.text.items) }
 {
     written_stimuli_are_good(circuit);
     good_answers_are_true(circuit);
@@ -257,7 +257,7 @@ fn stimulus_text(
         inputs,
     };
     let text = stimulus::write(alloc, j, &stimulus)?;
-    Ok(Outcome {
+    Ok(Ending {
         status: Status::Done(Done::Lasso {
             property: j,
             positions,
@@ -274,19 +274,19 @@ fn certificate_text(
     request: &SolveRequest,
     board: &Board,
     refutation: &Refutation,
-) -> Result<Outcome, AllocError>
+) -> Result<Ending, AllocError>
     requires good { IsGoodRefutation circuit.now (plain board.now.entries) request.now.property refutation.now.uses refutation.now.proof }
     requires circuit { board.now.circuit ≡ circuit.now }
     requires property { request.now.property < length circuit.now.justice }
-    ensures printed { IfOk result (λ outcome. IsPrinted circuit.now request.now board.now.limit outcome.status outcome.text.items) }
-    ensures text { IfOk result (λ outcome. outcome.text.items ≡ certificate_text request.now.property (certificate_of board.now.entries refutation.now)) }
+    ensures printed { IfOk result (λ ending. IsPrinted circuit.now request.now board.now.limit ending.status ending.text.items) }
+    ensures text { IfOk result (λ ending. ending.text.items ≡ certificate_text request.now.property (certificate_of board.now.entries refutation.now)) }
 {
     written_certificates_are_good(circuit);
     good_answers_are_true(circuit);
     board.holds();
     let j = request.property;
     let text = certificate::write(alloc, j, board.entries(), refutation)?;
-    Ok(Outcome {
+    Ok(Ending {
         status: Status::Done(Done::Holds {
             property: j,
             entries: entry_count(board),

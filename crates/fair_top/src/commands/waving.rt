@@ -23,7 +23,7 @@ use aig_semantics::Lasso;
 use aiger_names::Model;
 use certificate::{Accepted, AnswerEnd, AnswerFault, check_with_lasso};
 use edge::Shelf;
-use plain_commands::{Done, Outcome, Status, model_of, with_text};
+use plain_commands::{Done, Ending, Status, model_of, with_text};
 use sheet_answers::JudgeEnd;
 use sheet_commands::{BlockLasso, block_lasso};
 use std::alloc::Global;
@@ -37,10 +37,10 @@ pub(crate) fn wave<H: Shelf>(
     model: &str,
     answer: &str,
     property: u32,
-) -> Result<Outcome, Status>
-    ensures found { IfOk result (λ outcome. GivesWave (H.held shelf.old model.now) (H.held shelf.old answer.now) property outcome.status outcome.text.items) }
+) -> Result<Ending, Status>
+    ensures found { IfOk result (λ ending. GivesWave (H.held shelf.old model.now) (H.held shelf.old answer.now) property ending.status ending.text.items) }
     ensures silent { IfErr result IsSilent }
-    ensures aloud { IfOk result (λ outcome. is_read_fault outcome.status ≡ false) }
+    ensures aloud { IfOk result (λ ending. is_read_fault ending.status ≡ false) }
     ensures exactly { (verdict : Status) → DecidesWave (H.held shelf.old model.now) (H.held shelf.old answer.now) property verdict → IsAnswered verdict (status_in result) }
     ensures shown { (accepted : JudgedOf) → status_in result ≡ Status.Done (done_by accepted) → ⊥ }
     ensures read { status_in result ≡ Status.ReadFault → FailedOf (H.held shelf.old) (model.now ∷ answer.now ∷ []) (H.faults shelf.old) (H.faults shelf.new) }
@@ -50,9 +50,9 @@ pub(crate) fn wave<H: Shelf>(
 {
     match model_of(alloc, shelf, model) {
         Ok(found) => {
-            let outcome = waves_of(alloc, &found, shelf, answer, property);
+            let ending = waves_of(alloc, &found, shelf, answer, property);
             drop(found);
-            outcome
+            ending
         }
         Err(status) => with_text(alloc, status),
     }
@@ -65,13 +65,13 @@ fn waves_of<H: Shelf>(
     shelf: &mut H,
     answer: &str,
     property: u32,
-) -> Result<Outcome, Status>
-    ensures found { IfOk result (λ outcome. OfSomeText (H.held shelf.old answer.now)
-        (λ claimed. EndsWave model.now claimed property outcome.status outcome.text.items)) }
+) -> Result<Ending, Status>
+    ensures found { IfOk result (λ ending. OfSomeText (H.held shelf.old answer.now)
+        (λ claimed. EndsWave model.now claimed property ending.status ending.text.items)) }
     ensures exactly { (claimed : List ℕ) (verdict : Status) → H.held shelf.old answer.now ≡ Some claimed
         → DecidesWaveAs (opens_as_sheet claimed) model.now.circuit claimed property verdict → IsAnswered verdict (status_in result) }
     ensures silent { IfErr result IsSilent }
-    ensures aloud { IfOk result (λ outcome. is_read_fault outcome.status ≡ false) }
+    ensures aloud { IfOk result (λ ending. is_read_fault ending.status ≡ false) }
     ensures hidden { accepts (status_in result) ≡ false }
     ensures read { status_in result ≡ Status.ReadFault → Rose (H.faults shelf.old answer.now) (H.faults shelf.new answer.now) }
     ensures reads { Reads H.reads answer.now (is_read_fault (status_in result)) shelf.old shelf.new }
@@ -104,11 +104,11 @@ fn wave_block<H: Shelf>(
     shelf: &mut H,
     answer: &str,
     property: u32,
-) -> Result<Outcome, Status>
+) -> Result<Ending, Status>
     ensures waved { BlockWaved model.now (H.held shelf.old answer.now) property result }
     ensures exactly { (claimed : List ℕ) (end : Result BlockLasso JudgeEnd) → H.held shelf.old answer.now ≡ Some claimed
         → DecidesBlock model.now.circuit claimed property end → IsAnswered (block_status end) (status_in result) }
-    ensures aloud { IfOk result (λ outcome. is_read_fault outcome.status ≡ false) }
+    ensures aloud { IfOk result (λ ending. is_read_fault ending.status ≡ false) }
     ensures hidden { accepts (status_in result) ≡ false }
     ensures read { status_in result ≡ Status.ReadFault → Rose (H.faults shelf.old answer.now) (H.faults shelf.new answer.now) }
     ensures reads { Reads H.reads answer.now (is_read_fault (status_in result)) shelf.old shelf.new }
@@ -127,7 +127,7 @@ fn waved(
     model: &Model,
     end: Result<Accepted, AnswerEnd>,
     kept: Option<Lasso>,
-) -> Result<Outcome, Status>
+) -> Result<Ending, Status>
     requires { CarriesLasso model.now end kept }
     ensures { IsWaved model.now end kept result }
 {
@@ -144,12 +144,12 @@ fn waved(
 }
 
 // The waves of the lasso of a good answer.
-fn printed(alloc: Global, model: &Model, property: u32, lasso: &Lasso) -> Result<Outcome, Status>
+fn printed(alloc: Global, model: &Model, property: u32, lasso: &Lasso) -> Result<Ending, Status>
     requires { IsGoodLasso model.now property lasso.now }
     ensures { IsWritten result (Status.Done Printed) (waves_text model.now property lasso.now) }
 {
     match waves::write(alloc, model, property, lasso) {
-        Ok(text) => Ok(Outcome {
+        Ok(text) => Ok(Ending {
             status: Status::Done(Done::Printed),
             text,
         }),
@@ -158,7 +158,7 @@ fn printed(alloc: Global, model: &Model, property: u32, lasso: &Lasso) -> Result
 }
 
 // The answer is refused for this fault.
-fn refused(alloc: Global, fault: AnswerFault) -> Result<Outcome, Status>
+fn refused(alloc: Global, fault: AnswerFault) -> Result<Ending, Status>
     ensures { IsWritten result (Status.Refused fault) (text_of (Status.Refused fault)) }
 {
     with_text(alloc, Status::Refused(fault))

@@ -16,7 +16,7 @@ ghost use Rattle.plain_commands.specs.Texts.{depth_text};
 use crate::models::model_of;
 use crate::reports::text_of_depth;
 use crate::status::{Done, Status};
-use crate::texts::{Outcome, with_text};
+use crate::texts::{Ending, with_text};
 use aig_semantics::Lasso;
 use certificate::{good_answers_are_true, written_stimuli_are_good};
 use circuit::Circuit;
@@ -37,10 +37,10 @@ pub fn find_shortest<H: Shelf>(
     shelf: &mut H,
     model: &str,
     request: &ShortestRequest,
-) -> Result<Outcome, Status>
-    ensures found { IfOk result (λ outcome. GivesShortest (H.held shelf.old model.now) request.now outcome.status outcome.text.items) }
+) -> Result<Ending, Status>
+    ensures found { IfOk result (λ ending. GivesShortest (H.held shelf.old model.now) request.now ending.status ending.text.items) }
     ensures silent { IfErr result IsSilent }
-    ensures aloud { IfOk result (λ outcome. is_read_fault outcome.status ≡ false) }
+    ensures aloud { IfOk result (λ ending. is_read_fault ending.status ≡ false) }
     ensures exactly { (verdict : Status) → DecidesShortest (H.held shelf.old model.now) request.now verdict → IsAnswered verdict (status_in result) }
     ensures shown { (accepted : JudgedOf) → status_in result ≡ Status.Done (done_by accepted) → ShownByShortest (H.held shelf.old model.now) accepted }
     ensures read { status_in result ≡ Status.ReadFault → FailedOf (H.held shelf.old) (model.now ∷ []) (H.faults shelf.old) (H.faults shelf.new) }
@@ -50,17 +50,17 @@ pub fn find_shortest<H: Shelf>(
 {
     match model_of(alloc, shelf, model) {
         Ok(found) => {
-            let outcome = bounded(alloc, found.circuit(), request);
+            let ending = bounded(alloc, found.circuit(), request);
             drop(found);
-            outcome
+            ending
         }
         Err(status) => with_text(alloc, status),
     }
 }
 
 // The same for a circuit.
-fn bounded(alloc: Global, circuit: &Circuit, request: &ShortestRequest) -> Result<Outcome, Status>
-    ensures found { IfOk result (λ outcome. EndsShortest circuit.now request.now outcome.status outcome.text.items) }
+fn bounded(alloc: Global, circuit: &Circuit, request: &ShortestRequest) -> Result<Ending, Status>
+    ensures found { IfOk result (λ ending. EndsShortest circuit.now request.now ending.status ending.text.items) }
     ensures ended { IfErr result (λ status. status ≡ Status.Memory) }
 {
     if request.property as usize >= circuit.property_count() {
@@ -70,9 +70,9 @@ fn bounded(alloc: Global, circuit: &Circuit, request: &ShortestRequest) -> Resul
 }
 
 // The same for a property that is there.
-fn searched(alloc: Global, circuit: &Circuit, request: &ShortestRequest) -> Result<Outcome, Status>
+fn searched(alloc: Global, circuit: &Circuit, request: &ShortestRequest) -> Result<Ending, Status>
     requires { request.now.property < length circuit.now.justice }
-    ensures found { IfOk result (λ outcome. EndsShortest circuit.now request.now outcome.status outcome.text.items) }
+    ensures found { IfOk result (λ ending. EndsShortest circuit.now request.now ending.status ending.text.items) }
     ensures ended { IfErr result (λ status. status ≡ Status.Memory) }
 {
     let mut meter = Meter::new(request.conflicts, NO_LIMIT);
@@ -95,10 +95,10 @@ fn told(
     circuit: &Circuit,
     request: &ShortestRequest,
     found: Searched,
-) -> Result<Outcome, Status>
+) -> Result<Ending, Status>
     requires property { request.now.property < length circuit.now.justice }
     requires searched { IsSearched circuit.now request.now.property request.now.depth found }
-    ensures found { IfOk result (λ outcome. EndsShortest circuit.now request.now outcome.status outcome.text.items) }
+    ensures found { IfOk result (λ ending. EndsShortest circuit.now request.now ending.status ending.text.items) }
     ensures ended { IfErr result (λ status. status ≡ Status.Memory) }
 {
     match found {
@@ -120,11 +120,11 @@ fn cut_short(
     request: &ShortestRequest,
     end: SearchEnd,
     meter: &Meter,
-) -> Result<Outcome, Status>
+) -> Result<Ending, Status>
     requires property { request.now.property < length circuit.now.justice }
     requires end { IsSearchEnd circuit.now request.now.property 0 request.now.depth meter.now end }
     requires limit { meter.now.conflict_limit ≡ limit_of request.now.conflicts }
-    ensures found { IfOk result (λ outcome. EndsShortest circuit.now request.now outcome.status outcome.text.items) }
+    ensures found { IfOk result (λ ending. EndsShortest circuit.now request.now ending.status ending.text.items) }
     ensures ended { IfErr result (λ status. status ≡ Status.Memory) }
 {
     match end {
@@ -138,14 +138,14 @@ fn open_at(
     request: &ShortestRequest,
     done: u32,
     meter: &Meter,
-) -> Result<Outcome, Status>
-    ensures status { IfOk result (λ outcome. outcome.status ≡ Status.OpenDepth done meter.now) }
-    ensures text { IfOk result (λ outcome. outcome.text.items ≡ depth_text request.now.property done request.now.depth meter.now) }
+) -> Result<Ending, Status>
+    ensures status { IfOk result (λ ending. ending.status ≡ Status.OpenDepth done meter.now) }
+    ensures text { IfOk result (λ ending. ending.text.items ≡ depth_text request.now.property done request.now.depth meter.now) }
     ensures ended { IfErr result (λ status. status ≡ Status.Memory) }
 {
     let spent = meter.spending();
     match text_of_depth(alloc, request, done, &spent) {
-        Ok(text) => Ok(Outcome {
+        Ok(text) => Ok(Ending {
             status: Status::OpenDepth { done, spent },
             text,
         }),
@@ -159,15 +159,15 @@ fn printed(
     circuit: &Circuit,
     request: &ShortestRequest,
     lasso: Lasso,
-) -> Result<Outcome, Status>
+) -> Result<Ending, Status>
     requires property { request.now.property < length circuit.now.justice }
     requires shortest { IsShortest circuit.now request.now.property lasso }
     requires within { length lasso.inputs ≤ request.now.depth }
-    ensures found { IfOk result (λ outcome. EndsShortest circuit.now request.now outcome.status outcome.text.items) }
+    ensures found { IfOk result (λ ending. EndsShortest circuit.now request.now ending.status ending.text.items) }
     ensures ended { IfErr result (λ status. status ≡ Status.Memory) }
 {
     match stimulus_text(alloc, circuit, request, lasso) {
-        Ok(outcome) => Ok(outcome),
+        Ok(ending) => Ok(ending),
         Err(_) => Err(Status::Memory),
     }
 }
@@ -177,11 +177,11 @@ fn stimulus_text(
     circuit: &Circuit,
     request: &ShortestRequest,
     lasso: Lasso,
-) -> Result<Outcome, AllocError>
+) -> Result<Ending, AllocError>
     requires property { request.now.property < length circuit.now.justice }
     requires shortest { IsShortest circuit.now request.now.property lasso }
     requires within { length lasso.inputs ≤ request.now.depth }
-    ensures { IfOk result (λ outcome. EndsShortest circuit.now request.now outcome.status outcome.text.items) }
+    ensures { IfOk result (λ ending. EndsShortest circuit.now request.now ending.status ending.text.items) }
 {
     written_stimuli_are_good(circuit);
     good_answers_are_true(circuit);
@@ -198,7 +198,7 @@ fn stimulus_text(
         inputs,
     };
     let text = stimulus::write(alloc, j, &stimulus)?;
-    Ok(Outcome {
+    Ok(Ending {
         status: Status::Done(Done::Lasso {
             property: j,
             positions,

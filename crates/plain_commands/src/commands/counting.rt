@@ -16,7 +16,7 @@ ghost use Rattle.plain_commands.specs.Statuses.{status_in, is_read_fault};
 
 use crate::models::model_of;
 use crate::status::{Done, Status};
-use crate::texts::{Outcome, with_text};
+use crate::texts::{Ending, with_text};
 use circuit::Circuit;
 use command_lines::RoundsRequest;
 use edge::{Meter, Shelf};
@@ -30,11 +30,11 @@ pub fn count_rounds<H: Shelf>(
     shelf: &mut H,
     model: &str,
     request: &RoundsRequest,
-) -> Result<Outcome, Status>
+) -> Result<Ending, Status>
     requires { MayBeAsked request.now.k }
-    ensures found { IfOk result (λ outcome. GivesRounds (H.held shelf.old model.now) request.now outcome.status outcome.text.items) }
+    ensures found { IfOk result (λ ending. GivesRounds (H.held shelf.old model.now) request.now ending.status ending.text.items) }
     ensures silent { IfErr result IsSilent }
-    ensures aloud { IfOk result (λ outcome. is_read_fault outcome.status ≡ false) }
+    ensures aloud { IfOk result (λ ending. is_read_fault ending.status ≡ false) }
     ensures exactly { (verdict : Status) → DecidesRounds (H.held shelf.old model.now) request.now verdict → IsAnswered verdict (status_in result) }
     ensures shown { (accepted : JudgedOf) → status_in result ≡ Status.Done (done_by accepted) → ShownByRounds (H.held shelf.old model.now) accepted }
     ensures read { status_in result ≡ Status.ReadFault → FailedOf (H.held shelf.old) (model.now ∷ []) (H.faults shelf.old) (H.faults shelf.new) }
@@ -44,18 +44,18 @@ pub fn count_rounds<H: Shelf>(
 {
     match model_of(alloc, shelf, model) {
         Ok(found) => {
-            let outcome = counted(alloc, found.circuit(), request);
+            let ending = counted(alloc, found.circuit(), request);
             drop(found);
-            outcome
+            ending
         }
         Err(status) => with_text(alloc, status),
     }
 }
 
 // The same for a circuit.
-fn counted(alloc: Global, circuit: &Circuit, request: &RoundsRequest) -> Result<Outcome, Status>
+fn counted(alloc: Global, circuit: &Circuit, request: &RoundsRequest) -> Result<Ending, Status>
     requires { MayBeAsked request.now.k }
-    ensures found { IfOk result (λ outcome. EndsRounds circuit.now request.now outcome.status outcome.text.items) }
+    ensures found { IfOk result (λ ending. EndsRounds circuit.now request.now ending.status ending.text.items) }
     ensures ended { IfErr result (λ status. status ≡ Status.Memory) }
 {
     if request.property as usize >= circuit.property_count() {
@@ -65,10 +65,10 @@ fn counted(alloc: Global, circuit: &Circuit, request: &RoundsRequest) -> Result<
 }
 
 // The same for a property that is there.
-fn decided(alloc: Global, circuit: &Circuit, request: &RoundsRequest) -> Result<Outcome, Status>
+fn decided(alloc: Global, circuit: &Circuit, request: &RoundsRequest) -> Result<Ending, Status>
     requires asked { MayBeAsked request.now.k }
     requires property { request.now.property < length circuit.now.justice }
-    ensures found { IfOk result (λ outcome. EndsRounds circuit.now request.now outcome.status outcome.text.items) }
+    ensures found { IfOk result (λ ending. EndsRounds circuit.now request.now ending.status ending.text.items) }
     ensures ended { IfErr result (λ status. status ≡ Status.Memory) }
 {
     let property = request.property;
@@ -90,17 +90,17 @@ fn printed(
     circuit: &Circuit,
     request: &RoundsRequest,
     found: &Rounds,
-) -> Result<Outcome, Status>
+) -> Result<Ending, Status>
     requires asked { MayBeAsked request.now.k }
     requires able { IsMonitorable circuit.now request.now.property request.now.k }
     requires so { IsSo circuit.now request.now.property request.now.k found.now }
     requires decided { Decides circuit.now request.now.property request.now.k found.now }
-    ensures found { IfOk result (λ outcome. EndsRounds circuit.now request.now outcome.status outcome.text.items) }
+    ensures found { IfOk result (λ ending. EndsRounds circuit.now request.now ending.status ending.text.items) }
     ensures ended { IfErr result (λ status. status ≡ Status.Memory) }
 {
     let reached = is_reached(found);
     match write(alloc, circuit, request.property, request.k, found) {
-        Ok(text) => Ok(Outcome {
+        Ok(text) => Ok(Ending {
             status: Status::Done(Done::Rounds {
                 property: request.property,
                 k: request.k,

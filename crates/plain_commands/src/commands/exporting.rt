@@ -17,7 +17,7 @@ ghost use Rattle.plain_commands.specs.Statuses.{status_in, is_read_fault};
 use crate::commands::remaking::refused;
 use crate::models::model_of;
 use crate::status::{Done, Status};
-use crate::texts::{Outcome, with_text};
+use crate::texts::{Ending, with_text};
 use cert_tools::{ExportEnd, ItemRequest, export, trimmed_answers_are_good};
 use certificate::{AnswerEnd, Loaded, load, printed_answers_hold_the_same};
 use circuit::Circuit;
@@ -34,11 +34,11 @@ pub fn export_item<H: Shelf>(
     model: &str,
     answer: &str,
     request: &ExportRequest,
-) -> Result<Outcome, Status>
-    ensures found { IfOk result (λ outcome.
-        GivesExport (H.held shelf.old model.now) (H.held shelf.old answer.now) request.now outcome.status outcome.text.items) }
+) -> Result<Ending, Status>
+    ensures found { IfOk result (λ ending.
+        GivesExport (H.held shelf.old model.now) (H.held shelf.old answer.now) request.now ending.status ending.text.items) }
     ensures silent { IfErr result IsSilent }
-    ensures aloud { IfOk result (λ outcome. is_read_fault outcome.status ≡ false) }
+    ensures aloud { IfOk result (λ ending. is_read_fault ending.status ≡ false) }
     ensures exactly { (verdict : Status) → DecidesExport (H.held shelf.old model.now) (H.held shelf.old answer.now) request.now verdict
         → IsAnswered verdict (status_in result) }
     ensures shown { (accepted : JudgedOf) → status_in result ≡ Status.Done (done_by accepted) → ⊥ }
@@ -55,9 +55,9 @@ pub fn export_item<H: Shelf>(
             printed_answers_hold_the_same(circuit);
             trimmed_answers_are_good(circuit);
             let end = load(alloc, circuit, shelf, answer);
-            let outcome = exported(alloc, circuit, end, request);
+            let ending = exported(alloc, circuit, end, request);
             drop(found);
-            outcome
+            ending
         }
         Err(status) => with_text(alloc, status),
     }
@@ -69,7 +69,7 @@ fn exported(
     circuit: &Circuit,
     end: Result<Loaded, AnswerEnd>,
     request: &ExportRequest,
-) -> Result<Outcome, Status>
+) -> Result<Ending, Status>
     requires { IfOk end (IsHeld circuit.now) }
     ensures { IsExportEnd circuit.now request.now end result }
 {
@@ -87,7 +87,7 @@ fn printed(
     circuit: &Circuit,
     loaded: &Loaded,
     request: &ExportRequest,
-) -> Result<Outcome, Status>
+) -> Result<Ending, Status>
     requires { IsHeld circuit.now loaded.now }
     ensures { IsItemEnd circuit.now loaded.now request.now result }
 {
@@ -97,7 +97,7 @@ fn printed(
         lrat: request.lrat,
     };
     match export(alloc, circuit, loaded, asked) {
-        Ok(text) => Ok(Outcome {
+        Ok(text) => Ok(Ending {
             status: Status::Done(Done::Printed),
             text,
         }),
@@ -107,7 +107,7 @@ fn printed(
 }
 
 // The answer has no item with these numbers.
-fn no_item(alloc: Global, entry: u32, clause: u32) -> Result<Outcome, Status>
+fn no_item(alloc: Global, entry: u32, clause: u32) -> Result<Ending, Status>
     ensures { IsWritten result (Status.NoItem entry clause) (text_of (Status.NoItem entry clause)) }
 {
     with_text(alloc, Status::NoItem(entry, clause))

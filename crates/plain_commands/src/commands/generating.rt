@@ -6,22 +6,22 @@ ghost use Rattle.plain_commands.specs.Gen.{asked_model, IsTextOfRequest};
 ghost use Rattle.plain_commands.specs.declared.status.Done.TheVariants.{Printed};
 
 use crate::status::{Done, Status};
-use crate::texts::Outcome;
+use crate::texts::Ending;
 use aiger_names::Model;
 use command_lines::{GenKind, GenRequest};
 use model_gen::{ring, scramble};
 use std::alloc::{AllocError, Global};
 
 /// The text of the model that is asked for. The error is `Memory`.
-pub fn generate(alloc: Global, request: &GenRequest) -> Result<Outcome, Status>
+pub fn generate(alloc: Global, request: &GenRequest) -> Result<Ending, Status>
     requires some { 1 ≤ request.now.size }
     requires few { request.now.size ≤ 256 }
-    ensures done { IfOk result (λ outcome. outcome.status ≡ Status.Done Printed) }
-    ensures text { IfOk result (λ outcome. IsTextOfRequest request.now outcome.text.items) }
+    ensures done { IfOk result (λ ending. ending.status ≡ Status.Done Printed) }
+    ensures text { IfOk result (λ ending. IsTextOfRequest request.now ending.text.items) }
     ensures ended { IfErr result (λ status. status ≡ Status.Memory) }
 {
     match generated_text(alloc, request) {
-        Ok(text) => Ok(Outcome {
+        Ok(text) => Ok(Ending {
             status: Status::Done(Done::Printed),
             text,
         }),

@@ -16,7 +16,7 @@ ghost use Rattle.plain_commands.specs.Statuses.{status_in, is_read_fault};
 
 use crate::models::model_of;
 use crate::status::{Done, Status};
-use crate::texts::{Outcome, with_text};
+use crate::texts::{Ending, with_text};
 use certificate::{AnswerEnd, AnswerFault, Loaded, load};
 use circuit::Circuit;
 use edge::Shelf;
@@ -44,10 +44,10 @@ pub fn remake<H: Shelf, R: MakesText>(
     model: &str,
     answer: &str,
     how: &R,
-) -> Result<Outcome, Status>
-    ensures found { IfOk result (λ outcome. GivesRemade (R.made how.now) (H.held shelf.old model.now) (H.held shelf.old answer.now) outcome.status outcome.text.items) }
+) -> Result<Ending, Status>
+    ensures found { IfOk result (λ ending. GivesRemade (R.made how.now) (H.held shelf.old model.now) (H.held shelf.old answer.now) ending.status ending.text.items) }
     ensures silent { IfErr result IsSilent }
-    ensures aloud { IfOk result (λ outcome. is_read_fault outcome.status ≡ false) }
+    ensures aloud { IfOk result (λ ending. is_read_fault ending.status ≡ false) }
     ensures exactly { (verdict : Status) → DecidesRemade (H.held shelf.old model.now) (H.held shelf.old answer.now) verdict → IsAnswered verdict (status_in result) }
     ensures shown { (accepted : JudgedOf) → status_in result ≡ Status.Done (done_by accepted) → ⊥ }
     ensures read { status_in result ≡ Status.ReadFault → FailedOf (H.held shelf.old) (model.now ∷ answer.now ∷ []) (H.faults shelf.old) (H.faults shelf.new) }
@@ -59,9 +59,9 @@ pub fn remake<H: Shelf, R: MakesText>(
         Ok(found) => {
             let circuit = found.circuit();
             let end = load(alloc, circuit, shelf, answer);
-            let outcome = remade(alloc, circuit, end, how);
+            let ending = remade(alloc, circuit, end, how);
             drop(found);
-            outcome
+            ending
         }
         Err(status) => with_text(alloc, status),
     }
@@ -73,7 +73,7 @@ fn remade<R: MakesText>(
     circuit: &Circuit,
     end: Result<Loaded, AnswerEnd>,
     how: &R,
-) -> Result<Outcome, Status>
+) -> Result<Ending, Status>
     requires { IfOk end (IsHeld circuit.now) }
     ensures { IsRemade (R.made how.now) circuit.now end result }
 {
@@ -91,12 +91,12 @@ fn printed<R: MakesText>(
     circuit: &Circuit,
     loaded: &Loaded,
     how: &R,
-) -> Result<Outcome, Status>
+) -> Result<Ending, Status>
     requires { IsHeld circuit.now loaded.now }
     ensures { IsMade (IsMadeOf (R.made how.now) circuit.now loaded.now) result }
 {
     match how.text(alloc, circuit, loaded) {
-        Ok(text) => Ok(Outcome {
+        Ok(text) => Ok(Ending {
             status: Status::Done(Done::Printed),
             text,
         }),
@@ -105,7 +105,7 @@ fn printed<R: MakesText>(
 }
 
 /// The answer is refused for this fault.
-pub(crate) fn refused(alloc: Global, fault: AnswerFault) -> Result<Outcome, Status>
+pub(crate) fn refused(alloc: Global, fault: AnswerFault) -> Result<Ending, Status>
     ensures { IsWritten result (Status.Refused fault) (text_of (Status.Refused fault)) }
 {
     with_text(alloc, Status::Refused(fault))

@@ -14,7 +14,7 @@ ghost use Rattle.plain_commands.specs.Statuses.{status_in, is_read_fault};
 
 use crate::models::model_of;
 use crate::status::{Done, Status};
-use crate::texts::{Outcome, with_text};
+use crate::texts::{Ending, with_text};
 use aiger_names::Model;
 use edge::Shelf;
 use slice::{SliceEnd, slice};
@@ -27,10 +27,10 @@ pub fn write_slice<H: Shelf>(
     shelf: &mut H,
     model: &str,
     property: u32,
-) -> Result<Outcome, Status>
-    ensures found { IfOk result (λ outcome. GivesSlice (H.held shelf.old model.now) property outcome.status outcome.text.items) }
+) -> Result<Ending, Status>
+    ensures found { IfOk result (λ ending. GivesSlice (H.held shelf.old model.now) property ending.status ending.text.items) }
     ensures silent { IfErr result IsSilent }
-    ensures aloud { IfOk result (λ outcome. is_read_fault outcome.status ≡ false) }
+    ensures aloud { IfOk result (λ ending. is_read_fault ending.status ≡ false) }
     ensures exactly { (verdict : Status) → DecidesSlice (H.held shelf.old model.now) property verdict → IsAnswered verdict (status_in result) }
     ensures shown { (accepted : JudgedOf) → status_in result ≡ Status.Done (done_by accepted) → ⊥ }
     ensures read { status_in result ≡ Status.ReadFault → FailedOf (H.held shelf.old) (model.now ∷ []) (H.faults shelf.old) (H.faults shelf.new) }
@@ -40,24 +40,24 @@ pub fn write_slice<H: Shelf>(
 {
     match model_of(alloc, shelf, model) {
         Ok(found) => {
-            let outcome = sliced(alloc, &found, property);
+            let ending = sliced(alloc, &found, property);
             drop(found);
-            outcome
+            ending
         }
         Err(status) => with_text(alloc, status),
     }
 }
 
 // The same for a model.
-fn sliced(alloc: Global, model: &Model, property: u32) -> Result<Outcome, Status>
-    ensures found { IfOk result (λ outcome. EndsSlice model.now property outcome.status outcome.text.items) }
+fn sliced(alloc: Global, model: &Model, property: u32) -> Result<Ending, Status>
+    ensures found { IfOk result (λ ending. EndsSlice model.now property ending.status ending.text.items) }
     ensures ended { IfErr result (λ status. status ≡ Status.Memory) }
 {
     match slice(alloc, model, property) {
         Ok(part) => {
-            let outcome = printed(alloc, model, property, &part);
+            let ending = printed(alloc, model, property, &part);
             drop(part);
-            outcome
+            ending
         }
         Err(SliceEnd::NoProperty(_)) => with_text(alloc, Status::NoProperty(property)),
         Err(SliceEnd::Memory) => Err(Status::Memory),
@@ -65,15 +65,15 @@ fn sliced(alloc: Global, model: &Model, property: u32) -> Result<Outcome, Status
 }
 
 // The text of the slice.
-fn printed(alloc: Global, model: &Model, property: u32, part: &Model) -> Result<Outcome, Status>
+fn printed(alloc: Global, model: &Model, property: u32, part: &Model) -> Result<Ending, Status>
     requires slice { IsSlice model.now property part.now }
     requires exact { HasFairLasso part.now.circuit 0 ↔ HasFairLasso model.now.circuit property }
     requires able { property < length model.now.circuit.justice }
-    ensures found { IfOk result (λ outcome. EndsSlice model.now property outcome.status outcome.text.items) }
+    ensures found { IfOk result (λ ending. EndsSlice model.now property ending.status ending.text.items) }
     ensures ended { IfErr result (λ status. status ≡ Status.Memory) }
 {
     match aiger_ascii::write(alloc, part) {
-        Ok(text) => Ok(Outcome {
+        Ok(text) => Ok(Ending {
             status: Status::Done(Done::Printed),
             text,
         }),

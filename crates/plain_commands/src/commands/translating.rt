@@ -15,7 +15,7 @@ ghost use Rattle.plain_commands.specs.Statuses.{status_in, is_read_fault};
 
 use crate::models::model_of;
 use crate::status::{Done, Status};
-use crate::texts::{Outcome, with_text};
+use crate::texts::{Ending, with_text};
 use aiger_names::Model;
 use circuit::Circuit;
 use edge::Shelf;
@@ -29,10 +29,10 @@ pub fn safety<H: Shelf>(
     shelf: &mut H,
     model: &str,
     property: u32,
-) -> Result<Outcome, Status>
-    ensures found { IfOk result (λ outcome. GivesSafety (H.held shelf.old model.now) property outcome.status outcome.text.items) }
+) -> Result<Ending, Status>
+    ensures found { IfOk result (λ ending. GivesSafety (H.held shelf.old model.now) property ending.status ending.text.items) }
     ensures silent { IfErr result IsSilent }
-    ensures aloud { IfOk result (λ outcome. is_read_fault outcome.status ≡ false) }
+    ensures aloud { IfOk result (λ ending. is_read_fault ending.status ≡ false) }
     ensures exactly { (verdict : Status) → DecidesSafety (H.held shelf.old model.now) property verdict → IsAnswered verdict (status_in result) }
     ensures shown { (accepted : JudgedOf) → status_in result ≡ Status.Done (done_by accepted) → ⊥ }
     ensures read { status_in result ≡ Status.ReadFault → FailedOf (H.held shelf.old) (model.now ∷ []) (H.faults shelf.old) (H.faults shelf.new) }
@@ -42,24 +42,24 @@ pub fn safety<H: Shelf>(
 {
     match model_of(alloc, shelf, model) {
         Ok(found) => {
-            let outcome = translated(alloc, found.circuit(), property);
+            let ending = translated(alloc, found.circuit(), property);
             drop(found);
-            outcome
+            ending
         }
         Err(status) => with_text(alloc, status),
     }
 }
 
 // The same for a circuit.
-fn translated(alloc: Global, circuit: &Circuit, property: u32) -> Result<Outcome, Status>
-    ensures found { IfOk result (λ outcome. EndsSafety circuit.now property outcome.status outcome.text.items) }
+fn translated(alloc: Global, circuit: &Circuit, property: u32) -> Result<Ending, Status>
+    ensures found { IfOk result (λ ending. EndsSafety circuit.now property ending.status ending.text.items) }
     ensures ended { IfErr result (λ status. status ≡ Status.Memory) }
 {
     match translate(alloc, circuit, property) {
         Ok(model) => {
-            let outcome = printed(alloc, circuit, property, &model);
+            let ending = printed(alloc, circuit, property, &model);
             drop(model);
-            outcome
+            ending
         }
         Err(TranslateEnd::NoProperty(_)) => with_text(alloc, Status::NoProperty(property)),
         Err(TranslateEnd::TooLarge(n)) => with_text(alloc, Status::TooLarge(n)),
@@ -68,20 +68,15 @@ fn translated(alloc: Global, circuit: &Circuit, property: u32) -> Result<Outcome
 }
 
 // The text of the translation.
-fn printed(
-    alloc: Global,
-    circuit: &Circuit,
-    property: u32,
-    model: &Model,
-) -> Result<Outcome, Status>
+fn printed(alloc: Global, circuit: &Circuit, property: u32, model: &Model) -> Result<Ending, Status>
     requires model { model.now ≡ safety_model circuit.now property }
     requires exact { HasBadRun model.now ↔ HasFairLasso circuit.now property }
     requires able { IsTranslatable circuit.now property }
-    ensures found { IfOk result (λ outcome. EndsSafety circuit.now property outcome.status outcome.text.items) }
+    ensures found { IfOk result (λ ending. EndsSafety circuit.now property ending.status ending.text.items) }
     ensures ended { IfErr result (λ status. status ≡ Status.Memory) }
 {
     match aiger_ascii::write(alloc, model) {
-        Ok(text) => Ok(Outcome {
+        Ok(text) => Ok(Ending {
             status: Status::Done(Done::Printed),
             text,
         }),

@@ -6,7 +6,7 @@ use Rattle.fair_top.proofs.running.run_by.Goals as goal
 
 pub returns-in-Ok-write_all-clause-printed : goal.returns-in-Ok-write_all-clause-printed
 returns-in-Ok-write_all-clause-printed g c = λ request asks.
-    is_printed (g.H.Shelf.held c.args.shelf.now) (bytes_of c.args.words.now) (g.H.Shelf.faults c.args.shelf.now) (g.H.Shelf.faults c.outcome_of.new.shelf)
+    is_printed (g.H.Shelf.held c.args.shelf.now) (bytes_of c.args.words.now) (g.H.Shelf.faults c.args.shelf.now) (g.H.Shelf.faults c.ending_of.new.shelf)
     request c.in-Ok.field-0.status asks c.in-Ok.ensures.exactly c.in-Ok.ensures.read
 
 pub returns-in-Ok-write_all-clause-text : goal.returns-in-Ok-write_all-clause-text
@@ -21,7 +21,7 @@ returns-in-Err-write_all-clause-text g c =
 
 pub returns-in-Err-write_all-clause-reads : goal.returns-in-Err-write_all-clause-reads
 returns-in-Err-write_all-clause-reads g c =
-    read_before g.H.Shelf.reads (g.H.Shelf.held c.args.shelf.now) (bytes_of c.args.words.now) c.in-Ok.field-0.status c.args.shelf.now c.outcome_of.new.shelf
+    read_before g.H.Shelf.reads (g.H.Shelf.held c.args.shelf.now) (bytes_of c.args.words.now) c.in-Ok.field-0.status c.args.shelf.now c.ending_of.new.shelf
     c.in-Ok.ensures.aloud c.in-Ok.ensures.reads
 
 pub returns-in-Ok-write_all-clause-written : goal.returns-in-Ok-write_all-clause-written
@@ -58,5 +58,5 @@ returns-in-Err-write_all-clause-summed g c = λ request asks. inl (inr refl)
 
 pub returns-in-Err-clause-summed : goal.returns-in-Err-clause-summed
 returns-in-Err-clause-summed g c = λ request asks.
-    demo_is_silent (g.H.Shelf.held c.args.shelf.now) (bytes_of c.args.words.now) (g.H.Shelf.faults c.args.shelf.now) (g.H.Shelf.faults c.outcome_of.new.shelf)
+    demo_is_silent (g.H.Shelf.held c.args.shelf.now) (bytes_of c.args.words.now) (g.H.Shelf.faults c.args.shelf.now) (g.H.Shelf.faults c.ending_of.new.shelf)
     request c.in-Err.status asks c.in-Err.ensures.silent c.in-Err.ensures.read

@@ -9,7 +9,7 @@ use Rattle.fair_top.proofs.commands.demonstrating.demonstrate.Goals as goal
 pub returns-in-Ok-clause-found : goal.returns-in-Ok-clause-found
 returns-in-Ok-clause-found c =
     let is : c.into_circuit.result ≡ demo_circuit c.args.request.now = c.into_circuit.ensures ∙ ap (λ (m : Model). m.circuit) c.in-Ok.ensures.model in
-    subst (λ (k : Circuit). IfOk c.summed_up.result (λ outcome. SumsUp k c.args.request.now outcome.status outcome.text.items)) is c.summed_up.ensures.found
+    subst (λ (k : Circuit). IfOk c.summed_up.result (λ ending. SumsUp k c.args.request.now ending.status ending.text.items)) is c.summed_up.ensures.found
 
 pub returns-in-Ok-clause-aloud : goal.returns-in-Ok-clause-aloud
 returns-in-Ok-clause-aloud c = loud c.into_circuit.result c.args.request.now c.summed_up.result c.summed_up.ensures.found

@@ -20,11 +20,11 @@ run_turns-requires-clause-given c = λ before after e wrong. absurd (nothing_bef
 pub returns-in-Ok-clause-found : goal.returns-in-Ok-clause-found
 returns-in-Ok-clause-found c =
     let is : c.deref.result.now ≡ arc_value c.args.circuit.now = search rules in
-    subst (λ (k : Circuit). IfOk c.answered.result (λ outcome. SumsUp k c.args.request.now outcome.status outcome.text.items)) is
-    (IfOk-weaker c.answered.result _ _ (λ outcome h. inl h) c.answered.ensures.found)
+    subst (λ (k : Circuit). IfOk c.answered.result (λ ending. SumsUp k c.args.request.now ending.status ending.text.items)) is
+    (IfOk-weaker c.answered.result _ _ (λ ending h. inl h) c.answered.ensures.found)
 
 pub returns-in-Err-Spent-clause-found : goal.returns-in-Err-Spent-clause-found
 returns-in-Err-Spent-clause-found c =
     let is : c.deref-in-Err-Spent.result.now ≡ arc_value c.args.circuit.now = search rules in
-    subst (λ (k : Circuit). IfOk c.reported.result (λ outcome. SumsUp k c.args.request.now outcome.status outcome.text.items)) is
-    (IfOk-weaker c.reported.result _ _ (λ outcome h. inr h) c.reported.ensures.found)
+    subst (λ (k : Circuit). IfOk c.reported.result (λ ending. SumsUp k c.args.request.now ending.status ending.text.items)) is
+    (IfOk-weaker c.reported.result _ _ (λ ending h. inr h) c.reported.ensures.found)

@@ -8,4 +8,4 @@ use Rattle.fair_top.proofs.commands.demonstrating.summed_up.Goals as goal
 pub returns-in-Ok-clause-found : goal.returns-in-Ok-clause-found
 returns-in-Ok-clause-found c =
     let is : arc_value c.in-Ok.circuit ≡ c.args.circuit = search rules in
-    subst (λ (k : Circuit). IfOk c.run_for.result (λ outcome. SumsUp k c.args.request.now outcome.status outcome.text.items)) is c.run_for.ensures.found
+    subst (λ (k : Circuit). IfOk c.run_for.result (λ ending. SumsUp k c.args.request.now ending.status ending.text.items)) is c.run_for.ensures.found

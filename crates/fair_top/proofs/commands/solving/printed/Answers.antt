@@ -28,9 +28,9 @@ pub returns-in-Ok-clause-found : goal.returns-in-Ok-clause-found
 returns-in-Ok-clause-found c =
     elim c.match-outcome-2.branch [
       | in-Some-Lasso w ↦
-          is_printed _ c.args.circuit.now c.args.request.now c.args.board.now.limit w.stimulus_text-written.result c.match-outcome-2.written c.in-Ok.outcome
+          is_printed _ c.args.circuit.now c.args.request.now c.args.board.now.limit w.stimulus_text-written.result c.match-outcome-2.written c.in-Ok.ending
           w.written-is c.in-Ok.is (w.stimulus_text-written.ensures.printed c.args.board.now.limit)
       | in-Some-Holds w ↦
-          is_printed _ c.args.circuit.now c.args.request.now c.args.board.now.limit w.certificate_text-written.result c.match-outcome-2.written c.in-Ok.outcome
+          is_printed _ c.args.circuit.now c.args.request.now c.args.board.now.limit w.certificate_text-written.result c.match-outcome-2.written c.in-Ok.ending
           w.written-is c.in-Ok.is w.certificate_text-written.ensures.printed
     ]

@@ -23,7 +23,7 @@ pub returns-in-Ok-clause-found : goal.returns-in-Ok-clause-found
 returns-in-Ok-clause-found g c =
     let given = given_in c.args.beginning.now in
     let is : c.deref.result.now ≡ circuit_in c.args.beginning.now = search rules in
-    subst (λ (k : Circuit). IfOk c.decided.result (λ outcome. EndsFor k c.args.request.now given outcome.status outcome.text.items)) is
+    subst (λ (k : Circuit). IfOk c.decided.result (λ ending. EndsFor k c.args.request.now given ending.status ending.text.items)) is
     (c.decided.ensures.found given
     (subst (λ (k : Circuit). IsAnsweredBy (task_of k c.args.request.now given) c.in-Ok.report.board) (sym is) c.in-Ok.ensures.answer.answered))
 
@@ -41,5 +41,5 @@ returns-in-Err-Spent-clause-found g c =
     let is : c.deref-in-Err-Spent.result.now ≡ circuit_in c.args.beginning.now = search rules in
     let ended : IsReport (task_of (circuit_in c.args.beginning.now) c.args.request.now given) c.in-Err-Spent.report =
     subst (λ (e : Ended). IsEnded (task_of (circuit_in c.args.beginning.now) c.args.request.now given) e) c.in-Err-Spent.field-0-is c.in-Err-Spent.ensures.ended in
-    subst (λ (k : Circuit). IfOk c.undecided.result (λ outcome. EndsFor k c.args.request.now given outcome.status outcome.text.items)) is
+    subst (λ (k : Circuit). IfOk c.undecided.result (λ ending. EndsFor k c.args.request.now given ending.status ending.text.items)) is
     (c.undecided.ensures.found given (subst (λ (k : Circuit). IsReport (task_of k c.args.request.now given) c.in-Err-Spent.report) (sym is) ended))

@@ -9,28 +9,28 @@ pub returns-in-Ok-clause-found : goal.returns-in-Ok-clause-found
 returns-in-Ok-clause-found g c =
     let held = g.H.Shelf.held in
     waves_given c.in-Ok.found (held c.args.shelf.now c.args.model.now) (held c.model_of.new.shelf c.args.answer.now) (held c.args.shelf.now c.args.answer.now)
-    c.args.property c.waves_of-outcome.result (c.in-Ok.ensures.kept c.args.answer.now) c.in-Ok.ensures.found c.waves_of-outcome.ensures.found
+    c.args.property c.waves_of-ending.result (c.in-Ok.ensures.kept c.args.answer.now) c.in-Ok.ensures.found c.waves_of-ending.ensures.found
 
 pub returns-in-Ok-clause-exactly : goal.returns-in-Ok-clause-exactly
 returns-in-Ok-clause-exactly g c =
     let held = g.H.Shelf.held in
     waves_exact c.in-Ok.found (held c.args.shelf.now c.args.model.now) (held c.model_of.new.shelf c.args.answer.now) (held c.args.shelf.now c.args.answer.now)
-    c.args.property (status_in c.waves_of-outcome.result) (c.in-Ok.ensures.kept c.args.answer.now) c.in-Ok.ensures.found c.waves_of-outcome.ensures.exactly
+    c.args.property (status_in c.waves_of-ending.result) (c.in-Ok.ensures.kept c.args.answer.now) c.in-Ok.ensures.found c.waves_of-ending.ensures.exactly
 
 pub returns-in-Ok-clause-shown : goal.returns-in-Ok-clause-shown
-returns-in-Ok-clause-shown g c = λ accepted e. never_shown accepted (status_in c.waves_of-outcome.result) c.waves_of-outcome.ensures.hidden e
+returns-in-Ok-clause-shown g c = λ accepted e. never_shown accepted (status_in c.waves_of-ending.result) c.waves_of-ending.ensures.hidden e
 
 pub returns-in-Ok-clause-read : goal.returns-in-Ok-clause-read
 returns-in-Ok-clause-read g c = λ e. inr (
   λ text told. (c.in-Ok.found, told_form _ c.in-Ok.found c.in-Ok.ensures.found text told, tt),
-  inl (rose_since _ _ _ (c.in-Ok.ensures.counts c.args.answer.now) (c.waves_of-outcome.ensures.read e)),
+  inl (rose_since _ _ _ (c.in-Ok.ensures.counts c.args.answer.now) (c.waves_of-ending.ensures.read e)),
 )
 
 pub returns-in-Ok-clause-reads : goal.returns-in-Ok-clause-reads
 returns-in-Ok-clause-reads g c =
-    model_first g.H.Shelf.reads (g.H.Shelf.held c.args.shelf.now) c.args.model.now c.args.answer.now (status_in c.waves_of-outcome.result)
-    c.args.shelf.now c.model_of.new.shelf c.waves_of-outcome.new.shelf c.in-Ok.ensures.reads
-    (λ text told. (c.in-Ok.found, told_form _ c.in-Ok.found c.in-Ok.ensures.found text told, tt)) c.waves_of-outcome.ensures.reads
+    model_first g.H.Shelf.reads (g.H.Shelf.held c.args.shelf.now) c.args.model.now c.args.answer.now (status_in c.waves_of-ending.result)
+    c.args.shelf.now c.model_of.new.shelf c.waves_of-ending.new.shelf c.in-Ok.ensures.reads
+    (λ text told. (c.in-Ok.found, told_form _ c.in-Ok.found c.in-Ok.ensures.found text told, tt)) c.waves_of-ending.ensures.reads
 
 pub returns-in-Err-clause-found : goal.returns-in-Err-clause-found
 returns-in-Err-clause-found g c =

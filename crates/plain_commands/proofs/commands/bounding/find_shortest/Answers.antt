@@ -4,18 +4,18 @@ use Rattle.plain_commands.proofs.commands.bounding.find_shortest.Goals as goal
 
 pub returns-in-Ok-clause-found : goal.returns-in-Ok-clause-found
 returns-in-Ok-clause-found g c =
-    bounded_gives c.circuit.result.now c.in-Ok.found (g.H.Shelf.held c.args.shelf.now c.args.model.now) c.args.request.now c.bounded-outcome.result
-    c.circuit.ensures.circuit c.in-Ok.ensures.found c.bounded-outcome.ensures.found
+    bounded_gives c.circuit.result.now c.in-Ok.found (g.H.Shelf.held c.args.shelf.now c.args.model.now) c.args.request.now c.bounded-ending.result
+    c.circuit.ensures.circuit c.in-Ok.ensures.found c.bounded-ending.ensures.found
 
 pub returns-in-Ok-clause-exactly : goal.returns-in-Ok-clause-exactly
 returns-in-Ok-clause-exactly g c =
-    bounded_exact c.circuit.result.now c.in-Ok.found (g.H.Shelf.held c.args.shelf.now c.args.model.now) c.args.request.now c.bounded-outcome.result
-    c.circuit.ensures.circuit c.in-Ok.ensures.found c.bounded-outcome.ensures.found c.bounded-outcome.ensures.ended
+    bounded_exact c.circuit.result.now c.in-Ok.found (g.H.Shelf.held c.args.shelf.now c.args.model.now) c.args.request.now c.bounded-ending.result
+    c.circuit.ensures.circuit c.in-Ok.ensures.found c.bounded-ending.ensures.found c.bounded-ending.ensures.ended
 
 pub returns-in-Ok-clause-shown : goal.returns-in-Ok-clause-shown
 returns-in-Ok-clause-shown g c =
-    bounded_shown c.circuit.result.now c.in-Ok.found (g.H.Shelf.held c.args.shelf.now c.args.model.now) c.args.request.now c.bounded-outcome.result
-    c.circuit.ensures.circuit c.in-Ok.ensures.found c.bounded-outcome.ensures.found c.bounded-outcome.ensures.ended
+    bounded_shown c.circuit.result.now c.in-Ok.found (g.H.Shelf.held c.args.shelf.now c.args.model.now) c.args.request.now c.bounded-ending.result
+    c.circuit.ensures.circuit c.in-Ok.ensures.found c.bounded-ending.ensures.found c.bounded-ending.ensures.ended
 
 pub returns-in-Err-clause-found : goal.returns-in-Err-clause-found
 returns-in-Err-clause-found g c =

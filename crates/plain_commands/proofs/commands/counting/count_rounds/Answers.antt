@@ -4,18 +4,18 @@ use Rattle.plain_commands.proofs.commands.counting.count_rounds.Goals as goal
 
 pub returns-in-Ok-clause-found : goal.returns-in-Ok-clause-found
 returns-in-Ok-clause-found g c =
-    counted_gives c.circuit.result.now c.in-Ok.found (g.H.Shelf.held c.args.shelf.now c.args.model.now) c.args.request.now c.counted-outcome.result
-    c.circuit.ensures.circuit c.in-Ok.ensures.found c.counted-outcome.ensures.found
+    counted_gives c.circuit.result.now c.in-Ok.found (g.H.Shelf.held c.args.shelf.now c.args.model.now) c.args.request.now c.counted-ending.result
+    c.circuit.ensures.circuit c.in-Ok.ensures.found c.counted-ending.ensures.found
 
 pub returns-in-Ok-clause-exactly : goal.returns-in-Ok-clause-exactly
 returns-in-Ok-clause-exactly g c =
-    counted_exact c.circuit.result.now c.in-Ok.found (g.H.Shelf.held c.args.shelf.now c.args.model.now) c.args.request.now c.counted-outcome.result
-    c.circuit.ensures.circuit c.in-Ok.ensures.found c.counted-outcome.ensures.found c.counted-outcome.ensures.ended
+    counted_exact c.circuit.result.now c.in-Ok.found (g.H.Shelf.held c.args.shelf.now c.args.model.now) c.args.request.now c.counted-ending.result
+    c.circuit.ensures.circuit c.in-Ok.ensures.found c.counted-ending.ensures.found c.counted-ending.ensures.ended
 
 pub returns-in-Ok-clause-shown : goal.returns-in-Ok-clause-shown
 returns-in-Ok-clause-shown g c =
-    counted_shown c.circuit.result.now c.in-Ok.found (g.H.Shelf.held c.args.shelf.now c.args.model.now) c.args.request.now c.counted-outcome.result
-    c.circuit.ensures.circuit c.in-Ok.ensures.found c.counted-outcome.ensures.found c.counted-outcome.ensures.ended
+    counted_shown c.circuit.result.now c.in-Ok.found (g.H.Shelf.held c.args.shelf.now c.args.model.now) c.args.request.now c.counted-ending.result
+    c.circuit.ensures.circuit c.in-Ok.ensures.found c.counted-ending.ensures.found c.counted-ending.ensures.ended
 
 pub returns-in-Err-clause-found : goal.returns-in-Err-clause-found
 returns-in-Err-clause-found g c =

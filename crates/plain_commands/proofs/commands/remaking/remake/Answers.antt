@@ -5,42 +5,42 @@ use Rattle.plain_commands.proofs.Remaking.{held_of_model, remade_given, remade_e
 use Rattle.plain_commands.proofs.Written.{without_shown}
 use Rattle.plain_commands.proofs.commands.remaking.remake.Goals as goal
 
-pub remade-outcome-requires : goal.remade-outcome-requires
-remade-outcome-requires g c = held_of_model c.circuit-circuit.result.now (g.H.Shelf.held c.model_of.new.shelf c.args.answer.now) c.load-end.result c.load-end.ensures.held
+pub remade-ending-requires : goal.remade-ending-requires
+remade-ending-requires g c = held_of_model c.circuit-circuit.result.now (g.H.Shelf.held c.model_of.new.shelf c.args.answer.now) c.load-end.result c.load-end.ensures.held
 
 pub returns-in-Ok-clause-found : goal.returns-in-Ok-clause-found
 returns-in-Ok-clause-found g c =
     let held = g.H.Shelf.held in
     remade_given (g.R.MakesText.made c.args.how.now) c.circuit-circuit.result.now c.in-Ok.found (held c.args.shelf.now c.args.model.now) (held c.model_of.new.shelf c.args.answer.now) (held c.args.shelf.now c.args.answer.now)
-    c.load-end.result c.remade-outcome.result c.circuit-circuit.ensures.circuit (c.in-Ok.ensures.kept c.args.answer.now) c.in-Ok.ensures.found c.load-end.ensures.found c.load-end.ensures.held c.remade-outcome.ensures
+    c.load-end.result c.remade-ending.result c.circuit-circuit.ensures.circuit (c.in-Ok.ensures.kept c.args.answer.now) c.in-Ok.ensures.found c.load-end.ensures.found c.load-end.ensures.held c.remade-ending.ensures
 
 pub returns-in-Ok-clause-exactly : goal.returns-in-Ok-clause-exactly
 returns-in-Ok-clause-exactly g c =
     let held = g.H.Shelf.held in
     remade_exact (g.R.MakesText.made c.args.how.now) c.circuit-circuit.result.now c.in-Ok.found (held c.args.shelf.now c.args.model.now) (held c.model_of.new.shelf c.args.answer.now) (held c.args.shelf.now c.args.answer.now)
-    c.load-end.result c.remade-outcome.result c.circuit-circuit.ensures.circuit (c.in-Ok.ensures.kept c.args.answer.now) c.in-Ok.ensures.found c.load-end.ensures.exactly c.remade-outcome.ensures
+    c.load-end.result c.remade-ending.result c.circuit-circuit.ensures.circuit (c.in-Ok.ensures.kept c.args.answer.now) c.in-Ok.ensures.found c.load-end.ensures.exactly c.remade-ending.ensures
 
 pub returns-in-Ok-clause-shown : goal.returns-in-Ok-clause-shown
-returns-in-Ok-clause-shown g c = remade_shown (g.R.MakesText.made c.args.how.now) c.circuit-circuit.result.now c.load-end.result c.remade-outcome.result c.remade-outcome.ensures
+returns-in-Ok-clause-shown g c = remade_shown (g.R.MakesText.made c.args.how.now) c.circuit-circuit.result.now c.load-end.result c.remade-ending.result c.remade-ending.ensures
 
 pub returns-in-Ok-clause-silent : goal.returns-in-Ok-clause-silent
-returns-in-Ok-clause-silent g c = remade_silent (g.R.MakesText.made c.args.how.now) c.circuit-circuit.result.now c.load-end.result c.remade-outcome.result c.remade-outcome.ensures
+returns-in-Ok-clause-silent g c = remade_silent (g.R.MakesText.made c.args.how.now) c.circuit-circuit.result.now c.load-end.result c.remade-ending.result c.remade-ending.ensures
 
 pub returns-in-Ok-clause-aloud : goal.returns-in-Ok-clause-aloud
-returns-in-Ok-clause-aloud g c = remade_aloud (g.R.MakesText.made c.args.how.now) c.circuit-circuit.result.now c.load-end.result c.remade-outcome.result c.remade-outcome.ensures
+returns-in-Ok-clause-aloud g c = remade_aloud (g.R.MakesText.made c.args.how.now) c.circuit-circuit.result.now c.load-end.result c.remade-ending.result c.remade-ending.ensures
 
 pub returns-in-Ok-clause-read : goal.returns-in-Ok-clause-read
 returns-in-Ok-clause-read g c = λ e. inr (
   λ text told. (c.in-Ok.found, told_form _ c.in-Ok.found c.in-Ok.ensures.found text told, tt),
   inl (rose_since _ _ _ (c.in-Ok.ensures.counts c.args.answer.now)
-      (c.load-end.ensures.read (remade_failed (g.R.MakesText.made c.args.how.now) c.circuit-circuit.result.now c.load-end.result c.remade-outcome.result c.remade-outcome.ensures e))),
+      (c.load-end.ensures.read (remade_failed (g.R.MakesText.made c.args.how.now) c.circuit-circuit.result.now c.load-end.result c.remade-ending.result c.remade-ending.ensures e))),
 )
 
 pub returns-in-Ok-clause-reads : goal.returns-in-Ok-clause-reads
 returns-in-Ok-clause-reads g c =
-    read_both g.H.Shelf.reads (g.H.Shelf.held c.args.shelf.now) c.args.model.now c.args.answer.now _ (status_in c.remade-outcome.result)
+    read_both g.H.Shelf.reads (g.H.Shelf.held c.args.shelf.now) c.args.model.now c.args.answer.now _ (status_in c.remade-ending.result)
     c.args.shelf.now c.model_of.new.shelf c.load-end.new.shelf
-    (remade_unread (g.R.MakesText.made c.args.how.now) c.circuit-circuit.result.now c.load-end.result c.remade-outcome.result c.remade-outcome.ensures)
+    (remade_unread (g.R.MakesText.made c.args.how.now) c.circuit-circuit.result.now c.load-end.result c.remade-ending.result c.remade-ending.ensures)
     c.in-Ok.ensures.reads (λ text told. (c.in-Ok.found, told_form _ c.in-Ok.found c.in-Ok.ensures.found text told, tt)) c.load-end.ensures.reads
 
 pub returns-in-Err-clause-found : goal.returns-in-Err-clause-found

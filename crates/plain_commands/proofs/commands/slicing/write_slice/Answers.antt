@@ -5,17 +5,17 @@ use Rattle.plain_commands.proofs.commands.slicing.write_slice.Goals as goal
 
 pub returns-in-Ok-clause-found : goal.returns-in-Ok-clause-found
 returns-in-Ok-clause-found g c =
-    sliced_gives c.in-Ok.found (g.H.Shelf.held c.args.shelf.now c.args.model.now) c.args.property c.sliced-outcome.result
-    c.in-Ok.ensures.found c.sliced-outcome.ensures.found
+    sliced_gives c.in-Ok.found (g.H.Shelf.held c.args.shelf.now c.args.model.now) c.args.property c.sliced-ending.result
+    c.in-Ok.ensures.found c.sliced-ending.ensures.found
 
 pub returns-in-Ok-clause-exactly : goal.returns-in-Ok-clause-exactly
 returns-in-Ok-clause-exactly g c =
-    sliced_exact c.in-Ok.found (g.H.Shelf.held c.args.shelf.now c.args.model.now) c.args.property c.sliced-outcome.result
-    c.in-Ok.ensures.found c.sliced-outcome.ensures.found c.sliced-outcome.ensures.ended
+    sliced_exact c.in-Ok.found (g.H.Shelf.held c.args.shelf.now c.args.model.now) c.args.property c.sliced-ending.result
+    c.in-Ok.ensures.found c.sliced-ending.ensures.found c.sliced-ending.ensures.ended
 
 pub returns-in-Ok-clause-shown : goal.returns-in-Ok-clause-shown
 returns-in-Ok-clause-shown g c =
-    sliced_shown c.in-Ok.found c.args.property c.sliced-outcome.result c.sliced-outcome.ensures.found c.sliced-outcome.ensures.ended
+    sliced_shown c.in-Ok.found c.args.property c.sliced-ending.result c.sliced-ending.ensures.found c.sliced-ending.ensures.ended
 
 pub returns-in-Err-clause-found : goal.returns-in-Err-clause-found
 returns-in-Err-clause-found g c =

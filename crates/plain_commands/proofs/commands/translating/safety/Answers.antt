@@ -5,17 +5,17 @@ use Rattle.plain_commands.proofs.commands.translating.safety.Goals as goal
 
 pub returns-in-Ok-clause-found : goal.returns-in-Ok-clause-found
 returns-in-Ok-clause-found g c =
-    translated_gives c.circuit.result.now c.in-Ok.found (g.H.Shelf.held c.args.shelf.now c.args.model.now) c.args.property c.translated-outcome.result
-    c.circuit.ensures.circuit c.in-Ok.ensures.found c.translated-outcome.ensures.found
+    translated_gives c.circuit.result.now c.in-Ok.found (g.H.Shelf.held c.args.shelf.now c.args.model.now) c.args.property c.translated-ending.result
+    c.circuit.ensures.circuit c.in-Ok.ensures.found c.translated-ending.ensures.found
 
 pub returns-in-Ok-clause-exactly : goal.returns-in-Ok-clause-exactly
 returns-in-Ok-clause-exactly g c =
-    translated_exact c.circuit.result.now c.in-Ok.found (g.H.Shelf.held c.args.shelf.now c.args.model.now) c.args.property c.translated-outcome.result
-    c.circuit.ensures.circuit c.in-Ok.ensures.found c.translated-outcome.ensures.found c.translated-outcome.ensures.ended
+    translated_exact c.circuit.result.now c.in-Ok.found (g.H.Shelf.held c.args.shelf.now c.args.model.now) c.args.property c.translated-ending.result
+    c.circuit.ensures.circuit c.in-Ok.ensures.found c.translated-ending.ensures.found c.translated-ending.ensures.ended
 
 pub returns-in-Ok-clause-shown : goal.returns-in-Ok-clause-shown
 returns-in-Ok-clause-shown g c =
-    translated_shown c.circuit.result.now c.args.property c.translated-outcome.result c.translated-outcome.ensures.found c.translated-outcome.ensures.ended
+    translated_shown c.circuit.result.now c.args.property c.translated-ending.result c.translated-ending.ensures.found c.translated-ending.ensures.ended
 
 pub returns-in-Err-clause-found : goal.returns-in-Err-clause-found
 returns-in-Err-clause-found g c =

@@ -9,7 +9,7 @@ use Rattle.fair_top.specs.Headline.{MayHaveFailed}
 use Rattle.fair_top.specs.Solved.{SolvesAsked}
 use Rattle.plain_commands.specs.Statuses.{status_in, is_read_fault}
 use Rattle.fair_top.proofs.Ending.{still_answered, check_gives, read_of_status}
-use Rattle.fair_top.proofs.commands.outcome_for.Goals as goal
+use Rattle.fair_top.proofs.commands.ending_for.Goals as goal
 
 pub returns-in-Check-clause-exactly : goal.returns-in-Check-clause-exactly
 returns-in-Check-clause-exactly g c = λ verdict d.
@@ -19,7 +19,7 @@ returns-in-Check-clause-exactly g c = λ verdict d.
 pub returns-in-Check-clause-found : goal.returns-in-Check-clause-found
 returns-in-Check-clause-found g c =
     let held = g.H.Shelf.held c.args.shelf.now in
-    subst (λ (a : RequestInCode). IfOk c.with_text.result (λ outcome. CommandGives held (meant a) outcome.status outcome.text.items)) (sym c.in-Check.is)
+    subst (λ (a : RequestInCode). IfOk c.with_text.result (λ ending. CommandGives held (meant a) ending.status ending.text.items)) (sym c.in-Check.is)
     (check_gives (held c.in-Check.model.now) (held c.in-Check.answer.now) c.check.result c.with_text.result c.check.ensures.found c.with_text.ensures.text c.with_text.ensures.aloud)
 
 pub returns-in-Check-clause-read : goal.returns-in-Check-clause-read
@@ -29,7 +29,7 @@ returns-in-Check-clause-read g c = λ e.
 
 pub returns-in-Wave-clause-found : goal.returns-in-Wave-clause-found
 returns-in-Wave-clause-found g c =
-    subst (λ (a : RequestInCode). IfOk c.wave.result (λ outcome. CommandGives (g.H.Shelf.held c.args.shelf.now) (meant a) outcome.status outcome.text.items))
+    subst (λ (a : RequestInCode). IfOk c.wave.result (λ ending. CommandGives (g.H.Shelf.held c.args.shelf.now) (meant a) ending.status ending.text.items))
     (sym c.in-Wave.is) c.wave.ensures.found
 
 pub returns-in-Solve-clause-exactly : goal.returns-in-Solve-clause-exactly
@@ -38,7 +38,7 @@ returns-in-Solve-clause-exactly g c = λ verdict d.
 
 pub returns-in-Solve-clause-found : goal.returns-in-Solve-clause-found
 returns-in-Solve-clause-found g c =
-    subst (λ (a : RequestInCode). IfOk c.solve.result (λ outcome. CommandGives (g.H.Shelf.held c.args.shelf.now) (meant a) outcome.status outcome.text.items))
+    subst (λ (a : RequestInCode). IfOk c.solve.result (λ ending. CommandGives (g.H.Shelf.held c.args.shelf.now) (meant a) ending.status ending.text.items))
     (sym c.in-Solve.is) c.solve.ensures.found
 
 pub returns-in-Solve-clause-shown : goal.returns-in-Solve-clause-shown
@@ -61,7 +61,7 @@ returns-in-Demo-clause-exactly g c = λ verdict d.
 
 pub returns-in-Demo-clause-found : goal.returns-in-Demo-clause-found
 returns-in-Demo-clause-found g c =
-    subst (λ (a : RequestInCode). IfOk c.demonstrate.result (λ outcome. CommandGives (g.H.Shelf.held c.args.shelf.now) (meant a) outcome.status outcome.text.items))
+    subst (λ (a : RequestInCode). IfOk c.demonstrate.result (λ ending. CommandGives (g.H.Shelf.held c.args.shelf.now) (meant a) ending.status ending.text.items))
     (sym c.in-Demo.is) c.demonstrate.ensures.found
 
 pub returns-in-Demo-clause-shown : goal.returns-in-Demo-clause-shown
@@ -99,7 +99,7 @@ returns-in-Rounds-clause-exactly g c = λ verdict d.
 
 pub returns-in-Rounds-clause-found : goal.returns-in-Rounds-clause-found
 returns-in-Rounds-clause-found g c =
-    subst (λ (a : RequestInCode). IfOk c.count_rounds.result (λ outcome. CommandGives (g.H.Shelf.held c.args.shelf.now) (meant a) outcome.status outcome.text.items))
+    subst (λ (a : RequestInCode). IfOk c.count_rounds.result (λ ending. CommandGives (g.H.Shelf.held c.args.shelf.now) (meant a) ending.status ending.text.items))
     (sym c.in-Rounds.is) c.count_rounds.ensures.found
 
 pub returns-in-Rounds-clause-shown : goal.returns-in-Rounds-clause-shown
@@ -122,7 +122,7 @@ returns-in-Shortest-clause-exactly g c = λ verdict d.
 
 pub returns-in-Shortest-clause-found : goal.returns-in-Shortest-clause-found
 returns-in-Shortest-clause-found g c =
-    subst (λ (a : RequestInCode). IfOk c.find_shortest.result (λ outcome. CommandGives (g.H.Shelf.held c.args.shelf.now) (meant a) outcome.status outcome.text.items))
+    subst (λ (a : RequestInCode). IfOk c.find_shortest.result (λ ending. CommandGives (g.H.Shelf.held c.args.shelf.now) (meant a) ending.status ending.text.items))
     (sym c.in-Shortest.is) c.find_shortest.ensures.found
 
 pub returns-in-Shortest-clause-shown : goal.returns-in-Shortest-clause-shown
@@ -149,7 +149,7 @@ returns-in-Export-clause-exactly g c = λ verdict d.
 
 pub returns-in-Export-clause-found : goal.returns-in-Export-clause-found
 returns-in-Export-clause-found g c =
-    subst (λ (a : RequestInCode). IfOk c.export_item.result (λ outcome. CommandGives (g.H.Shelf.held c.args.shelf.now) (meant a) outcome.status outcome.text.items))
+    subst (λ (a : RequestInCode). IfOk c.export_item.result (λ ending. CommandGives (g.H.Shelf.held c.args.shelf.now) (meant a) ending.status ending.text.items))
     (sym c.in-Export.is) c.export_item.ensures.found
 
 pub returns-in-Export-clause-read : goal.returns-in-Export-clause-read

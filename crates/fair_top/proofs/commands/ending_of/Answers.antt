@@ -3,15 +3,15 @@ use Rattle.command_lines.specs.Words.{bytes_of}
 use Rattle.command_lines.specs.Commands.{meant}
 use Rattle.plain_commands.specs.Statuses.{status_in}
 use Rattle.fair_top.proofs.Ending.{refused_ends, exact_for, solves_for, unsolved, nothing_read, not_a_read}
-use Rattle.fair_top.proofs.commands.outcome_of.Goals as goal
+use Rattle.fair_top.proofs.commands.ending_of.Goals as goal
 
 pub returns-in-Ok-clause-exactly : goal.returns-in-Ok-clause-exactly
 returns-in-Ok-clause-exactly g c =
-    exact_for (g.H.Shelf.held c.args.shelf.now) (bytes_of c.args.words.now) (meant c.in-Ok.asked) (status_in c.outcome_for.result)
-    c.in-Ok.ensures.found c.outcome_for.ensures.exactly
+    exact_for (g.H.Shelf.held c.args.shelf.now) (bytes_of c.args.words.now) (meant c.in-Ok.asked) (status_in c.ending_for.result)
+    c.in-Ok.ensures.found c.ending_for.ensures.exactly
 
 pub returns-in-Ok-clause-read : goal.returns-in-Ok-clause-read
-returns-in-Ok-clause-read g c = λ e. (meant c.in-Ok.asked, c.in-Ok.ensures.found, c.outcome_for.ensures.read e, c.outcome_for.ensures.there e)
+returns-in-Ok-clause-read g c = λ e. (meant c.in-Ok.asked, c.in-Ok.ensures.found, c.ending_for.ensures.read e, c.ending_for.ensures.there e)
 
 pub returns-in-Err-clause-reads : goal.returns-in-Err-clause-reads
 returns-in-Err-clause-reads g c =
@@ -20,8 +20,8 @@ returns-in-Err-clause-reads g c =
 
 pub returns-in-Ok-clause-solved : goal.returns-in-Ok-clause-solved
 returns-in-Ok-clause-solved g c =
-    solves_for (g.H.Shelf.held c.args.shelf.now) (bytes_of c.args.words.now) (meant c.in-Ok.asked) (status_in c.outcome_for.result)
-    c.in-Ok.ensures.found c.outcome_for.ensures.solved
+    solves_for (g.H.Shelf.held c.args.shelf.now) (bytes_of c.args.words.now) (meant c.in-Ok.asked) (status_in c.ending_for.result)
+    c.in-Ok.ensures.found c.ending_for.ensures.solved
 
 pub returns-in-Err-clause-solved : goal.returns-in-Err-clause-solved
 returns-in-Err-clause-solved g c =
