@@ -35,7 +35,7 @@ use Rattle.fair_top.specs.Solve.{limits_of, asked_in, task_for, task_of, HasProp
 use Rattle.fair_top.specs.Solved.{MayBegin}
 use Rattle.fair_top.specs.Beginnings.{circuit_in, served_in, given_in, IsAskedOf, EndsUnasked, beginning_of_end, IsEndedWith, IsBeginning, SaysBefore, EndsBefore}
 use Rattle.plain_commands.specs.Statuses.{has_read_fault}
-use Rattle.plain_commands.specs.Answering.{IsSilent, IsAnswered, HoldsModel, FailedOf, ReadsModel, ReadsModelFirst, ReadsInTurn}
+use Rattle.plain_commands.specs.Answering.{IsSilent, GivesVerdict, HoldsModel, FailedOf, ReadsModel, ReadsModelFirst, ReadsInTurn}
 use Rattle.plain_commands.specs.Judged.{IsModelOf, IsFaultOf, EndsWithoutModel}
 use Rattle.plain_commands.proofs.Judging.{told_form, same_bad, failed_end, end_failed, rose_since}
 
@@ -238,25 +238,25 @@ module _ (c : Circuit) (m : Model) (model : Option (List ℕ)) (answer : Told) (
     ),
   )))
 
-  ended_answered : (fault : JudgeEnd) (verdict status : Status) → verdict ≡ status_of_end fault → (status ≡ status_of_end fault) ⊎ IsSilent status → IsAnswered verdict status
+  ended_answered : (fault : JudgeEnd) (verdict status : Status) → verdict ≡ status_of_end fault → (status ≡ status_of_end fault) ⊎ IsSilent status → GivesVerdict verdict status
   ended_answered fault verdict status is (inl e) = inl (inl (inl (e ∙ sym is)))
   ended_answered fault verdict status is (inr (inl e)) = inl (inr (inl e))
   ended_answered fault verdict status is (inr (inr e)) = inr e
 
   no_property : (verdict status : Status) → verdict ≡ statuses.NoProperty request.property → LacksProperty c request → EndsUnasked c answer request status
-      → IsAnswered verdict status
+      → GivesVerdict verdict status
   no_property verdict status is none (inl (e, other)) = inl (inl (inl (e ∙ sym is)))
-  no_property verdict status is none (inr (there, other)) = without_property c request (IsAnswered verdict status) none there
+  no_property verdict status is none (inr (there, other)) = without_property c request (GivesVerdict verdict status) none there
 
   before_exactly : (status : Status)
       → ((claimed : Option (List ℕ)) (end : JudgeEnd) → IsClaimed answer claimed → HasNoList c claimed end → HasProperty c request
       → (status ≡ status_of_end end) ⊎ IsSilent status)
-      → EndsUnasked c answer request status → (verdict : Status) → DecidesSolve model answer request verdict → IsAnswered verdict status
+      → EndsUnasked c answer request status → (verdict : Status) → DecidesSolve model answer request verdict → GivesVerdict verdict status
   before_exactly status refused ends verdict (inl (fault, e, (text, told, bad))) = absurd (h.faultless text fault told bad)
   before_exactly status refused ends verdict (inr (inl (e, (text, told, (n, form, few))))) =
       no_property verdict status e (subst (λ (k : Circuit). LacksProperty k request) (is_model text n told form) few) ends
   before_exactly status refused ends verdict (inr (inr (fault, e, (text, told, claims)))) =
-      of_told answer (λ claimed. OfModel text (λ k. HasProperty k request × HasNoList k claimed fault)) (IsAnswered verdict status)
+      of_told answer (λ claimed. OfModel text (λ k. HasProperty k request × HasNoList k claimed fault)) (GivesVerdict verdict status)
       (λ claimed is claim.
       ended_answered fault verdict status e
       (refused claimed fault is (subst (λ (k : Circuit). HasNoList k claimed fault) (is_model text claim.0 told claim.1) claim.2.1)
@@ -287,9 +287,9 @@ module _ (c : Circuit) (m : Model) (model : Option (List ℕ)) (answer : Told) (
 -- ---- where there is no model
 
 bad_exactly : (model : Option (List ℕ)) (answer : Told) (request : SolveRequest) (fault : _) → IsFaultOf model fault
-    → (verdict : Status) → DecidesSolve model answer request verdict → IsAnswered verdict (statuses.BadModel fault)
+    → (verdict : Status) → DecidesSolve model answer request verdict → GivesVerdict verdict (statuses.BadModel fault)
 bad_exactly model answer request fault h verdict (inl (other, e, (text, told, bad))) =
-    subst (λ (v : Status). IsAnswered v (statuses.BadModel fault)) (sym e) (same_bad fault other (h.one text other told bad))
+    subst (λ (v : Status). GivesVerdict v (statuses.BadModel fault)) (sym e) (same_bad fault other (h.one text other told bad))
 bad_exactly model answer request fault h verdict (inr (inl (e, (text, told, (n, form, few))))) = absurd (h.none text n told form)
 bad_exactly model answer request fault h verdict (inr (inr (other, e, (text, told, claims)))) =
     absurd (of_told answer (λ claimed. OfModel text (λ k. HasProperty k request × HasNoList k claimed other)) ⊥ (λ claimed is claim. h.none text claim.0 told claim.1) claims)
@@ -302,7 +302,7 @@ bad_asked model answer request fault h (text, told, claims) =
 silent_before : (model : Option (List ℕ)) (answer : Told) (request : SolveRequest) (status : Status) → IsSilent status → EndsBefore model answer request status
 silent_before model answer request status silent = record { says = inr silent; exactly = λ verdict d. unanswered verdict silent; asked = λ asked. silent }
   where
-    unanswered : (verdict : Status) → IsSilent status → IsAnswered verdict status
+    unanswered : (verdict : Status) → IsSilent status → GivesVerdict verdict status
     unanswered verdict (inl e) = inl (inr (inl e))
     unanswered verdict (inr e) = inr e
 

@@ -30,7 +30,7 @@ use Rattle.plain_commands.specs.Written.{IsWritten, accepts}
 use Rattle.fair_top.specs.Waved.{IsGoodLasso, unknown, BlockWaved}
 use Rattle.plain_commands.specs.Statuses.{is_read_fault, ends_silently, status_in}
 use Rattle.plain_commands.specs.Texts.{text_of}
-use Rattle.plain_commands.specs.Answering.{IsSilent, IsAnswered}
+use Rattle.plain_commands.specs.Answering.{IsSilent, GivesVerdict}
 use Rattle.plain_commands.proofs.Judging.{End, failed_end, end_failed}
 use Rattle.plain_commands.proofs.Written.{written_status, written_unread, still}
 
@@ -102,7 +102,7 @@ lasso_waved c m told n found (Ok ending) same says written =
     let (text, may, decides) = sheet_lasso c told n found says in
     (text, may, inl (found, subst (λ (k : Circuit). DecidesBlock k text n (Ok found)) same decides, written.0, written.1))
 
-as_status : (end verdict : Cut) → EndsBlock end verdict → IsAnswered (block_status verdict) (block_status end)
+as_status : (end verdict : Cut) → EndsBlock end verdict → GivesVerdict (block_status verdict) (block_status end)
 as_status end verdict (inl (inl same)) = inl (inl (inl (ap block_status same)))
 as_status end verdict (inl (inr unread)) = inl (inr (inl (ap block_status unread)))
 as_status end verdict (inr memory) = inr (ap block_status memory)
@@ -110,7 +110,7 @@ as_status end verdict (inr memory) = inr (ap block_status memory)
 pub lasso_exactly : (c : Circuit) (m : Model) (told : Option (List ℕ)) (n : ℕ) (found : BlockLasso) (result : Result Ending Status) → c ≡ m.circuit
     → ((text : List ℕ) (verdict : Cut) → told ≡ Some text → DecidesBlock c text n verdict → EndsBlock (Ok found) verdict)
     → IsWritten result (statuses.Done Printed) (waves_text m found.property found.lasso)
-    → (claimed : List ℕ) (end : Cut) → told ≡ Some claimed → DecidesBlock m.circuit claimed n end → IsAnswered (block_status end) (status_in result)
+    → (claimed : List ℕ) (end : Cut) → told ≡ Some claimed → DecidesBlock m.circuit claimed n end → GivesVerdict (block_status end) (status_in result)
 lasso_exactly c m told n found result same exactly written claimed end is d =
     still (block_status end) (statuses.Done Printed) (status_in result)
     (written_status result (statuses.Done Printed) (waves_text m found.property found.lasso) written)
@@ -167,10 +167,10 @@ refused_waved c m told n end status (Ok ending) same says is text silent aloud =
 pub refused_exactly : (c : Circuit) (m : Model) (told : Option (List ℕ)) (n : ℕ) (refusal : JudgeEnd) (status result : Status) → c ≡ m.circuit
     → ((text : List ℕ) (verdict : Cut) → told ≡ Some text → DecidesBlock c text n verdict → EndsBlock (Err refusal) verdict)
     → status ≡ status_of_end refusal → (result ≡ status) ⊎ (result ≡ statuses.Memory)
-    → (claimed : List ℕ) (end : Cut) → told ≡ Some claimed → DecidesBlock m.circuit claimed n end → IsAnswered (block_status end) result
+    → (claimed : List ℕ) (end : Cut) → told ≡ Some claimed → DecidesBlock m.circuit claimed n end → GivesVerdict (block_status end) result
 refused_exactly c m told n refusal status result same exactly is either claimed end told_is d =
     still (block_status end) status result either
-    (subst (λ (s : Status). IsAnswered (block_status end) s) (sym is)
+    (subst (λ (s : Status). GivesVerdict (block_status end) s) (sym is)
     (as_status (Err refusal) end (exactly claimed end told_is (subst (λ (k : Circuit). DecidesBlock k claimed n end) (sym same) d))))
 
 end_accepts_none : (end : JudgeEnd) → accepts (status_of_end end) ≡ false

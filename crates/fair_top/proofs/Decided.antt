@@ -28,7 +28,7 @@ use Rattle.entry.specs.declared.refutations.Refutation.{Refutation}
 use Rattle.plain_commands.specs.declared.status.Done.TheVariants as dones
 use Rattle.entry.specs.CheckedEntries.{CheckedEntry}
 use Rattle.entry.specs.Proved.{IsGoodRefutation}
-use Rattle.fair_workers.specs.Runs.{IsReport, IsAnswered as IsAnsweredBy}
+use Rattle.fair_workers.specs.Runs.{IsReport, IsAnswered}
 use Rattle.std.specs.List.{Contains, range_with_len}
 use Rattle.std.proofs.lemmas.List.FromFn.{length-range_with_len, get_or-range_with_len}
 use Rattle.wall_store.specs.declared.outcomes.Outcome.{Outcome as Found}
@@ -69,10 +69,10 @@ shows true c request given status text found (inl (b, answered, (counts, entries
 shows true c request given status text found (inr r) is = let wrong : statuses.Unknown r.0 ≡ statuses.Done (done_by found) = sym r.1 ∙ is in cc
 
 -- where one property was asked for, the board serves that one
-pub one_answered : (c : Circuit) (request : SolveRequest) (given : List CheckedEntry) (b : BoardState) → request.all ≡ false → IsAnsweredBy (task_of c request given) b
-    → IsAnsweredBy (task_for c (request.property ∷ []) request given) b
+pub one_answered : (c : Circuit) (request : SolveRequest) (given : List CheckedEntry) (b : BoardState) → request.all ≡ false → IsAnswered (task_of c request given) b
+    → IsAnswered (task_for c (request.property ∷ []) request given) b
 one_answered c request given b one h =
-    subst (λ (ps : List ℕ). IsAnsweredBy (task_for c ps request given) b) (ap (λ (all : Bool). asked_in all c request.property) one) h
+    subst (λ (ps : List ℕ). IsAnswered (task_for c ps request given) b) (ap (λ (all : Bool). asked_in all c request.property) one) h
 
 -- the text of a certificate is none of a stimulus, and that of the board's list begins with what was given
 begins_with_given : (c : Circuit) (j : ℕ) (given more entries : List CheckedEntry) (o : Option Found) (found : Accepted) (text : List ℕ) → property_of found ≡ j
@@ -99,7 +99,7 @@ printed_by c request given more b (Ok ending) one limit same p t =
 printed_by c request given more b (Err status) one limit same p t = tt
 
 pub sheet_by : (c : Circuit) (request : SolveRequest) (given : List CheckedEntry) (b : BoardState) (result : Result Ending Status) → request.all ≡ true
-    → IsAnsweredBy (task_of c request given) b → IfOk result (λ ending. IsSheetPrinted c b ending.status ending.text.items)
+    → IsAnswered (task_of c request given) b → IfOk result (λ ending. IsSheetPrinted c b ending.status ending.text.items)
     → IfOk result (λ ending. EndsFor c request given ending.status ending.text.items)
 sheet_by c request given b (Ok ending) each answered p =
     subst (λ (all : Bool). EndsAs all c request given ending.status ending.text.items) (sym each) (inl (b, answered, p))
@@ -188,7 +188,7 @@ gives true model answer request q status text h (inl (b, answered, (counts, entr
             given_in q,
             k.2.1,
             b,
-            subst (λ (c : Circuit). IsAnsweredBy (task_of c request (given_in q)) b) k.2.0 answered,
+            subst (λ (c : Circuit). IsAnswered (task_of c request (given_in q)) b) k.2.0 answered,
             counted,
             subst (λ (c : Circuit). IsSheetOf c b counts text) k.2.0 sheet,
           ),

@@ -42,7 +42,7 @@ use Rattle.fair_top.specs.Waved.{CarriesLasso, IsGoodLasso, IsWaved, unknown, Bl
 use Rattle.plain_commands.specs.Written.{accepts}
 use Rattle.plain_commands.specs.Statuses.{is_read_fault, ends_silently, status_in}
 use Rattle.plain_commands.specs.Texts.{text_of}
-use Rattle.plain_commands.specs.Answering.{IsSilent, IsAnswered, HoldsModel, ReadsModel, ReadsModelFirst, HasWritten}
+use Rattle.plain_commands.specs.Answering.{IsSilent, GivesVerdict, HoldsModel, ReadsModel, ReadsModelFirst, HasWritten}
 use Rattle.plain_commands.specs.Judged.{IsModelOf, IsFaultOf, EndsWithoutModel}
 use Rattle.plain_commands.proofs.Judging.{End, same_bad}
 use Rattle.fair_top.proofs.Sinks.{of_refusal}
@@ -151,27 +151,27 @@ waved_found m answer n end kept (Ok ending) known says keeps w =
 
 -- What is decided.
 
-as_status : (end verdict : End) → EndsWith end verdict → IsAnswered (wave_status verdict) (wave_status end)
+as_status : (end verdict : End) → EndsWith end verdict → GivesVerdict (wave_status verdict) (wave_status end)
 as_status end verdict h = elim h [
   | inl other ↦ elim other [ inl e ↦ inl (inl (inl (ap wave_status e))) | inr e ↦ inl (inr (inl (ap wave_status e))) ]
   | inr e ↦ inr (ap wave_status e)
 ]
 
 -- where the check ends otherwise than as of unknown status, though the text is a sheet, a read failed or memory was refused
-cut_short : (end : End) (verdict : Status) → (end ≡ unknown → ⊥) → EndsWith end unknown → IsAnswered verdict (wave_status end)
+cut_short : (end : End) (verdict : Status) → (end ≡ unknown → ⊥) → EndsWith end unknown → GivesVerdict verdict (wave_status end)
 cut_short end verdict known (inl (inl same)) = absurd (known same)
 cut_short end verdict known (inl (inr unread)) = inl (inr (inl (ap wave_status unread)))
 cut_short end verdict known (inr memory) = inr (ap wave_status memory)
 
 exact_by : (c : Circuit) (claimed : List ℕ) (n : ℕ) (end : End) (verdict : Status) (test : Bool) → opens_as_sheet claimed ≡ test → (end ≡ unknown → ⊥)
-    → ((v : End) → DecidesEnd c claimed v → EndsWith end v) → DecidesWaveAs test c claimed n verdict → IsAnswered verdict (wave_status end)
+    → ((v : End) → DecidesEnd c claimed v → EndsWith end v) → DecidesWaveAs test c claimed n verdict → GivesVerdict verdict (wave_status end)
 exact_by c claimed n end verdict false is known exact (other, e, said) =
-    subst (λ (v : Status). IsAnswered v (wave_status end)) (sym e) (as_status end other (exact other said))
+    subst (λ (v : Status). GivesVerdict v (wave_status end)) (sym e) (as_status end other (exact other said))
 exact_by c claimed n end verdict true is known exact said = cut_short end verdict known (exact unknown (sheet_fault c claimed is))
 
 pub waved_exactly : (m : Model) (answer : Option (List ℕ)) (n : ℕ) (end : End) (kept : Option LassoOf) (result : Result Ending Status) → (end ≡ unknown → ⊥)
     → ((text : List ℕ) (v : End) → answer ≡ Some text → DecidesEnd m.circuit text v → EndsWith end v) → CarriesLasso m end kept → IsWaved m end kept result
-    → (claimed : List ℕ) (verdict : Status) → answer ≡ Some claimed → DecidesWaveAs (opens_as_sheet claimed) m.circuit claimed n verdict → IsAnswered verdict (status_in result)
+    → (claimed : List ℕ) (verdict : Status) → answer ≡ Some claimed → DecidesWaveAs (opens_as_sheet claimed) m.circuit claimed n verdict → GivesVerdict verdict (status_in result)
 waved_exactly m answer n end kept result known exact carried w claimed verdict told d =
     still verdict (wave_status end) (status_in result) (waved_status m end kept result carried w)
     (exact_by m.circuit claimed n end verdict (opens_as_sheet claimed) refl known (λ v h. exact claimed v told h) d)
@@ -217,11 +217,11 @@ block_found m now answer n (Ok ending) told says (claimed, may, waves) =
     block_ends m answer n claimed ending.status ending.text.items (opens_as_sheet claimed) refl says (subst (λ (t : Option (List ℕ)). MayBe t claimed) told may) waves
 
 block_exact : (c : Circuit) (claimed : List ℕ) (n : ℕ) (verdict result : Status) (test : Bool) → opens_as_sheet claimed ≡ test
-    → ((end : Result BlockLasso JudgeEnd) → DecidesBlock c claimed n end → IsAnswered (block_status end) result)
-    → ((v : End) → DecidesEnd c claimed v → EndsWith unknown v) → DecidesWaveAs test c claimed n verdict → IsAnswered verdict result
-block_exact c claimed n verdict result true is exact one (end, e, said) = subst (λ (v : Status). IsAnswered v result) (sym e) (exact end said)
+    → ((end : Result BlockLasso JudgeEnd) → DecidesBlock c claimed n end → GivesVerdict (block_status end) result)
+    → ((v : End) → DecidesEnd c claimed v → EndsWith unknown v) → DecidesWaveAs test c claimed n verdict → GivesVerdict verdict result
+block_exact c claimed n verdict result true is exact one (end, e, said) = subst (λ (v : Status). GivesVerdict v result) (sym e) (exact end said)
 block_exact c claimed n verdict result false is exact one (other, e, said) =
-    subst (λ (v : Status). IsAnswered v result) (sym (e ∙ ap wave_status (only other (one other said))))
+    subst (λ (v : Status). GivesVerdict v result) (sym (e ∙ ap wave_status (only other (one other said))))
     (exact (Err (cut_refused UnknownStatus)) (subst (λ (b : Bool). CutAs b c claimed n (Err (cut_refused UnknownStatus))) (sym is) refl))
   where
     only : (v : End) → EndsWith unknown v → v ≡ unknown
@@ -230,9 +230,9 @@ block_exact c claimed n verdict result false is exact one (other, e, said) =
     only v (inr wrong) = absurd (cc wrong)
 
 pub block_exactly : (m : Model) (now answer : Option (List ℕ)) (n : ℕ) (result : Result Ending Status) → now ≡ answer
-    → ((claimed : List ℕ) (end : Result BlockLasso JudgeEnd) → now ≡ Some claimed → DecidesBlock m.circuit claimed n end → IsAnswered (block_status end) (status_in result))
+    → ((claimed : List ℕ) (end : Result BlockLasso JudgeEnd) → now ≡ Some claimed → DecidesBlock m.circuit claimed n end → GivesVerdict (block_status end) (status_in result))
     → ((text : List ℕ) (v : End) → answer ≡ Some text → DecidesEnd m.circuit text v → EndsWith unknown v)
-    → (claimed : List ℕ) (verdict : Status) → answer ≡ Some claimed → DecidesWaveAs (opens_as_sheet claimed) m.circuit claimed n verdict → IsAnswered verdict (status_in result)
+    → (claimed : List ℕ) (verdict : Status) → answer ≡ Some claimed → DecidesWaveAs (opens_as_sheet claimed) m.circuit claimed n verdict → GivesVerdict verdict (status_in result)
 block_exactly m now answer n result told exact one claimed verdict is d =
     block_exact m.circuit claimed n verdict (status_in result) (opens_as_sheet claimed) refl (λ end h. exact claimed end (told ∙ is) h) (λ v h. one claimed v is h) d
 
@@ -250,8 +250,8 @@ waves_given m model now answer n (Ok ending) told h w =
     inr (h.text.0, h.text.1, (m, h.text.2, subst (λ (t : Option (List ℕ)). OfSomeText t (λ claimed. EndsWave m claimed n ending.status ending.text.items)) told w))
 
 pub waves_exact : (m : Model) (model now answer : Option (List ℕ)) (n : ℕ) (result : Status) → now ≡ answer → IsModelOf model m
-    → ((claimed : List ℕ) (verdict : Status) → now ≡ Some claimed → DecidesWaveAs (opens_as_sheet claimed) m.circuit claimed n verdict → IsAnswered verdict result)
-    → (verdict : Status) → DecidesWave model answer n verdict → IsAnswered verdict result
+    → ((claimed : List ℕ) (verdict : Status) → now ≡ Some claimed → DecidesWaveAs (opens_as_sheet claimed) m.circuit claimed n verdict → GivesVerdict verdict result)
+    → (verdict : Status) → DecidesWave model answer n verdict → GivesVerdict verdict result
 waves_exact m model now answer n result told h exact verdict (inl (fault, e, (text, is, bad))) = absurd (h.faultless text fault is bad)
 waves_exact m model now answer n result told h exact verdict (inr (text, is, (claimed, claim_told, (k, form, said)))) =
     exact claimed verdict (told ∙ claim_told) (subst (λ (x : Model). DecidesWaveAs (opens_as_sheet claimed) x.circuit claimed n verdict) (sym (h.one text k is form)) said)
@@ -278,13 +278,13 @@ without_gives model answer j (statuses.OpenDepth n spent) (Ok ending) h text alo
 without_gives model answer j (statuses.NoItem entry clause) (Ok ending) h text aloud = absurd h
 
 bad_exact : (model answer : Option (List ℕ)) (j : ℕ) (fault : ModelFault) → IsFaultOf model fault
-    → (verdict : Status) → DecidesWave model answer j verdict → IsAnswered verdict (statuses.BadModel fault)
+    → (verdict : Status) → DecidesWave model answer j verdict → GivesVerdict verdict (statuses.BadModel fault)
 bad_exact model answer j fault h verdict (inl (other, e, (text, told, bad))) =
-    subst (λ (v : Status). IsAnswered v (statuses.BadModel fault)) (sym e) (same_bad fault other (h.one text other told bad))
+    subst (λ (v : Status). GivesVerdict v (statuses.BadModel fault)) (sym e) (same_bad fault other (h.one text other told bad))
 bad_exact model answer j fault h verdict (inr (text, told, (claimed, claim_told, (m, form, said)))) = absurd (h.none text m told form)
 
 no_model_exact : (model answer : Option (List ℕ)) (j : ℕ) (status : Status) → EndsWithoutModel model status
-    → (verdict : Status) → DecidesWave model answer j verdict → IsAnswered verdict status
+    → (verdict : Status) → DecidesWave model answer j verdict → GivesVerdict verdict status
 no_model_exact model answer j (statuses.BadModel fault) h verdict d = bad_exact model answer j fault h verdict d
 no_model_exact model answer j statuses.ReadFault h verdict d = inl (inr (inl refl))
 no_model_exact model answer j statuses.Memory h verdict d = inr refl
@@ -301,7 +301,7 @@ no_model_exact model answer j (statuses.OpenDepth n spent) h verdict d = absurd 
 no_model_exact model answer j (statuses.NoItem entry clause) h verdict d = absurd h
 
 pub without_exact : (model answer : Option (List ℕ)) (j : ℕ) (status result : Status) → EndsWithoutModel model status → (result ≡ status) ⊎ (result ≡ statuses.Memory)
-    → (verdict : Status) → DecidesWave model answer j verdict → IsAnswered verdict result
+    → (verdict : Status) → DecidesWave model answer j verdict → GivesVerdict verdict result
 without_exact model answer j status result h is verdict d = still verdict status result is (no_model_exact model answer j status h verdict d)
 
 -- No answer is accepted.

@@ -17,7 +17,7 @@ use Rattle.command_lines.specs.Commands.{Request, Gen, Demo, names_in}
 use Rattle.fair_top.specs.Commands.{CommandGives, Decides}
 use Rattle.command_lines.specs.Asking.{AsksFor, IsUsage, IsTakenOrUsage}
 use Rattle.fair_top.specs.Headline.{Ends, IsVerdict, HasTaken, ReadFailed, HasRead}
-use Rattle.plain_commands.specs.Answering.{IsAnswered, IsSilent, HasWritten, FailedOf, ReadsModelFirst}
+use Rattle.plain_commands.specs.Answering.{GivesVerdict, IsSilent, HasWritten, FailedOf, ReadsModelFirst}
 use Rattle.plain_commands.specs.Statuses.{is_read_fault, ends_silently}
 use Rattle.plain_commands.specs.Texts.{text_of}
 use Rattle.plain_commands.specs.declared.texts.Ending.{Ending}
@@ -29,25 +29,25 @@ use Rattle.command_lines.proofs.Taken.{one_asked, not_usage}
 
 -- what is decided for what is asked for is decided for the words
 pub exact_for : (held : List ℕ → Option (List ℕ)) (words : List (List ℕ)) (asked : Request) (result : Status) → AsksFor words asked
-    → ((verdict : Status) → Decides held asked verdict → IsAnswered verdict result)
-    → (verdict : Status) → IsVerdict held words verdict → IsAnswered verdict result
+    → ((verdict : Status) → Decides held asked verdict → GivesVerdict verdict result)
+    → (verdict : Status) → IsVerdict held words verdict → GivesVerdict verdict result
 exact_for held words asked result asks exact verdict (inl usage) = absurd (not_usage words asked asks usage.0)
 exact_for held words asked result asks exact verdict (inr (other, others, d)) =
     exact verdict (subst (λ (a : Request). Decides held a verdict) (one_asked words other asked others asks) d)
 
 -- another status in the place of one that is answered: that status, or want of memory
-pub still_answered : (verdict status result : Status) → (result ≡ status) ⊎ (result ≡ statuses.Memory) → IsAnswered verdict status → IsAnswered verdict result
-still_answered verdict status result (inl same) h = subst (λ (s : Status). IsAnswered verdict s) (sym same) h
+pub still_answered : (verdict status result : Status) → (result ≡ status) ⊎ (result ≡ statuses.Memory) → GivesVerdict verdict status → GivesVerdict verdict result
+still_answered verdict status result (inl same) h = subst (λ (s : Status). GivesVerdict verdict s) (sym same) h
 still_answered verdict status result (inr memory) h = inr memory
 
 -- words that are no command
-pub usage_exact : (held : List ℕ → Option (List ℕ)) (words : List (List ℕ)) (verdict : Status) → IsUsage words → IsVerdict held words verdict → IsAnswered verdict statuses.Usage
+pub usage_exact : (held : List ℕ → Option (List ℕ)) (words : List (List ℕ)) (verdict : Status) → IsUsage words → IsVerdict held words verdict → GivesVerdict verdict statuses.Usage
 usage_exact held words verdict usage (inl (_, e)) = inl (inl (inl (sym e)))
 usage_exact held words verdict usage (inr (asked, asks, d)) = absurd (not_usage words asked asks usage)
 
 -- `gen` is answered with its model
 pub is_printed : (held : List ℕ → Option (List ℕ)) (words : List (List ℕ)) (before now : List ℕ → ℕ) (request : GenRequest) (status : Status)
-    → AsksFor words (Gen request) → ((verdict : Status) → IsVerdict held words verdict → IsAnswered verdict status)
+    → AsksFor words (Gen request) → ((verdict : Status) → IsVerdict held words verdict → GivesVerdict verdict status)
     → (status ≡ statuses.ReadFault → ReadFailed held words before now)
     → (status ≡ statuses.Done Printed) ⊎ ((status ≡ statuses.Memory) ⊎ (status ≡ statuses.WriteFault))
 is_printed held words before now request status asks exact read = by (exact (statuses.Done Printed) (inr (Gen request, asks, refl)))
@@ -55,7 +55,7 @@ is_printed held words before now request status asks exact read = by (exact (sta
     unread : ReadFailed held words before now → ⊥
     unread (other, others, failed, there) = subst (λ (a : Request). FailedOf held (names_in a) before now) (one_asked words other (Gen request) others asks) failed
 
-    by : IsAnswered (statuses.Done Printed) status → (status ≡ statuses.Done Printed) ⊎ ((status ≡ statuses.Memory) ⊎ (status ≡ statuses.WriteFault))
+    by : GivesVerdict (statuses.Done Printed) status → (status ≡ statuses.Done Printed) ⊎ ((status ≡ statuses.Memory) ⊎ (status ≡ statuses.WriteFault))
     by (inl (inl (inl e))) = inl e
     by (inl (inl (inr (v, w, e, wrong)))) = absurd (cc)
     by (inl (inr (inl e))) = absurd (unread (read e))

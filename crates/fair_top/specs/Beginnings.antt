@@ -15,7 +15,7 @@ use Rattle.plain_commands.specs.ModelGiven.{OfSomeText, SaysBadModel}
 use Rattle.plain_commands.specs.Check.{status_of_end}
 use Rattle.fair_top.specs.Solve.{asked_in, HasProperty, LacksProperty, OfAnswer, SaysNoProperty, RefusesAnswer, DecidesSolve, HasAsked}
 use Rattle.fair_top.specs.Solved.{MayBegin}
-use Rattle.plain_commands.specs.Answering.{IsSilent, IsAnswered}
+use Rattle.plain_commands.specs.Answering.{IsSilent, GivesVerdict}
 
 abbrev pub circuit_in : Beginning → Circuit
 circuit_in q = arc_value q.circuit
@@ -74,5 +74,5 @@ SaysBefore model answer request status =
 -- A run may end so that comes to no search.
 pub record EndsBefore (model : Option (List ℕ)) (answer : Option (Option (List ℕ))) (request : SolveRequest) (status : Status) : Type 0 where
   pub says : SaysBefore model answer request status ⊎ IsSilent status
-  pub exactly : (verdict : Status) → DecidesSolve model answer request verdict → IsAnswered verdict status
+  pub exactly : (verdict : Status) → DecidesSolve model answer request verdict → GivesVerdict verdict status
   pub asked : HasAsked model answer request → IsSilent status

@@ -27,7 +27,7 @@ use Rattle.sheet_commands.specs.Boards.{IsSheetOf}
 use Rattle.given_entries.specs.Beginning.{BeginsWith, HasNoList}
 use Rattle.search_reports.specs.declared.limits.Limits.{Limits}
 use Rattle.search_reports.specs.declared.limits.Report.{Report}
-use Rattle.fair_workers.specs.Runs.{Task, IsAnswered as IsAnsweredBy, IsReport}
+use Rattle.fair_workers.specs.Runs.{Task, IsAnswered, IsReport}
 use Rattle.command_lines.specs.declared.commands.solving.SolveRequest.{SolveRequest}
 use Rattle.plain_commands.specs.declared.status.Status.{Status}
 use Rattle.plain_commands.specs.declared.status.Status.TheVariants as statuses
@@ -158,7 +158,7 @@ abbrev pub IsSheetBy : Circuit → Option (List ℕ) → SolveRequest → Counts
 IsSheetBy c claimed request counts entries text =
     IsSheetWith c text counts entries × (counts.unknown ≡ 0)
     × (given : List CheckedEntry) × BeginsWith c claimed given
-    × (b : BoardState) × IsAnsweredBy (task_of c request given) b × (entries ≡ length b.entries) × IsSheetOf c b counts text
+    × (b : BoardState) × IsAnswered (task_of c request given) b × (entries ≡ length b.entries) × IsSheetOf c b counts text
 
 -- The text is such a sheet, and the status says what `check` says of it.
 abbrev pub PrintsSheet : Option (List ℕ) → Option (Option (List ℕ)) → SolveRequest → Status → List ℕ → Type 0

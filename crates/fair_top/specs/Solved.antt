@@ -9,7 +9,7 @@ use Rattle.entry.specs.CheckedEntries.{CheckedEntry}
 use Rattle.wall_store.specs.Boards.{BoardState, most_entries, IsSoundList}
 use Rattle.given_entries.specs.Beginning.{told_of}
 use Rattle.search_reports.specs.declared.limits.Report.{Report}
-use Rattle.fair_workers.specs.Runs.{AreLimits, AreServed, ServesOne, IsAnswer, IsAnswered as IsAnsweredBy, IsEnded, IsReport}
+use Rattle.fair_workers.specs.Runs.{AreLimits, AreServed, ServesOne, IsAnswer, IsAnswered, IsEnded, IsReport}
 use Rattle.search_reports.specs.declared.limits.Ended.{Ended}
 use Rattle.command_lines.specs.declared.commands.solving.SolveRequest.{SolveRequest}
 use Rattle.plain_commands.specs.declared.status.Status.{Status}
@@ -54,7 +54,7 @@ IsSheetPrinted c b status text =
 -- the same of a board with an outcome of each property, whose list began with these entries
 abbrev pub IsSheetPrintedFor : Circuit → SolveRequest → List CheckedEntry → Status → List ℕ → Type 0
 IsSheetPrintedFor c request given status text =
-    (b : BoardState) × IsAnsweredBy (task_of c request given) b × IsSheetPrinted c b status text
+    (b : BoardState) × IsAnswered (task_of c request given) b × IsSheetPrinted c b status text
 
 -- the status carries a report of workers, and the text is the sheet of its board
 abbrev pub EndsOpen : Circuit → SolveRequest → List CheckedEntry → Status → List ℕ → Type 0

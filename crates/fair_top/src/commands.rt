@@ -17,7 +17,7 @@ ghost use Rattle.command_lines.specs.Commands.{Request as AskedFor, names_in, me
 ghost use Rattle.fair_top.specs.Commands.{CommandGives, Decides, ShownBy};
 ghost use Rattle.command_lines.specs.Asking.{AsksFor, IsUsage, IsTakenOrUsage};
 ghost use Rattle.fair_top.specs.Headline.{ReadsNothing, Ends, IsVerdict, IsShown, MayHaveFailed, ReadFailed, HasRead};
-ghost use Rattle.plain_commands.specs.Answering.{IsSilent, IsAnswered, FailedOf, ReadsModelFirst};
+ghost use Rattle.plain_commands.specs.Answering.{IsSilent, GivesVerdict, FailedOf, ReadsModelFirst};
 ghost use Rattle.fair_top.specs.Solved.{SolvesAsked, IsSearch};
 ghost use Rattle.fair_top.specs.Beginnings.{circuit_in, served_in, given_in};
 ghost use Rattle.plain_commands.specs.Statuses.{status_in, is_read_fault};
@@ -55,7 +55,7 @@ pub(crate) fn ending_of<S: Fn(&Beginning, SolveRequest) -> Result<Report, Ended>
     ensures found { IfOk result (λ ending. Ends (H.held shelf.old) (bytes_of words.now) ending.status ending.text.items) }
     ensures silent { IfErr result IsSilent }
     ensures aloud { IfOk result (λ ending. is_read_fault ending.status ≡ false) }
-    ensures exactly { (verdict : Status) → IsVerdict (H.held shelf.old) (bytes_of words.now) verdict → IsAnswered verdict (status_in result) }
+    ensures exactly { (verdict : Status) → IsVerdict (H.held shelf.old) (bytes_of words.now) verdict → GivesVerdict verdict (status_in result) }
     ensures shown { IsShown (H.held shelf.old) (bytes_of words.now) (status_in result) }
     ensures words { IsTakenOrUsage (bytes_of words.now) }
     ensures solved { (asked : AskedFor) → AsksFor (bytes_of words.now) asked → SolvesAsked (H.held shelf.old) asked (status_in result) }
@@ -96,7 +96,7 @@ fn ending_for<S: Fn(&Beginning, SolveRequest) -> Result<Report, Ended>, H: Shelf
     ensures found { IfOk result (λ ending. CommandGives (H.held shelf.old) (meant asked.entry) ending.status ending.text.items) }
     ensures silent { IfErr result IsSilent }
     ensures aloud { IfOk result (λ ending. is_read_fault ending.status ≡ false) }
-    ensures exactly { (verdict : Status) → Decides (H.held shelf.old) (meant asked.entry) verdict → IsAnswered verdict (status_in result) }
+    ensures exactly { (verdict : Status) → Decides (H.held shelf.old) (meant asked.entry) verdict → GivesVerdict verdict (status_in result) }
     ensures shown { (accepted : JudgedOf) → status_in result ≡ Status.Done (done_by accepted) → ShownBy (H.held shelf.old) (meant asked.entry) accepted }
     ensures solved { SolvesAsked (H.held shelf.old) (meant asked.entry) (status_in result) }
     ensures read { status_in result ≡ Status.ReadFault → FailedOf (H.held shelf.old) (names_in (meant asked.entry)) (H.faults shelf.old) (H.faults shelf.new) }

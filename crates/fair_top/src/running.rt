@@ -13,7 +13,7 @@ ghost use Rattle.fair_top.specs.Solve.{HasAsked, IsSolved, limits_of, task_for};
 ghost use Rattle.fair_top.specs.Demo.{IsSummedUp};
 ghost use Rattle.command_lines.specs.Asking.{AsksFor, IsTakenOrUsage};
 ghost use Rattle.fair_top.specs.Headline.{ReadsNothing, IsFound, IsVerdict, IsShown, HasTaken, ReadFailed, HasRead};
-ghost use Rattle.plain_commands.specs.Answering.{IsAnswered, IsCut, IsSilent, HasWritten};
+ghost use Rattle.plain_commands.specs.Answering.{GivesVerdict, IsCut, IsSilent, HasWritten};
 ghost use Rattle.command_lines.specs.declared.commands.demonstrating.DemoRequest.{DemoRequest};
 ghost use Rattle.command_lines.specs.declared.commands.generating.GenRequest.{GenRequest};
 ghost use Rattle.command_lines.specs.declared.commands.solving.SolveRequest.{SolveRequest};
@@ -44,7 +44,7 @@ pub fn run<R: Threads + Wait + Sync, H: Shelf, O: Sink, G: Gate>(
     gate: &G,
 ) -> Status
     ensures found { IsFound (H.held shelf.old) (bytes_of words.now) result }
-    ensures exactly { (verdict : Status) → IsVerdict (H.held shelf.old) (bytes_of words.now) verdict → IsAnswered verdict result }
+    ensures exactly { (verdict : Status) → IsVerdict (H.held shelf.old) (bytes_of words.now) verdict → GivesVerdict verdict result }
     ensures shown { IsShown (H.held shelf.old) (bytes_of words.now) result }
     ensures words { IsTakenOrUsage (bytes_of words.now) }
     ensures printed { (request : GenRequest) → AsksFor (bytes_of words.now) (Gen request) → (result ≡ Status.Done Printed) ⊎ ((result ≡ Status.Memory) ⊎ (result ≡ Status.WriteFault)) }
@@ -86,7 +86,7 @@ pub fn run_alone<H: Shelf, O: Sink>(
     // values, or what the command gives with this status;
     ensures found { IsFound (H.held shelf.old) (bytes_of words.now) result }
     // and what is decided once is answered, unless memory is refused or a read or write fails.
-    ensures exactly { (verdict : Status) → IsVerdict (H.held shelf.old) (bytes_of words.now) verdict → IsAnswered verdict result }
+    ensures exactly { (verdict : Status) → IsVerdict (H.held shelf.old) (bytes_of words.now) verdict → GivesVerdict verdict result }
     // What `check` accepts or `solve` prints is true: the circuit of MODEL has such a fair lasso, or has none of the
     // property; of a sheet there is a block for each property, as many of each kind as are told, and what they say is so.
     ensures shown { IsShown (H.held shelf.old) (bytes_of words.now) result }
@@ -144,7 +144,7 @@ fn run_by<S: Fn(&Beginning, SolveRequest) -> Result<Report, Ended>, H: Shelf, O:
 ) -> Status
     requires search { IsSearch (λ q. circuit_in q.now) (λ q. served_in q.now) (λ q. given_in q.now) (S.pre search.now) (S.post search.now) }
     ensures found { IsFound (H.held shelf.old) (bytes_of words.now) result }
-    ensures exactly { (verdict : Status) → IsVerdict (H.held shelf.old) (bytes_of words.now) verdict → IsAnswered verdict result }
+    ensures exactly { (verdict : Status) → IsVerdict (H.held shelf.old) (bytes_of words.now) verdict → GivesVerdict verdict result }
     ensures shown { IsShown (H.held shelf.old) (bytes_of words.now) result }
     ensures words { IsTakenOrUsage (bytes_of words.now) }
     ensures printed { (request : GenRequest) → AsksFor (bytes_of words.now) (Gen request) → (result ≡ Status.Done Printed) ⊎ ((result ≡ Status.Memory) ⊎ (result ≡ Status.WriteFault)) }

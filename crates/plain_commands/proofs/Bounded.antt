@@ -31,7 +31,7 @@ use Rattle.plain_commands.specs.Check.{done_by}
 use Rattle.plain_commands.specs.Shortest.{SaysNoSuch, IsFewest, EndsShortest, GivesShortest, DecidesShortest, ShownByShortest}
 use Rattle.plain_commands.specs.Statuses.{is_read_fault, ends_silently, status_in}
 use Rattle.plain_commands.specs.Texts.{text_of, depth_text}
-use Rattle.plain_commands.specs.Answering.{IsAnswered, HasWritten}
+use Rattle.plain_commands.specs.Answering.{GivesVerdict, HasWritten}
 use Rattle.plain_commands.specs.Judged.{IsModelOf, IsFaultOf, EndsWithoutModel}
 use Rattle.plain_commands.proofs.Judging.{same_bad, same_accepted}
 use Rattle.plain_commands.proofs.Written.{not_both, no_model_accepts_none}
@@ -90,7 +90,7 @@ one_decided c request status verdict text (inr (inr (inr (most, spent, e, t, the
 
 pub bounded_exact : (c : Circuit) (m : Model) (told : Option (List ℕ)) (request : ShortestRequest) (result : Result Ending Status) → c ≡ m.circuit → IsModelOf told m
     → IfOk result (λ ending. EndsShortest c request ending.status ending.text.items) → IfErr result (λ status. status ≡ statuses.Memory)
-    → (verdict : Status) → DecidesShortest told request verdict → IsAnswered verdict (status_in result)
+    → (verdict : Status) → DecidesShortest told request verdict → GivesVerdict verdict (status_in result)
 bounded_exact c m told request result same h ends ended verdict (inl (fault, e, (text, is, bad))) = absurd (h.faultless text fault is bad)
 bounded_exact c m told request (Err status) same h ends ended verdict (inr (text, is, (n, form, d))) = inr ended
 bounded_exact c m told request (Ok ending) same h ends ended verdict (inr (text, is, (n, form, d))) =
@@ -169,13 +169,13 @@ without_gives model request (statuses.OpenDepth n spent) (Ok ending) h text alou
 without_gives model request (statuses.NoItem entry clause) (Ok ending) h text aloud = absurd h
 
 bad_exact : (model : Option (List ℕ)) (request : ShortestRequest) (fault : ModelFault) → IsFaultOf model fault
-    → (verdict : Status) → DecidesShortest model request verdict → IsAnswered verdict (statuses.BadModel fault)
+    → (verdict : Status) → DecidesShortest model request verdict → GivesVerdict verdict (statuses.BadModel fault)
 bad_exact model request fault h verdict (inl (other, e, (text, told, bad))) =
-    subst (λ (v : Status). IsAnswered v (statuses.BadModel fault)) (sym e) (same_bad fault other (h.one text other told bad))
+    subst (λ (v : Status). GivesVerdict v (statuses.BadModel fault)) (sym e) (same_bad fault other (h.one text other told bad))
 bad_exact model request fault h verdict (inr (text, told, (m, form, d))) = absurd (h.none text m told form)
 
 no_model_exact : (model : Option (List ℕ)) (request : ShortestRequest) (status : Status) → EndsWithoutModel model status
-    → (verdict : Status) → DecidesShortest model request verdict → IsAnswered verdict status
+    → (verdict : Status) → DecidesShortest model request verdict → GivesVerdict verdict status
 no_model_exact model request (statuses.BadModel fault) h verdict d = bad_exact model request fault h verdict d
 no_model_exact model request statuses.ReadFault h verdict d = inl (inr (inl refl))
 no_model_exact model request statuses.Memory h verdict d = inr refl
@@ -192,9 +192,9 @@ no_model_exact model request (statuses.OpenDepth n spent) h verdict d = absurd h
 no_model_exact model request (statuses.NoItem entry clause) h verdict d = absurd h
 
 pub without_exact : (model : Option (List ℕ)) (request : ShortestRequest) (status result : Status) → EndsWithoutModel model status
-    → (result ≡ status) ⊎ (result ≡ statuses.Memory) → (verdict : Status) → DecidesShortest model request verdict → IsAnswered verdict result
+    → (result ≡ status) ⊎ (result ≡ statuses.Memory) → (verdict : Status) → DecidesShortest model request verdict → GivesVerdict verdict result
 without_exact model request status result h (inl same) verdict d =
-    subst (λ (s : Status). IsAnswered verdict s) (sym same) (no_model_exact model request status h verdict d)
+    subst (λ (s : Status). GivesVerdict verdict s) (sym same) (no_model_exact model request status h verdict d)
 without_exact model request status result h (inr memory) verdict d = inr memory
 
 pub without_shown : (model : Option (List ℕ)) (status result : Status) → EndsWithoutModel model status → (result ≡ status) ⊎ (result ≡ statuses.Memory)

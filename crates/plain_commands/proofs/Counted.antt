@@ -32,7 +32,7 @@ use Rattle.plain_commands.specs.Check.{done_by}
 use Rattle.plain_commands.specs.Rounds.{SaysNoMonitor, SaysOpen, EndsRounds, GivesRounds, DecidesRounds, ShownByRounds}
 use Rattle.plain_commands.specs.Statuses.{is_read_fault, ends_silently, status_in}
 use Rattle.plain_commands.specs.Texts.{text_of}
-use Rattle.plain_commands.specs.Answering.{IsAnswered}
+use Rattle.plain_commands.specs.Answering.{GivesVerdict}
 use Rattle.plain_commands.specs.Judged.{IsModelOf, IsFaultOf, EndsWithoutModel}
 use Rattle.plain_commands.proofs.Judging.{same_bad, same_accepted}
 use Rattle.plain_commands.proofs.Written.{not_both, no_model_accepts_none}
@@ -122,7 +122,7 @@ one_decided c request status verdict text (inr (inr (says, t))) d = absurd (moni
 
 pub counted_exact : (c : Circuit) (m : Model) (told : Option (List ℕ)) (request : RoundsRequest) (result : Result Ending Status) → c ≡ m.circuit → IsModelOf told m
     → IfOk result (λ ending. EndsRounds c request ending.status ending.text.items) → IfErr result (λ status. status ≡ statuses.Memory)
-    → (verdict : Status) → DecidesRounds told request verdict → IsAnswered verdict (status_in result)
+    → (verdict : Status) → DecidesRounds told request verdict → GivesVerdict verdict (status_in result)
 counted_exact c m told request result same h ends ended verdict (inl (fault, e, (text, is, bad))) = absurd (h.faultless text fault is bad)
 counted_exact c m told request (Err status) same h ends ended verdict (inr (text, is, (n, form, d))) = inr ended
 counted_exact c m told request (Ok ending) same h ends ended verdict (inr (text, is, (n, form, d))) =
@@ -186,13 +186,13 @@ without_gives model request (statuses.OpenDepth n spent) (Ok ending) h text alou
 without_gives model request (statuses.NoItem entry clause) (Ok ending) h text aloud = absurd h
 
 bad_exact : (model : Option (List ℕ)) (request : RoundsRequest) (fault : ModelFault) → IsFaultOf model fault
-    → (verdict : Status) → DecidesRounds model request verdict → IsAnswered verdict (statuses.BadModel fault)
+    → (verdict : Status) → DecidesRounds model request verdict → GivesVerdict verdict (statuses.BadModel fault)
 bad_exact model request fault h verdict (inl (other, e, (text, told, bad))) =
-    subst (λ (v : Status). IsAnswered v (statuses.BadModel fault)) (sym e) (same_bad fault other (h.one text other told bad))
+    subst (λ (v : Status). GivesVerdict v (statuses.BadModel fault)) (sym e) (same_bad fault other (h.one text other told bad))
 bad_exact model request fault h verdict (inr (text, told, (m, form, d))) = absurd (h.none text m told form)
 
 no_model_exact : (model : Option (List ℕ)) (request : RoundsRequest) (status : Status) → EndsWithoutModel model status
-    → (verdict : Status) → DecidesRounds model request verdict → IsAnswered verdict status
+    → (verdict : Status) → DecidesRounds model request verdict → GivesVerdict verdict status
 no_model_exact model request (statuses.BadModel fault) h verdict d = bad_exact model request fault h verdict d
 no_model_exact model request statuses.ReadFault h verdict d = inl (inr (inl refl))
 no_model_exact model request statuses.Memory h verdict d = inr refl
@@ -209,9 +209,9 @@ no_model_exact model request (statuses.OpenDepth n spent) h verdict d = absurd h
 no_model_exact model request (statuses.NoItem entry clause) h verdict d = absurd h
 
 pub without_exact : (model : Option (List ℕ)) (request : RoundsRequest) (status result : Status) → EndsWithoutModel model status
-    → (result ≡ status) ⊎ (result ≡ statuses.Memory) → (verdict : Status) → DecidesRounds model request verdict → IsAnswered verdict result
+    → (result ≡ status) ⊎ (result ≡ statuses.Memory) → (verdict : Status) → DecidesRounds model request verdict → GivesVerdict verdict result
 without_exact model request status result h (inl same) verdict d =
-    subst (λ (s : Status). IsAnswered verdict s) (sym same) (no_model_exact model request status h verdict d)
+    subst (λ (s : Status). GivesVerdict verdict s) (sym same) (no_model_exact model request status h verdict d)
 without_exact model request status result h (inr memory) verdict d = inr memory
 
 pub without_shown : (model : Option (List ℕ)) (status result : Status) → EndsWithoutModel model status → (result ≡ status) ⊎ (result ≡ statuses.Memory)

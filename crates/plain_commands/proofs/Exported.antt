@@ -28,7 +28,7 @@ use Rattle.plain_commands.specs.Exporting.{IsItemEnd, IsExportEnd}
 use Rattle.plain_commands.specs.Written.{IsWritten, accepts}
 use Rattle.plain_commands.specs.Statuses.{is_read_fault, ends_silently, status_in}
 use Rattle.plain_commands.specs.Texts.{text_of}
-use Rattle.plain_commands.specs.Answering.{IsSilent, IsAnswered, HasWritten}
+use Rattle.plain_commands.specs.Answering.{IsSilent, GivesVerdict, HasWritten}
 use Rattle.plain_commands.specs.Judged.{IsModelOf, IsFaultOf, EndsWithoutModel}
 use Rattle.plain_commands.proofs.Judging.{End, same_bad}
 use Rattle.plain_commands.proofs.Written.{written_status, written_unread, still, not_both}
@@ -79,11 +79,11 @@ export_given request c m model now answer end result same told h says held r =
 
 -- ---- what is decided
 
-answered : (verdict status : Status) → status ≡ verdict → IsAnswered verdict status
+answered : (verdict status : Status) → status ≡ verdict → GivesVerdict verdict status
 answered verdict status e = inl (inl (inl e))
 
 item_answered : (c : Circuit) (loaded : Loaded) (request : ExportRequest) (result : Result Ending Status) (verdict : Status) → IsItemEnd c loaded request result → DecidesItem loaded request verdict
-    → IsAnswered verdict (status_in result)
+    → GivesVerdict verdict (status_in result)
 item_answered c loaded request (Ok ending) verdict (inl (has, is, text)) (inl (_, e)) = answered verdict ending.status (is ∙ sym e)
 item_answered c loaded request (Ok ending) verdict (inl (has, is, text)) (inr (none, e)) = absurd (none has)
 item_answered c loaded request (Ok ending) verdict (inr (none, is, text)) (inl (has, e)) = absurd (none has)
@@ -113,7 +113,7 @@ record Loads (c : Circuit) (told : Option (List ℕ)) (end : Held) : Type 0 wher
   held : IfOk end (IsHeldOf c told)
 
 exact_end : (request : ExportRequest) (c : Circuit) (told : Option (List ℕ)) (claimed : List ℕ) (end : Held) (result : Result Ending Status) → told ≡ Some claimed → Loads c told end
-    → IsExportEnd c request end result → (verdict : Status) → DecidesAnswer c claimed request verdict → IsAnswered verdict (status_in result)
+    → IsExportEnd c request end result → (verdict : Status) → DecidesAnswer c claimed request verdict → GivesVerdict verdict (status_in result)
 exact_end request c told claimed (Ok loaded) result is loads h verdict (inl (other, holds, decides)) =
     let (text, may, has) = loads.held in
     let same : other ≡ loaded = loads.one claimed other loaded holds (subst (λ (t : List ℕ). HoldsAnswer c t loaded) (sym (may claimed is)) has) in
@@ -130,7 +130,7 @@ exact_end request c told claimed (Err ends.ReadFault) result is loads h verdict 
 exact_end request c told claimed (Err ends.Memory) result is loads h verdict decides = inr (ap status_in h)
 
 exact_by : (request : ExportRequest) (c : Circuit) (m : Model) (model answer : Option (List ℕ)) (end : Held) (result : Result Ending Status) → c ≡ m.circuit → IsModelOf model m → Loads c answer end
-    → IsExportEnd c request end result → (verdict : Status) → DecidesExport model answer request verdict → IsAnswered verdict (status_in result)
+    → IsExportEnd c request end result → (verdict : Status) → DecidesExport model answer request verdict → GivesVerdict verdict (status_in result)
 exact_by request c m model answer end result same h loads r verdict (inl (fault, e, (text, told, bad))) = absurd (h.faultless text fault told bad)
 exact_by request c m model answer end result same h loads r verdict (inr (text, told, (claimed, claim_told, (n, form, said)))) =
     let decided : DecidesAnswer m.circuit claimed request verdict = subst (λ (x : Model). DecidesAnswer x.circuit claimed request verdict) (sym (h.one text n told form)) said in
@@ -138,7 +138,7 @@ exact_by request c m model answer end result same h loads r verdict (inr (text, 
 
 pub export_exact : (request : ExportRequest) (c : Circuit) (m : Model) (model now answer : Option (List ℕ)) (end : Held) (result : Result Ending Status) → c ≡ m.circuit → now ≡ answer
     → IsModelOf model m → HeldIsGood c → OneHeld c → ((text : List ℕ) (verdict : End) → now ≡ Some text → DecidesEnd c text verdict → EndsWith (accepted_in end) verdict)
-    → IfOk end (IsHeldOf c now) → IsExportEnd c request end result → (verdict : Status) → DecidesExport model answer request verdict → IsAnswered verdict (status_in result)
+    → IfOk end (IsHeldOf c now) → IsExportEnd c request end result → (verdict : Status) → DecidesExport model answer request verdict → GivesVerdict verdict (status_in result)
 export_exact request c m model now answer end result same told h good one exact held r =
     exact_by request c m model answer end result same h
     (record {
@@ -170,13 +170,13 @@ without_gives request model answer (statuses.OpenDepth n spent) (Ok ending) h te
 without_gives request model answer (statuses.NoItem entry clause) (Ok ending) h text aloud = absurd h
 
 bad_exact : (request : ExportRequest) (model answer : Option (List ℕ)) (fault : ModelFault) → IsFaultOf model fault
-    → (verdict : Status) → DecidesExport model answer request verdict → IsAnswered verdict (statuses.BadModel fault)
+    → (verdict : Status) → DecidesExport model answer request verdict → GivesVerdict verdict (statuses.BadModel fault)
 bad_exact request model answer fault h verdict (inl (other, e, (text, told, bad))) =
-    subst (λ (v : Status). IsAnswered v (statuses.BadModel fault)) (sym e) (same_bad fault other (h.one text other told bad))
+    subst (λ (v : Status). GivesVerdict v (statuses.BadModel fault)) (sym e) (same_bad fault other (h.one text other told bad))
 bad_exact request model answer fault h verdict (inr (text, told, (claimed, claim_told, (m, form, said)))) = absurd (h.none text m told form)
 
 no_model_exact : (request : ExportRequest) (model answer : Option (List ℕ)) (status : Status) → EndsWithoutModel model status
-    → (verdict : Status) → DecidesExport model answer request verdict → IsAnswered verdict status
+    → (verdict : Status) → DecidesExport model answer request verdict → GivesVerdict verdict status
 no_model_exact request model answer (statuses.BadModel fault) h verdict d = bad_exact request model answer fault h verdict d
 no_model_exact request model answer statuses.ReadFault h verdict d = inl (inr (inl refl))
 no_model_exact request model answer statuses.Memory h verdict d = inr refl
@@ -193,7 +193,7 @@ no_model_exact request model answer (statuses.OpenDepth n spent) h verdict d = a
 no_model_exact request model answer (statuses.NoItem entry clause) h verdict d = absurd h
 
 pub without_exact : (request : ExportRequest) (model answer : Option (List ℕ)) (status result : Status) → EndsWithoutModel model status → (result ≡ status) ⊎ (result ≡ statuses.Memory)
-    → (verdict : Status) → DecidesExport model answer request verdict → IsAnswered verdict result
+    → (verdict : Status) → DecidesExport model answer request verdict → GivesVerdict verdict result
 without_exact request model answer status result h is verdict d = still verdict status result is (no_model_exact request model answer status h verdict d)
 
 -- ---- no answer is accepted

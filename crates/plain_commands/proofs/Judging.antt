@@ -26,7 +26,7 @@ use Rattle.plain_commands.specs.ModelTexts.{IsModelText}
 use Rattle.plain_commands.specs.ModelGiven.{OfSomeText}
 use Rattle.plain_commands.specs.Check.{done_of, done_of_text, done_by, status_of, status_of_end, JudgesAs, DecidesCheck, ShownByCheck}
 use Rattle.plain_commands.specs.Statuses.{is_read_fault}
-use Rattle.plain_commands.specs.Answering.{IsSilent, IsAnswered, HoldsModel, ReadsModel, ReadsModelFirst}
+use Rattle.plain_commands.specs.Answering.{IsSilent, GivesVerdict, HoldsModel, ReadsModel, ReadsModelFirst}
 use Rattle.plain_commands.specs.Judged.{IsModelOf, IsFaultOf, EndsWithoutModel}
 
 abbrev pub End : Type 0
@@ -52,7 +52,7 @@ pub judged : (c : Circuit) (m : Model) (model now answer : Option (List ℕ)) (e
 judged c m model now answer end same kept h r =
     says m model answer end h (subst (λ (x : Circuit). JudgeSays x answer end) same (subst (λ (told : Option (List ℕ)). JudgeSays c told end) kept r))
 
-as_status : (end verdict : TextEnd) → EndsWith end verdict → IsAnswered (status_of verdict) (status_of end)
+as_status : (end verdict : TextEnd) → EndsWith end verdict → GivesVerdict (status_of verdict) (status_of end)
 as_status end verdict h = elim h [
   | inl other ↦ elim other [ inl e ↦ inl (inl (inl (ap status_of e))) | inr e ↦ inl (inr (inl (ap status_of e))) ]
   | inr e ↦ inr (ap status_of e)
@@ -60,15 +60,15 @@ as_status end verdict h = elim h [
 
 exact_by : (m : Model) (model answer : Option (List ℕ)) (end : TextEnd) → IsModelOf model m
     → ((text : List ℕ) (verdict : TextEnd) → answer ≡ Some text → Decides m.circuit text verdict → EndsWith end verdict)
-    → (verdict : Status) → DecidesCheck model answer verdict → IsAnswered verdict (status_of end)
+    → (verdict : Status) → DecidesCheck model answer verdict → GivesVerdict verdict (status_of end)
 exact_by m model answer end h exact verdict (inl (fault, e, (text, told, bad))) = absurd (h.faultless text fault told bad)
 exact_by m model answer end h exact verdict (inr (other, e, (text, told, (claimed, claim_told, (n, form, said))))) =
     let decided : Decides m.circuit claimed other = subst (λ (x : Model). Decides x.circuit claimed other) (sym (h.one text n told form)) said in
-    subst (λ (v : Status). IsAnswered v (status_of end)) (sym e) (as_status end other (exact claimed other claim_told decided))
+    subst (λ (v : Status). GivesVerdict v (status_of end)) (sym e) (as_status end other (exact claimed other claim_told decided))
 
 pub judged_exact : (c : Circuit) (m : Model) (model now answer : Option (List ℕ)) (end : TextEnd) → c ≡ m.circuit → now ≡ answer → IsModelOf model m
     → ((text : List ℕ) (verdict : TextEnd) → now ≡ Some text → Decides c text verdict → EndsWith end verdict)
-    → (verdict : Status) → DecidesCheck model answer verdict → IsAnswered verdict (status_of end)
+    → (verdict : Status) → DecidesCheck model answer verdict → GivesVerdict verdict (status_of end)
 judged_exact c m model now answer end same kept h exact =
     exact_by m model answer end h (λ text verdict e d. exact text verdict (kept ∙ e) (subst (λ (x : Circuit). Decides x text verdict) (sym same) d))
 
@@ -101,20 +101,20 @@ without_model model answer (statuses.OpenRounds n spent) h = absurd h
 without_model model answer (statuses.OpenDepth n spent) h = absurd h
 without_model model answer (statuses.NoItem entry clause) h = absurd h
 
-pub same_bad : (f g : ModelFault) → SameFault f g → IsAnswered (statuses.BadModel g) (statuses.BadModel f)
+pub same_bad : (f g : ModelFault) → SameFault f g → GivesVerdict (statuses.BadModel g) (statuses.BadModel f)
 same_bad f g h = elim h [
   | inl e ↦ inl (inl (inl (ap statuses.BadModel e)))
   | inr two ↦ inl (inl (inr (two.0, two.1, ap statuses.BadModel two.2, ap statuses.BadModel two.3)))
 ]
 
 bad_exact : (model answer : Option (List ℕ)) (fault : ModelFault) → IsFaultOf model fault
-    → (verdict : Status) → DecidesCheck model answer verdict → IsAnswered verdict (statuses.BadModel fault)
+    → (verdict : Status) → DecidesCheck model answer verdict → GivesVerdict verdict (statuses.BadModel fault)
 bad_exact model answer fault h verdict (inl (other, e, (text, told, bad))) =
-    subst (λ (v : Status). IsAnswered v (statuses.BadModel fault)) (sym e) (same_bad fault other (h.one text other told bad))
+    subst (λ (v : Status). GivesVerdict v (statuses.BadModel fault)) (sym e) (same_bad fault other (h.one text other told bad))
 bad_exact model answer fault h verdict (inr (other, e, (text, told, (claimed, claim_told, (m, form, said))))) = absurd (h.none text m told form)
 
 pub without_model_exact : (model answer : Option (List ℕ)) (status : Status) → EndsWithoutModel model status
-    → (verdict : Status) → DecidesCheck model answer verdict → IsAnswered verdict status
+    → (verdict : Status) → DecidesCheck model answer verdict → GivesVerdict verdict status
 without_model_exact model answer (statuses.BadModel fault) h verdict d = bad_exact model answer fault h verdict d
 without_model_exact model answer statuses.ReadFault h verdict d = inl (inr (inl refl))
 without_model_exact model answer statuses.Memory h verdict d = inr refl

@@ -22,7 +22,7 @@ use Rattle.plain_commands.specs.Remade.{EndsRemade, GivesRemade, remade_status, 
 use Rattle.plain_commands.specs.Remaking.{IsMadeOf, IsMade, IsRemade}
 use Rattle.plain_commands.specs.Statuses.{is_read_fault, ends_silently, status_in}
 use Rattle.plain_commands.specs.Texts.{text_of}
-use Rattle.plain_commands.specs.Answering.{IsSilent, IsAnswered, HoldsModel, ReadsModel, ReadsModelFirst, HasWritten}
+use Rattle.plain_commands.specs.Answering.{IsSilent, GivesVerdict, HoldsModel, ReadsModel, ReadsModelFirst, HasWritten}
 use Rattle.plain_commands.specs.Judged.{IsModelOf, IsFaultOf, EndsWithoutModel}
 use Rattle.plain_commands.proofs.Judging.{End, same_bad}
 use Rattle.plain_commands.proofs.Written.{written_status, written_unread, still, not_both}
@@ -79,7 +79,7 @@ remade_given M c m model now answer end result same told h says held r =
 
 -- What is decided.
 
-as_status : (end verdict : End) → EndsWith end verdict → IsAnswered (remade_status verdict) (remade_status end)
+as_status : (end verdict : End) → EndsWith end verdict → GivesVerdict (remade_status verdict) (remade_status end)
 as_status end verdict h = elim h [
   | inl other ↦ elim other [ inl e ↦ inl (inl (inl (ap remade_status e))) | inr e ↦ inl (inr (inl (ap remade_status e))) ]
   | inr e ↦ inr (ap remade_status e)
@@ -87,15 +87,15 @@ as_status end verdict h = elim h [
 
 exact_by : (m : Model) (model answer : Option (List ℕ)) (end : End) → IsModelOf model m
     → ((text : List ℕ) (verdict : End) → answer ≡ Some text → DecidesEnd m.circuit text verdict → EndsWith end verdict)
-    → (verdict : Status) → DecidesRemade model answer verdict → IsAnswered verdict (remade_status end)
+    → (verdict : Status) → DecidesRemade model answer verdict → GivesVerdict verdict (remade_status end)
 exact_by m model answer end h exact verdict (inl (fault, e, (text, told, bad))) = absurd (h.faultless text fault told bad)
 exact_by m model answer end h exact verdict (inr (other, e, (text, told, (claimed, claim_told, (n, form, said))))) =
     let decided : DecidesEnd m.circuit claimed other = subst (λ (x : Model). DecidesEnd x.circuit claimed other) (sym (h.one text n told form)) said in
-    subst (λ (v : Status). IsAnswered v (remade_status end)) (sym e) (as_status end other (exact claimed other claim_told decided))
+    subst (λ (v : Status). GivesVerdict v (remade_status end)) (sym e) (as_status end other (exact claimed other claim_told decided))
 
 pub remade_exact : (M : Made) (c : Circuit) (m : Model) (model now answer : Option (List ℕ)) (end : Held) (result : Result Ending Status) → c ≡ m.circuit → now ≡ answer
     → IsModelOf model m → ((text : List ℕ) (verdict : End) → now ≡ Some text → DecidesEnd c text verdict → EndsWith (accepted_in end) verdict)
-    → IsRemade M c end result → (verdict : Status) → DecidesRemade model answer verdict → IsAnswered verdict (status_in result)
+    → IsRemade M c end result → (verdict : Status) → DecidesRemade model answer verdict → GivesVerdict verdict (status_in result)
 remade_exact M c m model now answer end result same told h exact r verdict d =
     still verdict (remade_status (accepted_in end)) (status_in result) (remade_ends M c end result r)
     (exact_by m model answer (accepted_in end) h (λ text v e k. exact text v (told ∙ e) (subst (λ (x : Circuit). DecidesEnd x text v) (sym same) k)) verdict d)
@@ -122,13 +122,13 @@ without_gives M model answer (statuses.OpenDepth n spent) (Ok ending) h text alo
 without_gives M model answer (statuses.NoItem entry clause) (Ok ending) h text aloud = absurd h
 
 bad_exact : (model answer : Option (List ℕ)) (fault : ModelFault) → IsFaultOf model fault
-    → (verdict : Status) → DecidesRemade model answer verdict → IsAnswered verdict (statuses.BadModel fault)
+    → (verdict : Status) → DecidesRemade model answer verdict → GivesVerdict verdict (statuses.BadModel fault)
 bad_exact model answer fault h verdict (inl (other, e, (text, told, bad))) =
-    subst (λ (v : Status). IsAnswered v (statuses.BadModel fault)) (sym e) (same_bad fault other (h.one text other told bad))
+    subst (λ (v : Status). GivesVerdict v (statuses.BadModel fault)) (sym e) (same_bad fault other (h.one text other told bad))
 bad_exact model answer fault h verdict (inr (other, e, (text, told, (claimed, claim_told, (m, form, said))))) = absurd (h.none text m told form)
 
 no_model_exact : (model answer : Option (List ℕ)) (status : Status) → EndsWithoutModel model status
-    → (verdict : Status) → DecidesRemade model answer verdict → IsAnswered verdict status
+    → (verdict : Status) → DecidesRemade model answer verdict → GivesVerdict verdict status
 no_model_exact model answer (statuses.BadModel fault) h verdict d = bad_exact model answer fault h verdict d
 no_model_exact model answer statuses.ReadFault h verdict d = inl (inr (inl refl))
 no_model_exact model answer statuses.Memory h verdict d = inr refl
@@ -145,7 +145,7 @@ no_model_exact model answer (statuses.OpenDepth n spent) h verdict d = absurd h
 no_model_exact model answer (statuses.NoItem entry clause) h verdict d = absurd h
 
 pub without_exact : (model answer : Option (List ℕ)) (status result : Status) → EndsWithoutModel model status → (result ≡ status) ⊎ (result ≡ statuses.Memory)
-    → (verdict : Status) → DecidesRemade model answer verdict → IsAnswered verdict result
+    → (verdict : Status) → DecidesRemade model answer verdict → GivesVerdict verdict result
 without_exact model answer status result h is verdict d = still verdict status result is (no_model_exact model answer status h verdict d)
 
 -- No answer is accepted.

@@ -22,7 +22,7 @@ use Rattle.plain_commands.specs.Check.{done_by}
 use Rattle.plain_commands.specs.Slice.{DecidesSliceOf, EndsSlice, GivesSlice, DecidesSlice}
 use Rattle.plain_commands.specs.Statuses.{is_read_fault, ends_silently, status_in}
 use Rattle.plain_commands.specs.Texts.{text_of}
-use Rattle.plain_commands.specs.Answering.{IsAnswered, HasWritten}
+use Rattle.plain_commands.specs.Answering.{GivesVerdict, HasWritten}
 use Rattle.plain_commands.specs.Judged.{IsModelOf, IsFaultOf, EndsWithoutModel}
 use Rattle.plain_commands.proofs.Judging.{same_bad}
 
@@ -54,7 +54,7 @@ decided m j status text (inr (h, t)) = inr h
 
 pub sliced_exact : (m : Model) (told : Option (List ℕ)) (j : ℕ) (result : Result Ending Status) → IsModelOf told m
     → IfOk result (λ ending. EndsSlice m j ending.status ending.text.items) → IfErr result (λ status. status ≡ statuses.Memory)
-    → (verdict : Status) → DecidesSlice told j verdict → IsAnswered verdict (status_in result)
+    → (verdict : Status) → DecidesSlice told j verdict → GivesVerdict verdict (status_in result)
 sliced_exact m told j result h ends ended verdict (inl (fault, e, (text, is, bad))) = absurd (h.faultless text fault is bad)
 sliced_exact m told j (Err status) h ends ended verdict (inr (text, is, (n, form, d))) = inr ended
 sliced_exact m told j (Ok ending) h ends ended verdict (inr (text, is, (n, form, d))) =
@@ -108,13 +108,13 @@ without_slice model j (statuses.OpenDepth n spent) (Ok ending) h text aloud = ab
 without_slice model j (statuses.NoItem entry clause) (Ok ending) h text aloud = absurd h
 
 bad_exact : (model : Option (List ℕ)) (j : ℕ) (fault : ModelFault) → IsFaultOf model fault
-    → (verdict : Status) → DecidesSlice model j verdict → IsAnswered verdict (statuses.BadModel fault)
+    → (verdict : Status) → DecidesSlice model j verdict → GivesVerdict verdict (statuses.BadModel fault)
 bad_exact model j fault h verdict (inl (other, e, (text, told, bad))) =
-    subst (λ (v : Status). IsAnswered v (statuses.BadModel fault)) (sym e) (same_bad fault other (h.one text other told bad))
+    subst (λ (v : Status). GivesVerdict v (statuses.BadModel fault)) (sym e) (same_bad fault other (h.one text other told bad))
 bad_exact model j fault h verdict (inr (text, told, (m, form, d))) = absurd (h.none text m told form)
 
 no_model_exact : (model : Option (List ℕ)) (j : ℕ) (status : Status) → EndsWithoutModel model status
-    → (verdict : Status) → DecidesSlice model j verdict → IsAnswered verdict status
+    → (verdict : Status) → DecidesSlice model j verdict → GivesVerdict verdict status
 no_model_exact model j (statuses.BadModel fault) h verdict d = bad_exact model j fault h verdict d
 no_model_exact model j statuses.ReadFault h verdict d = inl (inr (inl refl))
 no_model_exact model j statuses.Memory h verdict d = inr refl
@@ -131,8 +131,8 @@ no_model_exact model j (statuses.OpenDepth n spent) h verdict d = absurd h
 no_model_exact model j (statuses.NoItem entry clause) h verdict d = absurd h
 
 pub without_slice_exact : (model : Option (List ℕ)) (j : ℕ) (status result : Status) → EndsWithoutModel model status → (result ≡ status) ⊎ (result ≡ statuses.Memory)
-    → (verdict : Status) → DecidesSlice model j verdict → IsAnswered verdict result
-without_slice_exact model j status result h (inl same) verdict d = subst (λ (s : Status). IsAnswered verdict s) (sym same) (no_model_exact model j status h verdict d)
+    → (verdict : Status) → DecidesSlice model j verdict → GivesVerdict verdict result
+without_slice_exact model j status result h (inl same) verdict d = subst (λ (s : Status). GivesVerdict verdict s) (sym same) (no_model_exact model j status h verdict d)
 without_slice_exact model j status result h (inr memory) verdict d = inr memory
 
 -- The writes that a sink saw.

@@ -14,7 +14,7 @@ use Rattle.plain_commands.specs.Check.{done_by}
 use Rattle.plain_commands.specs.Written.{IsWritten, accepts}
 use Rattle.plain_commands.specs.Statuses.{is_read_fault, ends_silently, status_in}
 use Rattle.plain_commands.specs.Texts.{text_of}
-use Rattle.plain_commands.specs.Answering.{IsAnswered}
+use Rattle.plain_commands.specs.Answering.{GivesVerdict}
 use Rattle.plain_commands.specs.Judged.{EndsWithoutModel}
 
 -- A status with its text.
@@ -32,8 +32,8 @@ written_status (Err other) status text h = inr h
 
 -- What is decided.
 
-pub still : (verdict status result : Status) → (result ≡ status) ⊎ (result ≡ statuses.Memory) → IsAnswered verdict status → IsAnswered verdict result
-still verdict status result (inl same) h = subst (λ (s : Status). IsAnswered verdict s) (sym same) h
+pub still : (verdict status result : Status) → (result ≡ status) ⊎ (result ≡ statuses.Memory) → GivesVerdict verdict status → GivesVerdict verdict result
+still verdict status result (inl same) h = subst (λ (s : Status). GivesVerdict verdict s) (sym same) h
 still verdict status result (inr memory) h = inr memory
 
 -- No answer is accepted.

@@ -28,9 +28,9 @@ SameVerdict verdict status =
 abbrev pub IsCut : Status → Type 0
 IsCut status = (status ≡ statuses.ReadFault) ⊎ (status ≡ statuses.WriteFault)
 
--- the verdict is answered, unless memory is refused or a read or write fails
-abbrev pub IsAnswered : Status → Status → Type 0
-IsAnswered verdict result = GivesSome statuses.Memory (λ status. SameVerdict verdict status ⊎ IsCut status) result
+-- the verdict is given, unless memory is refused or a read or write fails
+abbrev pub GivesVerdict : Status → Status → Type 0
+GivesVerdict verdict result = GivesSome statuses.Memory (λ status. SameVerdict verdict status ⊎ IsCut status) result
 
 -- What a run reads.
 

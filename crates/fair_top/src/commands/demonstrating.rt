@@ -7,7 +7,7 @@ ghost use Rattle.certificate.specs.declared.ends.Accepted.{Accepted as AcceptedO
 ghost use Rattle.sheet_answers.specs.declared.ends.Judged.{Judged as JudgedOf};
 ghost use Rattle.certificate.specs.Answers.{IsGood};
 ghost use Rattle.wall_store.specs.Boards.{outcome_of};
-ghost use Rattle.fair_workers.specs.Runs.{IsAnswered as IsAnsweredBy, IsAnswer, IsReport};
+ghost use Rattle.fair_workers.specs.Runs.{IsAnswered, IsAnswer, IsReport};
 ghost use Rattle.plain_commands.specs.Check.{done_by};
 ghost use Rattle.fair_top.specs.Demo.{demo_task, verdict_text, summary_text, SumsUpAnswer, SumsUpBoard, SumsUpReport, SumsUp, GivesDemo};
 ghost use Rattle.fair_top.specs.Solve.{IsTextOfOutcome};
@@ -105,7 +105,7 @@ fn checked_summary(
     board: &Board,
 ) -> Result<Vec<u8>, Status>
     requires one { length circuit.now.justice ≡ 1 }
-    requires answered { IsAnsweredBy (demo_task circuit.now) board.now }
+    requires answered { IsAnswered (demo_task circuit.now) board.now }
     ensures sums { IfOk result (λ text. SumsUpBoard circuit.now request.now text.items board.now) }
     ensures ended { IfErr result (λ status. status ≡ Status.Memory) }
 {
@@ -131,7 +131,7 @@ fn checked_summary(
 // The text that `solve` prints of the outcome.
 fn answer_text(alloc: Global, circuit: &Circuit, board: &Board) -> Result<Vec<u8>, Status>
     requires one { length circuit.now.justice ≡ 1 }
-    requires answered { IsAnsweredBy (demo_task circuit.now) board.now }
+    requires answered { IsAnswered (demo_task circuit.now) board.now }
     ensures text { IfOk result (λ text. IsTextOfOutcome circuit.now 0 board.now.entries (outcome_of board.now.served 0) text.items) }
     ensures good { IfOk result (λ text. (found : AcceptedOf) × IsGood circuit.now text.items found) }
     ensures ended { IfErr result (λ status. status ≡ Status.Memory) }

@@ -12,7 +12,7 @@ ghost use Rattle.entry.specs.CheckedEntries.{CheckedEntry};
 ghost use Rattle.entry.specs.Proved.{IsGoodRefutation};
 ghost use Rattle.given_entries.specs.Beginning.{told_of};
 ghost use Rattle.command_lines.specs.Commands.{name_in};
-ghost use Rattle.fair_workers.specs.Runs.{AreServed, IsAnswered as IsAnsweredBy, IsAnswer, IsReport, IsEnded};
+ghost use Rattle.fair_workers.specs.Runs.{AreServed, IsAnswered, IsAnswer, IsReport, IsEnded};
 ghost use Rattle.wall_store.specs.Boards.{properties_of, outcome_of, plain};
 ghost use Rattle.wall_store.specs.Events.{IsSettled};
 ghost use Rattle.sheet_commands.specs.Each.{property_numbers};
@@ -20,7 +20,7 @@ ghost use Rattle.plain_commands.specs.Check.{done_by};
 ghost use Rattle.fair_top.specs.Solve.{limits_of, asked_in, task_for, task_of, HasProperty, HasAsked, GivesSolve, DecidesSolve, ShownBySolve, IsStimulusOf, IsTextOfOutcome, IsSheetOfReport};
 ghost use Rattle.fair_top.specs.Solved.{AreWithin, MayBegin, IsSearch, EndsFor, IsPrinted, IsSheetPrinted, SolvesUnlessCut};
 ghost use Rattle.fair_top.specs.Beginnings.{circuit_in, served_in, given_in};
-ghost use Rattle.plain_commands.specs.Answering.{IsSilent, IsAnswered, FailedOf, ReadsModelFirst};
+ghost use Rattle.plain_commands.specs.Answering.{IsSilent, GivesVerdict, FailedOf, ReadsModelFirst};
 ghost use Rattle.fair_top.specs.Headline.{FailedFor};
 ghost use Rattle.plain_commands.specs.Statuses.{status_in, is_read_fault};
 
@@ -56,7 +56,7 @@ pub(crate) fn solve<S: Fn(&Beginning, SolveRequest) -> Result<Report, Ended>, H:
     ensures silent { IfErr result IsSilent }
     ensures aloud { IfOk result (λ ending. is_read_fault ending.status ≡ false) }
     ensures exactly { (verdict : Status) → DecidesSolve (H.held shelf.old model.now)
-        (told_of (H.held shelf.old) (option_map (λ name. name.now) resume.entry)) request.now verdict → IsAnswered verdict (status_in result) }
+        (told_of (H.held shelf.old) (option_map (λ name. name.now) resume.entry)) request.now verdict → GivesVerdict verdict (status_in result) }
     ensures shown { (accepted : JudgedOf) → status_in result ≡ Status.Done (done_by accepted) → ShownBySolve (H.held shelf.old model.now) accepted }
     ensures solved { HasAsked (H.held shelf.old model.now) (told_of (H.held shelf.old) (option_map (λ name. name.now) resume.entry)) request.now
         → SolvesUnlessCut request.now.all (status_in result) }
@@ -122,9 +122,9 @@ fn decided(
     request: &SolveRequest,
     board: &Board,
 ) -> Result<Ending, Status>
-    requires answered { (given : List CheckedEntry) × IsAnsweredBy (task_of circuit.now request.now given) board.now }
+    requires answered { (given : List CheckedEntry) × IsAnswered (task_of circuit.now request.now given) board.now }
     requires property { HasProperty circuit.now request.now }
-    ensures found { (given : List CheckedEntry) → IsAnsweredBy (task_of circuit.now request.now given) board.now
+    ensures found { (given : List CheckedEntry) → IsAnswered (task_of circuit.now request.now given) board.now
         → IfOk result (λ ending. EndsFor circuit.now request.now given ending.status ending.text.items) }
     ensures ended { IfErr result (λ status. status ≡ Status.Memory) }
 {
@@ -210,7 +210,7 @@ pub(crate) fn printed(
     request: &SolveRequest,
     board: &Board,
 ) -> Result<Ending, Status>
-    requires answered { (given : List CheckedEntry) × IsAnsweredBy (task_for circuit.now (request.now.property ∷ []) request.now given) board.now }
+    requires answered { (given : List CheckedEntry) × IsAnswered (task_for circuit.now (request.now.property ∷ []) request.now given) board.now }
     requires property { request.now.property < length circuit.now.justice }
     ensures found { IfOk result (λ ending. IsPrinted circuit.now request.now board.now.limit ending.status ending.text.items) }
     ensures text { IfOk result (λ ending. IsTextOfOutcome circuit.now request.now.property board.now.entries

@@ -15,7 +15,7 @@ ghost use Rattle.plain_commands.specs.Written.{IsWritten, accepts};
 ghost use Rattle.plain_commands.specs.Texts.{text_of};
 ghost use Rattle.plain_commands.specs.declared.status.Done.TheVariants.{Printed};
 ghost use Rattle.waves.specs.Dumps.{waves_text};
-ghost use Rattle.plain_commands.specs.Answering.{IsSilent, IsAnswered, FailedOf, ReadsModelFirst};
+ghost use Rattle.plain_commands.specs.Answering.{IsSilent, GivesVerdict, FailedOf, ReadsModelFirst};
 ghost use Rattle.plain_commands.specs.Statuses.{status_in, is_read_fault};
 
 use crate::commands::status_of_end;
@@ -41,7 +41,7 @@ pub(crate) fn wave<H: Shelf>(
     ensures found { IfOk result (λ ending. GivesWave (H.held shelf.old model.now) (H.held shelf.old answer.now) property ending.status ending.text.items) }
     ensures silent { IfErr result IsSilent }
     ensures aloud { IfOk result (λ ending. is_read_fault ending.status ≡ false) }
-    ensures exactly { (verdict : Status) → DecidesWave (H.held shelf.old model.now) (H.held shelf.old answer.now) property verdict → IsAnswered verdict (status_in result) }
+    ensures exactly { (verdict : Status) → DecidesWave (H.held shelf.old model.now) (H.held shelf.old answer.now) property verdict → GivesVerdict verdict (status_in result) }
     ensures shown { (accepted : JudgedOf) → status_in result ≡ Status.Done (done_by accepted) → ⊥ }
     ensures read { status_in result ≡ Status.ReadFault → FailedOf (H.held shelf.old) (model.now ∷ answer.now ∷ []) (H.faults shelf.old) (H.faults shelf.new) }
     ensures reads { ReadsModelFirst H.reads (H.held shelf.old) (model.now ∷ answer.now ∷ []) (is_read_fault (status_in result)) shelf.old shelf.new }
@@ -69,7 +69,7 @@ fn waves_of<H: Shelf>(
     ensures found { IfOk result (λ ending. OfSomeText (H.held shelf.old answer.now)
         (λ claimed. EndsWave model.now claimed property ending.status ending.text.items)) }
     ensures exactly { (claimed : List ℕ) (verdict : Status) → H.held shelf.old answer.now ≡ Some claimed
-        → DecidesWaveAs (opens_as_sheet claimed) model.now.circuit claimed property verdict → IsAnswered verdict (status_in result) }
+        → DecidesWaveAs (opens_as_sheet claimed) model.now.circuit claimed property verdict → GivesVerdict verdict (status_in result) }
     ensures silent { IfErr result IsSilent }
     ensures aloud { IfOk result (λ ending. is_read_fault ending.status ≡ false) }
     ensures hidden { accepts (status_in result) ≡ false }
@@ -107,7 +107,7 @@ fn wave_block<H: Shelf>(
 ) -> Result<Ending, Status>
     ensures waved { BlockWaved model.now (H.held shelf.old answer.now) property result }
     ensures exactly { (claimed : List ℕ) (end : Result BlockLasso JudgeEnd) → H.held shelf.old answer.now ≡ Some claimed
-        → DecidesBlock model.now.circuit claimed property end → IsAnswered (block_status end) (status_in result) }
+        → DecidesBlock model.now.circuit claimed property end → GivesVerdict (block_status end) (status_in result) }
     ensures aloud { IfOk result (λ ending. is_read_fault ending.status ≡ false) }
     ensures hidden { accepts (status_in result) ≡ false }
     ensures read { status_in result ≡ Status.ReadFault → Rose (H.faults shelf.old answer.now) (H.faults shelf.new answer.now) }

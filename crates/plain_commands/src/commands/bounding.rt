@@ -9,7 +9,7 @@ ghost use Rattle.lasso_bmc.specs.Searching.{IsShortest, IsSearched, IsSearchEnd}
 ghost use Rattle.edge.specs.Units.{limit_of};
 ghost use Rattle.plain_commands.specs.Check.{done_by};
 ghost use Rattle.plain_commands.specs.Shortest.{EndsShortest, GivesShortest, DecidesShortest, ShownByShortest};
-ghost use Rattle.plain_commands.specs.Answering.{IsSilent, IsAnswered, FailedOf, ReadsModelFirst};
+ghost use Rattle.plain_commands.specs.Answering.{IsSilent, GivesVerdict, FailedOf, ReadsModelFirst};
 ghost use Rattle.plain_commands.specs.Statuses.{status_in, is_read_fault};
 ghost use Rattle.plain_commands.specs.Texts.{depth_text};
 
@@ -41,7 +41,7 @@ pub fn find_shortest<H: Shelf>(
     ensures found { IfOk result (λ ending. GivesShortest (H.held shelf.old model.now) request.now ending.status ending.text.items) }
     ensures silent { IfErr result IsSilent }
     ensures aloud { IfOk result (λ ending. is_read_fault ending.status ≡ false) }
-    ensures exactly { (verdict : Status) → DecidesShortest (H.held shelf.old model.now) request.now verdict → IsAnswered verdict (status_in result) }
+    ensures exactly { (verdict : Status) → DecidesShortest (H.held shelf.old model.now) request.now verdict → GivesVerdict verdict (status_in result) }
     ensures shown { (accepted : JudgedOf) → status_in result ≡ Status.Done (done_by accepted) → ShownByShortest (H.held shelf.old model.now) accepted }
     ensures read { status_in result ≡ Status.ReadFault → FailedOf (H.held shelf.old) (model.now ∷ []) (H.faults shelf.old) (H.faults shelf.new) }
     ensures reads { ReadsModelFirst H.reads (H.held shelf.old) (model.now ∷ []) (is_read_fault (status_in result)) shelf.old shelf.new }

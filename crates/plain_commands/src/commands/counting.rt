@@ -11,7 +11,7 @@ ghost use Rattle.round_answers.specs.Writing.{IsSo, is_reached};
 ghost use Rattle.k_live.specs.Deciding.{Decides};
 ghost use Rattle.plain_commands.specs.Check.{done_by};
 ghost use Rattle.plain_commands.specs.Rounds.{EndsRounds, GivesRounds, DecidesRounds, ShownByRounds};
-ghost use Rattle.plain_commands.specs.Answering.{IsSilent, IsAnswered, FailedOf, ReadsModelFirst};
+ghost use Rattle.plain_commands.specs.Answering.{IsSilent, GivesVerdict, FailedOf, ReadsModelFirst};
 ghost use Rattle.plain_commands.specs.Statuses.{status_in, is_read_fault};
 
 use crate::models::model_of;
@@ -35,7 +35,7 @@ pub fn count_rounds<H: Shelf>(
     ensures found { IfOk result (λ ending. GivesRounds (H.held shelf.old model.now) request.now ending.status ending.text.items) }
     ensures silent { IfErr result IsSilent }
     ensures aloud { IfOk result (λ ending. is_read_fault ending.status ≡ false) }
-    ensures exactly { (verdict : Status) → DecidesRounds (H.held shelf.old model.now) request.now verdict → IsAnswered verdict (status_in result) }
+    ensures exactly { (verdict : Status) → DecidesRounds (H.held shelf.old model.now) request.now verdict → GivesVerdict verdict (status_in result) }
     ensures shown { (accepted : JudgedOf) → status_in result ≡ Status.Done (done_by accepted) → ShownByRounds (H.held shelf.old model.now) accepted }
     ensures read { status_in result ≡ Status.ReadFault → FailedOf (H.held shelf.old) (model.now ∷ []) (H.faults shelf.old) (H.faults shelf.new) }
     ensures reads { ReadsModelFirst H.reads (H.held shelf.old) (model.now ∷ []) (is_read_fault (status_in result)) shelf.old shelf.new }

@@ -11,7 +11,7 @@ ghost use Rattle.plain_commands.specs.Export.{GivesExport, DecidesExport};
 ghost use Rattle.plain_commands.specs.Exporting.{IsItemEnd, IsExportEnd};
 ghost use Rattle.plain_commands.specs.Written.{IsWritten};
 ghost use Rattle.plain_commands.specs.Texts.{text_of};
-ghost use Rattle.plain_commands.specs.Answering.{IsSilent, IsAnswered, FailedOf, ReadsModelFirst};
+ghost use Rattle.plain_commands.specs.Answering.{IsSilent, GivesVerdict, FailedOf, ReadsModelFirst};
 ghost use Rattle.plain_commands.specs.Statuses.{status_in, is_read_fault};
 
 use crate::commands::remaking::refused;
@@ -40,7 +40,7 @@ pub fn export_item<H: Shelf>(
     ensures silent { IfErr result IsSilent }
     ensures aloud { IfOk result (λ ending. is_read_fault ending.status ≡ false) }
     ensures exactly { (verdict : Status) → DecidesExport (H.held shelf.old model.now) (H.held shelf.old answer.now) request.now verdict
-        → IsAnswered verdict (status_in result) }
+        → GivesVerdict verdict (status_in result) }
     ensures shown { (accepted : JudgedOf) → status_in result ≡ Status.Done (done_by accepted) → ⊥ }
     ensures read { status_in result ≡ Status.ReadFault
         → FailedOf (H.held shelf.old) (model.now ∷ answer.now ∷ []) (H.faults shelf.old) (H.faults shelf.new) }

@@ -11,7 +11,7 @@ ghost use Rattle.plain_commands.specs.Remade.{GivesRemade, DecidesRemade};
 ghost use Rattle.plain_commands.specs.Remaking.{IsRemade, IsMade, IsMadeOf};
 ghost use Rattle.plain_commands.specs.Written.{IsWritten};
 ghost use Rattle.plain_commands.specs.Texts.{text_of};
-ghost use Rattle.plain_commands.specs.Answering.{IsSilent, IsAnswered, FailedOf, ReadsModelFirst};
+ghost use Rattle.plain_commands.specs.Answering.{IsSilent, GivesVerdict, FailedOf, ReadsModelFirst};
 ghost use Rattle.plain_commands.specs.Statuses.{status_in, is_read_fault};
 
 use crate::models::model_of;
@@ -48,7 +48,7 @@ pub fn remake<H: Shelf, R: MakesText>(
     ensures found { IfOk result (λ ending. GivesRemade (R.made how.now) (H.held shelf.old model.now) (H.held shelf.old answer.now) ending.status ending.text.items) }
     ensures silent { IfErr result IsSilent }
     ensures aloud { IfOk result (λ ending. is_read_fault ending.status ≡ false) }
-    ensures exactly { (verdict : Status) → DecidesRemade (H.held shelf.old model.now) (H.held shelf.old answer.now) verdict → IsAnswered verdict (status_in result) }
+    ensures exactly { (verdict : Status) → DecidesRemade (H.held shelf.old model.now) (H.held shelf.old answer.now) verdict → GivesVerdict verdict (status_in result) }
     ensures shown { (accepted : JudgedOf) → status_in result ≡ Status.Done (done_by accepted) → ⊥ }
     ensures read { status_in result ≡ Status.ReadFault → FailedOf (H.held shelf.old) (model.now ∷ answer.now ∷ []) (H.faults shelf.old) (H.faults shelf.new) }
     ensures reads { ReadsModelFirst H.reads (H.held shelf.old) (model.now ∷ answer.now ∷ []) (is_read_fault (status_in result)) shelf.old shelf.new }

@@ -9,7 +9,7 @@ ghost use Rattle.live_to_safe.specs.BadRuns.{HasFairLasso};
 ghost use Rattle.slice.specs.Slicing.{IsSlice};
 ghost use Rattle.plain_commands.specs.Check.{done_by};
 ghost use Rattle.plain_commands.specs.Slice.{EndsSlice, GivesSlice, DecidesSlice};
-ghost use Rattle.plain_commands.specs.Answering.{IsSilent, IsAnswered, FailedOf, ReadsModelFirst};
+ghost use Rattle.plain_commands.specs.Answering.{IsSilent, GivesVerdict, FailedOf, ReadsModelFirst};
 ghost use Rattle.plain_commands.specs.Statuses.{status_in, is_read_fault};
 
 use crate::models::model_of;
@@ -31,7 +31,7 @@ pub fn write_slice<H: Shelf>(
     ensures found { IfOk result (λ ending. GivesSlice (H.held shelf.old model.now) property ending.status ending.text.items) }
     ensures silent { IfErr result IsSilent }
     ensures aloud { IfOk result (λ ending. is_read_fault ending.status ≡ false) }
-    ensures exactly { (verdict : Status) → DecidesSlice (H.held shelf.old model.now) property verdict → IsAnswered verdict (status_in result) }
+    ensures exactly { (verdict : Status) → DecidesSlice (H.held shelf.old model.now) property verdict → GivesVerdict verdict (status_in result) }
     ensures shown { (accepted : JudgedOf) → status_in result ≡ Status.Done (done_by accepted) → ⊥ }
     ensures read { status_in result ≡ Status.ReadFault → FailedOf (H.held shelf.old) (model.now ∷ []) (H.faults shelf.old) (H.faults shelf.new) }
     ensures reads { ReadsModelFirst H.reads (H.held shelf.old) (model.now ∷ []) (is_read_fault (status_in result)) shelf.old shelf.new }

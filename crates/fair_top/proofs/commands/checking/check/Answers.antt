@@ -3,7 +3,7 @@ use Rattle.plain_commands.specs.declared.status.Status.{Status}
 use Rattle.plain_commands.specs.ModelGiven.{OfSomeText}
 use Rattle.plain_commands.specs.Check.{JudgesAs}
 use Rattle.plain_commands.specs.Statuses.{is_read_fault}
-use Rattle.plain_commands.specs.Answering.{IsSilent, IsAnswered, ReadsModelFirst}
+use Rattle.plain_commands.specs.Answering.{IsSilent, GivesVerdict, ReadsModelFirst}
 use Rattle.plain_commands.proofs.Judging.{told_form, judged, judged_exact, judged_shown, without_model, without_model_exact, read_failed, both_read, rose_since}
 use Rattle.fair_top.proofs.commands.checking.check.Goals as goal
 
@@ -17,7 +17,7 @@ returns-in-Ok-clause-found g c =
 pub returns-in-Ok-clause-exactly : goal.returns-in-Ok-clause-exactly
 returns-in-Ok-clause-exactly g c = λ verdict d.
     let held = g.H.Shelf.held in
-    subst (λ (s : Status). IsAnswered verdict s) (sym c.checked-status.ensures)
+    subst (λ (s : Status). GivesVerdict verdict s) (sym c.checked-status.ensures)
     (judged_exact c.circuit.result.now c.in-Ok.model (held c.args.shelf.now c.args.model.now) (held c.model_of.new.shelf c.args.answer.now) (held c.args.shelf.now c.args.answer.now)
     c.check_answer.result c.circuit.ensures.circuit (c.in-Ok.ensures.kept c.args.answer.now) c.in-Ok.ensures.found c.check_answer.ensures.exactly verdict d)
 

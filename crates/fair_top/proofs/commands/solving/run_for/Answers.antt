@@ -2,7 +2,7 @@ use Rattle.std.proofs.Common.{rules, ◌≡◌, sym, subst}
 use Rattle.std.specs.Prelude.{IfOk}
 use Rattle.aig_semantics.specs.Circuits.{Circuit}
 use Rattle.search_reports.specs.declared.limits.Ended.{Ended}
-use Rattle.fair_workers.specs.Runs.{IsAnswered as IsAnsweredBy, IsReport, IsEnded}
+use Rattle.fair_workers.specs.Runs.{IsAnswered, IsReport, IsEnded}
 use Rattle.fair_top.specs.Solve.{task_of, HasProperty}
 use Rattle.fair_top.specs.Solved.{EndsFor}
 use Rattle.fair_top.specs.Beginnings.{circuit_in, given_in}
@@ -12,7 +12,7 @@ pub decided-requires-clause-answered : goal.decided-requires-clause-answered
 decided-requires-clause-answered g c =
     let given = given_in c.args.beginning.now in
     let is : c.deref.result.now ≡ circuit_in c.args.beginning.now = search rules in
-    (given, subst (λ (k : Circuit). IsAnsweredBy (task_of k c.args.request.now given) c.in-Ok.report.board) (sym is) c.in-Ok.ensures.answer.answered)
+    (given, subst (λ (k : Circuit). IsAnswered (task_of k c.args.request.now given) c.in-Ok.report.board) (sym is) c.in-Ok.ensures.answer.answered)
 
 pub decided-requires-clause-property : goal.decided-requires-clause-property
 decided-requires-clause-property g c =
@@ -25,7 +25,7 @@ returns-in-Ok-clause-found g c =
     let is : c.deref.result.now ≡ circuit_in c.args.beginning.now = search rules in
     subst (λ (k : Circuit). IfOk c.decided.result (λ ending. EndsFor k c.args.request.now given ending.status ending.text.items)) is
     (c.decided.ensures.found given
-    (subst (λ (k : Circuit). IsAnsweredBy (task_of k c.args.request.now given) c.in-Ok.report.board) (sym is) c.in-Ok.ensures.answer.answered))
+    (subst (λ (k : Circuit). IsAnswered (task_of k c.args.request.now given) c.in-Ok.report.board) (sym is) c.in-Ok.ensures.answer.answered))
 
 pub undecided-requires : goal.undecided-requires
 undecided-requires g c =
