@@ -16,7 +16,7 @@ use Rattle.plain_commands.specs.Check.{JudgesAs, GivesCheck}
 use Rattle.command_lines.specs.Commands.{Request, Gen, Demo, names_in}
 use Rattle.fair_top.specs.Commands.{CommandGives, Decides}
 use Rattle.command_lines.specs.Asking.{AsksFor, IsUsage, IsTakenOrUsage}
-use Rattle.fair_top.specs.Headline.{Ends, IsVerdict, HasTaken, ReadFailed, HasRead}
+use Rattle.fair_top.specs.Headline.{Ends, IsVerdict, HasTakenText, ReadFailed, HasRead}
 use Rattle.plain_commands.specs.Answering.{GivesVerdict, IsSilent, HasWritten, FailedOf, ReadsModelFirst}
 use Rattle.plain_commands.specs.Statuses.{is_read_fault, ends_silently}
 use Rattle.plain_commands.specs.Texts.{text_of}
@@ -130,11 +130,11 @@ not_a_read words status (inr memory) = ap is_read_fault memory
 -- What the sink took.
 
 pub written : (held : List ℕ → Option (List ℕ)) (words : List (List ℕ)) (old new : Option (List ℕ)) (status : Status) (text bytes : List ℕ)
-    → bytes ≡ text → Ends held words status text → Adds old new bytes → HasTaken held words old new status
+    → bytes ≡ text → Ends held words status text → Adds old new bytes → HasTakenText held words old new status
 written held words old new status text bytes same ends adds = inl (text, ends, subst (λ (b : List ℕ). Adds old new b) same adds)
 
 pub part_written : (held : List ℕ → Option (List ℕ)) (words : List (List ℕ)) (old new : Option (List ℕ)) (status : Status) (text bytes : List ℕ)
-    → bytes ≡ text → Ends held words status text → AddsPart old new bytes → HasTaken held words old new statuses.WriteFault
+    → bytes ≡ text → Ends held words status text → AddsPart old new bytes → HasTakenText held words old new statuses.WriteFault
 part_written held words old new status text bytes same ends part =
     inr (inr (refl, status, text, ends, subst (λ (b : List ℕ). AddsPart old new b) same part))
 

@@ -32,15 +32,16 @@ Ends held words status text =
     (IsUsage words × (status ≡ statuses.Usage) × (text ≡ usage_text))
     ⊎ ((asked : Request) × AsksFor words asked × CommandGives held asked status text)
 
--- what holds where a run answers a status; after a failed write the status that it would have answered says so
-abbrev pub IsFound : (List ℕ → Option (List ℕ)) → List (List ℕ) → Status → Type 0
-IsFound held words status =
+-- the status is right: with some text a run ends so; or it ends without one; or a write failed, and with another status and a text
+-- it would have ended so
+abbrev pub IsRight : (List ℕ → Option (List ℕ)) → List (List ℕ) → Status → Type 0
+IsRight held words status =
     ((text : List ℕ) × Ends held words status text)
     ⊎ (IsSilent status ⊎ ((status ≡ statuses.WriteFault) × (meant : Status) × (text : List ℕ) × Ends held words meant text))
 
 -- what a sink has taken: the text of the end, of which a failed write leaves a part; or nothing
-abbrev pub HasTaken : (List ℕ → Option (List ℕ)) → List (List ℕ) → Option (List ℕ) → Option (List ℕ) → Status → Type 0
-HasTaken held words old new status =
+abbrev pub HasTakenText : (List ℕ → Option (List ℕ)) → List (List ℕ) → Option (List ℕ) → Option (List ℕ) → Status → Type 0
+HasTakenText held words old new status =
     ((text : List ℕ) × Ends held words status text × Adds old new text)
     ⊎ ((IsSilent status × (new ≡ old))
     ⊎ ((status ≡ statuses.WriteFault) × (meant : Status) × (text : List ℕ) × Ends held words meant text × AddsPart old new text))
@@ -56,8 +57,8 @@ IsVerdict held words verdict =
 
 -- where the status is that of an accepted or a printed answer, sheet or text about rounds, the words ask for its check or for
 -- its search, and what it shows is true
-abbrev pub IsShown : (List ℕ → Option (List ℕ)) → List (List ℕ) → Status → Type 0
-IsShown held words status =
+abbrev pub HoldsAsShown : (List ℕ → Option (List ℕ)) → List (List ℕ) → Status → Type 0
+HoldsAsShown held words status =
     (accepted : Judged) → status ≡ statuses.Done (done_by accepted)
     → (asked : Request) × AsksFor words asked × ShownBy held asked accepted
 

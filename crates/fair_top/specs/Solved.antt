@@ -22,7 +22,7 @@ use Rattle.plain_commands.specs.Check.{done_of, done_by}
 use Rattle.command_lines.specs.Commands.{Request, Solve}
 use Rattle.fair_top.specs.Solve.{limits_of, task_for, task_of, most_of, property_of, IsWithinList, BeginsWithGiven, IsSheetOfReport, HasAsked, IsSolved}
 use Rattle.plain_commands.specs.Spelled.{IsWrittenAs}
-use Rattle.plain_commands.specs.Answering.{IsCut}
+use Rattle.plain_commands.specs.Answering.{IsCutShort}
 use Rattle.plain_commands.specs.Texts.{text_of}
 
 -- the text is a good answer for the property of the circuit, as `solve` spells it, with at most so many entries, the status
@@ -82,7 +82,7 @@ AreWithin request = AreLimits (limits_of request)
 
 -- a verdict, or a report, unless memory is refused or a read or write fails
 abbrev pub SolvesUnlessCut : Bool → Status → Type 0
-SolvesUnlessCut all status = GivesSome statuses.Memory (λ end. IsSolved all end ⊎ IsCut end) status
+SolvesUnlessCut all status = GivesSome statuses.Memory (λ end. IsSolved all end ⊎ IsCutShort end) status
 
 -- where `solve` is asked for, of a model that has the property, and of an answer that gives entries, the status is that of a
 -- verdict or of a report

@@ -16,7 +16,7 @@ ghost use Rattle.plain_commands.specs.Check.{done_by};
 ghost use Rattle.command_lines.specs.Commands.{Request as AskedFor, names_in, meant};
 ghost use Rattle.fair_top.specs.Commands.{CommandGives, Decides, ShownBy};
 ghost use Rattle.command_lines.specs.Asking.{AsksFor, IsUsage, IsTakenOrUsage};
-ghost use Rattle.fair_top.specs.Headline.{ReadsNothing, Ends, IsVerdict, IsShown, MayHaveFailed, ReadFailed, HasRead};
+ghost use Rattle.fair_top.specs.Headline.{ReadsNothing, Ends, IsVerdict, HoldsAsShown, MayHaveFailed, ReadFailed, HasRead};
 ghost use Rattle.plain_commands.specs.Answering.{IsSilent, GivesVerdict, FailedOf, ReadsModelFirst};
 ghost use Rattle.fair_top.specs.Solved.{SolvesAsked, IsSearch};
 ghost use Rattle.fair_top.specs.Beginnings.{circuit_in, served_in, given_in};
@@ -56,7 +56,7 @@ pub(crate) fn ending_of<S: Fn(&Beginning, SolveRequest) -> Result<Report, Ended>
     ensures silent { IfErr result IsSilent }
     ensures aloud { IfOk result (λ ending. is_read_fault ending.status ≡ false) }
     ensures exactly { (verdict : Status) → IsVerdict (H.held shelf.old) (bytes_of words.now) verdict → GivesVerdict verdict (status_in result) }
-    ensures shown { IsShown (H.held shelf.old) (bytes_of words.now) (status_in result) }
+    ensures shown { HoldsAsShown (H.held shelf.old) (bytes_of words.now) (status_in result) }
     ensures words { IsTakenOrUsage (bytes_of words.now) }
     ensures solved { (asked : AskedFor) → AsksFor (bytes_of words.now) asked → SolvesAsked (H.held shelf.old) asked (status_in result) }
     ensures read { status_in result ≡ Status.ReadFault → ReadFailed (H.held shelf.old) (bytes_of words.now) (H.faults shelf.old) (H.faults shelf.new) }

@@ -12,8 +12,8 @@ ghost use Rattle.command_lines.specs.Commands.Request.{Solve, Gen, Demo};
 ghost use Rattle.fair_top.specs.Solve.{HasAsked, IsSolved, limits_of, task_for};
 ghost use Rattle.fair_top.specs.Demo.{IsSummedUp};
 ghost use Rattle.command_lines.specs.Asking.{AsksFor, IsTakenOrUsage};
-ghost use Rattle.fair_top.specs.Headline.{ReadsNothing, IsFound, IsVerdict, IsShown, HasTaken, ReadFailed, HasRead};
-ghost use Rattle.plain_commands.specs.Answering.{GivesVerdict, IsCut, IsSilent, HasWritten};
+ghost use Rattle.fair_top.specs.Headline.{ReadsNothing, IsRight, IsVerdict, HoldsAsShown, HasTakenText, ReadFailed, HasRead};
+ghost use Rattle.plain_commands.specs.Answering.{GivesVerdict, IsCutShort, IsSilent, HasWritten};
 ghost use Rattle.command_lines.specs.declared.commands.demonstrating.DemoRequest.{DemoRequest};
 ghost use Rattle.command_lines.specs.declared.commands.generating.GenRequest.{GenRequest};
 ghost use Rattle.command_lines.specs.declared.commands.solving.SolveRequest.{SolveRequest};
@@ -43,17 +43,17 @@ pub fn run<R: Threads + Wait + Sync, H: Shelf, O: Sink, G: Gate>(
     out: &mut O,
     gate: &G,
 ) -> Status
-    ensures found { IsFound (H.held shelf.old) (bytes_of words.now) result }
+    ensures found { IsRight (H.held shelf.old) (bytes_of words.now) result }
     ensures exactly { (verdict : Status) → IsVerdict (H.held shelf.old) (bytes_of words.now) verdict → GivesVerdict verdict result }
-    ensures shown { IsShown (H.held shelf.old) (bytes_of words.now) result }
+    ensures shown { HoldsAsShown (H.held shelf.old) (bytes_of words.now) result }
     ensures words { IsTakenOrUsage (bytes_of words.now) }
     ensures printed { (request : GenRequest) → AsksFor (bytes_of words.now) (Gen request) → (result ≡ Status.Done Printed) ⊎ ((result ≡ Status.Memory) ⊎ (result ≡ Status.WriteFault)) }
     ensures solved { (model : List ℕ) (request : SolveRequest) (resume : Option (List ℕ)) → AsksFor (bytes_of words.now) (Solve model request resume)
         → HasAsked (H.held shelf.old model) (told_of (H.held shelf.old) resume) request
-        → GivesSome Status.Memory (λ status. IsSolved request.all status ⊎ IsCut status) result }
+        → GivesSome Status.Memory (λ status. IsSolved request.all status ⊎ IsCutShort status) result }
     ensures summed { (request : DemoRequest) → AsksFor (bytes_of words.now) (Demo request)
         → GivesSome Status.Memory (λ status. IsSummedUp status ⊎ (status ≡ Status.WriteFault)) result }
-    ensures text { HasTaken (H.held shelf.old) (bytes_of words.now) (O.taken out.old) (O.taken out.new) result }
+    ensures text { HasTakenText (H.held shelf.old) (bytes_of words.now) (O.taken out.old) (O.taken out.new) result }
     ensures silent { IsSilent result → out.new ≡ out.old }
     ensures read { result ≡ Status.ReadFault → ReadFailed (H.held shelf.old) (bytes_of words.now) (H.faults shelf.old) (H.faults shelf.new) }
     ensures reads { HasRead H.reads (H.held shelf.old) (bytes_of words.now) result shelf.old shelf.new }
@@ -84,12 +84,12 @@ pub fn run_alone<H: Shelf, O: Sink>(
 ) -> Status
     // What is answered is so, of the words and of the texts that the shelf tells: the words are no command with its
     // values, or what the command gives with this status;
-    ensures found { IsFound (H.held shelf.old) (bytes_of words.now) result }
+    ensures found { IsRight (H.held shelf.old) (bytes_of words.now) result }
     // and what is decided once is answered, unless memory is refused or a read or write fails.
     ensures exactly { (verdict : Status) → IsVerdict (H.held shelf.old) (bytes_of words.now) verdict → GivesVerdict verdict result }
     // What `check` accepts or `solve` prints is true: the circuit of MODEL has such a fair lasso, or has none of the
     // property; of a sheet there is a block for each property, as many of each kind as are told, and what they say is so.
-    ensures shown { IsShown (H.held shelf.old) (bytes_of words.now) result }
+    ensures shown { HoldsAsShown (H.held shelf.old) (bytes_of words.now) result }
     // Words are a command with its values, or are refused; and those of `gen` are answered with a model, unless memory
     // is refused or a write fails.
     ensures words { IsTakenOrUsage (bytes_of words.now) }
@@ -98,14 +98,14 @@ pub fn run_alone<H: Shelf, O: Sink>(
     // entries, comes to a verdict, on the property or on all, or to a report, unless memory is refused or a read or write fails.
     ensures solved { (model : List ℕ) (request : SolveRequest) (resume : Option (List ℕ)) → AsksFor (bytes_of words.now) (Solve model request resume)
         → HasAsked (H.held shelf.old model) (told_of (H.held shelf.old) resume) request
-        → GivesSome Status.Memory (λ status. IsSolved request.all status ⊎ IsCut status) result }
+        → GivesSome Status.Memory (λ status. IsSolved request.all status ⊎ IsCutShort status) result }
     // `demo` comes to a board with an outcome or to a report, unless memory is refused or a write fails.
     ensures summed { (request : DemoRequest) → AsksFor (bytes_of words.now) (Demo request)
         → GivesSome Status.Memory (λ status. IsSummedUp status ⊎ (status ≡ Status.WriteFault)) result }
 
     // The sink has taken the text that goes with the answer; after a failed write a part of it; after a failed read or
     // want of memory nothing: then the sink is as before.
-    ensures text { HasTaken (H.held shelf.old) (bytes_of words.now) (O.taken out.old) (O.taken out.new) result }
+    ensures text { HasTakenText (H.held shelf.old) (bytes_of words.now) (O.taken out.old) (O.taken out.new) result }
     ensures silent { IsSilent result → out.new ≡ out.old }
 
     // A failed read or write is answered only where it came. The reads are of the names that the words give, in turn,
@@ -143,17 +143,17 @@ fn run_by<S: Fn(&Beginning, SolveRequest) -> Result<Report, Ended>, H: Shelf, O:
     out: &mut O,
 ) -> Status
     requires search { IsSearch (λ q. circuit_in q.now) (λ q. served_in q.now) (λ q. given_in q.now) (S.pre search.now) (S.post search.now) }
-    ensures found { IsFound (H.held shelf.old) (bytes_of words.now) result }
+    ensures found { IsRight (H.held shelf.old) (bytes_of words.now) result }
     ensures exactly { (verdict : Status) → IsVerdict (H.held shelf.old) (bytes_of words.now) verdict → GivesVerdict verdict result }
-    ensures shown { IsShown (H.held shelf.old) (bytes_of words.now) result }
+    ensures shown { HoldsAsShown (H.held shelf.old) (bytes_of words.now) result }
     ensures words { IsTakenOrUsage (bytes_of words.now) }
     ensures printed { (request : GenRequest) → AsksFor (bytes_of words.now) (Gen request) → (result ≡ Status.Done Printed) ⊎ ((result ≡ Status.Memory) ⊎ (result ≡ Status.WriteFault)) }
     ensures solved { (model : List ℕ) (request : SolveRequest) (resume : Option (List ℕ)) → AsksFor (bytes_of words.now) (Solve model request resume)
         → HasAsked (H.held shelf.old model) (told_of (H.held shelf.old) resume) request
-        → GivesSome Status.Memory (λ status. IsSolved request.all status ⊎ IsCut status) result }
+        → GivesSome Status.Memory (λ status. IsSolved request.all status ⊎ IsCutShort status) result }
     ensures summed { (request : DemoRequest) → AsksFor (bytes_of words.now) (Demo request)
         → GivesSome Status.Memory (λ status. IsSummedUp status ⊎ (status ≡ Status.WriteFault)) result }
-    ensures text { HasTaken (H.held shelf.old) (bytes_of words.now) (O.taken out.old) (O.taken out.new) result }
+    ensures text { HasTakenText (H.held shelf.old) (bytes_of words.now) (O.taken out.old) (O.taken out.new) result }
     ensures silent { IsSilent result → out.new ≡ out.old }
     ensures read { result ≡ Status.ReadFault → ReadFailed (H.held shelf.old) (bytes_of words.now) (H.faults shelf.old) (H.faults shelf.new) }
     ensures reads { HasRead H.reads (H.held shelf.old) (bytes_of words.now) result shelf.old shelf.new }

@@ -19,18 +19,18 @@ IsSilent status = (status ≡ statuses.ReadFault) ⊎ (status ≡ statuses.Memor
 
 -- What is decided once.
 
--- The same status. A cycle may be said at any variable on one: each is right that `IsFound` holds of.
+-- The same status. A cycle may be said at any variable on one: each such status is right (`IsRight` of `fair_top`).
 abbrev pub SameVerdict : Status → Status → Type 0
 SameVerdict verdict status =
     (status ≡ verdict) ⊎ ((v : ℕ) × (w : ℕ) × (status ≡ statuses.BadModel (Cycle v)) × (verdict ≡ statuses.BadModel (Cycle w)))
 
 -- a read or a write failed
-abbrev pub IsCut : Status → Type 0
-IsCut status = (status ≡ statuses.ReadFault) ⊎ (status ≡ statuses.WriteFault)
+abbrev pub IsCutShort : Status → Type 0
+IsCutShort status = (status ≡ statuses.ReadFault) ⊎ (status ≡ statuses.WriteFault)
 
 -- the verdict is given, unless memory is refused or a read or write fails
 abbrev pub GivesVerdict : Status → Status → Type 0
-GivesVerdict verdict result = GivesSome statuses.Memory (λ status. SameVerdict verdict status ⊎ IsCut status) result
+GivesVerdict verdict result = GivesSome statuses.Memory (λ status. SameVerdict verdict status ⊎ IsCutShort status) result
 
 -- What a run reads.
 
