@@ -10,7 +10,7 @@ use edge::MemShelf;
 use entry::{Entry, EntryFault, Kind};
 use items::Items;
 use proof_semantics::LratFault;
-use round_answers::{JudgeEnd, Judged, Rounds, check_answer, write};
+use round_answers::{JudgeEnd, Judged, KnownRounds, check_answer, write};
 use round_monitor::monitor;
 use std::alloc::{AllocError, Global};
 use std::test::Fail;
@@ -273,18 +273,18 @@ fn entries(alloc: Global, t: &Circuit) -> Result<Items<Entry>, AllocError> {
     Ok(entries)
 }
 
-fn fewer(alloc: Global, t: &Circuit) -> Result<Rounds, AllocError> {
+fn fewer(alloc: Global, t: &Circuit) -> Result<KnownRounds, AllocError> {
     let refutation = refutation_of(alloc, &[FIRST], NEVER_FULL)?;
-    Ok(Rounds::Fewer {
+    Ok(KnownRounds::Fewer {
         entries: entries(alloc, t)?,
         refutation,
     })
 }
 
 // What is known of the property's rounds: the run where there is one, and else the entry.
-fn known(alloc: Global, t: &Circuit, reached: bool) -> Result<Rounds, AllocError> {
+fn known(alloc: Global, t: &Circuit, reached: bool) -> Result<KnownRounds, AllocError> {
     if reached {
-        return Ok(Rounds::Reached {
+        return Ok(KnownRounds::Reached {
             run: toggled(alloc)?,
         });
     }

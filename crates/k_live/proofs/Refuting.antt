@@ -16,8 +16,8 @@ use Rattle.cnf_unroll.specs.Numbers.{state_place, clause_at_place}
 use Rattle.entry.specs.declared.entries.Entry.{Entry as WithProofs}
 use Rattle.entry.specs.Entries.{said}
 use Rattle.entry.specs.Proved.{IsProved}
-use Rattle.round_answers.specs.declared.rounds.Rounds.{Rounds}
-use Rattle.round_answers.specs.declared.rounds.Rounds.TheVariants.{Fewer}
+use Rattle.round_answers.specs.declared.rounds.KnownRounds.{KnownRounds}
+use Rattle.round_answers.specs.declared.rounds.KnownRounds.TheVariants.{Fewer}
 use Rattle.certificate.specs.Refuted.{state_clauses}
 use Rattle.round_answers.specs.Answers.{last_latch}
 use Rattle.round_answers.specs.Writing.{AreFull}
@@ -79,7 +79,7 @@ full t set e clauses proof is proved over refutes = record {
   };
 }
 
-pub shown : (t : Circuit) (set : List (List Lit)) (e : WithProofs) (clauses : List (List Lit)) (proof : List (List ℕ)) (r : Rounds)
+pub shown : (t : Circuit) (set : List (List Lit)) (e : WithProofs) (clauses : List (List Lit)) (proof : List (List ℕ)) (r : KnownRounds)
     → r ≡ Fewer (e ∷ []) (record { uses = first_use ∷ []; proof = proof })
     → said e ≡ reach_entry set → IsProved t [] (said e) e.proofs → clauses ≡ refuted_clauses t set → Refutes clauses proof → IsShown t r
 shown t set e clauses proof r is same proved over refutes = subst (IsShown t) (sym is) (full t set e clauses proof same proved over refutes)

@@ -17,8 +17,8 @@ use Rattle.ic3_semantics.specs.Searching.{MeetsLiteral, IsPathToLiteral, IsReach
 use Rattle.fair_semantics.specs.Validity.{set_behind}
 use Rattle.round_monitor.specs.Counting.{HasRunOfRounds, own_position}
 use Rattle.edge.specs.Units.{Spendings}
-use Rattle.round_answers.specs.declared.rounds.Rounds.{Rounds}
-use Rattle.round_answers.specs.declared.rounds.Rounds.TheVariants.{Fewer, Reached}
+use Rattle.round_answers.specs.declared.rounds.KnownRounds.{KnownRounds}
+use Rattle.round_answers.specs.declared.rounds.KnownRounds.TheVariants.{Fewer, Reached}
 use Rattle.round_answers.specs.Writing.{AreFull, IsSo}
 use Rattle.k_live.specs.declared.ends.RoundsEnd.{RoundsEnd}
 use Rattle.k_live.specs.declared.ends.RoundsEnd.TheVariants.{TooLarge, Memory}
@@ -68,12 +68,12 @@ pub run-told : (c : Circuit) (j k : ℕ) (t : Circuit) (positions : List Positio
     → IsInitialRun c (map (own_position c) positions) × HasRounds c j k (map (own_position c) positions)
 run-told c j k t positions m path = path-decides c j k t positions m.some m.model m.watches path
 
-pub run-so : (c : Circuit) (j k : ℕ) (t : Circuit) (positions : List Position) (result : Result Rounds RoundsEnd)
+pub run-so : (c : Circuit) (j k : ℕ) (t : Circuit) (positions : List Position) (result : Result KnownRounds RoundsEnd)
     → IsMonitorOf c j k t → LeadsThere t positions → IfOk result (λ r. r ≡ Reached (map (own_position c) positions)) → IfOk result (IsSo c j k)
 run-so c j k t positions (Ok r) m path is = subst (IsSo c j k) (sym is) (run-told c j k t positions m path)
 run-so c j k t positions (Err end) m path is = tt
 
-pub run-decided : (c : Circuit) (j k : ℕ) (t : Circuit) (positions : List Position) (result : Result Rounds RoundsEnd)
+pub run-decided : (c : Circuit) (j k : ℕ) (t : Circuit) (positions : List Position) (result : Result KnownRounds RoundsEnd)
     → IsMonitorOf c j k t → LeadsThere t positions → IfOk result (λ r. r ≡ Reached (map (own_position c) positions)) → IfOk result (Decides c j k)
 run-decided c j k t positions (Ok r) m path is = subst (Decides c j k) (sym is) (run-told c j k t positions m path)
 run-decided c j k t positions (Err end) m path is = tt
@@ -84,29 +84,29 @@ pub claim-told : (c : Circuit) (j k : ℕ) (t : Circuit) (clauses : List (List L
 claim-told c j k t clauses uses law m h =
     keeps t (some-latch c j k t m.some m.model) (last-zero c j k t m.some m.model) law clauses uses h
 
-shown-so : (c : Circuit) (j k : ℕ) (t : Circuit) (r : Rounds) → IsMonitorOf c j k t → IsShown t r → IsSo c j k r
+shown-so : (c : Circuit) (j k : ℕ) (t : Circuit) (r : KnownRounds) → IsMonitorOf c j k t → IsShown t r → IsSo c j k r
 shown-so c j k t (Fewer entries refutation) m shown = subst (λ x. AreFull x entries refutation) m.model shown
 shown-so c j k t (Reached run) m shown = absurd shown
 
-shown-decides : (c : Circuit) (j k : ℕ) (t : Circuit) (r : Rounds) → (HasRunOfRounds c j k → ⊥) → IsShown t r → Decides c j k r
+shown-decides : (c : Circuit) (j k : ℕ) (t : Circuit) (r : KnownRounds) → (HasRunOfRounds c j k → ⊥) → IsShown t r → Decides c j k r
 shown-decides c j k t (Fewer entries refutation) none shown = none
 shown-decides c j k t (Reached run) none shown = absurd shown
 
-pub set-so : (c : Circuit) (j k : ℕ) (t : Circuit) (result : Result Rounds RoundsEnd) → IsMonitorOf c j k t → IfOk result (IsShown t) → IfOk result (IsSo c j k)
+pub set-so : (c : Circuit) (j k : ℕ) (t : Circuit) (result : Result KnownRounds RoundsEnd) → IsMonitorOf c j k t → IfOk result (IsShown t) → IfOk result (IsSo c j k)
 set-so c j k t (Ok r) m shown = shown-so c j k t r m shown
 set-so c j k t (Err end) m shown = tt
 
-pub set-decided : (c : Circuit) (j k : ℕ) (t : Circuit) (clauses : List (List Lit)) (uses : List Use) (result : Result Rounds RoundsEnd)
+pub set-decided : (c : Circuit) (j k : ℕ) (t : Circuit) (clauses : List (List Lit)) (uses : List Use) (result : Result KnownRounds RoundsEnd)
     → IsMonitorOf c j k t → IsClosedSet t clauses uses → IfOk result (IsShown t) → IfOk result (Decides c j k)
 set-decided c j k t clauses uses (Ok r) m h shown = shown-decides c j k t r (none-decides c j k t m.some m.model m.exact h.none) shown
 set-decided c j k t clauses uses (Err end) m h shown = tt
 
 -- ---- why nothing is told
 
-pub memory-told : (meter : Spendings) (result : Result Rounds RoundsEnd) → IfErr result (λ end. end ≡ Memory) → IfErr result (EndsSearch meter)
+pub memory-told : (meter : Spendings) (result : Result KnownRounds RoundsEnd) → IfErr result (λ end. end ≡ Memory) → IfErr result (EndsSearch meter)
 memory-told meter (Ok r) h = tt
 memory-told meter (Err end) h = subst (EndsSearch meter) (sym h) tt
 
 -- a search does not tell that there is no monitor
-pub never-large : (meter : Spendings) (result : Result Rounds RoundsEnd) (n : ℕ) → IfErr result (EndsSearch meter) → result ≡ Err (TooLarge n) → ⊥
+pub never-large : (meter : Spendings) (result : Result KnownRounds RoundsEnd) (n : ℕ) → IfErr result (EndsSearch meter) → result ≡ Err (TooLarge n) → ⊥
 never-large meter result n h e = subst (λ r. IfErr r (EndsSearch meter)) e h

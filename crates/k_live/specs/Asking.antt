@@ -21,8 +21,8 @@ use Rattle.ic3_semantics.specs.Searching.{Question, MeetsLiteral, IsPathToLitera
 use Rattle.round_monitor.specs.Counting.{HasFullRun, HasRunOfRounds, WatchesRounds}
 use Rattle.round_monitor.specs.Ends.{IsMonitorable}
 use Rattle.round_monitor.specs.Monitor.{monitor_circuit}
-use Rattle.round_answers.specs.declared.rounds.Rounds.{Rounds}
-use Rattle.round_answers.specs.declared.rounds.Rounds.TheVariants.{Fewer, Reached}
+use Rattle.round_answers.specs.declared.rounds.KnownRounds.{KnownRounds}
+use Rattle.round_answers.specs.declared.rounds.KnownRounds.TheVariants.{Fewer, Reached}
 use Rattle.certificate.specs.Refuted.{state_clauses}
 use Rattle.round_answers.specs.Answers.{last_latch}
 use Rattle.round_answers.specs.Writing.{AreFull}
@@ -92,6 +92,6 @@ abbrev pub refuted_clauses : Circuit → List (List Lit) → List (List Lit)
 refuted_clauses t clauses = state_clauses t (last_latch t) (record { number = 0; entry = reach_entry clauses } ∷ [])
 
 -- a set of the monitor's states that shows it
-abbrev pub IsShown : Circuit → Rounds → Type 0
+abbrev pub IsShown : Circuit → KnownRounds → Type 0
 IsShown t (Fewer entries refutation) = AreFull t entries refutation
 IsShown t (Reached run) = ⊥

@@ -8,13 +8,13 @@ use Rattle.fair_semantics.specs.Rounds.{HasRounds}
 use Rattle.round_monitor.specs.Counting.{HasRunOfRounds}
 use Rattle.round_monitor.specs.Ends.{IsMonitorable, IsTooLarge}
 use Rattle.round_monitor.specs.Numbers.{sizes_of, greatest}
-use Rattle.round_answers.specs.declared.rounds.Rounds.{Rounds}
-use Rattle.round_answers.specs.declared.rounds.Rounds.TheVariants.{Fewer, Reached}
+use Rattle.round_answers.specs.declared.rounds.KnownRounds.{KnownRounds}
+use Rattle.round_answers.specs.declared.rounds.KnownRounds.TheVariants.{Fewer, Reached}
 use Rattle.k_live.specs.declared.ends.RoundsEnd.{RoundsEnd}
 use Rattle.k_live.specs.declared.ends.RoundsEnd.TheVariants.{Unsettled, TooLarge, Memory}
 
 -- An initial run that has k rounds; or none has.
-abbrev pub Decides : Circuit → ℕ → ℕ → Rounds → Type 0
+abbrev pub Decides : Circuit → ℕ → ℕ → KnownRounds → Type 0
 Decides c j k (Reached run) = IsInitialRun c run × HasRounds c j k run
 Decides c j k (Fewer entries refutation) = HasRunOfRounds c j k → ⊥
 

@@ -7,7 +7,7 @@ ghost use Rattle.edge.specs.Ends.{CountsConflicts, IsEnd};
 ghost use Rattle.entry.specs.Entries.{said};
 ghost use Rattle.entry.specs.Proved.{IsProved};
 ghost use Rattle.k_live.specs.Deciding.{EndsSearch};
-ghost use Rattle.round_answers.specs.declared.rounds.Rounds.TheVariants as answers;
+ghost use Rattle.round_answers.specs.declared.rounds.KnownRounds.TheVariants as answers;
 ghost use Rattle.k_live.specs.Asking.{last_false, reach_entry, first_use, refuted_clauses, IsClaim, IsShown};
 
 use crate::ends::{RoundsEnd, end_of_solving};
@@ -20,7 +20,7 @@ use cnf_unroll::{ClauseSet, Used};
 use edge::{Meter, SolveEnd};
 use entry::{Entry, Kind, Listed, Refutation, Side, Use, good_lists_grow};
 use items::Items;
-use round_answers::Rounds;
+use round_answers::KnownRounds;
 use std::alloc::{AllocError, Global};
 
 /// A closed set from which no position makes the last latch true, with the clause that this latch is false, as an answer.
@@ -29,7 +29,7 @@ pub(crate) fn fewer(
     t: &Circuit,
     clauses: Items<Clause>,
     meter: &mut Meter,
-) -> Result<Rounds, RoundsEnd>
+) -> Result<KnownRounds, RoundsEnd>
     requires some { 0 < length t.now.latches }
     requires claim { IsClaim t.now (clauses ++ last_false t.now ∷ []) }
     ensures shown { IfOk result (IsShown t.now) }
@@ -63,7 +63,12 @@ fn with_last_false(alloc: Global, t: &Circuit, clauses: ClauseSet) -> Result<Cla
     Ok(all)
 }
 
-fn shown(alloc: Global, t: &Circuit, set: ClauseSet, meter: &mut Meter) -> Result<Rounds, SolveEnd>
+fn shown(
+    alloc: Global,
+    t: &Circuit,
+    set: ClauseSet,
+    meter: &mut Meter,
+) -> Result<KnownRounds, SolveEnd>
     requires some { 0 < length t.now.latches }
     requires claim { IsClaim t.now set }
     ensures shown { IfOk result (IsShown t.now) }
@@ -102,7 +107,7 @@ fn with_refutation(
     t: &Circuit,
     entry: Entry,
     meter: &mut Meter,
-) -> Result<Rounds, SolveEnd>
+) -> Result<KnownRounds, SolveEnd>
     requires some { 0 < length t.now.latches }
     requires claim { IsClaim t.now entry.set }
     requires said { said entry ≡ reach_entry entry.set }
@@ -156,7 +161,7 @@ fn refutation_by(alloc: Global, solver: &mut Solver, meter: &mut Meter) -> Resul
 }
 
 // The answer of this entry, and of this proof over it.
-fn answer(alloc: Global, entry: Entry, proof: Proof) -> Result<Rounds, AllocError>
+fn answer(alloc: Global, entry: Entry, proof: Proof) -> Result<KnownRounds, AllocError>
     ensures { IfOk result (λ rounds. rounds ≡ answers.Fewer (entry ∷ []) (record { uses = first_use ∷ []; proof = proof })) }
 {
     let mut uses = Items::new(alloc);
@@ -167,7 +172,7 @@ fn answer(alloc: Global, entry: Entry, proof: Proof) -> Result<Rounds, AllocErro
     let mut entries = Items::new(alloc);
     entries.push(entry)?;
     let refutation = Refutation { uses, proof };
-    Ok(Rounds::Fewer {
+    Ok(KnownRounds::Fewer {
         entries,
         refutation,
     })

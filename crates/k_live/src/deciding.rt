@@ -6,7 +6,7 @@ ghost use Rattle.ic3_semantics.specs.Searching.{CountsSearch};
 ghost use Rattle.round_monitor.specs.Counting.{own_position};
 ghost use Rattle.round_monitor.specs.Ends.{IsMonitorable};
 ghost use Rattle.round_monitor.specs.Monitor.{monitor_circuit};
-ghost use Rattle.round_answers.specs.declared.rounds.Rounds.TheVariants as rounds;
+ghost use Rattle.round_answers.specs.declared.rounds.KnownRounds.TheVariants as rounds;
 ghost use Rattle.k_live.specs.declared.ends.RoundsEnd.TheVariants as ends;
 ghost use Rattle.round_answers.specs.Writing.{IsSo};
 ghost use Rattle.k_live.specs.Deciding.{Decides, EndsRounds, EndsSearch};
@@ -22,7 +22,7 @@ use edge::Meter;
 use fair_semantics::steps_and_initial_states;
 use ic3::Reached;
 use live_to_safe::TranslateEnd;
-use round_answers::Rounds;
+use round_answers::KnownRounds;
 use round_monitor::monitor;
 use std::alloc::Global;
 
@@ -39,7 +39,7 @@ pub fn decide(
     j: u32,
     k: u32,
     meter: &mut Meter,
-) -> Result<Rounds, RoundsEnd>
+) -> Result<KnownRounds, RoundsEnd>
     requires property { j < length c.now.justice }
     requires some { 1 ≤ k }
     ensures so { IfOk result (IsSo c.now j k) }
@@ -69,7 +69,7 @@ pub fn decide(
 }
 
 // What a search of the monitor tells.
-fn decided(alloc: Global, w: &Watched<'_>, meter: &mut Meter) -> Result<Rounds, RoundsEnd>
+fn decided(alloc: Global, w: &Watched<'_>, meter: &mut Meter) -> Result<KnownRounds, RoundsEnd>
     requires { IsMonitorOf w.now.c.now w.now.j w.now.k w.now.t.now }
     ensures so { IfOk result (IsSo w.now.c.now w.now.j w.now.k) }
     ensures decided { IfOk result (Decides w.now.c.now w.now.j w.now.k) }
@@ -88,7 +88,7 @@ fn told(
     w: &Watched<'_>,
     found: Reached,
     meter: &mut Meter,
-) -> Result<Rounds, RoundsEnd>
+) -> Result<KnownRounds, RoundsEnd>
     requires monitor { IsMonitorOf w.now.c.now w.now.j w.now.k w.now.t.now }
     requires answered { IsAnswered w.now.t.now found }
     ensures so { IfOk result (IsSo w.now.c.now w.now.j w.now.k) }
@@ -107,11 +107,11 @@ fn told(
 }
 
 // The run of the circuit that these positions of the monitor are.
-fn reached(alloc: Global, c: &Circuit, positions: &[Position]) -> Result<Rounds, RoundsEnd>
+fn reached(alloc: Global, c: &Circuit, positions: &[Position]) -> Result<KnownRounds, RoundsEnd>
     requires { All (λ p. length c.now.latches ≤ length p.latches) positions.now }
     ensures answer { IfOk result (λ answer. answer ≡ rounds.Reached (map (own_position c.now) positions.now)) }
     ensures end { IfErr result (λ end. end ≡ ends.Memory) }
 {
     let run = own_run(alloc, c, positions)?;
-    Ok(Rounds::Reached { run })
+    Ok(KnownRounds::Reached { run })
 }

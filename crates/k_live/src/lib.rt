@@ -4,7 +4,7 @@
 //! | Call | What it gives |
 //! |---|---|
 //! | `decide` | a run with so many rounds; or, exactly where there is none, a proved set of the monitor's states that shows it |
-//! | `Rounds`, `RoundsEnd` | what it answers, and why it answers nothing |
+//! | `KnownRounds`, `RoundsEnd` | what it answers, and why it answers nothing |
 //! | `monitor`, `write`, `check_answer` | handed on: the monitor of a property, the text of what is known, and the judge of such texts |
 #![tactic(auto)]
 
@@ -18,5 +18,5 @@ mod watched;
 
 pub use deciding::decide;
 pub use ends::RoundsEnd;
-pub use round_answers::{JudgeEnd, Judged, Rounds, check_answer, write};
+pub use round_answers::{JudgeEnd, Judged, KnownRounds, check_answer, write};
 pub use round_monitor::monitor;

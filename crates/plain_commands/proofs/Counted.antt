@@ -15,8 +15,8 @@ use Rattle.round_answers.specs.declared.ends.Judged.TheVariants as texts
 use Rattle.sheet_answers.specs.declared.ends.Judged.TheVariants as found_as
 use Rattle.sheet_answers.specs.Ends.{ShowsText}
 use Rattle.round_answers.specs.declared.limits.TheConstants.{MAX_ROUNDS}
-use Rattle.round_answers.specs.declared.rounds.Rounds.{Rounds}
-use Rattle.round_answers.specs.declared.rounds.Rounds.TheVariants.{Fewer, Reached}
+use Rattle.round_answers.specs.declared.rounds.KnownRounds.{KnownRounds}
+use Rattle.round_answers.specs.declared.rounds.KnownRounds.TheVariants.{Fewer, Reached}
 use Rattle.round_answers.specs.Texts.{MayBeAsked}
 use Rattle.round_answers.specs.Answers.{IsGoodAbout, ShowsRounds}
 use Rattle.round_answers.specs.Writing.{IsSo, is_reached}
@@ -46,7 +46,7 @@ fewer_rounds c n zero (suc k) run le h = absurd (omega (arith, le))
 fewer_rounds c n (suc m) (suc k) run le (front, segment, rest, split, round, others) =
     (front, segment, rest, split, round, fewer_rounds c n m k rest (omega (arith, le)) others)
 
-shows : (c : Circuit) (n k : ℕ) (found : Rounds) → Decides c n k found → ShowsRounds c n k (is_reached found)
+shows : (c : Circuit) (n k : ℕ) (found : KnownRounds) → Decides c n k found → ShowsRounds c n k (is_reached found)
 shows c n k (Reached run) h = (run, h.0, h.1)
 shows c n k (Fewer entries refutation) none = λ run m initial rounds.
     elim (cases_lt m k) [
@@ -54,7 +54,7 @@ shows c n k (Fewer entries refutation) none = λ run m initial rounds.
       | inr above ↦ absurd (none (run, initial, fewer_rounds c n m k run (omega (arith, above)) rounds))
     ]
 
-pub rounds_are_printed : (c : Circuit) (request : RoundsRequest) (found : Rounds) (reached : Bool) (text : List ℕ) → MayBeAsked request.k
+pub rounds_are_printed : (c : Circuit) (request : RoundsRequest) (found : KnownRounds) (reached : Bool) (text : List ℕ) → MayBeAsked request.k
     → IsSo c request.property request.k found → Decides c request.property request.k found → reached ≡ is_reached found
     → (request.k ≤ MAX_ROUNDS → IsSo c request.property request.k found → IsGoodAbout c text request.property request.k (is_reached found))
     → EndsRounds c request (statuses.Done (done.Rounds request.property request.k reached)) text

@@ -26,8 +26,8 @@ use Rattle.certificate.proofs.PlainLines.{IsPlain, word_line_plain, property_pla
 use Rattle.round_monitor.specs.Ends.{IsMonitorable}
 use Rattle.round_monitor.specs.Monitor.{monitor_circuit}
 use Rattle.round_answers.specs.declared.limits.TheConstants.{MAX_ROUNDS}
-use Rattle.round_answers.specs.declared.rounds.Rounds.{Rounds}
-use Rattle.round_answers.specs.declared.rounds.Rounds.TheVariants.{Fewer, Reached}
+use Rattle.round_answers.specs.declared.rounds.KnownRounds.{KnownRounds}
+use Rattle.round_answers.specs.declared.rounds.KnownRounds.TheVariants.{Fewer, Reached}
 use Rattle.round_answers.specs.Texts.{MayBeAsked, rounds_line, HasCertificate}
 use Rattle.round_answers.specs.Answers.{NeverFull, IsGoodAbout}
 use Rattle.round_answers.specs.Writing.{written_entry, certificate_of, rounds_text, AreFull, IsSo, is_reached}
@@ -124,9 +124,9 @@ written_if (Ok text) items c n k run small some able is short =
     λ few so. reached_good c n k run (items text) small (record { some = some; few = few }) able short is so.0 so.1
 written_if (Err e) items c n k run small some able is short = tt
 
-pub reached_if : {A E : Type 0} (r : Result A E) (items : A → List ℕ) (c : Circuit) (n k : ℕ) (rounds : Rounds) (run held : List Position) → rounds ≡ Reached run → held ≡ run
+pub reached_if : {A E : Type 0} (r : Result A E) (items : A → List ℕ) (c : Circuit) (n k : ℕ) (rounds : KnownRounds) (run held : List Position) → rounds ≡ Reached run → held ≡ run
     → n < 2 ^ 63 → 1 ≤ k → IsMonitorable c n k → IfOk r (λ text. items text ≡ rounds_text c n k (Reached held)) → IfOk r (λ text. length (items text) ≤ most_bytes)
     → IfOk r (λ text. k ≤ MAX_ROUNDS → IsSo c n k rounds → IsGoodAbout c (items text) n k (is_reached rounds))
 reached_if r items c n k rounds run held told same small some able is short =
-    subst (λ (x : Rounds). IfOk r (λ text. k ≤ MAX_ROUNDS → IsSo c n k x → IsGoodAbout c (items text) n k (is_reached x)))
+    subst (λ (x : KnownRounds). IfOk r (λ text. k ≤ MAX_ROUNDS → IsSo c n k x → IsGoodAbout c (items text) n k (is_reached x)))
     (sym (told ∙ ap (λ (x : List Position). Reached x) (sym same))) (written_if r items c n k held small some able is short)

@@ -21,8 +21,8 @@ use Rattle.certificate_texts.specs.Certificates.{lines_of_certificate}
 use Rattle.certificate_texts.specs.Writing.{property_line, literal_in_model}
 use Rattle.certificate.specs.Refuted.{IsStateRefutation}
 use Rattle.round_monitor.specs.Monitor.{monitor_circuit}
-use Rattle.round_answers.specs.declared.rounds.Rounds.{Rounds}
-use Rattle.round_answers.specs.declared.rounds.Rounds.TheVariants.{Fewer, Reached}
+use Rattle.round_answers.specs.declared.rounds.KnownRounds.{KnownRounds}
+use Rattle.round_answers.specs.declared.rounds.KnownRounds.TheVariants.{Fewer, Reached}
 use Rattle.round_answers.specs.Texts.{rounds_line}
 use Rattle.round_answers.specs.Answers.{last_latch}
 
@@ -54,13 +54,13 @@ abbrev pub run_lines : List Position → List (List ℕ)
 run_lines run = map (map digit_of) (start_of run ∷ map (λ p. p.inputs) run) ++ codes "." ∷ []
 
 -- the lines behind that of the property
-abbrev pub other_lines : Circuit → Rounds → List (List ℕ)
+abbrev pub other_lines : Circuit → KnownRounds → List (List ℕ)
 other_lines t (Fewer entries refutation) = lines_of_certificate (certificate_of t entries refutation)
 other_lines t (Reached run) = codes "run" ∷ run_lines run
 
 -- The text about k rounds of property n of a circuit: each line with its line feed, and nothing else. The entries are those of
 -- the property's monitor.
-abbrev pub rounds_text : Circuit → ℕ → ℕ → Rounds → List ℕ
+abbrev pub rounds_text : Circuit → ℕ → ℕ → KnownRounds → List ℕ
 rounds_text c n k rounds = ended_lines (rounds_line k ∷ property_line n ∷ other_lines (monitor_circuit c n k) rounds)
 
 -- behind the first entries each of these is proved
@@ -77,11 +77,11 @@ pub record AreFull (t : Circuit) (entries : List WithProofs) (refutation : Refut
   pub refuted : IsStateRefutation t (last_latch t) (map said entries) refutation.uses refutation.proof
 
 -- It is so of property n and k rounds: no initial run has them, by entries of the monitor; or this one has.
-abbrev pub IsSo : Circuit → ℕ → ℕ → Rounds → Type 0
+abbrev pub IsSo : Circuit → ℕ → ℕ → KnownRounds → Type 0
 IsSo c n k (Fewer entries refutation) = AreFull (monitor_circuit c n k) entries refutation
 IsSo c n k (Reached run) = IsInitialRun c run × HasRounds c n k run
 
 -- an initial run has them
-abbrev pub is_reached : Rounds → Bool
+abbrev pub is_reached : KnownRounds → Bool
 is_reached (Fewer entries refutation) = false
 is_reached (Reached run) = true

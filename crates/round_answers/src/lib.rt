@@ -23,5 +23,5 @@ pub use checking::check_answer;
 pub use ends::{JudgeEnd, Judged};
 pub use laws::full_runs_are_refuted;
 pub use limits::MAX_ROUNDS;
-pub use rounds::Rounds;
+pub use rounds::KnownRounds;
 pub use writing::write;

@@ -8,12 +8,12 @@ ghost use Rattle.certificate_texts.specs.Writing.{property_line, variable_of_lat
 ghost use Rattle.round_monitor.specs.Ends.{IsMonitorable};
 ghost use Rattle.round_monitor.specs.Monitor.{monitor_circuit};
 ghost use Rattle.round_answers.specs.declared.limits.TheConstants.{MAX_ROUNDS};
-ghost use Rattle.round_answers.specs.declared.rounds.Rounds.TheVariants.{Fewer};
+ghost use Rattle.round_answers.specs.declared.rounds.KnownRounds.TheVariants.{Fewer};
 ghost use Rattle.round_answers.specs.Texts.{rounds_line};
 ghost use Rattle.round_answers.specs.Answers.{IsGoodAbout};
 ghost use Rattle.round_answers.specs.Writing.{written_entry, certificate_of, start_of, run_lines, rounds_text, AreFull, IsSo, is_reached};
 
-use crate::rounds::Rounds;
+use crate::rounds::KnownRounds;
 use aig_semantics::Position;
 use aiger_names::Model;
 use certificate::{Certificate, Loaded, Written, print};
@@ -38,7 +38,7 @@ pub fn write(
     c: &Circuit,
     j: u32,
     k: u32,
-    rounds: &Rounds,
+    rounds: &KnownRounds,
 ) -> Result<Vec<u8>, AllocError>
     requires some { 1 ≤ k }
     requires able { IsMonitorable c.now j k }
@@ -49,11 +49,11 @@ pub fn write(
     ensures good { IfOk result (λ text. k ≤ MAX_ROUNDS → IsSo c.now j k rounds.now → IsGoodAbout c.now text.items j k (is_reached rounds.now)) }
 {
     match rounds {
-        Rounds::Fewer {
+        KnownRounds::Fewer {
             entries,
             refutation,
         } => fewer_text(alloc, c, j, k, entries.as_slice(), refutation),
-        Rounds::Reached { run } => reached_text(alloc, j, k, run.as_slice()),
+        KnownRounds::Reached { run } => reached_text(alloc, j, k, run.as_slice()),
     }
 }
 

@@ -5,7 +5,7 @@ use crate::drawn::Case;
 use circuit::Circuit;
 use drawn_circuits::Drawn;
 use edge::Meter;
-use k_live::{Rounds, RoundsEnd, decide, write};
+use k_live::{KnownRounds, RoundsEnd, decide, write};
 use std::alloc::{AllocError, Global};
 use std::test::*;
 
@@ -20,10 +20,10 @@ enum Told {
     Nothing,
 }
 
-fn told_as(decided: &Result<Rounds, RoundsEnd>) -> Told {
+fn told_as(decided: &Result<KnownRounds, RoundsEnd>) -> Told {
     match decided {
-        Ok(Rounds::Fewer { .. }) => Told::Fewer,
-        Ok(Rounds::Reached { .. }) => Told::Reached,
+        Ok(KnownRounds::Fewer { .. }) => Told::Fewer,
+        Ok(KnownRounds::Reached { .. }) => Told::Reached,
         Err(RoundsEnd::Unsettled(_)) => Told::Unsettled,
         Err(RoundsEnd::TooLarge(most)) => Told::TooLarge(*most),
         Err(RoundsEnd::Memory) => Told::Nothing,

@@ -20,7 +20,7 @@ use crate::texts::{Ending, with_text};
 use circuit::Circuit;
 use command_lines::RoundsRequest;
 use edge::{Meter, Shelf};
-use k_live::{Rounds, RoundsEnd, decide, write};
+use k_live::{KnownRounds, RoundsEnd, decide, write};
 use std::alloc::Global;
 
 /// Reads the model and decides whether a run has so many rounds of its property: the status with which the command ends and
@@ -89,7 +89,7 @@ fn printed(
     alloc: Global,
     circuit: &Circuit,
     request: &RoundsRequest,
-    found: &Rounds,
+    found: &KnownRounds,
 ) -> Result<Ending, Status>
     requires asked { MayBeAsked request.now.k }
     requires able { IsMonitorable circuit.now request.now.property request.now.k }
@@ -112,8 +112,8 @@ fn printed(
     }
 }
 
-fn is_reached(found: &Rounds) -> bool
+fn is_reached(found: &KnownRounds) -> bool
     ensures { result ≡ is_reached found.now }
 {
-    matches!(found, Rounds::Reached { .. })
+    matches!(found, KnownRounds::Reached { .. })
 }

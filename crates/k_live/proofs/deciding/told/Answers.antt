@@ -1,7 +1,7 @@
 use Rattle.std.proofs.Common.{◌≡◌, ◌≤◌, length, map, sym, subst, IfOk}
 use Rattle.std.specs.List.{All}
 use Rattle.round_monitor.specs.Counting.{own_position}
-use Rattle.round_answers.specs.declared.rounds.Rounds.TheVariants.{Reached}
+use Rattle.round_answers.specs.declared.rounds.KnownRounds.TheVariants.{Reached}
 use Rattle.k_live.specs.Asking.{IsAnswered}
 use Rattle.k_live.proofs.Counts.{no-conflicts}
 use Rattle.k_live.proofs.Telling.{some-of, latches-told, run-so, run-decided, claim-told, set-so, set-decided, memory-told}
