@@ -21,7 +21,7 @@ use Rattle.round_answers.specs.declared.rounds.KnownRounds.TheVariants.{Fewer}
 use Rattle.certificate.specs.Refuted.{state_clauses}
 use Rattle.round_answers.specs.Answers.{last_latch}
 use Rattle.round_answers.specs.Writing.{AreFull}
-use Rattle.k_live.specs.Asking.{reach_entry, last_false, first_use, refuted_clauses, IsClaim, IsShown}
+use Rattle.k_live.specs.Asking.{reach_entry, last_false, first_use, refuted_clauses, IsClaim, IsShownBySet}
 
 -- ---- no model
 
@@ -81,5 +81,5 @@ full t set e clauses proof is proved over refutes = record {
 
 pub shown : (t : Circuit) (set : List (List Lit)) (e : WithProofs) (clauses : List (List Lit)) (proof : List (List ℕ)) (r : KnownRounds)
     → r ≡ Fewer (e ∷ []) (record { uses = first_use ∷ []; proof = proof })
-    → said e ≡ reach_entry set → IsProved t [] (said e) e.proofs → clauses ≡ refuted_clauses t set → Refutes clauses proof → IsShown t r
-shown t set e clauses proof r is same proved over refutes = subst (IsShown t) (sym is) (full t set e clauses proof same proved over refutes)
+    → said e ≡ reach_entry set → IsProved t [] (said e) e.proofs → clauses ≡ refuted_clauses t set → Refutes clauses proof → IsShownBySet t r
+shown t set e clauses proof r is same proved over refutes = subst (IsShownBySet t) (sym is) (full t set e clauses proof same proved over refutes)

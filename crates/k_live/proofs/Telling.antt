@@ -22,8 +22,8 @@ use Rattle.round_answers.specs.declared.rounds.KnownRounds.TheVariants.{Fewer, R
 use Rattle.round_answers.specs.Writing.{AreFull, IsSo}
 use Rattle.k_live.specs.declared.ends.RoundsEnd.{RoundsEnd}
 use Rattle.k_live.specs.declared.ends.RoundsEnd.TheVariants.{TooLarge, Memory}
-use Rattle.k_live.specs.Deciding.{Decides, EndsSearch}
-use Rattle.k_live.specs.Asking.{next_of_last, question, last_false, closed_set, IsMonitorOf, LeadsThere, IsClosedSet, IsAnswered, IsClaim, IsShown}
+use Rattle.k_live.specs.Deciding.{Settles, EndsSearch}
+use Rattle.k_live.specs.Asking.{next_of_last, question, last_false, closed_set, IsMonitorOf, LeadsThere, IsClosedSet, AnswersSearch, IsClaim, IsShownBySet}
 use Rattle.k_live.proofs.Paths.{some-latch, last-zero, path-latches, path-decides, none-decides}
 use Rattle.k_live.proofs.Claiming.{keeps}
 
@@ -32,7 +32,7 @@ abbrev pub AsksThat : Circuit → Goal → Type 0
 AsksThat t (goals.State to) = ⊥
 AsksThat t (goals.Literal literal avoid) = (literal ≡ next_of_last t) × (avoid.now ≡ [])
 
-answered : (t : Circuit) (goal : Goal) (found : Found) → AsksThat t goal → IsReached (question t) goal found → IsAnswered t found
+answered : (t : Circuit) (goal : Goal) (found : Found) → AsksThat t goal → IsReached (question t) goal found → AnswersSearch t found
 answered t (goals.State to) found asks h = absurd asks
 answered t (goals.Literal literal avoid) (Path positions) asks h =
     subst (λ l. IsPathToLiteral (question t) l [] positions) asks.0 (subst (λ cubes. IsPathToLiteral (question t) literal cubes positions) asks.1 h)
@@ -50,7 +50,7 @@ answered t (goals.Literal literal avoid) (Closed clauses uses) asks h =
           (subst (λ cubes. (positions : List Position) → IsPathToLiteral (question t) literal cubes positions → ⊥) asks.1 h.1);
     }
 
-pub answered-if : (t : Circuit) (goal : Goal) (result : Result Found ReachEnd) → IfOk result (IsReached (question t) goal) → AsksThat t goal → IfOk result (IsAnswered t)
+pub answered-if : (t : Circuit) (goal : Goal) (result : Result Found ReachEnd) → IfOk result (IsReached (question t) goal) → AsksThat t goal → IfOk result (AnswersSearch t)
 answered-if t goal (Ok found) h asks = answered t goal found asks h
 answered-if t goal (Err end) h asks = tt
 
@@ -74,8 +74,8 @@ run-so c j k t positions (Ok r) m path is = subst (IsSo c j k) (sym is) (run-tol
 run-so c j k t positions (Err end) m path is = tt
 
 pub run-decided : (c : Circuit) (j k : ℕ) (t : Circuit) (positions : List Position) (result : Result KnownRounds RoundsEnd)
-    → IsMonitorOf c j k t → LeadsThere t positions → IfOk result (λ r. r ≡ Reached (map (own_position c) positions)) → IfOk result (Decides c j k)
-run-decided c j k t positions (Ok r) m path is = subst (Decides c j k) (sym is) (run-told c j k t positions m path)
+    → IsMonitorOf c j k t → LeadsThere t positions → IfOk result (λ r. r ≡ Reached (map (own_position c) positions)) → IfOk result (Settles c j k)
+run-decided c j k t positions (Ok r) m path is = subst (Settles c j k) (sym is) (run-told c j k t positions m path)
 run-decided c j k t positions (Err end) m path is = tt
 
 -- a closed set is a claim, and no run has them
@@ -84,20 +84,20 @@ pub claim-told : (c : Circuit) (j k : ℕ) (t : Circuit) (clauses : List (List L
 claim-told c j k t clauses uses law m h =
     keeps t (some-latch c j k t m.some m.model) (last-zero c j k t m.some m.model) law clauses uses h
 
-shown-so : (c : Circuit) (j k : ℕ) (t : Circuit) (r : KnownRounds) → IsMonitorOf c j k t → IsShown t r → IsSo c j k r
+shown-so : (c : Circuit) (j k : ℕ) (t : Circuit) (r : KnownRounds) → IsMonitorOf c j k t → IsShownBySet t r → IsSo c j k r
 shown-so c j k t (Fewer entries refutation) m shown = subst (λ x. AreFull x entries refutation) m.model shown
 shown-so c j k t (Reached run) m shown = absurd shown
 
-shown-decides : (c : Circuit) (j k : ℕ) (t : Circuit) (r : KnownRounds) → (HasRunOfRounds c j k → ⊥) → IsShown t r → Decides c j k r
+shown-decides : (c : Circuit) (j k : ℕ) (t : Circuit) (r : KnownRounds) → (HasRunOfRounds c j k → ⊥) → IsShownBySet t r → Settles c j k r
 shown-decides c j k t (Fewer entries refutation) none shown = none
 shown-decides c j k t (Reached run) none shown = absurd shown
 
-pub set-so : (c : Circuit) (j k : ℕ) (t : Circuit) (result : Result KnownRounds RoundsEnd) → IsMonitorOf c j k t → IfOk result (IsShown t) → IfOk result (IsSo c j k)
+pub set-so : (c : Circuit) (j k : ℕ) (t : Circuit) (result : Result KnownRounds RoundsEnd) → IsMonitorOf c j k t → IfOk result (IsShownBySet t) → IfOk result (IsSo c j k)
 set-so c j k t (Ok r) m shown = shown-so c j k t r m shown
 set-so c j k t (Err end) m shown = tt
 
 pub set-decided : (c : Circuit) (j k : ℕ) (t : Circuit) (clauses : List (List Lit)) (uses : List Use) (result : Result KnownRounds RoundsEnd)
-    → IsMonitorOf c j k t → IsClosedSet t clauses uses → IfOk result (IsShown t) → IfOk result (Decides c j k)
+    → IsMonitorOf c j k t → IsClosedSet t clauses uses → IfOk result (IsShownBySet t) → IfOk result (Settles c j k)
 set-decided c j k t clauses uses (Ok r) m h shown = shown-decides c j k t r (none-decides c j k t m.some m.model m.exact h.none) shown
 set-decided c j k t clauses uses (Err end) m h shown = tt
 

@@ -61,9 +61,9 @@ pub record IsClosedSet (t : Circuit) (clauses : List (List Lit)) (uses : List Us
   pub none : (positions : List Position) → LeadsThere t positions → ⊥
 
 -- what the search answers
-abbrev pub IsAnswered : Circuit → Found → Type 0
-IsAnswered t (Path positions) = LeadsThere t positions
-IsAnswered t (Closed clauses uses) = IsClosedSet t clauses uses
+abbrev pub AnswersSearch : Circuit → Found → Type 0
+AnswersSearch t (Path positions) = LeadsThere t positions
+AnswersSearch t (Closed clauses uses) = IsClosedSet t clauses uses
 
 -- ---- what is claimed of a closed set
 
@@ -92,6 +92,6 @@ abbrev pub refuted_clauses : Circuit → List (List Lit) → List (List Lit)
 refuted_clauses t clauses = state_clauses t (last_latch t) (record { number = 0; entry = reach_entry clauses } ∷ [])
 
 -- a set of the monitor's states that shows it
-abbrev pub IsShown : Circuit → KnownRounds → Type 0
-IsShown t (Fewer entries refutation) = AreFull t entries refutation
-IsShown t (Reached run) = ⊥
+abbrev pub IsShownBySet : Circuit → KnownRounds → Type 0
+IsShownBySet t (Fewer entries refutation) = AreFull t entries refutation
+IsShownBySet t (Reached run) = ⊥

@@ -14,9 +14,9 @@ use Rattle.k_live.specs.declared.ends.RoundsEnd.{RoundsEnd}
 use Rattle.k_live.specs.declared.ends.RoundsEnd.TheVariants.{Unsettled, TooLarge, Memory}
 
 -- An initial run that has k rounds; or none has.
-abbrev pub Decides : Circuit → ℕ → ℕ → KnownRounds → Type 0
-Decides c j k (Reached run) = IsInitialRun c run × HasRounds c j k run
-Decides c j k (Fewer entries refutation) = HasRunOfRounds c j k → ⊥
+abbrev pub Settles : Circuit → ℕ → ℕ → KnownRounds → Type 0
+Settles c j k (Reached run) = IsInitialRun c run × HasRounds c j k run
+Settles c j k (Fewer entries refutation) = HasRunOfRounds c j k → ⊥
 
 -- why a search decides nothing
 abbrev pub EndsSearch : Spendings → RoundsEnd → Type 0
@@ -25,7 +25,7 @@ EndsSearch meter (TooLarge n) = ⊥
 EndsSearch meter Memory = Unit {0}
 
 -- why nothing is decided; only where there is a monitor a budget is spent or memory is wanted
-abbrev pub EndsRounds : Circuit → ℕ → ℕ → Spendings → RoundsEnd → Type 0
-EndsRounds c j k meter (Unsettled spending) = (spending ≡ meter) × IsSpent meter × IsMonitorable c j k
-EndsRounds c j k meter (TooLarge n) = (n ≡ greatest (sizes_of c j k)) × IsTooLarge c j k
-EndsRounds c j k meter Memory = IsMonitorable c j k
+abbrev pub SettlesNothing : Circuit → ℕ → ℕ → Spendings → RoundsEnd → Type 0
+SettlesNothing c j k meter (Unsettled spending) = (spending ≡ meter) × IsSpent meter × IsMonitorable c j k
+SettlesNothing c j k meter (TooLarge n) = (n ≡ greatest (sizes_of c j k)) × IsTooLarge c j k
+SettlesNothing c j k meter Memory = IsMonitorable c j k

@@ -8,7 +8,7 @@ ghost use Rattle.entry.specs.Entries.{said};
 ghost use Rattle.entry.specs.Proved.{IsProved};
 ghost use Rattle.k_live.specs.Deciding.{EndsSearch};
 ghost use Rattle.round_answers.specs.declared.rounds.KnownRounds.TheVariants as answers;
-ghost use Rattle.k_live.specs.Asking.{last_false, reach_entry, first_use, refuted_clauses, IsClaim, IsShown};
+ghost use Rattle.k_live.specs.Asking.{last_false, reach_entry, first_use, refuted_clauses, IsClaim, IsShownBySet};
 
 use crate::ends::{RoundsEnd, end_of_solving};
 use crate::states::state_cnf;
@@ -32,7 +32,7 @@ pub(crate) fn fewer(
 ) -> Result<KnownRounds, RoundsEnd>
     requires some { 0 < length t.now.latches }
     requires claim { IsClaim t.now (clauses ++ last_false t.now ∷ []) }
-    ensures shown { IfOk result (IsShown t.now) }
+    ensures shown { IfOk result (IsShownBySet t.now) }
     ensures end { IfErr result (EndsSearch meter.new) }
     ensures counted { CountsConflicts meter.old meter.new }
 {
@@ -71,7 +71,7 @@ fn shown(
 ) -> Result<KnownRounds, SolveEnd>
     requires some { 0 < length t.now.latches }
     requires claim { IsClaim t.now set }
-    ensures shown { IfOk result (IsShown t.now) }
+    ensures shown { IfOk result (IsShownBySet t.now) }
     ensures end { IfErr result (IsEnd meter.new) }
     ensures counted { CountsConflicts meter.old meter.new }
 {
@@ -112,7 +112,7 @@ fn with_refutation(
     requires claim { IsClaim t.now entry.set }
     requires said { said entry ≡ reach_entry entry.set }
     requires proved { IsProved t.now [] (said entry) entry.proofs }
-    ensures shown { IfOk result (IsShown t.now) }
+    ensures shown { IfOk result (IsShownBySet t.now) }
     ensures end { IfErr result (IsEnd meter.new) }
     ensures counted { CountsConflicts meter.old meter.new }
 {

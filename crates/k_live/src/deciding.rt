@@ -9,8 +9,8 @@ ghost use Rattle.round_monitor.specs.Monitor.{monitor_circuit};
 ghost use Rattle.round_answers.specs.declared.rounds.KnownRounds.TheVariants as rounds;
 ghost use Rattle.k_live.specs.declared.ends.RoundsEnd.TheVariants as ends;
 ghost use Rattle.round_answers.specs.Writing.{IsSo};
-ghost use Rattle.k_live.specs.Deciding.{Decides, EndsRounds, EndsSearch};
-ghost use Rattle.k_live.specs.Asking.{IsMonitorOf, IsAnswered};
+ghost use Rattle.k_live.specs.Deciding.{Settles, SettlesNothing, EndsSearch};
+ghost use Rattle.k_live.specs.Asking.{IsMonitorOf, AnswersSearch};
 
 use crate::closing::fewer;
 use crate::ends::{RoundsEnd, end_of_search};
@@ -43,9 +43,9 @@ pub fn decide(
     requires property { j < length c.now.justice }
     requires some { 1 ≤ k }
     ensures so { IfOk result (IsSo c.now j k) }
-    ensures decided { IfOk result (Decides c.now j k) }
+    ensures decided { IfOk result (Settles c.now j k) }
     ensures able { OnOk result (IsMonitorable c.now j k) }
-    ensures end { IfErr result (EndsRounds c.now j k meter.new) }
+    ensures end { IfErr result (SettlesNothing c.now j k meter.new) }
     ensures counted { CountsSearch (length (monitor_circuit c.now j k).latches) meter.old meter.new }
     // Where there is no monitor nothing is counted.
     ensures untouched { (n : ℕ) → result ≡ Err (ends.TooLarge n) → meter.new ≡ meter.old }
@@ -72,7 +72,7 @@ pub fn decide(
 fn decided(alloc: Global, w: &Watched<'_>, meter: &mut Meter) -> Result<KnownRounds, RoundsEnd>
     requires { IsMonitorOf w.now.c.now w.now.j w.now.k w.now.t.now }
     ensures so { IfOk result (IsSo w.now.c.now w.now.j w.now.k) }
-    ensures decided { IfOk result (Decides w.now.c.now w.now.j w.now.k) }
+    ensures decided { IfOk result (Settles w.now.c.now w.now.j w.now.k) }
     ensures end { IfErr result (EndsSearch meter.new) }
     ensures counted { CountsSearch (length w.now.t.now.latches) meter.old meter.new }
 {
@@ -90,9 +90,9 @@ fn told(
     meter: &mut Meter,
 ) -> Result<KnownRounds, RoundsEnd>
     requires monitor { IsMonitorOf w.now.c.now w.now.j w.now.k w.now.t.now }
-    requires answered { IsAnswered w.now.t.now found }
+    requires answered { AnswersSearch w.now.t.now found }
     ensures so { IfOk result (IsSo w.now.c.now w.now.j w.now.k) }
-    ensures decided { IfOk result (Decides w.now.c.now w.now.j w.now.k) }
+    ensures decided { IfOk result (Settles w.now.c.now w.now.j w.now.k) }
     ensures end { IfErr result (EndsSearch meter.new) }
     ensures counted { CountsConflicts meter.old meter.new }
 {

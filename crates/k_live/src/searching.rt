@@ -2,7 +2,7 @@
 
 ghost use Rattle.std.specs.Prelude.{◌≡◌, ◌<◌, length, IfOk, IfErr};
 ghost use Rattle.ic3_semantics.specs.Searching.{IsReachEnd, CountsSearch};
-ghost use Rattle.k_live.specs.Asking.{next_of_last, IsAnswered};
+ghost use Rattle.k_live.specs.Asking.{next_of_last, AnswersSearch};
 
 use circuit::Circuit;
 use edge::Meter;
@@ -23,7 +23,7 @@ fn next_of_last(t: &Circuit) -> u64
 /// set.
 pub(crate) fn searched(alloc: Global, t: &Circuit, meter: &mut Meter) -> Result<Reached, ReachEnd>
     requires { 0 < length t.now.latches }
-    ensures answered { IfOk result (IsAnswered t.now) }
+    ensures answered { IfOk result (AnswersSearch t.now) }
     ensures end { IfErr result (IsReachEnd meter.new) }
     ensures counted { CountsSearch (length t.now.latches) meter.old meter.new }
 {

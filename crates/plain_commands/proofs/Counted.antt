@@ -21,7 +21,7 @@ use Rattle.round_answers.specs.Texts.{MayBeAsked}
 use Rattle.round_answers.specs.Answers.{IsGoodAbout, ShowsRounds}
 use Rattle.round_answers.specs.Writing.{IsSo, is_reached}
 use Rattle.fair_semantics.specs.Rounds.{HasRounds}
-use Rattle.k_live.specs.Deciding.{Decides, EndsRounds as EndsSearch}
+use Rattle.k_live.specs.Deciding.{Settles, SettlesNothing}
 use Rattle.k_live.specs.declared.ends.RoundsEnd.TheVariants as ends
 use Rattle.command_lines.specs.declared.commands.counting.RoundsRequest.{RoundsRequest}
 use Rattle.plain_commands.specs.declared.status.Status.{Status}
@@ -46,7 +46,7 @@ fewer_rounds c n zero (suc k) run le h = absurd (omega (arith, le))
 fewer_rounds c n (suc m) (suc k) run le (front, segment, rest, split, round, others) =
     (front, segment, rest, split, round, fewer_rounds c n m k rest (omega (arith, le)) others)
 
-shows : (c : Circuit) (n k : ℕ) (found : KnownRounds) → Decides c n k found → ShowsRounds c n k (is_reached found)
+shows : (c : Circuit) (n k : ℕ) (found : KnownRounds) → Settles c n k found → ShowsRounds c n k (is_reached found)
 shows c n k (Reached run) h = (run, h.0, h.1)
 shows c n k (Fewer entries refutation) none = λ run m initial rounds.
     elim (cases_lt m k) [
@@ -55,7 +55,7 @@ shows c n k (Fewer entries refutation) none = λ run m initial rounds.
     ]
 
 pub rounds_are_printed : (c : Circuit) (request : RoundsRequest) (found : KnownRounds) (reached : Bool) (text : List ℕ) → MayBeAsked request.k
-    → IsSo c request.property request.k found → Decides c request.property request.k found → reached ≡ is_reached found
+    → IsSo c request.property request.k found → Settles c request.property request.k found → reached ≡ is_reached found
     → (request.k ≤ MAX_ROUNDS → IsSo c request.property request.k found → IsGoodAbout c text request.property request.k (is_reached found))
     → EndsRounds c request (statuses.Done (done.Rounds request.property request.k reached)) text
 rounds_are_printed c request found reached text asked so decides same good =
@@ -70,7 +70,7 @@ rounds_are_printed c request found reached text asked so decides same good =
 
 -- What a search that is cut short leaves.
 
-pub is_open : (c : Circuit) (request : RoundsRequest) (meter spent : Spendings) → EndsSearch c request.property request.k meter (ends.Unsettled spent)
+pub is_open : (c : Circuit) (request : RoundsRequest) (meter spent : Spendings) → SettlesNothing c request.property request.k meter (ends.Unsettled spent)
     → meter.conflict_limit ≡ limit_of request.conflicts → meter.step_limit ≡ limit_of request.steps
     → SaysOpen c request (statuses.OpenRounds request.property spent)
 is_open c request meter spent (same, met, able) conflicts steps = (

@@ -8,7 +8,7 @@ ghost use Rattle.round_monitor.specs.Ends.{IsMonitorable};
 ghost use Rattle.sheet_answers.specs.declared.ends.Judged.{Judged as JudgedOf};
 ghost use Rattle.round_answers.specs.Texts.{MayBeAsked};
 ghost use Rattle.round_answers.specs.Writing.{IsSo, is_reached};
-ghost use Rattle.k_live.specs.Deciding.{Decides};
+ghost use Rattle.k_live.specs.Deciding.{Settles};
 ghost use Rattle.plain_commands.specs.Check.{done_by};
 ghost use Rattle.plain_commands.specs.Rounds.{EndsRounds, GivesRounds, DecidesRounds, ShownByRounds};
 ghost use Rattle.plain_commands.specs.Answering.{IsSilent, GivesVerdict, FailedOf, ReadsModelFirst};
@@ -94,7 +94,7 @@ fn printed(
     requires asked { MayBeAsked request.now.k }
     requires able { IsMonitorable circuit.now request.now.property request.now.k }
     requires so { IsSo circuit.now request.now.property request.now.k found.now }
-    requires decided { Decides circuit.now request.now.property request.now.k found.now }
+    requires decided { Settles circuit.now request.now.property request.now.k found.now }
     ensures found { IfOk result (λ ending. EndsRounds circuit.now request.now ending.status ending.text.items) }
     ensures ended { IfErr result (λ status. status ≡ Status.Memory) }
 {
