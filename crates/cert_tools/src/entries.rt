@@ -1,7 +1,8 @@
 //! Which entries of a certificate its refutation needs, and what becomes of each. The main calls are `needed` and
 //! `trimmed_entries`.
 
-ghost use Rattle.std.specs.Prelude.{◌≡◌, ◌<◌, ◌≤◌, ◌+◌, ◌^◌, ◌↔◌, ◌∷◌, ◌++◌, [], ℕ, List, Some, true, length, slice_get, if◌then◌else◌, IfOk, OnOk};
+ghost use Rattle.std.specs.Prelude.{◌≡◌, ◌<◌, ◌≤◌, ◌+◌, ◌^◌, ◌↔◌, ◌∷◌, ◌++◌, []};
+ghost use Rattle.std.specs.Prelude.{ℕ, List, Some, true, length, slice_get, if◌then◌else◌, IfOk, OnOk};
 ghost use Rattle.aig_semantics.specs.Circuits.{Circuit as CircuitOf};
 ghost use Rattle.fair_semantics.specs.Entries.{Entry as EntryOf};
 ghost use Rattle.certificate.specs.Certificates.{AreProvedBehind};

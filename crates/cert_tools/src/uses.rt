@@ -1,7 +1,8 @@
 //! Uses of entries, by other numbers; and where what is used gives an empty clause.
 
 ghost use Rattle.std.specs.Prelude.{◌≡◌, ◌||◌, Some, slice_get, IfOk};
-ghost use Rattle.cert_tools.specs.TrimmingEntries.{numbers_of, place_in, at_places, no_literals, spells_empty, written_empties, any_empties};
+ghost use Rattle.cert_tools.specs.TrimmingEntries.{numbers_of, place_in, at_places, no_literals};
+ghost use Rattle.cert_tools.specs.TrimmingEntries.{spells_empty, written_empties, any_empties};
 
 use certificate::Written;
 use fair_semantics::{Kind, Use};

@@ -5,7 +5,8 @@ ghost use Rattle.clap.specs.Simple.{App, app_of, new_app, with_rule, with_subcom
 ghost use Rattle.clap.specs.Walk.{rows_of, rule_of, first_of};
 ghost use Rattle.clap.specs.Matches.{found_of};
 ghost use Rattle.command_lines.specs.Making.{MakesCommand, TakesMore};
-ghost use Rattle.command_lines.specs.Words.{flag, flag_in, number_option, text_option, wanted, wanted_number, IsNumberIn, IsNumberGiven, IsNumberOr};
+ghost use Rattle.command_lines.specs.Words.{flag, flag_in, number_option, text_option, wanted};
+ghost use Rattle.command_lines.specs.Words.{wanted_number, IsNumberIn, IsNumberGiven, IsNumberOr};
 
 use clap::builder::ValueParser;
 use clap::{Arg, ArgAction, ArgMatches, Command};

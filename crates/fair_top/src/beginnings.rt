@@ -8,13 +8,15 @@ ghost use Rattle.edge.specs.Reads.{KeepsTexts};
 ghost use Rattle.entry.specs.CheckedEntries.{CheckedEntry};
 ghost use Rattle.sheet_answers.specs.Ends.{has_unread, read_failed, refused_memory, IsUnended};
 ghost use Rattle.fair_workers.specs.Runs.{AreServed};
-ghost use Rattle.given_entries.specs.Beginning.{told_of, OfClaimed, IsClaimed, BeginsWith, HasNoList, IsRefusedWith, ReadsIfNamed, shared_list};
+ghost use Rattle.given_entries.specs.Beginning.{told_of, OfClaimed, IsClaimed, BeginsWith};
+ghost use Rattle.given_entries.specs.Beginning.{HasNoList, IsRefusedWith, ReadsIfNamed, shared_list};
 ghost use Rattle.command_lines.specs.Commands.{name_in};
 ghost use Rattle.plain_commands.specs.Answering.{IsSilent, FailedOf, ReadsModelFirst};
 ghost use Rattle.fair_top.specs.Headline.{FailedFor};
 ghost use Rattle.plain_commands.specs.Check.{status_of_end};
 ghost use Rattle.fair_top.specs.Solve.{asked_in, HasProperty, LacksProperty};
-ghost use Rattle.fair_top.specs.Beginnings.{IsAskedOf, EndsUnasked, IsEndedWith, beginning_of_end, IsBeginning, EndsBefore, circuit_in, served_in, given_in};
+ghost use Rattle.fair_top.specs.Beginnings.{IsAskedOf, EndsUnasked, IsEndedWith, beginning_of_end, IsBeginning};
+ghost use Rattle.fair_top.specs.Beginnings.{EndsBefore, circuit_in, served_in, given_in};
 ghost use Rattle.fair_top.specs.Solved.{MayBegin};
 ghost use Rattle.plain_commands.specs.Statuses.{has_read_fault};
 
@@ -46,10 +48,13 @@ pub(crate) fn beginning_of<H: Shelf>(
     resume: Option<&str>,
     request: &SolveRequest,
 ) -> Result<Beginning, Status>
-    ensures asked { IfOk result (IsBeginning (H.held shelf.old model.now) (told_of (H.held shelf.old) (option_map (λ name. name.now) resume.entry)) request.now) }
-    ensures ended { IfErr result (EndsBefore (H.held shelf.old model.now) (told_of (H.held shelf.old) (option_map (λ name. name.now) resume.entry)) request.now) }
+    ensures asked { IfOk result (IsBeginning (H.held shelf.old model.now)
+        (told_of (H.held shelf.old) (option_map (λ name. name.now) resume.entry)) request.now) }
+    ensures ended { IfErr result (EndsBefore (H.held shelf.old model.now)
+        (told_of (H.held shelf.old) (option_map (λ name. name.now) resume.entry)) request.now) }
     ensures read { result ≡ Err Status.ReadFault
-        → FailedOf (H.held shelf.old) (model.now ∷ name_in (option_map (λ name. name.now) resume.entry)) (H.faults shelf.old) (H.faults shelf.new) }
+        → FailedOf (H.held shelf.old) (model.now ∷ name_in (option_map (λ name. name.now) resume.entry)) (H.faults shelf.old)
+        (H.faults shelf.new) }
     ensures there { result ≡ Err Status.ReadFault
         → FailedFor (H.held shelf.old) model.now request.now (H.faults shelf.old) (H.faults shelf.new) }
     ensures reads { ReadsModelFirst H.reads (H.held shelf.old) (model.now ∷ name_in (option_map (λ name. name.now) resume.entry))
@@ -72,7 +77,8 @@ fn beginning_about<H: Shelf>(
     request: &SolveRequest,
 ) -> Result<Beginning, Status>
     ensures asked { IfOk result (IsAskedOf circuit (told_of (H.held shelf.old) (option_map (λ name. name.now) resume.entry)) request.now) }
-    ensures ended { IfErr result (EndsUnasked circuit (told_of (H.held shelf.old) (option_map (λ name. name.now) resume.entry)) request.now) }
+    ensures ended { IfErr result (EndsUnasked circuit
+        (told_of (H.held shelf.old) (option_map (λ name. name.now) resume.entry)) request.now) }
     ensures refused { (claimed : Option (List ℕ)) (end : JudgeEnd)
         → IsClaimed (told_of (H.held shelf.old) (option_map (λ name. name.now) resume.entry)) claimed → HasNoList circuit claimed end
         → HasProperty circuit request.now → IsEndedWith (status_of_end end) result }
@@ -80,7 +86,8 @@ fn beginning_about<H: Shelf>(
         → IsClaimed (told_of (H.held shelf.old) (option_map (λ name. name.now) resume.entry)) claimed → BeginsWith circuit claimed given
         → HasProperty circuit request.now → IfErr result IsSilent }
     ensures read { result ≡ Err Status.ReadFault
-        → (name : List ℕ) × (option_map (λ name. name.now) resume.entry ≡ Some name) × Rose (H.faults shelf.old name) (H.faults shelf.new name) }
+        → (name : List ℕ) × (option_map (λ name. name.now) resume.entry ≡ Some name)
+        × Rose (H.faults shelf.old name) (H.faults shelf.new name) }
     ensures reads { ReadsIfNamed H.reads (option_map (λ name. name.now) resume.entry) (has_read_fault result) shelf.old shelf.new }
     ensures counts { NoneFell (H.faults shelf.old) (H.faults shelf.new) }
     ensures kept { KeepsTexts (H.held shelf.old) (H.held shelf.new) }
@@ -112,7 +119,8 @@ fn beginning_on<H: Shelf>(
 ) -> Result<Beginning, Status>
     requires property { HasProperty circuit request.now }
     ensures asked { IfOk result (IsAskedOf circuit (told_of (H.held shelf.old) (option_map (λ name. name.now) resume.entry)) request.now) }
-    ensures ended { IfErr result (EndsUnasked circuit (told_of (H.held shelf.old) (option_map (λ name. name.now) resume.entry)) request.now) }
+    ensures ended { IfErr result (EndsUnasked circuit
+        (told_of (H.held shelf.old) (option_map (λ name. name.now) resume.entry)) request.now) }
     ensures refused { (claimed : Option (List ℕ)) (end : JudgeEnd)
         → IsClaimed (told_of (H.held shelf.old) (option_map (λ name. name.now) resume.entry)) claimed → HasNoList circuit claimed end
         → IsEndedWith (status_of_end end) result }
@@ -120,7 +128,8 @@ fn beginning_on<H: Shelf>(
         → IsClaimed (told_of (H.held shelf.old) (option_map (λ name. name.now) resume.entry)) claimed → BeginsWith circuit claimed given
         → IfErr result IsSilent }
     ensures read { result ≡ Err Status.ReadFault
-        → (name : List ℕ) × (option_map (λ name. name.now) resume.entry ≡ Some name) × Rose (H.faults shelf.old name) (H.faults shelf.new name) }
+        → (name : List ℕ) × (option_map (λ name. name.now) resume.entry ≡ Some name)
+        × Rose (H.faults shelf.old name) (H.faults shelf.new name) }
     ensures reads { ReadsIfNamed H.reads (option_map (λ name. name.now) resume.entry) (has_read_fault result) shelf.old shelf.new }
     ensures counts { NoneFell (H.faults shelf.old) (H.faults shelf.new) }
     ensures kept { KeepsTexts (H.held shelf.old) (H.held shelf.new) }
@@ -157,7 +166,8 @@ fn begun<H: Shelf>(
         (λ claimed. BeginsWith (arc_value circuit) claimed (given_in q))) }
     ensures begins { IfOk result (λ q. MayBegin (arc_value circuit) (given_in q)) }
     ensures fault { IfErr result (λ end. IsUnended end
-        ⊎ OfClaimed (told_of (H.held shelf.old) (option_map (λ name. name.now) resume.entry)) (λ claimed. HasNoList (arc_value circuit) claimed end)) }
+        ⊎ OfClaimed (told_of (H.held shelf.old) (option_map (λ name. name.now) resume.entry)) (λ claimed.
+        HasNoList (arc_value circuit) claimed end)) }
     ensures refused { (claimed : Option (List ℕ)) (end : JudgeEnd)
         → IsClaimed (told_of (H.held shelf.old) (option_map (λ name. name.now) resume.entry)) claimed
         → HasNoList (arc_value circuit) claimed end → IsRefusedWith end result }
@@ -165,7 +175,8 @@ fn begun<H: Shelf>(
         → IsClaimed (told_of (H.held shelf.old) (option_map (λ name. name.now) resume.entry)) claimed
         → BeginsWith (arc_value circuit) claimed given → IfErr result IsUnended }
     ensures read { result ≡ Err read_failed
-        → (name : List ℕ) × (option_map (λ name. name.now) resume.entry ≡ Some name) × Rose (H.faults shelf.old name) (H.faults shelf.new name) }
+        → (name : List ℕ) × (option_map (λ name. name.now) resume.entry ≡ Some name)
+        × Rose (H.faults shelf.old name) (H.faults shelf.new name) }
     ensures reads { ReadsIfNamed H.reads (option_map (λ name. name.now) resume.entry) (has_unread result) shelf.old shelf.new }
     ensures counts { NoneFell (H.faults shelf.old) (H.faults shelf.new) }
     ensures kept { KeepsTexts (H.held shelf.old) (H.held shelf.new) }

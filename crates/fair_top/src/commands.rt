@@ -55,11 +55,13 @@ pub(crate) fn ending_of<S: Fn(&Beginning, SolveRequest) -> Result<Report, Ended>
     ensures found { IfOk result (λ ending. Ends (H.held shelf.old) (bytes_of words.now) ending.status ending.text.items) }
     ensures silent { IfErr result IsSilent }
     ensures aloud { IfOk result (λ ending. is_read_fault ending.status ≡ false) }
-    ensures exactly { (verdict : Status) → IsVerdict (H.held shelf.old) (bytes_of words.now) verdict → GivesVerdict verdict (status_in result) }
+    ensures exactly { (verdict : Status) → IsVerdict (H.held shelf.old) (bytes_of words.now) verdict
+        → GivesVerdict verdict (status_in result) }
     ensures shown { HoldsAsShown (H.held shelf.old) (bytes_of words.now) (status_in result) }
     ensures words { IsTakenOrUsage (bytes_of words.now) }
     ensures solved { (asked : AskedFor) → AsksFor (bytes_of words.now) asked → SolvesAsked (H.held shelf.old) asked (status_in result) }
-    ensures read { status_in result ≡ Status.ReadFault → ReadFailed (H.held shelf.old) (bytes_of words.now) (H.faults shelf.old) (H.faults shelf.new) }
+    ensures read { status_in result ≡ Status.ReadFault
+        → ReadFailed (H.held shelf.old) (bytes_of words.now) (H.faults shelf.old) (H.faults shelf.new) }
     ensures reads { HasRead H.reads (H.held shelf.old) (bytes_of words.now) (status_in result) shelf.old shelf.new }
     ensures unread { ReadsNothing (bytes_of words.now) → shelf.new ≡ shelf.old }
     ensures counts { NoneFell (H.faults shelf.old) (H.faults shelf.new) }
@@ -96,12 +98,17 @@ fn ending_for<S: Fn(&Beginning, SolveRequest) -> Result<Report, Ended>, H: Shelf
     ensures found { IfOk result (λ ending. CommandGives (H.held shelf.old) (meant asked.entry) ending.status ending.text.items) }
     ensures silent { IfErr result IsSilent }
     ensures aloud { IfOk result (λ ending. is_read_fault ending.status ≡ false) }
-    ensures exactly { (verdict : Status) → Decides (H.held shelf.old) (meant asked.entry) verdict → GivesVerdict verdict (status_in result) }
-    ensures shown { (accepted : JudgedOf) → status_in result ≡ Status.Done (done_by accepted) → ShownBy (H.held shelf.old) (meant asked.entry) accepted }
+    ensures exactly { (verdict : Status) → Decides (H.held shelf.old) (meant asked.entry) verdict
+        → GivesVerdict verdict (status_in result) }
+    ensures shown { (accepted : JudgedOf) → status_in result ≡ Status.Done (done_by accepted)
+        → ShownBy (H.held shelf.old) (meant asked.entry) accepted }
     ensures solved { SolvesAsked (H.held shelf.old) (meant asked.entry) (status_in result) }
-    ensures read { status_in result ≡ Status.ReadFault → FailedOf (H.held shelf.old) (names_in (meant asked.entry)) (H.faults shelf.old) (H.faults shelf.new) }
-    ensures there { status_in result ≡ Status.ReadFault → MayHaveFailed (H.held shelf.old) (meant asked.entry) (H.faults shelf.old) (H.faults shelf.new) }
-    ensures reads { ReadsModelFirst H.reads (H.held shelf.old) (names_in (meant asked.entry)) (is_read_fault (status_in result)) shelf.old shelf.new }
+    ensures read { status_in result ≡ Status.ReadFault
+        → FailedOf (H.held shelf.old) (names_in (meant asked.entry)) (H.faults shelf.old) (H.faults shelf.new) }
+    ensures there { status_in result ≡ Status.ReadFault
+        → MayHaveFailed (H.held shelf.old) (meant asked.entry) (H.faults shelf.old) (H.faults shelf.new) }
+    ensures reads { ReadsModelFirst H.reads (H.held shelf.old) (names_in (meant asked.entry))
+        (is_read_fault (status_in result)) shelf.old shelf.new }
     ensures counts { NoneFell (H.faults shelf.old) (H.faults shelf.new) }
     ensures kept { KeepsTexts (H.held shelf.old) (H.held shelf.new) }
 {

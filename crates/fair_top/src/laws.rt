@@ -1,7 +1,9 @@
 //! The laws of runs. Each call does nothing; its contract is the law.
 
 ghost use Rattle.fair_top.specs.Solve.{RunsAgree};
-ghost use Rattle.fair_top.specs.Laws.{OpenRoundsAreAsked, OpenDepthsAreAsked, ReportsAreAsked, CertificatesAreAsked, SheetsAreAsked, ReportsBeginAsAsked, CertificatesBeginAsAsked, WavesAreAsked, SummariesAreTrue, VerdictsAreAccepted, OpenSheetsAreAccepted};
+ghost use Rattle.fair_top.specs.Laws.{OpenRoundsAreAsked, OpenDepthsAreAsked, ReportsAreAsked, CertificatesAreAsked};
+ghost use Rattle.fair_top.specs.Laws.{SheetsAreAsked, ReportsBeginAsAsked, CertificatesBeginAsAsked, WavesAreAsked};
+ghost use Rattle.fair_top.specs.Laws.{SummariesAreTrue, VerdictsAreAccepted, OpenSheetsAreAccepted};
 
 use aiger_ascii::ascii_laws;
 use aiger_binary::binary_laws;

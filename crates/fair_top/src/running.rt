@@ -47,15 +47,18 @@ pub fn run<R: Threads + Wait + Sync, H: Shelf, O: Sink, G: Gate>(
     ensures exactly { (verdict : Status) → IsVerdict (H.held shelf.old) (bytes_of words.now) verdict → GivesVerdict verdict result }
     ensures shown { HoldsAsShown (H.held shelf.old) (bytes_of words.now) result }
     ensures words { IsTakenOrUsage (bytes_of words.now) }
-    ensures printed { (request : GenRequest) → AsksFor (bytes_of words.now) (Gen request) → (result ≡ Status.Done Printed) ⊎ ((result ≡ Status.Memory) ⊎ (result ≡ Status.WriteFault)) }
-    ensures solved { (model : List ℕ) (request : SolveRequest) (resume : Option (List ℕ)) → AsksFor (bytes_of words.now) (Solve model request resume)
+    ensures printed { (request : GenRequest) → AsksFor (bytes_of words.now) (Gen request)
+        → (result ≡ Status.Done Printed) ⊎ ((result ≡ Status.Memory) ⊎ (result ≡ Status.WriteFault)) }
+    ensures solved { (model : List ℕ) (request : SolveRequest) (resume : Option (List ℕ))
+        → AsksFor (bytes_of words.now) (Solve model request resume)
         → HasAsked (H.held shelf.old model) (told_of (H.held shelf.old) resume) request
         → GivesSome Status.Memory (λ status. IsSolved request.all status ⊎ IsCutShort status) result }
     ensures summed { (request : DemoRequest) → AsksFor (bytes_of words.now) (Demo request)
         → GivesSome Status.Memory (λ status. IsSummedUp status ⊎ (status ≡ Status.WriteFault)) result }
     ensures text { HasTakenText (H.held shelf.old) (bytes_of words.now) (O.taken out.old) (O.taken out.new) result }
     ensures silent { IsSilent result → out.new ≡ out.old }
-    ensures read { result ≡ Status.ReadFault → ReadFailed (H.held shelf.old) (bytes_of words.now) (H.faults shelf.old) (H.faults shelf.new) }
+    ensures read { result ≡ Status.ReadFault
+        → ReadFailed (H.held shelf.old) (bytes_of words.now) (H.faults shelf.old) (H.faults shelf.new) }
     ensures reads { HasRead H.reads (H.held shelf.old) (bytes_of words.now) result shelf.old shelf.new }
     ensures written { HasWritten O.writes result out.old out.new }
     ensures write { result ≡ Status.WriteFault → Rose (O.faults out.old) (O.faults out.new) }
@@ -69,8 +72,10 @@ pub fn run<R: Threads + Wait + Sync, H: Shelf, O: Sink, G: Gate>(
         requires serves { AreServed (circuit_in beginning.now) (served_in beginning.now) }
         requires one { ServesOne (limits_of request) (served_in beginning.now) }
         requires begins { MayBegin (circuit_in beginning.now) (given_in beginning.now) }
-        ensures answer { IfOk result (IsAnswer (task_for (circuit_in beginning.now) (served_in beginning.now) request (given_in beginning.now))) }
-        ensures ended { IfErr result (IsEnded (task_for (circuit_in beginning.now) (served_in beginning.now) request (given_in beginning.now))) }
+        ensures answer { IfOk result (IsAnswer
+            (task_for (circuit_in beginning.now) (served_in beginning.now) request (given_in beginning.now))) }
+        ensures ended { IfErr result (IsEnded
+            (task_for (circuit_in beginning.now) (served_in beginning.now) request (given_in beginning.now))) }
     { on_threads(rt, gate, alloc, beginning, &request) };
     run_by(&search, alloc, words, shelf, out)
 }
@@ -93,10 +98,12 @@ pub fn run_alone<H: Shelf, O: Sink>(
     // Words are a command with its values, or are refused; and those of `gen` are answered with a model, unless memory
     // is refused or a write fails.
     ensures words { IsTakenOrUsage (bytes_of words.now) }
-    ensures printed { (request : GenRequest) → AsksFor (bytes_of words.now) (Gen request) → (result ≡ Status.Done Printed) ⊎ ((result ≡ Status.Memory) ⊎ (result ≡ Status.WriteFault)) }
+    ensures printed { (request : GenRequest) → AsksFor (bytes_of words.now) (Gen request)
+        → (result ≡ Status.Done Printed) ⊎ ((result ≡ Status.Memory) ⊎ (result ≡ Status.WriteFault)) }
     // `solve` of a model that is told and has what is asked for, and of an answer, where one is named, that is told and gives
     // entries, comes to a verdict, on the property or on all, or to a report, unless memory is refused or a read or write fails.
-    ensures solved { (model : List ℕ) (request : SolveRequest) (resume : Option (List ℕ)) → AsksFor (bytes_of words.now) (Solve model request resume)
+    ensures solved { (model : List ℕ) (request : SolveRequest) (resume : Option (List ℕ))
+        → AsksFor (bytes_of words.now) (Solve model request resume)
         → HasAsked (H.held shelf.old model) (told_of (H.held shelf.old) resume) request
         → GivesSome Status.Memory (λ status. IsSolved request.all status ⊎ IsCutShort status) result }
     // `demo` comes to a board with an outcome or to a report, unless memory is refused or a write fails.
@@ -111,7 +118,8 @@ pub fn run_alone<H: Shelf, O: Sink>(
     // A failed read or write is answered only where it came. The reads are of the names that the words give, in turn,
     // MODEL's first and ANSWER's only where MODEL is a model's text. No read of MODEL goes behind the limit on a model's
     // text and one byte more. Of reads and of writes a failed one is the last, and is answered.
-    ensures read { result ≡ Status.ReadFault → ReadFailed (H.held shelf.old) (bytes_of words.now) (H.faults shelf.old) (H.faults shelf.new) }
+    ensures read { result ≡ Status.ReadFault
+        → ReadFailed (H.held shelf.old) (bytes_of words.now) (H.faults shelf.old) (H.faults shelf.new) }
     ensures reads { HasRead H.reads (H.held shelf.old) (bytes_of words.now) result shelf.old shelf.new }
     ensures written { HasWritten O.writes result out.old out.new }
     ensures write { result ≡ Status.WriteFault → Rose (O.faults out.old) (O.faults out.new) }
@@ -128,8 +136,10 @@ pub fn run_alone<H: Shelf, O: Sink>(
         requires serves { AreServed (circuit_in beginning.now) (served_in beginning.now) }
         requires one { ServesOne (limits_of request) (served_in beginning.now) }
         requires begins { MayBegin (circuit_in beginning.now) (given_in beginning.now) }
-        ensures answer { IfOk result (IsAnswer (task_for (circuit_in beginning.now) (served_in beginning.now) request (given_in beginning.now))) }
-        ensures ended { IfErr result (IsEnded (task_for (circuit_in beginning.now) (served_in beginning.now) request (given_in beginning.now))) }
+        ensures answer { IfOk result (IsAnswer
+            (task_for (circuit_in beginning.now) (served_in beginning.now) request (given_in beginning.now))) }
+        ensures ended { IfErr result (IsEnded
+            (task_for (circuit_in beginning.now) (served_in beginning.now) request (given_in beginning.now))) }
     { in_turns(alloc, beginning, &request) };
     run_by(&search, alloc, words, shelf, out)
 }
@@ -147,15 +157,18 @@ fn run_by<S: Fn(&Beginning, SolveRequest) -> Result<Report, Ended>, H: Shelf, O:
     ensures exactly { (verdict : Status) → IsVerdict (H.held shelf.old) (bytes_of words.now) verdict → GivesVerdict verdict result }
     ensures shown { HoldsAsShown (H.held shelf.old) (bytes_of words.now) result }
     ensures words { IsTakenOrUsage (bytes_of words.now) }
-    ensures printed { (request : GenRequest) → AsksFor (bytes_of words.now) (Gen request) → (result ≡ Status.Done Printed) ⊎ ((result ≡ Status.Memory) ⊎ (result ≡ Status.WriteFault)) }
-    ensures solved { (model : List ℕ) (request : SolveRequest) (resume : Option (List ℕ)) → AsksFor (bytes_of words.now) (Solve model request resume)
+    ensures printed { (request : GenRequest) → AsksFor (bytes_of words.now) (Gen request)
+        → (result ≡ Status.Done Printed) ⊎ ((result ≡ Status.Memory) ⊎ (result ≡ Status.WriteFault)) }
+    ensures solved { (model : List ℕ) (request : SolveRequest) (resume : Option (List ℕ))
+        → AsksFor (bytes_of words.now) (Solve model request resume)
         → HasAsked (H.held shelf.old model) (told_of (H.held shelf.old) resume) request
         → GivesSome Status.Memory (λ status. IsSolved request.all status ⊎ IsCutShort status) result }
     ensures summed { (request : DemoRequest) → AsksFor (bytes_of words.now) (Demo request)
         → GivesSome Status.Memory (λ status. IsSummedUp status ⊎ (status ≡ Status.WriteFault)) result }
     ensures text { HasTakenText (H.held shelf.old) (bytes_of words.now) (O.taken out.old) (O.taken out.new) result }
     ensures silent { IsSilent result → out.new ≡ out.old }
-    ensures read { result ≡ Status.ReadFault → ReadFailed (H.held shelf.old) (bytes_of words.now) (H.faults shelf.old) (H.faults shelf.new) }
+    ensures read { result ≡ Status.ReadFault
+        → ReadFailed (H.held shelf.old) (bytes_of words.now) (H.faults shelf.old) (H.faults shelf.new) }
     ensures reads { HasRead H.reads (H.held shelf.old) (bytes_of words.now) result shelf.old shelf.new }
     ensures written { HasWritten O.writes result out.old out.new }
     ensures write { result ≡ Status.WriteFault → Rose (O.faults out.old) (O.faults out.new) }

@@ -26,8 +26,10 @@ pub(crate) fn in_turns(
     requires serves { AreServed (circuit_in beginning.now) (served_in beginning.now) }
     requires one { ServesOne (limits_of request.now) (served_in beginning.now) }
     requires begins { MayBegin (circuit_in beginning.now) (given_in beginning.now) }
-    ensures answer { IfOk result (IsAnswer (task_for (circuit_in beginning.now) (served_in beginning.now) request.now (given_in beginning.now))) }
-    ensures ended { IfErr result (IsEnded (task_for (circuit_in beginning.now) (served_in beginning.now) request.now (given_in beginning.now))) }
+    ensures answer { IfOk result (IsAnswer
+        (task_for (circuit_in beginning.now) (served_in beginning.now) request.now (given_in beginning.now))) }
+    ensures ended { IfErr result (IsEnded
+        (task_for (circuit_in beginning.now) (served_in beginning.now) request.now (given_in beginning.now))) }
 {
     let limits = limits_of(request);
     let served = beginning.served.as_slice();
@@ -47,8 +49,10 @@ pub(crate) fn on_threads<R: Threads + Wait + Sync, G: Gate>(
     requires serves { AreServed (circuit_in beginning.now) (served_in beginning.now) }
     requires one { ServesOne (limits_of request.now) (served_in beginning.now) }
     requires begins { MayBegin (circuit_in beginning.now) (given_in beginning.now) }
-    ensures answer { IfOk result (IsAnswer (task_for (circuit_in beginning.now) (served_in beginning.now) request.now (given_in beginning.now))) }
-    ensures ended { IfErr result (IsEnded (task_for (circuit_in beginning.now) (served_in beginning.now) request.now (given_in beginning.now))) }
+    ensures answer { IfOk result (IsAnswer
+        (task_for (circuit_in beginning.now) (served_in beginning.now) request.now (given_in beginning.now))) }
+    ensures ended { IfErr result (IsEnded
+        (task_for (circuit_in beginning.now) (served_in beginning.now) request.now (given_in beginning.now))) }
 {
     let limits = limits_of(request);
     let served = beginning.served.as_slice();

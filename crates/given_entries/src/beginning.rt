@@ -11,7 +11,8 @@ ghost use Rattle.sheet_answers.specs.Ends.{has_unread, read_failed, refused_memo
 ghost use Rattle.wall_store.specs.Boards.{IsSoundList, most_entries};
 ghost use Rattle.given_entries.specs.Given.{AreProvedInTurn, list_of};
 ghost use Rattle.given_entries.specs.Listing.{DecidesList};
-ghost use Rattle.given_entries.specs.Beginning.{told_of, OfClaimed, IsClaimed, BeginsWith, HasNoList, IsRefusedWith, GivesList, ReadsIfNamed};
+ghost use Rattle.given_entries.specs.Beginning.{told_of, OfClaimed, IsClaimed, BeginsWith};
+ghost use Rattle.given_entries.specs.Beginning.{HasNoList, IsRefusedWith, GivesList, ReadsIfNamed};
 
 use crate::listing::given_list;
 use crate::loading::load_entries;
@@ -35,7 +36,8 @@ pub fn load_list<H: Shelf>(
     ensures list { IfOk result (λ list. OfClaimed (told_of (H.held shelf.old) (option_map (λ name. name.now) answer.entry))
         (λ claimed. BeginsWith (arc_value circuit.now) claimed (map arc_value list.items))) }
     ensures fault { IfErr result (λ end. IsUnended end
-        ⊎ OfClaimed (told_of (H.held shelf.old) (option_map (λ name. name.now) answer.entry)) (λ claimed. HasNoList (arc_value circuit.now) claimed end)) }
+        ⊎ OfClaimed (told_of (H.held shelf.old) (option_map (λ name. name.now) answer.entry)) (λ claimed.
+        HasNoList (arc_value circuit.now) claimed end)) }
     // and what is so is answered, unless memory is refused or a read fails.
     ensures refused { (claimed : Option (List ℕ)) (end : JudgeEnd)
         → IsClaimed (told_of (H.held shelf.old) (option_map (λ name. name.now) answer.entry)) claimed
@@ -48,7 +50,8 @@ pub fn load_list<H: Shelf>(
     ensures sound { IfOk result (λ list. IsSoundList (arc_value circuit.now) (map arc_value list.items)) }
     ensures origins { IfOk result (λ list. All (λ e. e.origin ≡ Given) (map arc_value list.items)) }
     ensures read { result ≡ Err read_failed
-        → (name : List ℕ) × (option_map (λ name. name.now) answer.entry ≡ Some name) × Rose (H.faults shelf.old name) (H.faults shelf.new name) }
+        → (name : List ℕ) × (option_map (λ name. name.now) answer.entry ≡ Some name)
+        × Rose (H.faults shelf.old name) (H.faults shelf.new name) }
     ensures reads { ReadsIfNamed H.reads (option_map (λ name. name.now) answer.entry) (has_unread result) shelf.old shelf.new }
     ensures counts { NoneFell (H.faults shelf.old) (H.faults shelf.new) }
     ensures kept { KeepsTexts (H.held shelf.old) (H.held shelf.new) }

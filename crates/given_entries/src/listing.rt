@@ -77,7 +77,8 @@ fn put(
     requires good { IsGoodList (arc_value circuit.now) (viewed list.old.items) }
     requires proved { IsProved (arc_value circuit.now) (viewed list.old.items) (said entry) entry.proofs }
     ensures { OnOk result (map arc_value list.new.items
-        ≡ map arc_value list.old.items ++ checked_behind (arc_value circuit.now) (viewed list.old.items) (said entry) entry.proofs Given ∷ []) }
+        ≡ map arc_value list.old.items
+        ++ checked_behind (arc_value circuit.now) (viewed list.old.items) (said entry) entry.proofs Given ∷ []) }
 {
     let shared = shared(alloc, circuit, list.as_slice(), entry)?;
     list.push(shared)?;

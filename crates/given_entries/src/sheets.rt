@@ -58,7 +58,8 @@ fn listed(
     lines: &[ProofLine],
 ) -> Result<Items<Entry>, JudgeEnd>
     requires { (sheet : SheetOf) × IsListedIn circuit.now sheet count lines.now }
-    ensures lists { (sheet : SheetOf) → IsListedIn circuit.now sheet count lines.now → IfOk result (AreEntriesOf circuit.now sheet.entries) }
+    ensures lists { (sheet : SheetOf) → IsListedIn circuit.now sheet count lines.now
+        → IfOk result (AreEntriesOf circuit.now sheet.entries) }
     ensures ended { IfErr result (λ end. end ≡ refused_memory) }
 {
     match take_many(

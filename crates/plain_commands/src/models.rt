@@ -40,7 +40,8 @@ fn read_model(alloc: Global, bytes: &[u8]) -> Result<Model, ModelEnd>
     ensures found { IfOk result (λ m. IsModelText m bytes.now) }
     ensures every { (m : ModelOf) → IsModelText m bytes.now → (result ≡ Ok m) ⊎ (result ≡ Err ModelEnd.Memory) }
     ensures fault { (fault : FaultOf) → result ≡ Err (ModelEnd.Fault fault) → IsBadModel bytes.now fault }
-    ensures first { (fault : FaultOf) → IsBadModel bytes.now fault → ((found : FaultOf) × (result ≡ Err (ModelEnd.Fault found)) × SameFault found fault) ⊎ (result ≡ Err ModelEnd.Memory) }
+    ensures first { (fault : FaultOf) → IsBadModel bytes.now fault
+        → ((found : FaultOf) × (result ≡ Err (ModelEnd.Fault found)) × SameFault found fault) ⊎ (result ≡ Err ModelEnd.Memory) }
 {
     read_in(alloc, is_binary(bytes), bytes)
 }
@@ -50,7 +51,8 @@ fn read_in(alloc: Global, binary: bool, bytes: &[u8]) -> Result<Model, ModelEnd>
     ensures found { IfOk result (λ m. IsTextIn binary m bytes.now) }
     ensures every { (m : ModelOf) → IsTextIn binary m bytes.now → (result ≡ Ok m) ⊎ (result ≡ Err ModelEnd.Memory) }
     ensures fault { (fault : FaultOf) → result ≡ Err (ModelEnd.Fault fault) → HasFaultIn binary bytes.now fault }
-    ensures first { (fault : FaultOf) → HasFaultIn binary bytes.now fault → ((found : FaultOf) × (result ≡ Err (ModelEnd.Fault found)) × SameFault found fault) ⊎ (result ≡ Err ModelEnd.Memory) }
+    ensures first { (fault : FaultOf) → HasFaultIn binary bytes.now fault
+        → ((found : FaultOf) × (result ≡ Err (ModelEnd.Fault found)) × SameFault found fault) ⊎ (result ≡ Err ModelEnd.Memory) }
 {
     if binary {
         aiger_binary::read(alloc, bytes)

@@ -2,7 +2,8 @@
 //! `text_of_depth`.
 
 ghost use Rattle.std.specs.Prelude.{◌≡◌, ◌+◌, ◌^◌, ◌<◌, ◌≤◌, ◌++◌, OnOk, IfOk, codes, decimal, take, drop, length};
-ghost use Rattle.plain_commands.specs.Texts.{limit_number, worker_text, workers_text, lasso_text, lassos_text, round_workers_in, first_property, unknown_text, open_text, depth_text};
+ghost use Rattle.plain_commands.specs.Texts.{limit_number, worker_text, workers_text, lasso_text, lassos_text};
+ghost use Rattle.plain_commands.specs.Texts.{round_workers_in, first_property, unknown_text, open_text, depth_text};
 
 use command_lines::ShortestRequest;
 use edge::Spending;
@@ -30,7 +31,8 @@ pub(crate) fn text_of_report(alloc: Global, report: &Report) -> Result<Vec<u8>, 
 // The workers of a report, of which the last ones are lasso workers.
 fn push_all(text: &mut Vec<u8>, report: &Report) -> Result<(), AllocError>
     ensures { OnOk result (text.new.items ≡ text.old.items ++ workers_text 0 (take (round_workers_in report.now) report.now.workers)
-        ++ lassos_text report.now.depth (round_workers_in report.now) (drop (round_workers_in report.now) report.now.workers) report.now.depths) }
+        ++ lassos_text report.now.depth (round_workers_in report.now)
+        (drop (round_workers_in report.now) report.now.workers) report.now.depths) }
 {
     let workers = report.workers.as_slice();
     let depths = report.depths.as_slice();

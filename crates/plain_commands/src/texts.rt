@@ -2,7 +2,8 @@
 
 ghost use Rattle.std.specs.Prelude.{◌≡◌, ◌⊎◌, ◌++◌, true, false, IfOk, IfErr, OnOk, codes, decimal};
 ghost use Rattle.plain_commands.specs.Statuses.{ends_silently, status_in, is_read_fault};
-ghost use Rattle.plain_commands.specs.Texts.{text_of, line_with, bad_model_text, replay_text, proof_fault_text, entry_fault_text, refusal_text, block_fault_text, ending_word, done_text};
+ghost use Rattle.plain_commands.specs.Texts.{text_of, line_with, bad_model_text, replay_text, proof_fault_text};
+ghost use Rattle.plain_commands.specs.Texts.{entry_fault_text, refusal_text, block_fault_text, ending_word, done_text};
 
 use crate::reports::{text_of_open, text_of_report};
 use crate::status::{Done, Status};

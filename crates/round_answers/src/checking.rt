@@ -1,6 +1,7 @@
 //! The check of a text against a circuit. The main call is `check_answer`.
 
-ghost use Rattle.std.specs.Prelude.{◌≡◌, ℕ, ◌+◌, ◌<◌, ◌≤◌, List, [], ◌∷◌, Some, None, Result, Ok, Err, true, false, not, ◌&&◌, IfOk, IfErr, OnOk, IsTrue, IsFalse};
+ghost use Rattle.std.specs.Prelude.{◌≡◌, ℕ, ◌+◌, ◌<◌, ◌≤◌, List, [], ◌∷◌, Some, None, Result};
+ghost use Rattle.std.specs.Prelude.{Ok, Err, true, false, not, ◌&&◌, IfOk, IfErr, OnOk, IsTrue, IsFalse};
 ghost use Rattle.edge.specs.Faults.{Rose, NoneFell};
 ghost use Rattle.edge.specs.Reads.{KeepsTexts, Reads};
 ghost use Rattle.edge.specs.Told.{IfTold};
@@ -16,7 +17,8 @@ ghost use Rattle.round_answers.specs.Answers.{ShowsText};
 ghost use Rattle.round_answers.specs.Reading.{read_lines, First};
 ghost use Rattle.round_answers.specs.Ends.{read_fault, Decides, JudgeSays, EndsWith, has_unread};
 ghost use Rattle.round_answers.specs.Seen.{seen, IsKept};
-ghost use Rattle.round_answers.specs.First.{IsLater, IsAnyway, IsEnd, OfStop, TellsText, KnowsOf, OfLines, is_unread, IsUnknown, unknown_status, as_judged, as_told};
+ghost use Rattle.round_answers.specs.First.{IsLater, IsAnyway, IsEnd, OfStop, TellsText, KnowsOf};
+ghost use Rattle.round_answers.specs.First.{OfLines, is_unread, IsUnknown, unknown_status, as_judged, as_told};
 
 use crate::ends::{JudgeEnd, Judged, refused};
 use crate::state::State;

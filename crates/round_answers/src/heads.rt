@@ -110,7 +110,8 @@ fn last_latch(t: &Circuit) -> Lit
 // Before the first entry of the monitor.
 fn listing(alloc: Global, _circuit: &Circuit, asked: Asked, model: Model) -> Result<State, JudgeEnd>
     requires { IsAsked _circuit.now asked model }
-    ensures { (number : ℕ) → TellsStep _circuit.now (version_step _circuit.now asked.k asked.property number (Some (WordLine.Version Version.Two))) result }
+    ensures { (number : ℕ)
+        → TellsStep _circuit.now (version_step _circuit.now asked.k asked.property number (Some (WordLine.Version Version.Two))) result }
 {
     let t = model.circuit();
     match states_refuted(alloc, t, asked.property, last_latch(t)) {

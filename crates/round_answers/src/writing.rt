@@ -46,7 +46,8 @@ pub fn write(
     // The text is within the limit on the length of an answer.
     ensures within { IfOk result (λ text. length text.items ≤ most_bytes) }
     // Where it is so, the text is a good one.
-    ensures good { IfOk result (λ text. k ≤ MAX_ROUNDS → IsSo c.now j k rounds.now → IsGoodAbout c.now text.items j k (is_reached rounds.now)) }
+    ensures good { IfOk result (λ text.
+        k ≤ MAX_ROUNDS → IsSo c.now j k rounds.now → IsGoodAbout c.now text.items j k (is_reached rounds.now)) }
 {
     match rounds {
         KnownRounds::Fewer {
@@ -70,7 +71,8 @@ fn fewer_text(
     requires some { 1 ≤ k }
     requires able { IsMonitorable c.now j k }
     ensures text { IfOk result (λ text. text.items ≡ rounds_text c.now j k (Fewer entries.now refutation.now)) }
-    ensures good { IfOk result (λ text. k ≤ MAX_ROUNDS → AreFull (monitor_circuit c.now j k) entries.now refutation.now → IsGoodAbout c.now text.items j k false) }
+    ensures good { IfOk result (λ text.
+        k ≤ MAX_ROUNDS → AreFull (monitor_circuit c.now j k) entries.now refutation.now → IsGoodAbout c.now text.items j k false) }
 {
     let model = monitor_of(alloc, c, j, k)?;
     let _limits = model.circuit().max();

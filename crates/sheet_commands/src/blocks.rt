@@ -117,7 +117,8 @@ fn held_lasso(alloc: Global, circuit: &Circuit, shelf: MemShelf) -> Result<Block
     requires held { (answer : List ℕ) × (⟦<MemShelf as Shelf>⟧.held shelf (codes "text") ≡ Some answer) }
     ensures found { (answer : List ℕ) → ⟦<MemShelf as Shelf>⟧.held shelf (codes "text") ≡ Some answer
         → GivesSome no_memory (DecidesLasso circuit.now answer) result }
-    ensures exactly { (answer : List ℕ) (verdict : Result BlockLasso JudgeEnd) → ⟦<MemShelf as Shelf>⟧.held shelf (codes "text") ≡ Some answer
+    ensures exactly { (answer : List ℕ) (verdict : Result BlockLasso JudgeEnd)
+        → ⟦<MemShelf as Shelf>⟧.held shelf (codes "text") ≡ Some answer
         → DecidesLasso circuit.now answer verdict → GivesSome no_memory (λ end. end ≡ verdict) result }
     ensures unread { has_unread result ≡ false }
 {

@@ -23,7 +23,8 @@ pub(crate) fn block_answer(
     lines: &[ProofLine],
 ) -> Result<Vec<u8>, JudgeEnd>
     ensures found { IfOk result (λ text. answer_in property lines.now ≡ Some text.items) }
-    ensures none { IfErr result (λ end. ((end ≡ no_lasso circuit.now property) × (answer_in property lines.now ≡ None)) ⊎ (end ≡ refused_memory)) }
+    ensures none { IfErr result (λ end.
+        ((end ≡ no_lasso circuit.now property) × (answer_in property lines.now ≡ None)) ⊎ (end ≡ refused_memory)) }
 {
     let first = first_line(alloc, property)?;
     match lines_after(first.as_slice(), lines) {

@@ -5,7 +5,8 @@ ghost use Rattle.text_grammar.specs.Lines.{ended_lines};
 ghost use Rattle.aig_semantics.specs.Valuations.{valuation};
 ghost use Rattle.aig_semantics.specs.Runs.{position_of, successor};
 ghost use Rattle.aig_semantics.specs.Stimuli.{simulated, state_after};
-ghost use Rattle.waves.specs.Dumps.{unrolled, range_text, width_text, var_line, comment_line, header_lines, time_line, digits_of, word_of, value_line, position_lines, run_lines, all_lines, waves_text};
+ghost use Rattle.waves.specs.Dumps.{unrolled, range_text, width_text, var_line, comment_line, header_lines, time_line};
+ghost use Rattle.waves.specs.Dumps.{digits_of, word_of, value_line, position_lines, run_lines, all_lines, waves_text};
 
 use crate::signals::{Signal, signals_of};
 use crate::wires::{Wire, value_in};
@@ -203,7 +204,8 @@ fn push_run(
     requires inputs { All (λ now. length now ≡ length dump.now.circuit.now.inputs) inputs.now }
     requires values { length values.old ≡ dump.now.circuit.now.max + 1 }
     ensures text { OnOk result (out.new.items ≡ out.old.items
-        ++ ended_lines (run_lines dump.now.circuit.now dump.now.from dump.now.signals.now start (simulated dump.now.circuit.now latches.old inputs.now))) }
+        ++ ended_lines
+        (run_lines dump.now.circuit.now dump.now.from dump.now.signals.now start (simulated dump.now.circuit.now latches.old inputs.now))) }
     ensures next { OnOk result (latches.new ≡ state_after dump.now.circuit.now latches.old inputs.now) }
     ensures room { OnOk result (length values.new ≡ length values.old) }
 {
@@ -227,7 +229,8 @@ fn push_positions(
     requires again { All (λ now. length now ≡ length dump.now.circuit.now.inputs) again.now }
     requires values { length values.old ≡ dump.now.circuit.now.max + 1 }
     ensures { OnOk result (out.new.items ≡ out.old.items
-        ++ ended_lines (all_lines dump.now.circuit.now dump.now.from dump.now.signals.now (simulated dump.now.circuit.now latches.old (inputs.now ++ again.now)))) }
+        ++ ended_lines (all_lines dump.now.circuit.now dump.now.from dump.now.signals.now
+        (simulated dump.now.circuit.now latches.old (inputs.now ++ again.now)))) }
 {
     push_run(out, dump, 0, inputs, latches, values)?;
     push_run(out, dump, inputs.len() as u64, again, latches, values)?;

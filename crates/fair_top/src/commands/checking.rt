@@ -5,7 +5,8 @@ ghost use Rattle.edge.specs.Faults.{NoneFell};
 ghost use Rattle.edge.specs.Reads.{KeepsTexts};
 ghost use Rattle.sheet_answers.specs.declared.ends.Judged.{Judged as JudgedOf};
 ghost use Rattle.plain_commands.specs.ModelGiven.{OfSomeText};
-ghost use Rattle.plain_commands.specs.Check.{status_of, status_of_end, JudgesAs, DecidesCheck, ShownByCheck, done_by, done_of_text, done_of};
+ghost use Rattle.plain_commands.specs.Check.{status_of, status_of_end, JudgesAs, DecidesCheck};
+ghost use Rattle.plain_commands.specs.Check.{ShownByCheck, done_by, done_of_text, done_of};
 ghost use Rattle.plain_commands.specs.Answering.{IsSilent, GivesVerdict, FailedOf, ReadsModelFirst};
 ghost use Rattle.plain_commands.specs.Statuses.{is_read_fault};
 
@@ -19,9 +20,11 @@ use std::alloc::Global;
 /// Reads the texts under both names and judges the answer: the status with which the command ends, but for its writing.
 pub(crate) fn check<H: Shelf>(alloc: Global, shelf: &mut H, model: &str, answer: &str) -> Status
     ensures found { JudgesAs OfSomeText (H.held shelf.old model.now) (H.held shelf.old answer.now) result ⊎ IsSilent result }
-    ensures exactly { (verdict : Status) → DecidesCheck (H.held shelf.old model.now) (H.held shelf.old answer.now) verdict → GivesVerdict verdict result }
+    ensures exactly { (verdict : Status) → DecidesCheck (H.held shelf.old model.now) (H.held shelf.old answer.now) verdict
+        → GivesVerdict verdict result }
     ensures shown { (accepted : JudgedOf) → result ≡ Status.Done (done_by accepted) → ShownByCheck (H.held shelf.old model.now) accepted }
-    ensures read { result ≡ Status.ReadFault → FailedOf (H.held shelf.old) (model.now ∷ answer.now ∷ []) (H.faults shelf.old) (H.faults shelf.new) }
+    ensures read { result ≡ Status.ReadFault
+        → FailedOf (H.held shelf.old) (model.now ∷ answer.now ∷ []) (H.faults shelf.old) (H.faults shelf.new) }
     ensures reads { ReadsModelFirst H.reads (H.held shelf.old) (model.now ∷ answer.now ∷ []) (is_read_fault result) shelf.old shelf.new }
     ensures counts { NoneFell (H.faults shelf.old) (H.faults shelf.new) }
     ensures kept { KeepsTexts (H.held shelf.old) (H.held shelf.new) }

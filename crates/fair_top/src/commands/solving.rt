@@ -17,7 +17,8 @@ ghost use Rattle.wall_store.specs.Boards.{properties_of, outcome_of, plain};
 ghost use Rattle.wall_store.specs.Events.{IsSettled};
 ghost use Rattle.sheet_commands.specs.Each.{property_numbers};
 ghost use Rattle.plain_commands.specs.Check.{done_by};
-ghost use Rattle.fair_top.specs.Solve.{limits_of, asked_in, task_for, task_of, HasProperty, HasAsked, GivesSolve, DecidesSolve, ShownBySolve, IsStimulusOf, IsTextOfOutcome, IsSheetOfReport};
+ghost use Rattle.fair_top.specs.Solve.{limits_of, asked_in, task_for, task_of, HasProperty, HasAsked};
+ghost use Rattle.fair_top.specs.Solve.{GivesSolve, DecidesSolve, ShownBySolve, IsStimulusOf, IsTextOfOutcome, IsSheetOfReport};
 ghost use Rattle.fair_top.specs.Solved.{AreWithin, MayBegin, IsSearch, EndsFor, IsPrinted, IsSheetPrinted, SolvesUnlessCut};
 ghost use Rattle.fair_top.specs.Beginnings.{circuit_in, served_in, given_in};
 ghost use Rattle.plain_commands.specs.Answering.{IsSilent, GivesVerdict, FailedOf, ReadsModelFirst};
@@ -56,12 +57,16 @@ pub(crate) fn solve<S: Fn(&Beginning, SolveRequest) -> Result<Report, Ended>, H:
     ensures silent { IfErr result IsSilent }
     ensures aloud { IfOk result (λ ending. is_read_fault ending.status ≡ false) }
     ensures exactly { (verdict : Status) → DecidesSolve (H.held shelf.old model.now)
-        (told_of (H.held shelf.old) (option_map (λ name. name.now) resume.entry)) request.now verdict → GivesVerdict verdict (status_in result) }
-    ensures shown { (accepted : JudgedOf) → status_in result ≡ Status.Done (done_by accepted) → ShownBySolve (H.held shelf.old model.now) accepted }
-    ensures solved { HasAsked (H.held shelf.old model.now) (told_of (H.held shelf.old) (option_map (λ name. name.now) resume.entry)) request.now
+        (told_of (H.held shelf.old) (option_map (λ name. name.now) resume.entry)) request.now verdict
+        → GivesVerdict verdict (status_in result) }
+    ensures shown { (accepted : JudgedOf) → status_in result ≡ Status.Done (done_by accepted)
+        → ShownBySolve (H.held shelf.old model.now) accepted }
+    ensures solved { HasAsked (H.held shelf.old model.now)
+        (told_of (H.held shelf.old) (option_map (λ name. name.now) resume.entry)) request.now
         → SolvesUnlessCut request.now.all (status_in result) }
     ensures read { status_in result ≡ Status.ReadFault
-        → FailedOf (H.held shelf.old) (model.now ∷ name_in (option_map (λ name. name.now) resume.entry)) (H.faults shelf.old) (H.faults shelf.new) }
+        → FailedOf (H.held shelf.old) (model.now ∷ name_in (option_map (λ name. name.now) resume.entry)) (H.faults shelf.old)
+        (H.faults shelf.new) }
     ensures there { status_in result ≡ Status.ReadFault
         → FailedFor (H.held shelf.old) model.now request.now (H.faults shelf.old) (H.faults shelf.new) }
     ensures reads { ReadsModelFirst H.reads (H.held shelf.old) (model.now ∷ name_in (option_map (λ name. name.now) resume.entry))
@@ -88,7 +93,8 @@ fn run_for<S: Fn(&Beginning, SolveRequest) -> Result<Report, Ended>>(
     requires served { served_in beginning.now ≡ asked_in request.now.all (circuit_in beginning.now) request.now.property }
     requires serves { AreServed (circuit_in beginning.now) (served_in beginning.now) }
     requires begins { MayBegin (circuit_in beginning.now) (given_in beginning.now) }
-    ensures found { IfOk result (λ ending. EndsFor (circuit_in beginning.now) request.now (given_in beginning.now) ending.status ending.text.items) }
+    ensures found { IfOk result (λ ending.
+        EndsFor (circuit_in beginning.now) request.now (given_in beginning.now) ending.status ending.text.items) }
     ensures ended { IfErr result (λ status. status ≡ Status.Memory) }
 {
     match searched(search, beginning, request) {
@@ -210,7 +216,8 @@ pub(crate) fn printed(
     request: &SolveRequest,
     board: &Board,
 ) -> Result<Ending, Status>
-    requires answered { (given : List CheckedEntry) × IsAnswered (task_for circuit.now (request.now.property ∷ []) request.now given) board.now }
+    requires answered { (given : List CheckedEntry)
+        × IsAnswered (task_for circuit.now (request.now.property ∷ []) request.now given) board.now }
     requires property { request.now.property < length circuit.now.justice }
     ensures found { IfOk result (λ ending. IsPrinted circuit.now request.now board.now.limit ending.status ending.text.items) }
     ensures text { IfOk result (λ ending. IsTextOfOutcome circuit.now request.now.property board.now.entries
@@ -279,7 +286,8 @@ fn certificate_text(
     requires circuit { board.now.circuit ≡ circuit.now }
     requires property { request.now.property < length circuit.now.justice }
     ensures printed { IfOk result (λ ending. IsPrinted circuit.now request.now board.now.limit ending.status ending.text.items) }
-    ensures text { IfOk result (λ ending. ending.text.items ≡ certificate_text request.now.property (certificate_of board.now.entries refutation.now)) }
+    ensures text { IfOk result (λ ending.
+        ending.text.items ≡ certificate_text request.now.property (certificate_of board.now.entries refutation.now)) }
 {
     written_certificates_are_good(circuit);
     good_answers_are_true(circuit);

@@ -38,13 +38,17 @@ pub(crate) fn wave<H: Shelf>(
     answer: &str,
     property: u32,
 ) -> Result<Ending, Status>
-    ensures found { IfOk result (λ ending. GivesWave (H.held shelf.old model.now) (H.held shelf.old answer.now) property ending.status ending.text.items) }
+    ensures found { IfOk result (λ ending.
+        GivesWave (H.held shelf.old model.now) (H.held shelf.old answer.now) property ending.status ending.text.items) }
     ensures silent { IfErr result IsSilent }
     ensures aloud { IfOk result (λ ending. is_read_fault ending.status ≡ false) }
-    ensures exactly { (verdict : Status) → DecidesWave (H.held shelf.old model.now) (H.held shelf.old answer.now) property verdict → GivesVerdict verdict (status_in result) }
+    ensures exactly { (verdict : Status) → DecidesWave (H.held shelf.old model.now) (H.held shelf.old answer.now) property verdict
+        → GivesVerdict verdict (status_in result) }
     ensures shown { (accepted : JudgedOf) → status_in result ≡ Status.Done (done_by accepted) → ⊥ }
-    ensures read { status_in result ≡ Status.ReadFault → FailedOf (H.held shelf.old) (model.now ∷ answer.now ∷ []) (H.faults shelf.old) (H.faults shelf.new) }
-    ensures reads { ReadsModelFirst H.reads (H.held shelf.old) (model.now ∷ answer.now ∷ []) (is_read_fault (status_in result)) shelf.old shelf.new }
+    ensures read { status_in result ≡ Status.ReadFault
+        → FailedOf (H.held shelf.old) (model.now ∷ answer.now ∷ []) (H.faults shelf.old) (H.faults shelf.new) }
+    ensures reads { ReadsModelFirst H.reads (H.held shelf.old) (model.now ∷ answer.now ∷ [])
+        (is_read_fault (status_in result)) shelf.old shelf.new }
     ensures counts { NoneFell (H.faults shelf.old) (H.faults shelf.new) }
     ensures kept { KeepsTexts (H.held shelf.old) (H.held shelf.new) }
 {

@@ -33,7 +33,8 @@ pub trait MakesText {
     /// The text. The error is want of memory.
     fn text(&self, alloc: Global, circuit: &Circuit, loaded: &Loaded) -> Result<Vec<u8>, AllocError>
         requires { IsHeld circuit.now loaded.now }
-        ensures { IfOk result (λ text. (claimed : List ℕ) → HoldsAnswer circuit.now claimed loaded.now → made self.now circuit.now claimed text.items) };
+        ensures { IfOk result (λ text.
+            (claimed : List ℕ) → HoldsAnswer circuit.now claimed loaded.now → made self.now circuit.now claimed text.items) };
 }
 
 /// Reads the texts under both names, judges the answer, and makes a text of it: the status with which the command ends and
@@ -45,13 +46,17 @@ pub fn remake<H: Shelf, R: MakesText>(
     answer: &str,
     how: &R,
 ) -> Result<Ending, Status>
-    ensures found { IfOk result (λ ending. GivesRemade (R.made how.now) (H.held shelf.old model.now) (H.held shelf.old answer.now) ending.status ending.text.items) }
+    ensures found { IfOk result (λ ending.
+        GivesRemade (R.made how.now) (H.held shelf.old model.now) (H.held shelf.old answer.now) ending.status ending.text.items) }
     ensures silent { IfErr result IsSilent }
     ensures aloud { IfOk result (λ ending. is_read_fault ending.status ≡ false) }
-    ensures exactly { (verdict : Status) → DecidesRemade (H.held shelf.old model.now) (H.held shelf.old answer.now) verdict → GivesVerdict verdict (status_in result) }
+    ensures exactly { (verdict : Status) → DecidesRemade (H.held shelf.old model.now) (H.held shelf.old answer.now) verdict
+        → GivesVerdict verdict (status_in result) }
     ensures shown { (accepted : JudgedOf) → status_in result ≡ Status.Done (done_by accepted) → ⊥ }
-    ensures read { status_in result ≡ Status.ReadFault → FailedOf (H.held shelf.old) (model.now ∷ answer.now ∷ []) (H.faults shelf.old) (H.faults shelf.new) }
-    ensures reads { ReadsModelFirst H.reads (H.held shelf.old) (model.now ∷ answer.now ∷ []) (is_read_fault (status_in result)) shelf.old shelf.new }
+    ensures read { status_in result ≡ Status.ReadFault
+        → FailedOf (H.held shelf.old) (model.now ∷ answer.now ∷ []) (H.faults shelf.old) (H.faults shelf.new) }
+    ensures reads { ReadsModelFirst H.reads (H.held shelf.old) (model.now ∷ answer.now ∷ [])
+        (is_read_fault (status_in result)) shelf.old shelf.new }
     ensures counts { NoneFell (H.faults shelf.old) (H.faults shelf.new) }
     ensures kept { KeepsTexts (H.held shelf.old) (H.held shelf.new) }
 {

@@ -33,9 +33,11 @@ pub fn safety<H: Shelf>(
     ensures found { IfOk result (λ ending. GivesSafety (H.held shelf.old model.now) property ending.status ending.text.items) }
     ensures silent { IfErr result IsSilent }
     ensures aloud { IfOk result (λ ending. is_read_fault ending.status ≡ false) }
-    ensures exactly { (verdict : Status) → DecidesSafety (H.held shelf.old model.now) property verdict → GivesVerdict verdict (status_in result) }
+    ensures exactly { (verdict : Status) → DecidesSafety (H.held shelf.old model.now) property verdict
+        → GivesVerdict verdict (status_in result) }
     ensures shown { (accepted : JudgedOf) → status_in result ≡ Status.Done (done_by accepted) → ⊥ }
-    ensures read { status_in result ≡ Status.ReadFault → FailedOf (H.held shelf.old) (model.now ∷ []) (H.faults shelf.old) (H.faults shelf.new) }
+    ensures read { status_in result ≡ Status.ReadFault
+        → FailedOf (H.held shelf.old) (model.now ∷ []) (H.faults shelf.old) (H.faults shelf.new) }
     ensures reads { ReadsModelFirst H.reads (H.held shelf.old) (model.now ∷ []) (is_read_fault (status_in result)) shelf.old shelf.new }
     ensures counts { NoneFell (H.faults shelf.old) (H.faults shelf.new) }
     ensures kept { KeepsTexts (H.held shelf.old) (H.held shelf.new) }
