@@ -1,6 +1,6 @@
 //! Runs of `rounds` and of `check` over texts about rounds, in memory: by rows worked out by hand.
 
-use crate::runs::{Outcome, Row, first_wrong, run_words};
+use crate::runs::{Ending, Row, first_wrong, run_words};
 use crate::solving::is_printed_accepted;
 use crate::tests::{COUNTER, CYCLE, STUCK, TOGGLE};
 use std::alloc::{AllocError, Global};
@@ -172,7 +172,7 @@ fn is_right<R: Threads + Wait + Sync>(
     rt: &R,
     alloc: Global,
     row: &Printed,
-    ran: &Outcome,
+    ran: &Ending,
 ) -> Result<bool, AllocError> {
     if ran.status.number() != 0 || !ran.text.as_slice().starts_with(row.2.as_bytes()) {
         return Ok(false);

@@ -1,7 +1,7 @@
 //! Runs of `demo`: summaries of models whose verdicts were found by a search over all their states, and words that it
 //! refuses.
 
-use crate::runs::{Outcome, first_taken, is_end, run_words};
+use crate::runs::{Ending, first_taken, is_end, run_words};
 use fair_top::{Done, Status};
 use std::alloc::{AllocError, Global};
 use std::sync::Wait;
@@ -91,13 +91,13 @@ fn summary(alloc: Global, row: &Row, entries: u64) -> Result<Vec<u8>, AllocError
     Ok(text)
 }
 
-fn is_written(alloc: Global, ran: &Outcome, row: &Row, entries: u64) -> Result<bool, AllocError> {
+fn is_written(alloc: Global, ran: &Ending, row: &Row, entries: u64) -> Result<bool, AllocError> {
     let text = summary(alloc, row, entries)?;
     Ok(is_end(ran, text.as_slice(), 0))
 }
 
 // How many entries the board has with which a run ended, if its summary, with the row's verdict, is what it wrote.
-fn summed_up(alloc: Global, ran: &Outcome, row: &Row) -> Result<Option<u64>, AllocError> {
+fn summed_up(alloc: Global, ran: &Ending, row: &Row) -> Result<Option<u64>, AllocError> {
     match entry_count(&ran.status) {
         Some(entries) => {
             let is_so = is_written(alloc, ran, row, entries)?;

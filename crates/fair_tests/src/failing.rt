@@ -2,7 +2,7 @@
 
 use crate::certificates::{RISES, WALL};
 use crate::counting::REACHED;
-use crate::runs::{Outcome, USAGE, run_words};
+use crate::runs::{Ending, USAGE, run_words};
 use crate::sheets::{APART, SHEET, TWO, WITH_ENTRY};
 use crate::tests::{COUNTER, CYCLE, STUCK, TOGGLE, TWO_FROM_0, TWO_POSITIONS};
 use std::alloc::{AllocError, Global};
@@ -286,7 +286,7 @@ fn is_end(end: End, number: u8, len: u64) -> bool {
     found == number && found_len == len && is_front
 }
 
-fn end_of(ran: &Outcome, whole: &[u8]) -> End {
+fn end_of(ran: &Ending, whole: &[u8]) -> End {
     let text = ran.text.as_slice();
     (
         ran.status.number(),
@@ -314,9 +314,9 @@ fn cut_run<R: Threads + Wait + Sync>(
 }
 
 // The text of a run that begins and ends as the row says; else an empty one.
-fn text_of(alloc: Global, ran: Outcome, row: &Row) -> Vec<u8> {
+fn text_of(alloc: Global, ran: Ending, row: &Row) -> Vec<u8> {
     let is_so = ran.status.number() == row.4 && ran.text.as_slice().starts_with(row.5.as_bytes());
-    let Outcome { status, text } = ran;
+    let Ending { status, text } = ran;
     drop(status);
     if is_so { text } else { Vec::new(alloc) }
 }

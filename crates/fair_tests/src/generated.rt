@@ -1,6 +1,6 @@
 //! Runs of `gen`: its texts, made by another program, and its words.
 
-use crate::runs::{Outcome, ends_so, first_taken, run_words};
+use crate::runs::{Ending, ends_so, first_taken, run_words};
 use crate::tests::TWO_FROM_0;
 use aiger_names::Model;
 use circuit::ModelEnd;
@@ -66,7 +66,7 @@ fn run_gen<R: Threads + Wait + Sync>(
     alloc: Global,
     words: &str,
     most: u64,
-) -> Result<Outcome, AllocError> {
+) -> Result<Ending, AllocError> {
     run_words(rt, alloc, words, b"", "", most, &[], &[])
 }
 
@@ -155,7 +155,7 @@ fn text_of<R: Threads + Wait + Sync>(
     alloc: Global,
     words: &str,
 ) -> Result<Vec<u8>, AllocError> {
-    let Outcome { status, text } = run_gen(rt, alloc, words, 1000)?;
+    let Ending { status, text } = run_gen(rt, alloc, words, 1000)?;
     let number = status.number();
     drop(status);
     Ok(if number == 0 { text } else { Vec::new(alloc) })

@@ -2,7 +2,7 @@
 
 use crate::certificates::{RISES, WALL};
 use crate::counting::REACHED;
-use crate::runs::{Outcome, first_taken, is_end, run_words, run_words_alone};
+use crate::runs::{Ending, first_taken, is_end, run_words, run_words_alone};
 use crate::sheets::APART;
 use crate::solving::is_printed_accepted;
 use crate::tests::{CYCLE, STUCK, TOGGLE, TWO_POSITIONS};
@@ -156,7 +156,7 @@ fn is_right<R: Threads + Wait + Sync>(
     rt: &R,
     alloc: Global,
     row: &Row,
-    ran: &Outcome,
+    ran: &Ending,
 ) -> Result<bool, AllocError> {
     let (model, _, _, number, text) = row;
     if *number == 0 {

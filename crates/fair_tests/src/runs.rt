@@ -10,9 +10,9 @@ use std::thread::Threads;
 pub(crate) const USAGE: &str =
     "usage: fairlive solve MODEL [--property N] [--workers W] [--conflicts C] [--steps S] [--skeletons K] [--lassos N] [--depth D] [--all] [--resume ANSWER]\n       fairlive check MODEL ANSWER\n       fairlive gen KIND SEED SIZE [--binary]\n       fairlive demo SEED SIZE\n       fairlive wave MODEL ANSWER [--property N]\n       fairlive slice MODEL [--property N]\n       fairlive convert MODEL ANSWER\n       fairlive safety MODEL [--property N]\n       fairlive rounds MODEL K [--property N] [--conflicts C] [--steps S]\n       fairlive shortest MODEL [--property N] [--conflicts C] [--depth D]\n       fairlive trim MODEL ANSWER\n       fairlive export MODEL ANSWER ENTRY CLAUSE [--lrat]\n";
 
-/// What a run answered, and what it wrote.
+/// How a run ended: what it answered, and what it wrote.
 #[derive(Drop)]
-pub(crate) struct Outcome {
+pub(crate) struct Ending {
     pub(crate) status: Status,
     pub(crate) text: Vec<u8>,
 }
@@ -95,9 +95,9 @@ fn run_into<R: Threads + Wait + Sync>(
     run(rt, alloc, list, shelf, sink, &FreeGate)
 }
 
-fn taken(alloc: Global, status: Status, sink: &MemSink) -> Result<Outcome, AllocError> {
+fn taken(alloc: Global, status: Status, sink: &MemSink) -> Result<Ending, AllocError> {
     let text = Vec::from_slice(alloc, sink.taken())?;
-    Ok(Outcome { status, text })
+    Ok(Ending { status, text })
 }
 
 fn run_over<R: Threads + Wait + Sync>(
@@ -107,7 +107,7 @@ fn run_over<R: Threads + Wait + Sync>(
     shelf: &mut MemShelf,
     most: u64,
     writes: &[u64],
-) -> Result<Outcome, AllocError> {
+) -> Result<Ending, AllocError> {
     let mut sink = sink_of(alloc, most, writes)?;
     let status = run_into(rt, alloc, list, shelf, &mut sink);
     taken(alloc, status, &sink)
@@ -122,7 +122,7 @@ fn run_list<R: Threads + Wait + Sync>(
     most: u64,
     reads: &[u64],
     writes: &[u64],
-) -> Result<Outcome, AllocError> {
+) -> Result<Ending, AllocError> {
     let mut shelf = shelf_of(alloc, model, answer, most, reads)?;
     run_over(rt, alloc, list, &mut shelf, most, writes)
 }
@@ -138,7 +138,7 @@ pub(crate) fn run_words<R: Threads + Wait + Sync>(
     most: u64,
     reads: &[u64],
     writes: &[u64],
-) -> Result<Outcome, AllocError> {
+) -> Result<Ending, AllocError> {
     let list = owned_words(alloc, words)?;
     run_list(rt, alloc, &list, model, answer, most, reads, writes)
 }
@@ -149,7 +149,7 @@ pub(crate) fn run_words_alone(
     words: &str,
     model: &[u8],
     answer: &str,
-) -> Result<Outcome, AllocError> {
+) -> Result<Ending, AllocError> {
     let list = owned_words(alloc, words)?;
     run_list_alone(alloc, &list, model, answer)
 }
@@ -159,7 +159,7 @@ fn run_list_alone(
     list: &[String],
     model: &[u8],
     answer: &str,
-) -> Result<Outcome, AllocError> {
+) -> Result<Ending, AllocError> {
     let mut shelf = shelf_of(alloc, model, answer, 1000, &[])?;
     let mut sink = sink_of(alloc, 1000, &[])?;
     let status = run_alone_into(alloc, list, &mut shelf, &mut sink);
@@ -176,7 +176,7 @@ fn run_alone_into(
 }
 
 /// Whether a run wrote this text and ended with this number.
-pub(crate) fn is_end(ran: &Outcome, text: &[u8], number: u8) -> bool {
+pub(crate) fn is_end(ran: &Ending, text: &[u8], number: u8) -> bool {
     ran.status.number() == number && ran.text.as_slice() == text
 }
 

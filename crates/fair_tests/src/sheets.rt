@@ -1,7 +1,7 @@
 //! Runs of `solve` for all properties, and of `check`, `wave` and other commands over sheets.
 
 use crate::certificates::{RISES, WALL};
-use crate::runs::{Outcome, Row, first_taken, first_wrong, run_words, run_words_alone};
+use crate::runs::{Ending, Row, first_taken, first_wrong, run_words, run_words_alone};
 use crate::tests::{COUNTER, CYCLE, STUCK, TOGGLE, TWO_POSITIONS};
 use std::alloc::{AllocError, Global};
 use std::sync::Wait;
@@ -343,7 +343,7 @@ fn is_accepted<R: Threads + Wait + Sync>(
     rt: &R,
     alloc: Global,
     row: &Found,
-    ran: &Outcome,
+    ran: &Ending,
 ) -> Result<bool, AllocError> {
     let is_so = ran.status.number() == row.3;
     match str::from_utf8(ran.text.as_slice()) {

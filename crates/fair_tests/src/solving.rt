@@ -1,6 +1,6 @@
 //! Runs of `solve` over texts in memory: what it prints of models that were worked out by hand, and that `check` accepts it.
 
-use crate::runs::{Outcome, USAGE, run_words, run_words_alone};
+use crate::runs::{Ending, USAGE, run_words, run_words_alone};
 use std::alloc::{AllocError, Global};
 use std::sync::Wait;
 use std::test::Fail;
@@ -250,7 +250,7 @@ fn is_right<R: Threads + Wait + Sync>(
     rt: &R,
     alloc: Global,
     row: &Row,
-    ran: &Outcome,
+    ran: &Ending,
 ) -> Result<bool, AllocError> {
     let (model, _, number, text) = row;
     if ran.status.number() != *number || !is_text(ran.text.as_slice(), text) {

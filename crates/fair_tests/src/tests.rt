@@ -2,7 +2,7 @@
 
 use crate::certificates::{RISES, WALL};
 use crate::dumps::model_of;
-use crate::runs::{self, Outcome, ends_so, first_taken, first_wrong, is_end, run_words, shelf_of};
+use crate::runs::{self, Ending, ends_so, first_taken, first_wrong, is_end, run_words, shelf_of};
 use aig_semantics::Lasso;
 use certificate::{Accepted, AnswerEnd, AnswerFault, check_answer, check_with_lasso};
 use circuit::Circuit;
@@ -284,7 +284,7 @@ fn toggled<R: Threads + Wait + Sync>(
     answer: &str,
     most: u64,
     reads: &[u64],
-) -> Result<Outcome, AllocError> {
+) -> Result<Ending, AllocError> {
     run_words(
         rt,
         alloc,

@@ -2,7 +2,7 @@
 
 use crate::certificates::says_of_waves;
 use crate::dumps::{NOTHING, NOTHING_DUMP, TOGGLE, TOGGLE_DUMP};
-use crate::runs::{Outcome, ends_so, run_words};
+use crate::runs::{Ending, ends_so, run_words};
 use crate::tests;
 use std::alloc::{AllocError, Global};
 use std::sync::Wait;
@@ -303,7 +303,7 @@ fn waves_of_small_models(rt: HostRuntime) -> Result<(), Fail> {
 }
 
 /// Whether a run wrote a dump where `check` accepts the answer of this row, and else ended as `check` does.
-fn is_end_of(ran: &Outcome, row: &tests::Row) -> bool {
+fn is_end_of(ran: &Ending, row: &tests::Row) -> bool {
     let (_, _, text, number) = row;
     let found = ran.text.as_slice();
     let is_same = if *number == 0 {
