@@ -13,7 +13,7 @@ use Rattle.proof_semantics.specs.Acceptance.{EndsInConflict, Accepts}
 use Rattle.proof_semantics.proofs.AcceptanceLaws.{judges_accepted}
 use Rattle.proof_semantics.proofs.LineLaws.{reads_spelled}
 use Rattle.cert_tools.specs.Kept.{Keeps, Reaches}
-use Rattle.cert_tools.specs.TrimmedProofs.{Adds, Hints, IsFirstEmpty, IsReached, IsTrimmedProof}
+use Rattle.cert_tools.specs.TrimmedProofs.{AddsClause, Hints, IsFirstEmpty, IsReachedLine, IsTrimmedProof}
 use Rattle.cert_tools.proofs.KeptLaws.{In, in_right, kept_has, kept_is, keeps_all, reaches_more, leads_so}
 
 abbrev Lines : Type 0
@@ -177,12 +177,12 @@ pub next_ok : (first : Result ProofState LratFault) (rest : ProofState → Resul
 next_ok (Ok u) rest e h = (u, refl, h)
 next_ok (Err fault) rest e h = absurd (cc h)
 
-same_addition : (line : List ℕ) (id other : ℕ) (clause another hints more : List Lit) → Adds line id clause hints → Adds line other another more
+same_addition : (line : List ℕ) (id other : ℕ) (clause another hints more : List Lit) → AddsClause line id clause hints → AddsClause line other another more
     → (id ≡ other) × (clause ≡ another) × (hints ≡ more)
 same_addition line id other clause another hints more h k =
     let e : ◌≡◌ {A = Option Line} (Some (addition id clause hints)) (Some (addition other another more)) = sym h ∙ k in (cc e, cc e, cc e)
 
-no_deletion : (line : List ℕ) (id other : ℕ) (clause hints : List Lit) (ids : List ℕ) → Adds line id clause hints → line_of line ≡ Some (deletion other ids) → ⊥
+no_deletion : (line : List ℕ) (id other : ℕ) (clause hints : List Lit) (ids : List ℕ) → AddsClause line id clause hints → line_of line ≡ Some (deletion other ids) → ⊥
 no_deletion line id other clause hints ids h k = let e : ◌≡◌ {A = Option Line} (Some (addition id clause hints)) (Some (deletion other ids)) = sym h ∙ k in cc e
 
 in_any : (P : List ℕ → Type 0) (line : List ℕ) (lines : Lines) → In line lines → P line → Any P lines
@@ -208,16 +208,16 @@ module _ (all : Lines) (last : ℕ) where
   R id = Reaches (Hints all) last id
 
   -- the clauses of the hints of an addition that is reached are there
-  hints_there : (s t : ProofState) (line : List ℕ) (id : ℕ) (clause hints : List Lit) → Follows R s t → In line all → Adds line id clause hints → R id → AreThere s.held t.held (ids_of hints)
+  hints_there : (s t : ProofState) (line : List ℕ) (id : ℕ) (clause hints : List Lit) → Follows R s t → In line all → AddsClause line id clause hints → R id → AreThere s.held t.held (ids_of hints)
   hints_there s t line id clause hints f at adds r =
       all_in (λ n. (k : List Lit) → clause_at s.held n ≡ Some k → clause_at t.held n ≡ Some k) (ids_of hints)
-      (λ n among. f.there n (reaches_more (Hints all) last id n r (in_any (λ l. (k : List Lit) × (hs : List Lit) × Adds l id k hs × Contains (ids_of hs) n) line all at (clause, hints, adds, among))))
+      (λ n among. f.there n (reaches_more (Hints all) last id n r (in_any (λ l. (k : List Lit) × (hs : List Lit) × AddsClause l id k hs × Contains (ids_of hs) n) line all at (clause, hints, adds, among))))
 
   abbrev Ends : ProofState → Lines → ProofState → Type 0
   Ends t lines e = (judge_all t lines ≡ Ok e)
 
   -- the kept line is accepted too
-  kept_judged : (s u t : ProofState) (line : List ℕ) (id : ℕ) (clause hints : List Lit) → Follows R s t → In line all → Adds line id clause hints → R id → judge s line ≡ Ok u
+  kept_judged : (s u t : ProofState) (line : List ℕ) (id : ℕ) (clause hints : List Lit) → Follows R s t → In line all → AddsClause line id clause hints → R id → judge s line ≡ Ok u
       → (s.last < id) × (u ≡ with_addition s id clause) × (judge t line ≡ Ok (with_addition t id clause))
   kept_judged s u t line id clause hints f at adds r e = by (judged s u line e)
     where
@@ -241,7 +241,7 @@ module _ (all : Lines) (last : ℕ) where
           cases (deletion other ids) is accepts = absurd (no_deletion line id other clause hints ids adds is)
 
   -- a line that is not kept
-  dropped_judged : (s u t : ProofState) (line : List ℕ) → Follows R s t → (IsReached all last line → ⊥) → judge s line ≡ Ok u → Follows R u t
+  dropped_judged : (s u t : ProofState) (line : List ℕ) → Follows R s t → (IsReachedLine all last line → ⊥) → judge s line ≡ Ok u → Follows R u t
   dropped_judged s u t line f none e = by (judged s u line e)
     where
       by : Judged s u line → Follows R u t
@@ -256,7 +256,7 @@ module _ (all : Lines) (last : ℕ) where
   WillEnd t lines = (t.finished ≡ true) ⊎ IsFirstEmpty lines last
 
   -- the lines that are kept are accepted, and the first empty addition is among them
-  kept_ends : (s t e : ProofState) (front lines kept : Lines) → all ≡ front ++ lines → Follows R s t → judge_all s lines ≡ Ok e → Keeps (IsReached all last) lines kept → WillEnd t lines
+  kept_ends : (s t e : ProofState) (front lines kept : Lines) → all ≡ front ++ lines → Follows R s t → judge_all s lines ≡ Ok e → Keeps (IsReachedLine all last) lines kept → WillEnd t lines
       → (end : ProofState) × (judge_all t kept ≡ Ok end) × (end.finished ≡ true)
   kept_ends s t e front [] kept split f judges none (inl done) = (t, ap (judge_all t) none, done)
   kept_ends s t e front [] kept split f judges none (inr never) = absurd never
@@ -323,7 +323,7 @@ trimmed_refutes given lines kept h (inr (full, last, first, keeps)) =
 
 -- ---- trimmed again
 
-first_kept : (P : List ℕ → Type 0) (last : ℕ) (lines kept : Lines) → Keeps P lines kept → ((line : List ℕ) (hints : List Lit) → Adds line last [] hints → P line) → IsFirstEmpty lines last → IsFirstEmpty kept last
+first_kept : (P : List ℕ → Type 0) (last : ℕ) (lines kept : Lines) → Keeps P lines kept → ((line : List ℕ) (hints : List Lit) → AddsClause line last [] hints → P line) → IsFirstEmpty lines last → IsFirstEmpty kept last
 first_kept P last [] kept keeps has never = absurd never
 first_kept P last (line ∷ lines) kept (inl (p, (rest, is, keeps))) has (inl empty) = subst (λ ls. IsFirstEmpty ls last) (sym is) (inl empty)
 first_kept P last (line ∷ lines) kept (inl (p, (rest, is, keeps))) has (inr (none, more)) = subst (λ ls. IsFirstEmpty ls last) (sym is) (inr (none, first_kept P last lines rest keeps has more))
@@ -336,17 +336,17 @@ trimmed_again given lines kept (inr (full, last, first, keeps)) =
     inr (
       full,
       last,
-      first_kept (IsReached lines last) last lines kept keeps (λ line hints empty. (last, [], hints, empty, ([], refl))) first,
-      keeps_all (IsReached kept last) kept (λ line at. again line (kept_is (IsReached lines last) lines kept line keeps at)),
+      first_kept (IsReachedLine lines last) last lines kept keeps (λ line hints empty. (last, [], hints, empty, ([], refl))) first,
+      keeps_all (IsReachedLine kept last) kept (λ line at. again line (kept_is (IsReachedLine lines last) lines kept line keeps at)),
     )
   where
     step : (v w : ℕ) → Reaches (Hints lines) last v → Hints lines v w → Reaches (Hints lines) last w × Hints kept v w
     step v w r h =
-        let (line, at, (clause, hints, adds, among)) = any_in (λ l. (k : List Lit) × (hs : List Lit) × Adds l v k hs × Contains (ids_of hs) w) lines h in (
+        let (line, at, (clause, hints, adds, among)) = any_in (λ l. (k : List Lit) × (hs : List Lit) × AddsClause l v k hs × Contains (ids_of hs) w) lines h in (
           reaches_more (Hints lines) last v w r h,
-          in_any (λ l. (k : List Lit) × (hs : List Lit) × Adds l v k hs × Contains (ids_of hs) w) line kept (kept_has (IsReached lines last) lines kept line keeps at (v, clause, hints, adds, r)) (clause, hints, adds, among),
+          in_any (λ l. (k : List Lit) × (hs : List Lit) × AddsClause l v k hs × Contains (ids_of hs) w) line kept (kept_has (IsReachedLine lines last) lines kept line keeps at (v, clause, hints, adds, r)) (clause, hints, adds, among),
         )
 
-    again : (line : List ℕ) → IsReached lines last line → IsReached kept last line
+    again : (line : List ℕ) → IsReachedLine lines last line → IsReachedLine kept last line
     again line (id, clause, hints, adds, (through, leads)) =
         (id, clause, hints, adds, (leads_so (Hints lines) (Hints kept) (λ n. n) (λ n. Reaches (Hints lines) last n) step last through id ([], refl) leads).1)

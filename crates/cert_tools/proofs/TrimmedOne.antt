@@ -17,7 +17,7 @@ use Rattle.certificate.specs.declared.loaded.Loaded.TheVariants.{Lasso, Holds}
 use Rattle.certificate_texts.specs.declared.certificates.Written.{Written}
 use Rattle.certificate_texts.specs.declared.certificates.Certificate.{Certificate}
 use Rattle.cert_tools.specs.Kept.{Keeps}
-use Rattle.cert_tools.specs.TrimmedProofs.{IsFirstEmpty, IsReached, IsTrimmedProof, AreTrimmedProofs}
+use Rattle.cert_tools.specs.TrimmedProofs.{IsFirstEmpty, IsReachedLine, IsTrimmedProof, AreTrimmedProofs}
 use Rattle.cert_tools.specs.Trimmed.{Numbered, numbered_from, IsReachedEntry, renumbered, IsTrimmedEntry, IsTrimmedCertificate}
 use Rattle.cert_tools.specs.Laws.{OneTrimmed}
 use Rattle.cert_tools.proofs.TrimmedAgain.{proved_one}
@@ -44,7 +44,7 @@ proof_one given lines a b (inl (e, none)) (inl (f, other)) = none ∙ sym other
 proof_one given lines a b (inl (e, none)) (inr (full, last, first, keeps)) = absurd (false≢true (sym full ∙ e))
 proof_one given lines a b (inr (full, last, first, keeps)) (inl (e, none)) = absurd (false≢true (sym full ∙ e))
 proof_one given lines a b (inr (full, last, first, keeps)) (inr (also, l, f, k)) =
-    keeps_one (IsReached lines last) lines a b keeps (subst (λ m. Keeps (IsReached lines m) lines b) (first_one lines l last f first) k)
+    keeps_one (IsReachedLine lines last) lines a b keeps (subst (λ m. Keeps (IsReachedLine lines m) lines b) (first_one lines l last f first) k)
 
 proofs_one : (obligation : ℕ → List (List Lit)) (i : ℕ) (proofs a b : List (List (List ℕ))) → AreTrimmedProofs obligation i proofs a → AreTrimmedProofs obligation i proofs b → a ≡ b
 proofs_one obligation i [] a b h k = h ∙ sym k

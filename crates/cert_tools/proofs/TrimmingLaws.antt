@@ -14,7 +14,7 @@ use Rattle.proof_semantics.specs.Acceptance.{EndsInConflict, Accepts}
 use Rattle.cert_tools.specs.declared.reaching.Node.{Node}
 use Rattle.cert_tools.specs.declared.reaching.Numbers.{Numbers}
 use Rattle.cert_tools.specs.Kept.{Keeps, Reaches}
-use Rattle.cert_tools.specs.TrimmedProofs.{Adds, Hints, IsFirstEmpty, IsReached, IsTrimmedProof, AreTrimmedProofs}
+use Rattle.cert_tools.specs.TrimmedProofs.{AddsClause, Hints, IsFirstEmpty, IsReachedLine, IsTrimmedProof, AreTrimmedProofs}
 use Rattle.cert_tools.specs.Reaching.{is_in, Links, LeadDown, IsReachedFrom}
 use Rattle.cert_tools.specs.TrimmingProofs.{AreRefuted, node_in, nodes_of, empty_in, or_else, first_empty, needed_in, is_needed, needed_lines, GetsLine}
 use Rattle.cert_tools.proofs.KeptLaws.{leads_so}
@@ -88,7 +88,7 @@ line_leads v w of clause hints nodes is at =
     subst (λ (o : Option Line). Links (node_in o ++ nodes) v w) (sym is) (nodes_left v w (record { number = v; further = ids_of hints }) nodes refl at)
 
 abbrev LineHints : ℕ → ℕ → List ℕ → Type 0
-LineHints v w line = (clause : List Lit) × (hints : List Lit) × Adds line v clause hints × Contains (ids_of hints) w
+LineHints v w line = (clause : List Lit) × (hints : List Lit) × AddsClause line v clause hints × Contains (ids_of hints) w
 
 hints_link : (v w : ℕ) (lines : List (List ℕ)) → Hints lines v w → Links (nodes_of lines) v w
 unfolding nodes_of
@@ -145,16 +145,16 @@ filter_keeps {X} P p each (x ∷ xs) = by (p x) refl (filter_keeps P p each xs)
     by false is rest = inr ((λ h. false≢true (sym is ∙ (each x).1 h)), rest)
 
 needed_is_reached : (lines : List (List ℕ)) (last : ℕ) (numbers : Numbers) → ((n : ℕ) → (is_in numbers n ≡ true) ↔ IsReachedFrom (nodes_of lines) (last ∷ []) n)
-    → (line : List ℕ) → (is_needed numbers line ≡ true) ↔ IsReached lines last line
+    → (line : List ℕ) → (is_needed numbers line ≡ true) ↔ IsReachedLine lines last line
 unfolding is_needed
 needed_is_reached lines last numbers exact line = (there (line_of line) refl, back)
   where
-    there : (of : Option Line) → line_of line ≡ of → needed_in numbers of ≡ true → IsReached lines last line
+    there : (of : Option Line) → line_of line ≡ of → needed_in numbers of ≡ true → IsReachedLine lines last line
     there (Some (addition id clause hints)) is e = (id, clause, hints, is, (from_last lines last id).1 ((exact id).0 e))
     there (Some (deletion id ids)) is e = absurd (false≢true e)
     there None is e = absurd (false≢true e)
 
-    back : IsReached lines last line → needed_in numbers (line_of line) ≡ true
+    back : IsReachedLine lines last line → needed_in numbers (line_of line) ≡ true
     back (id, clause, hints, adds, r) = ap (needed_in numbers) adds ∙ (exact id).1 ((from_last lines last id).0 r)
 
 first_is : (lines : List (List ℕ)) (last : ℕ) → first_empty lines ≡ Some last → IsFirstEmpty lines last
@@ -194,7 +194,7 @@ pub needed_is_trimmed : (given : List (List Lit)) (lines : List (List ℕ)) (las
     → ((n : ℕ) → (is_in numbers n ≡ true) ↔ IsReachedFrom (nodes_of lines) (last ∷ []) n) → IsTrimmedProof given lines (needed_lines numbers lines)
 unfolding needed_lines
 needed_is_trimmed given lines last numbers full first exact =
-    inr (full, last, first_is lines last first, filter_keeps (IsReached lines last) (is_needed numbers) (needed_is_reached lines last numbers exact) lines)
+    inr (full, last, first_is lines last first, filter_keeps (IsReachedLine lines last) (is_needed numbers) (needed_is_reached lines last numbers exact) lines)
 
 -- ---- lines that are gone over
 
