@@ -1,4 +1,4 @@
-mod Crewing
+mod PassLaws
 mod Modelling
 mod Posting
 mod StuckPasses

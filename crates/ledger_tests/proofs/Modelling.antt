@@ -25,7 +25,7 @@ use Rattle.entry.specs.CheckedEntries.{CheckedEntry, viewed}
 use Rattle.wall_store.specs.Boards.{Allow}
 use Rattle.wall_store.specs.Scanning.{NoneWithin}
 use Rattle.wall_store.proofs.Excluding.{none_excludes, viewed-plain}
-use Rattle.ledger_tests.specs.Crews.{model, with_justice, at_0, target}
+use Rattle.ledger_tests.specs.Passes.{model, with_justice, at_0, target}
 
 -- the values of the latches behind the first do not matter
 module _ (a b c d e : Bool) where

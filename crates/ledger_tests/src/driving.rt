@@ -2,11 +2,11 @@
 
 ghost use Rattle.std.specs.Prelude.{◌≡◌, IfOk};
 ghost use Rattle.std.specs.Arc.{arc_value};
-ghost use Rattle.ledger_tests.specs.Crews.{model};
+ghost use Rattle.ledger_tests.specs.Passes.{model};
 
-use crate::crew::{Crew, closed, crew_of};
 use crate::finds::circuit;
 use crate::knowing::{MOST, PASSES, Tag, Tags, Wanted, known_of};
+use crate::passes::{Passes, closed, passes_of};
 use crate::passing::{Event, Told};
 use crate::plain::{By, Plain};
 use circuit::Circuit;
@@ -127,7 +127,7 @@ fn count(tally: &mut Tally, kind: usize) {
 /// A ledger and a plain board, what the passes are to know, and how often each answer came.
 #[derive(Drop)]
 struct Pair {
-    crew: Crew,
+    passes: Passes,
     plain: Plain,
     wanted: Wanted,
     tally: Tally,
@@ -155,18 +155,18 @@ fn given_tags(given: bool) -> Tags {
 fn pair_of(alloc: Global, setting: Setting) -> Result<Pair, EntryEnd> {
     let two = setting.two;
     let sizes = (setting.passes, setting.limit);
-    let crew = crew_of(alloc, shared(alloc, two)?, two, sizes, setting.given)?;
+    let passes = passes_of(alloc, shared(alloc, two)?, two, sizes, setting.given)?;
     let given = given_tags(setting.given);
     Ok(Pair {
-        crew,
+        passes,
         plain: Plain::new(given, two, setting.limit),
         wanted: Wanted::new(given, two),
         tally: [0; 11],
     })
 }
 
-fn all_know(crew: &Crew, wanted: &Wanted) -> bool {
-    for (at, pass) in crew.passes.iter().enumerate() {
+fn all_know(all: &Passes, wanted: &Wanted) -> bool {
+    for (at, pass) in all.passes.iter().enumerate() {
         if wanted.of(at) != Some(known_of(pass)) {
             return false;
         }
@@ -181,12 +181,12 @@ fn ask_board(pair: &mut Pair, at: usize, event: Event) -> Option<Told> {
     }
     let turn = pair.wanted.of(at)?.turns;
     let worker = u32::try_from(at).ok()?;
-    Some(pair.plain.turn(worker, turn, event))
+    Some(pair.plain.take_turn(worker, turn, event))
 }
 
 // Whether the pass is told what the plain board tells, and each pass then knows what it is to know.
 fn step<R: Wait>(alloc: Global, rt: &R, pair: &mut Pair, at: usize, event: Event) -> bool {
-    let Ok(told) = pair.crew.turn(alloc, rt, at, event) else {
+    let Ok(told) = pair.passes.take_turn(alloc, rt, at, event) else {
         return false;
     };
     let Some(wanted) = ask_board(pair, at, event) else {
@@ -194,7 +194,7 @@ fn step<R: Wait>(alloc: Global, rt: &R, pair: &mut Pair, at: usize, event: Event
     };
     count(&mut pair.tally, kind(told));
     pair.wanted.note(at, event, told, pair.plain.list());
-    told == wanted && all_know(&pair.crew, &pair.wanted)
+    told == wanted && all_know(&pair.passes, &pair.wanted)
 }
 
 fn last_of(wanted: &Wanted, at: usize) -> u32 {
@@ -251,8 +251,8 @@ fn steps_right<R: Wait>(
 }
 
 fn ends_same(pair: Pair, setting: Setting) -> bool {
-    let Pair { crew, plain, .. } = pair;
-    is_same(&closed(crew), &plain, setting)
+    let Pair { passes, plain, .. } = pair;
+    is_same(&closed(passes), &plain, setting)
 }
 
 /// So many events, drawn by this seed; nothing where memory was refused before them.

@@ -11,7 +11,7 @@ ghost use Rattle.entry.specs.Listing.{entry_of, entries_of};
 ghost use Rattle.entry.specs.CheckedEntries.{viewed};
 ghost use Rattle.wall_store.specs.Boards.{IsSound, IsSoundList, Allow, most_entries};
 ghost use Rattle.wall_store.specs.Scanning.{NoneWithin};
-ghost use Rattle.ledger_tests.specs.Crews.{model, with_justice, keeps_0, at_0, raised, target, IsFindOf};
+ghost use Rattle.ledger_tests.specs.Passes.{model, with_justice, keeps_0, at_0, raised, target, IsFindOf};
 
 use crate::boards::{circuit_of, entry_of, proof_of, skeleton_of};
 use aig_semantics::{Latch, Reset};

@@ -201,7 +201,7 @@ impl Wanted {
                     self.meet(at, other);
                 }
             }
-            _ => self.turn(at, event, told, list),
+            _ => self.note_turn(at, event, told, list),
         }
     }
 
@@ -222,7 +222,7 @@ impl Wanted {
         }
     }
 
-    fn turn(&mut self, at: usize, event: Event, told: Told, list: Tags) {
+    fn note_turn(&mut self, at: usize, event: Event, told: Told, list: Tags) {
         self.turns = self.turns.saturating_add(1);
         if is_shown(told) {
             self.show(at, list, self.turns);

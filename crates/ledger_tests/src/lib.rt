@@ -7,13 +7,13 @@ mod board_tests;
 #[cfg(test)]
 mod boards;
 #[cfg(test)]
-mod crew;
-#[cfg(test)]
 mod driving;
 #[cfg(test)]
 mod finds;
 #[cfg(test)]
 mod knowing;
+#[cfg(test)]
+mod passes;
 #[cfg(test)]
 mod passing;
 #[cfg(test)]

@@ -2,7 +2,7 @@
 
 ghost use Rattle.std.specs.Prelude.{◌≡◌, ◌<◌, Bool, Contains};
 ghost use Rattle.std.specs.Arc.{arc_value};
-ghost use Rattle.ledger_tests.specs.Crews.{IsOf, model};
+ghost use Rattle.ledger_tests.specs.Passes.{IsOf, model};
 ghost use Rattle.wall_ledger.specs.Passes.{MayPassPost};
 
 use crate::finds::{allows_at, find, refuted};
@@ -122,7 +122,7 @@ pub fn open<R: Wait>(ledger: &Ledger, rt: &R, pass: &mut Pass, from: u32) -> Tol
 }
 
 /// The event. A pass that has had very many turns is told nothing.
-pub fn turn<R: Wait>(
+pub fn take_turn<R: Wait>(
     alloc: Global,
     ledger: &Ledger,
     rt: &R,

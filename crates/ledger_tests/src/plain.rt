@@ -90,7 +90,7 @@ impl Plain {
     }
 
     /// What the pass with this number is told in that turn of its own. Where passes meet, nothing happens here.
-    pub fn turn(&mut self, at: u32, turn: u32, event: Event) -> Told {
+    pub fn take_turn(&mut self, at: u32, turn: u32, event: Event) -> Told {
         match event {
             Event::Look => Told::Seen(self.list.len()),
             Event::Post(latch) => Told::Posted(self.post(at, turn, latch)),

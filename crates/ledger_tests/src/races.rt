@@ -1,9 +1,9 @@
 //! Races of passes on threads of their own, and what they leave: the board at the end is held against what each pass then
 //! knows, and what all were told.
 
-use crate::crew::{Crew, closed, crew_of};
 use crate::driving::{Draws, Setting, outcome, shared};
 use crate::knowing::{Known, Tags, known_of};
+use crate::passes::{Passes, closed, passes_of};
 use crate::racing::{Notes, RACERS, SoFar};
 use std::alloc::Global;
 use std::sync::Wait;
@@ -19,9 +19,9 @@ struct Ends {
 }
 
 impl Ends {
-    fn of(crew: &Crew) -> Ends {
+    fn of(all: &Passes) -> Ends {
         let mut known = [None; RACERS];
-        for (at, pass) in crew.passes.iter().enumerate() {
+        for (at, pass) in all.passes.iter().enumerate() {
             if at < RACERS {
                 known[at] = Some(known_of(pass));
             }
@@ -73,22 +73,22 @@ fn is_left(board: &Board, ends: &Ends, told: &SoFar, setting: Setting) -> bool {
         && is_won_right(board, ends, told, 1)
 }
 
-fn crew_drawn(alloc: Global, setting: Setting) -> Option<Crew> {
+fn passes_drawn(alloc: Global, setting: Setting) -> Option<Passes> {
     let circuit = shared(alloc, setting.two).ok()?;
     let sizes = (setting.passes, setting.limit);
-    crew_of(alloc, circuit, setting.two, sizes, setting.given).ok()
+    passes_of(alloc, circuit, setting.two, sizes, setting.given).ok()
 }
 
 // What passes were told in a race that is drawn by the seed, where all went right.
 fn race<R: Threads + Wait + Sync>(alloc: Global, rt: &R, seed: u64) -> Option<SoFar> {
     let mut draws = Draws::new(seed);
     let setting = Setting::drawn(&mut draws, RACERS as u32);
-    let mut crew = crew_drawn(alloc, setting)?;
+    let mut all = passes_drawn(alloc, setting)?;
     let notes = Notes::new();
-    crew.race(alloc, rt, setting, &notes, seed);
-    let ends = Ends::of(&crew);
+    all.race(alloc, rt, setting, &notes, seed);
+    let ends = Ends::of(&all);
     let told = notes.so_far();
-    if is_left(&closed(crew), &ends, &told, setting) {
+    if is_left(&closed(all), &ends, &told, setting) {
         Some(told)
     } else {
         None

@@ -4,11 +4,11 @@
 ghost use Rattle.std.specs.Prelude.{◌≡◌, ◌<◌, ◌≤◌, length};
 ghost use Rattle.std.specs.Arc.{arc_value};
 ghost use Rattle.wall_ledger.specs.Turns.{AreOf};
-ghost use Rattle.ledger_tests.specs.Crews.{IsOf, MayRace, StaysPass, StayPasses, model, numbers};
+ghost use Rattle.ledger_tests.specs.Passes.{IsOf, MayRace, StaysPass, StayPasses, model, numbers};
 
 use crate::driving::{Draws, Setting};
 use crate::knowing::{Known, Tag, known_of};
-use crate::passing::{Event, Told, turn};
+use crate::passing::{Event, Told, take_turn};
 use circuit::Circuit;
 use std::alloc::Global;
 use std::sync::atomic::{AtomicBool, AtomicU64, Ordering};
@@ -285,7 +285,7 @@ fn act<R: Wait>(race: &Race<'_, R>, pass: &mut Pass, event: Event)
     let was = known_of(pass);
     let number = pass.number();
     let setting = race.setting;
-    match turn(
+    match take_turn(
         race.alloc,
         race.ledger,
         race.rt,

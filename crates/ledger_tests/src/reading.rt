@@ -1,16 +1,16 @@
 //! Two passes of a ledger over the circuit whose latch stays at 0: what they are told, and what they read back. The main type
-//! is `StuckCrew`.
+//! is `StuckPasses`.
 
 ghost use Rattle.std.specs.Prelude.{◌≡◌, ◌<◌, [], true, map, length, IfOk};
 ghost use Rattle.std.specs.Arc.{arc_value};
 ghost use Rattle.aig_semantics.specs.Examples.{stuck};
 ghost use Rattle.wall_ledger.specs.Turns.{AreOf};
 ghost use Rattle.ledger_tests.specs.Boards.{IsStuckLedger};
-ghost use Rattle.ledger_tests.specs.Crews.{numbers, count_up};
+ghost use Rattle.ledger_tests.specs.Passes.{numbers, count_up};
 
 use crate::boards::find;
-use crate::crew::meet_at;
 use crate::finds::{judged, refutation};
+use crate::passes::meet_at;
 use crate::passing::{Event, Told, hand_in, look, open};
 use circuit::Circuit;
 use entry::{Checked, EntryEnd};
@@ -21,7 +21,7 @@ use wall_store::{Board, Outcome, sound_lists_grow};
 
 /// A ledger of that circuit, with two passes.
 #[derive(Drop)]
-pub struct StuckCrew {
+pub struct StuckPasses {
     pub circuit: Arc<Circuit>,
     pub ledger: Ledger,
     pub passes: Vec<Pass>,
@@ -47,11 +47,15 @@ fn begun(
 }
 
 /// A ledger of that circuit with room for so many entries, and its passes.
-pub fn stuck_crew(alloc: Global, circuit: Arc<Circuit>, limit: u32) -> Result<StuckCrew, AllocError>
+pub fn stuck_passes(
+    alloc: Global,
+    circuit: Arc<Circuit>,
+    limit: u32,
+) -> Result<StuckPasses, AllocError>
     requires circuit { arc_value circuit ≡ stuck }
 {
     let (ledger, passes) = begun(alloc, &circuit, limit)?;
-    Ok(StuckCrew {
+    Ok(StuckPasses {
         circuit,
         ledger,
         passes,
@@ -123,7 +127,7 @@ fn finish<R: Wait>(
     }
 }
 
-fn turn<R: Wait>(
+fn take_turn<R: Wait>(
     alloc: Global,
     ledger: &Ledger,
     rt: &R,
@@ -149,7 +153,7 @@ fn turn<R: Wait>(
     }
 }
 
-fn turn_at<R: Wait>(
+fn take_turn_at<R: Wait>(
     alloc: Global,
     ledger: &Ledger,
     rt: &R,
@@ -165,12 +169,12 @@ fn turn_at<R: Wait>(
     ensures own { AreOf ledger.now passes.new.items }
     ensures numbers { numbers passes.new.items ≡ numbers passes.old.items }
 {
-    turn(alloc, ledger, rt, &mut passes[at], shared, event)
+    take_turn(alloc, ledger, rt, &mut passes[at], shared, event)
 }
 
-impl StuckCrew {
+impl StuckPasses {
     /// What the pass with this number is told; nothing where there is none.
-    pub fn turn<R: Wait>(
+    pub fn take_turn<R: Wait>(
         &mut self,
         alloc: Global,
         rt: &R,
@@ -183,7 +187,7 @@ impl StuckCrew {
         if at >= self.passes.len() {
             return Ok(Told::Nothing);
         }
-        turn_at(
+        take_turn_at(
             alloc,
             &self.ledger,
             rt,
@@ -204,7 +208,7 @@ impl StuckCrew {
 }
 
 /// The board at the end.
-pub fn stuck_closed(crew: StuckCrew) -> Board {
-    let StuckCrew { ledger, passes, .. } = crew;
+pub fn stuck_closed(all: StuckPasses) -> Board {
+    let StuckPasses { ledger, passes, .. } = all;
     ledger.close(passes)
 }

@@ -1,10 +1,10 @@
 //! What passes are told and know, event by event, and the board at the end.
 
 use crate::boards::stuck;
-use crate::crew::{Crew, closed, crew_of};
 use crate::driving::{Tally, drive, shared};
+use crate::passes::{Passes, closed, passes_of};
 use crate::passing::{Event, Told};
-use crate::reading::{StuckCrew, stuck_closed, stuck_crew};
+use crate::reading::{StuckPasses, stuck_closed, stuck_passes};
 use entry::{Checked, EntryEnd, Origin};
 use std::alloc::Global;
 use std::sync::{Arc, Wait};
@@ -197,7 +197,7 @@ fn known(pass: &Pass) -> Known {
 }
 
 /// Passes that take turns.
-trait Team {
+trait TakesTurns {
     fn told<R: Wait>(
         &mut self,
         alloc: Global,
@@ -209,7 +209,7 @@ trait Team {
     fn passes(&self) -> &[Pass];
 }
 
-impl Team for Crew {
+impl TakesTurns for Passes {
     fn told<R: Wait>(
         &mut self,
         alloc: Global,
@@ -217,7 +217,7 @@ impl Team for Crew {
         at: usize,
         event: Event,
     ) -> Result<Told, EntryEnd> {
-        self.turn(alloc, rt, at, event)
+        self.take_turn(alloc, rt, at, event)
     }
 
     fn passes(&self) -> &[Pass] {
@@ -225,7 +225,7 @@ impl Team for Crew {
     }
 }
 
-impl Team for StuckCrew {
+impl TakesTurns for StuckPasses {
     fn told<R: Wait>(
         &mut self,
         alloc: Global,
@@ -233,7 +233,7 @@ impl Team for StuckCrew {
         at: usize,
         event: Event,
     ) -> Result<Told, EntryEnd> {
-        self.turn(alloc, rt, at, event)
+        self.take_turn(alloc, rt, at, event)
     }
 
     fn passes(&self) -> &[Pass] {
@@ -241,15 +241,15 @@ impl Team for StuckCrew {
     }
 }
 
-fn row_is<R: Wait, T: Team>(
+fn row_is<R: Wait, T: TakesTurns>(
     alloc: Global,
     rt: &R,
-    team: &mut T,
+    all: &mut T,
     row: &Row,
 ) -> Result<bool, EntryEnd> {
     let (at, event, wanted, then) = row;
-    let told = team.told(alloc, rt, *at, *event)?;
-    Ok(told == *wanted && knows(team.passes(), *at, *then))
+    let told = all.told(alloc, rt, *at, *event)?;
+    Ok(told == *wanted && knows(all.passes(), *at, *then))
 }
 
 fn knows(passes: &[Pass], at: usize, then: Known) -> bool {
@@ -259,14 +259,14 @@ fn knows(passes: &[Pass], at: usize, then: Known) -> bool {
     }
 }
 
-fn rows_are<R: Wait, T: Team>(
+fn rows_are<R: Wait, T: TakesTurns>(
     alloc: Global,
     rt: &R,
-    team: &mut T,
+    all: &mut T,
     rows: &[Row],
 ) -> Result<bool, EntryEnd> {
     for row in rows {
-        if !row_is(alloc, rt, team, row)? {
+        if !row_is(alloc, rt, all, row)? {
             return Ok(false);
         }
     }
@@ -295,9 +295,9 @@ fn is_end(board: &Board, wanted: End) -> bool {
         && first_byte(board.outcome(1)) == bytes[1]
 }
 
-fn crew_at(alloc: Global, start: Start) -> Result<Crew, EntryEnd> {
+fn passes_at(alloc: Global, start: Start) -> Result<Passes, EntryEnd> {
     let (two, numbers, given) = start;
-    crew_of(alloc, shared(alloc, two)?, two, numbers, given)
+    passes_of(alloc, shared(alloc, two)?, two, numbers, given)
 }
 
 // Whether each row of a script is right, and its end.
@@ -308,9 +308,9 @@ fn script_is<R: Wait>(
     rows: &[Row],
     wanted: End,
 ) -> Result<bool, EntryEnd> {
-    let mut crew = crew_at(alloc, start)?;
-    let are_right = rows_are(alloc, rt, &mut crew, rows)?;
-    Ok(are_right && is_end(&closed(crew), wanted))
+    let mut all = passes_at(alloc, start)?;
+    let are_right = rows_are(alloc, rt, &mut all, rows)?;
+    Ok(are_right && is_end(&closed(all), wanted))
 }
 
 // ---- the scripts of an empty list, and of a list with an entry that is given
@@ -380,9 +380,9 @@ fn stuck_is<R: Wait>(
     let Ok(c) = stuck(alloc) else {
         return Ok(false);
     };
-    let mut crew = stuck_crew(alloc, Arc::new(alloc, c)?, limit)?;
-    let are_right = rows_are(alloc, rt, &mut crew, rows)?;
-    Ok(are_right && is_end(&stuck_closed(crew), wanted))
+    let mut all = stuck_passes(alloc, Arc::new(alloc, c)?, limit)?;
+    let are_right = rows_are(alloc, rt, &mut all, rows)?;
+    Ok(are_right && is_end(&stuck_closed(all), wanted))
 }
 
 /// Two passes look and post the same: the second is told so, and each reads back what stands there, by looks and by a

@@ -5,7 +5,7 @@ use Rattle.entry.specs.Entries.{said}
 use Rattle.fair_semantics.specs.Entries.{Entry}
 use Rattle.fair_semantics.specs.Skeletons.{excludes}
 use Rattle.fair_semantics.specs.declared.skeletons.Skeleton.{Skeleton}
-use Rattle.ledger_tests.specs.Crews.{target}
+use Rattle.ledger_tests.specs.Passes.{target}
 use Rattle.ledger_tests.proofs.Modelling.{apart}
 use Rattle.ledger_tests.proofs.finds.checked.Goals as goal
 

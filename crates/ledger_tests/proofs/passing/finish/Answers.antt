@@ -1,5 +1,5 @@
 use Rattle.std.proofs.Common.{rules, ◌∙◌}
-use Rattle.ledger_tests.proofs.Crewing.{true_of}
+use Rattle.ledger_tests.proofs.PassLaws.{true_of}
 use Rattle.ledger_tests.proofs.passing.finish.Goals as goal
 
 pub finish-requires-clause-outcome : goal.finish-requires-clause-outcome

@@ -1,6 +1,6 @@
 use Rattle.std.proofs.Common.{refl, rules}
 use Rattle.std.specs.Arc.{arc_value}
-use Rattle.ledger_tests.proofs.Crewing.{may_post_found}
+use Rattle.ledger_tests.proofs.PassLaws.{may_post_found}
 use Rattle.ledger_tests.proofs.passing.post.Goals as goal
 
 pub hand_in-told-requires-clause-may : goal.hand_in-told-requires-clause-may

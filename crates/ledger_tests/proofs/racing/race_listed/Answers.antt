@@ -1,8 +1,8 @@
 use Rattle.std.proofs.Common.{◌≡◌, ◌++◌, List, length, take, drop, sym, subst, arith}
 use Rattle.wall_ledger.specs.Passes.{PassState}
 use Rattle.wall_ledger.specs.Turns.{AreOf}
-use Rattle.ledger_tests.specs.Crews.{StayPasses, numbers}
-use Rattle.ledger_tests.proofs.Crewing.{stay_own, stay_numbers, written_back}
+use Rattle.ledger_tests.specs.Passes.{StayPasses, numbers}
+use Rattle.ledger_tests.proofs.PassLaws.{stay_own, stay_numbers, written_back}
 use Rattle.ledger_tests.proofs.racing.race_listed.Goals as goal
 
 pub returns-clause-own : goal.returns-clause-own

@@ -1,4 +1,4 @@
-use Rattle.ledger_tests.specs.Crews.{StaysPass}
+use Rattle.ledger_tests.specs.Passes.{StaysPass}
 use Rattle.ledger_tests.proofs.racing.run.Given as goal
 
 abbrev pub invariant-loop-event : goal.invariant-loop-event

@@ -1,4 +1,4 @@
-use Rattle.ledger_tests.proofs.Crewing.{begun_own, begun_numbers}
+use Rattle.ledger_tests.proofs.PassLaws.{begun_own, begun_numbers}
 use Rattle.ledger_tests.proofs.reading.begun.Goals as goal
 
 pub returns-clause-own : goal.returns-clause-own

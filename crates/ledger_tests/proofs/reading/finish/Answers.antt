@@ -1,6 +1,6 @@
 use Rattle.std.proofs.Common.{List, ℕ, rules, refl, sym, ◌∙◌, subst, arith}
 use Rattle.std.specs.List.{Contains}
-use Rattle.ledger_tests.proofs.Crewing.{true_over}
+use Rattle.ledger_tests.proofs.PassLaws.{true_over}
 use Rattle.ledger_tests.proofs.reading.finish.Goals as goal
 
 pub finish-requires-clause-served : goal.finish-requires-clause-served

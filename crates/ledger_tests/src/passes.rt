@@ -3,11 +3,11 @@
 ghost use Rattle.std.specs.Prelude.{◌≡◌, ◌<◌, length, IfOk};
 ghost use Rattle.std.specs.Arc.{arc_value};
 ghost use Rattle.wall_ledger.specs.Turns.{AreOf};
-ghost use Rattle.ledger_tests.specs.Crews.{IsOf, model, numbers, count_up};
+ghost use Rattle.ledger_tests.specs.Passes.{IsOf, model, numbers, count_up};
 
 use crate::driving::Setting;
 use crate::finds::front;
-use crate::passing::{Event, Told, meet, turn};
+use crate::passing::{Event, Told, meet, take_turn};
 use crate::racing::{Notes, Race, race_listed};
 use circuit::Circuit;
 use entry::EntryEnd;
@@ -19,7 +19,7 @@ use wall_store::Board;
 
 /// A ledger of the circuit, with its passes.
 #[derive(Drop)]
-pub struct Crew {
+pub struct Passes {
     pub circuit: Arc<Circuit>,
     pub two: bool,
     pub ledger: Ledger,
@@ -52,17 +52,17 @@ fn begun(
 
 /// A ledger of the circuit with two properties or one, for so many workers, at least one and at most 64, with room for
 /// so many entries, behind one that is given or none.
-pub fn crew_of(
+pub fn passes_of(
     alloc: Global,
     circuit: Arc<Circuit>,
     two: bool,
     sizes: (u32, u32),
     given: bool,
-) -> Result<Crew, EntryEnd>
+) -> Result<Passes, EntryEnd>
     requires circuit { arc_value circuit ≡ model two }
 {
     let (ledger, passes) = begun(alloc, &circuit, two, sizes, given)?;
-    Ok(Crew {
+    Ok(Passes {
         circuit,
         two,
         ledger,
@@ -70,7 +70,7 @@ pub fn crew_of(
     })
 }
 
-fn turn_at<R: Wait>(
+fn take_turn_at<R: Wait>(
     alloc: Global,
     ledger: &Ledger,
     rt: &R,
@@ -87,7 +87,7 @@ fn turn_at<R: Wait>(
     ensures own { AreOf ledger.now passes.new.items }
     ensures numbers { numbers passes.new.items ≡ numbers passes.old.items }
 {
-    turn(alloc, ledger, rt, &mut passes[at], shared, two, event)
+    take_turn(alloc, ledger, rt, &mut passes[at], shared, two, event)
 }
 
 fn meet_of(
@@ -124,9 +124,9 @@ pub fn meet_at(
     meet_of(ledger, front, one, back)
 }
 
-impl Crew {
+impl Passes {
     /// What the pass with this number is told; nothing where there is none.
-    pub fn turn<R: Wait>(
+    pub fn take_turn<R: Wait>(
         &mut self,
         alloc: Global,
         rt: &R,
@@ -139,7 +139,7 @@ impl Crew {
         if at >= self.passes.len() {
             return Ok(Told::Nothing);
         }
-        turn_at(
+        take_turn_at(
             alloc,
             &self.ledger,
             rt,
@@ -185,7 +185,7 @@ impl Crew {
 }
 
 /// The board at the end.
-pub fn closed(crew: Crew) -> Board {
-    let Crew { ledger, passes, .. } = crew;
+pub fn closed(all: Passes) -> Board {
+    let Passes { ledger, passes, .. } = all;
     ledger.close(passes)
 }

@@ -1,5 +1,5 @@
-use Rattle.ledger_tests.proofs.Crewing.{begun_own, begun_numbers}
-use Rattle.ledger_tests.proofs.crew.begun.Goals as goal
+use Rattle.ledger_tests.proofs.PassLaws.{begun_own, begun_numbers}
+use Rattle.ledger_tests.proofs.passes.begun.Goals as goal
 
 pub returns-clause-own : goal.returns-clause-own
 returns-clause-own c = begun_own c.in_ok-new.ensures

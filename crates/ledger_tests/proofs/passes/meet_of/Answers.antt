@@ -1,5 +1,5 @@
-use Rattle.ledger_tests.proofs.Crewing.{set_numbers}
-use Rattle.ledger_tests.proofs.crew.meet_of.Goals as goal
+use Rattle.ledger_tests.proofs.PassLaws.{set_numbers}
+use Rattle.ledger_tests.proofs.passes.meet_of.Goals as goal
 
 pub returns-clause-front : goal.returns-clause-front
 returns-clause-front c =

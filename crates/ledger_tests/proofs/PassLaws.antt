@@ -18,7 +18,7 @@ use Rattle.wall_store.specs.declared.outcomes.Outcome.TheVariants.{Holds}
 use Rattle.wall_store.specs.Boards.{FromWorker, Allow, plain, IsTrueOf}
 use Rattle.wall_ledger.specs.Passes.{PassState, LedgerState, MayPassPost, IsPassPost, new_pass, new_passes}
 use Rattle.wall_ledger.specs.Turns.{AreAll, AreOf, IsBegun}
-use Rattle.ledger_tests.specs.Crews.{model, properties, target, IsFindOf, IsOf, StayPasses, numbers, count_up}
+use Rattle.ledger_tests.specs.Passes.{model, properties, target, IsFindOf, IsOf, StayPasses, numbers, count_up}
 use Rattle.ledger_tests.proofs.Modelling.{is_skeleton}
 
 pub of_served : (two : Bool) (k : ℕ) → Any (λ (j : ℕ). IsSkeleton (model two) j (target k)) (properties two)
