@@ -1,7 +1,14 @@
 //! Clauses of public calls, said again as clauses of this crate's own: where such a call comes to say less, the function
 //! here that makes it is not proved.
 ghost use Rattle.std.specs.Prelude.{◌≡◌, Ok, Err, length, ◌↔◌, ◌<◌, None, IfOk, List, ℕ, Some, Result, take};
-ghost use Rattle.entry.specs.Listing.{entries_of};
+ghost use Rattle.std.specs.Prelude.{◌≤◌, [], ◌∷◌, ◌++◌, OnOk, OnErr, drop, false, map, true};
+ghost use Rattle.edge.specs.Faults.{NoneFell, Rose};
+ghost use Rattle.edge.specs.Reads.{KeepsTexts, Reads};
+ghost use Rattle.answer_lines.specs.Left.{most_bytes};
+ghost use Rattle.stimulus.specs.Texts.{kept_lines};
+ghost use Rattle.entry.specs.CheckedEntries.{checked_in, viewed, GoesOnFrom};
+ghost use Rattle.entry.specs.LatchTables.{number_in};
+ghost use Rattle.entry.specs.Listing.{entries_of, numbered_of};
 ghost use Rattle.entry.specs.Faults.{first_bad_use, first_baseless, first_fault};
 ghost use Rattle.entry.specs.Proved.{IsProved, IsGoodRefutation};
 ghost use Rattle.unless_memory.specs.Answers.{GivesExactlyWhere};
@@ -9,8 +16,15 @@ ghost use Rattle.cnf_unroll.specs.Laws.{AreOver};
 ghost use Rattle.entry.specs.Entries.{said, verdict};
 ghost use Rattle.entry.specs.Answers.{Tells};
 ghost use Rattle.entry.specs.Refutations.{first_refutation_fault};
-ghost use Rattle.certificate.specs.Ends.{DecidesEnd, CheckSays, EndsWith};
+ghost use Rattle.certificate.specs.Answers.{Shows};
+ghost use Rattle.certificate.specs.Ends.{DecidesEnd, CheckSays, EndsWith, has_unread};
 ghost use Rattle.certificate.specs.Lassos.{KeepsLasso, UnlessStimulus};
+ghost use Rattle.certificate.specs.Loading.{IsHeldOf, accepted_of, accepted_in};
+ghost use Rattle.certificate.specs.Reading.{opens_sheet};
+ghost use Rattle.certificate.specs.Writing.{listed, written_entry, certificate_of};
+ghost use Rattle.certificate_texts.specs.Adding.{Adds};
+ghost use Rattle.certificate_texts.specs.Certificates.{entry_lines};
+ghost use Rattle.certificate_texts.specs.Writing.{certificate_text};
 ghost use Rattle.sheet_answers.specs.Sheets.{IsSheetWith, ShowsSheet};
 ghost use Rattle.sheet_commands.specs.Boards.{IsSheetOf};
 ghost use Rattle.aig_semantics.specs.Stimuli.{IsFairLassoOf, StandsFor};
@@ -18,15 +32,19 @@ ghost use Rattle.lasso_join.specs.Prefixes.{stimulus_of};
 ghost use Rattle.sheet_commands.specs.Blocks.{DecidesBlock, BlockSays, EndsBlock};
 
 use aig_semantics::Lasso;
-use certificate::{Accepted, AnswerEnd};
+use certificate::{Accepted, AnswerEnd, KeptLines, Loaded};
 use circuit::Circuit;
 use cnf::Clause;
 use edge::Shelf;
-use entry::{Entry, EntryEnd, Listed, Refutation, RefutationFault, User};
+use entry::{
+    Checked, Entry, EntryEnd, LatchNumbers, Listed, Refutation, RefutationFault, UsedEntry, User,
+};
 use fair_semantics::{Kind, Use};
+use items::Items;
 use sheet_answers::JudgeEnd;
 use sheet_commands::{BlockLasso, BoardSheet};
 use std::alloc::{AllocError, Global};
+use std::sync::Arc;
 use wall_store::Board;
 
 /// Which of a line of uses may not stand where it does.
@@ -68,7 +86,126 @@ fn refutation_fault(
     entry::refutation_fault(alloc, c, list, j, r)
 }
 
-/// Exactly the good answers are accepted, and a refused one leaves what was kept.
+/// The entries that a checked one uses, with their numbers.
+fn used_by(checked: &Checked) -> &[UsedEntry]
+    ensures { map numbered_of result.now ≡ checked.now.used }
+{
+    checked.used()
+}
+
+/// How many entries stood in the view behind which it was checked.
+fn seen_by(checked: &Checked) -> usize
+    ensures { result ≡ checked.now.seen }
+{
+    checked.seen()
+}
+
+/// The number of the latch with a variable.
+fn number_of(numbers: &LatchNumbers, variable: u64) -> Option<u64>
+    ensures { result ≡ number_in numbers.now variable }
+{
+    numbers.number(variable)
+}
+
+/// Handles of the same checked entries.
+fn shared(alloc: Global, view: &[Arc<Checked>]) -> Result<Items<Arc<Checked>>, AllocError>
+    ensures checked { IfOk result (λ copy. checked_in copy ≡ checked_in view.now) }
+    ensures viewed { IfOk result (λ copy. viewed copy ≡ viewed view.now) }
+{
+    entry::share(alloc, view)
+}
+
+/// What a view has more is taken in, and what was seen stays.
+fn caught_up(
+    alloc: Global,
+    seen: &mut Items<Arc<Checked>>,
+    view: &[Arc<Checked>],
+) -> Result<(), AllocError>
+    requires { GoesOnFrom (viewed seen.old) (viewed view.now) }
+    ensures checked { OnOk result (checked_in seen.new ≡ checked_in seen.old ++ drop (length seen.old) (checked_in view.now)) }
+    ensures seen { OnOk result (viewed seen.new ≡ viewed view.now) }
+    ensures kept { OnErr result (seen.new ≡ seen.old) }
+{
+    entry::catch_up(alloc, seen, view)
+}
+
+/// A line is kept where lines are, and want of memory changes nothing.
+fn line_kept(all: &mut KeptLines, alloc: Global, line: &[u8]) -> Result<(), AllocError>
+    ensures keeps { all.new.keeps ≡ all.old.keeps }
+    ensures lines { OnOk result (all.old.keeps ≡ true → all.new.lines ≡ all.old.lines ++ kept_lines (line.now ∷ [])) }
+    ensures none { all.old.keeps ≡ false → all.new.lines ≡ all.old.lines }
+    ensures err { OnErr result (all.new.lines ≡ all.old.lines) }
+{
+    all.keep(alloc, line)
+}
+
+/// The lines of an entry come at the end of a text.
+fn entry_added(alloc: Global, text: &mut Vec<u8>, e: &Checked) -> Result<(), AllocError>
+    ensures { OnOk result (Adds text.old.items text.new.items (entry_lines (written_entry e.now))) }
+{
+    certificate::add_entry(alloc, text, e)
+}
+
+/// An answer with a certificate, within the limit on the length of an answer.
+fn certificate_written(
+    alloc: Global,
+    j: u32,
+    list: &[Arc<Checked>],
+    refutation: &Refutation,
+) -> Result<Vec<u8>, AllocError>
+    ensures text { IfOk result (λ text. text.items ≡ certificate_text j (certificate_of (listed list.now) refutation.now)) }
+    ensures within { IfOk result (λ text. length text.items ≤ most_bytes) }
+{
+    certificate::write(alloc, j, list, refutation)
+}
+
+/// Whether a line is the first of a sheet.
+fn opens_sheet(line: &[u8]) -> bool
+    ensures { result ≡ opens_sheet line.now }
+{
+    certificate::opens_sheet(line)
+}
+
+/// Exactly the good answers are accepted, what is accepted is true, and nothing but the answer is read.
+fn answer_checked<H: Shelf>(
+    alloc: Global,
+    circuit: &Circuit,
+    shelf: &mut H,
+    name: &str,
+) -> Result<Accepted, AnswerEnd>
+    ensures found { CheckSays circuit.now (H.held shelf.old name.now) result }
+    ensures exactly { (text : List ℕ) (verdict : Result Accepted AnswerEnd) → H.held shelf.old name.now ≡ Some text
+        → DecidesEnd circuit.now text verdict → EndsWith result verdict }
+    ensures shown { IfOk result (Shows circuit.now) }
+    ensures read { result ≡ Err AnswerEnd.ReadFault → Rose (H.faults shelf.old name.now) (H.faults shelf.new name.now) }
+    ensures reads { Reads H.reads name.now (has_unread result) shelf.old shelf.new }
+    ensures counts { NoneFell (H.faults shelf.old) (H.faults shelf.new) }
+    ensures kept { KeepsTexts (H.held shelf.old) (H.held shelf.new) }
+{
+    certificate::check_answer(alloc, circuit, shelf, name)
+}
+
+/// So where the answer is held, which is what stands there.
+fn answer_loaded<H: Shelf>(
+    alloc: Global,
+    circuit: &Circuit,
+    shelf: &mut H,
+    name: &str,
+) -> Result<Loaded, AnswerEnd>
+    ensures found { CheckSays circuit.now (H.held shelf.old name.now) (accepted_in result) }
+    ensures exactly { (text : List ℕ) (verdict : Result Accepted AnswerEnd) → H.held shelf.old name.now ≡ Some text
+        → DecidesEnd circuit.now text verdict → EndsWith (accepted_in result) verdict }
+    ensures held { IfOk result (IsHeldOf circuit.now (H.held shelf.old name.now)) }
+    ensures shown { IfOk result (λ loaded. Shows circuit.now (accepted_of loaded)) }
+    ensures read { result ≡ Err AnswerEnd.ReadFault → Rose (H.faults shelf.old name.now) (H.faults shelf.new name.now) }
+    ensures reads { Reads H.reads name.now (has_unread result) shelf.old shelf.new }
+    ensures counts { NoneFell (H.faults shelf.old) (H.faults shelf.new) }
+    ensures kept { KeepsTexts (H.held shelf.old) (H.held shelf.new) }
+{
+    certificate::load(alloc, circuit, shelf, name)
+}
+
+/// So where the lasso of an accepted stimulus is kept; a refused answer leaves what was kept.
 fn kept_lasso<H: Shelf>(
     alloc: Global,
     circuit: &Circuit,
