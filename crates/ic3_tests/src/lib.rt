@@ -24,6 +24,8 @@ mod invariants;
 #[cfg(test)]
 mod limits;
 #[cfg(test)]
+mod promised;
+#[cfg(test)]
 mod searching;
 #[cfg(test)]
 mod states;
