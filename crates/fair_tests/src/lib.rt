@@ -20,6 +20,8 @@ mod failing;
 #[cfg(test)]
 mod generated;
 #[cfg(test)]
+mod promised;
+#[cfg(test)]
 mod resuming;
 #[cfg(test)]
 mod runs;
