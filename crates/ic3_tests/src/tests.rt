@@ -32,8 +32,8 @@ type Row = (&'static str, &'static str, To<'static>, u64, u64, Wanted);
 
 const NO_LIMIT: u64 = 4_294_967_295;
 
-// The row with a number; the last one is for all from 21 on.
-fn row(number: u8) -> Row {
+// The rows with numbers up to 10, of circuits with one latch.
+fn row_of_one(number: u8) -> Row {
     match number {
         0 => (TURNS, "", To::State("1"), 99, 99, Wanted::Path(&["0"])),
         1 => (TURNS, "", To::State("0"), 99, 99, Wanted::Path(&[])),
@@ -59,7 +59,13 @@ fn row(number: u8) -> Row {
         7 => (STAYS, "1", To::State("0"), 99, 99, Wanted::Closed),
         8 => (STAYS, "", To::Literal(2), 99, 99, Wanted::Closed),
         9 => (RISES, "1", To::State("0"), 99, 99, Wanted::Closed),
-        10 => (RISES, "", To::State("1"), 99, 99, Wanted::Path(&["0"])),
+        _ => (RISES, "", To::State("1"), 99, 99, Wanted::Path(&["0"])),
+    }
+}
+
+// Those from 11 on, of two latches or three; the last one is for all from 21 on.
+fn row_of_more(number: u8) -> Row {
+    match number {
         11 => (
             COUNTS,
             "",
@@ -92,6 +98,14 @@ fn row(number: u8) -> Row {
         19 => (STAY, "101", To::State("011"), 99, 99, Wanted::ClosedOf(1)),
         20 => (STAY, "101", To::State("111"), 99, 0, Wanted::ClosedOf(1)),
         _ => (STAY, "", To::Literal(6), 99, 99, Wanted::ClosedOf(1)),
+    }
+}
+
+fn row(number: u8) -> Row {
+    if number < 11 {
+        row_of_one(number)
+    } else {
+        row_of_more(number)
     }
 }
 
