@@ -11,13 +11,14 @@ ghost use Rattle.unless_memory.specs.Answers.{Gives, GivesExactlyWhere, GivesOne
 ghost use Rattle.aig_semantics.specs.Valuations.{valuation};
 ghost use Rattle.aig_semantics.specs.Literals.{literal_in};
 ghost use Rattle.aig_semantics.specs.Stimuli.{IsFairLassoOf, HasLasso, StandsFor};
-ghost use Rattle.aig_semantics.specs.Runs.{IsPosition};
+ghost use Rattle.aig_semantics.specs.Runs.{IsInitial, IsPosition};
 ghost use Rattle.aig_semantics.specs.declared.traces.Stimulus.{Stimulus as StimulusOf};
 ghost use Rattle.circuit.specs.Rounds.{IsMostRounds};
 ghost use Rattle.stimulus.specs.declared.ends.ReplayFault.{ReplayFault};
 ghost use Rattle.stimulus.specs.declared.ends.ReplayFault.TheVariants.{Shape};
 ghost use Rattle.stimulus.specs.Faults.{HasReplayFault};
 ghost use Rattle.stimulus.specs.Texts.{answer_text, IsTextOf, IsReadAgain, IsShape};
+ghost use Rattle.ternary.specs.Lanes.{in_lane};
 ghost use Rattle.ternary.specs.Simulation.{simulation};
 ghost use Rattle.ternary.specs.Values.{IsCompletion};
 ghost use Rattle.lasso_join.specs.Fitting.{IsStemTo};
@@ -38,7 +39,7 @@ use fair_semantics::{Situation, Use};
 use simulation::Simulated;
 use std::alloc::{AllocError, Global};
 use stimulus::{ReplayEnd, Stimulus};
-use ternary::Value3;
+use ternary::{Lanes, Value3};
 
 /// Of faulty parts the fault is told: a second definition, none, and a cycle, each exactly where it is.
 fn checked(alloc: Global, parts: &Parts) -> Result<Circuit, ModelEnd>
@@ -75,6 +76,13 @@ fn followed(c: &Circuit, values: &[bool], out: &mut [bool])
     ensures { out.new ≡ map (λ latch. literal_in values.now latch.next) c.now.latches }
 {
     circuit::next_into(c, values, out)
+}
+
+/// A state is initial exactly where each latch has a value that its reset allows.
+fn is_initial(c: &Circuit, latches: &[bool]) -> bool
+    ensures { IsTrue result ↔ IsInitial c.now latches.now }
+{
+    circuit::is_initial(c, latches)
 }
 
 /// A lasso is fair exactly where it closes and meets each literal.
@@ -117,6 +125,16 @@ fn simulated(c: &Circuit, latches: &[Value3], inputs: &[Value3], out: &mut [Valu
         → IsCompletion inputs.now input_values → IsCompletion out.new (valuation c.now state input_values) }
 {
     ternary::eval3_into(c, latches, inputs, out)
+}
+
+/// So in each of 64 lanes.
+fn simulated_lanes(c: &Circuit, latches: &[Lanes], inputs: &[Lanes], out: &mut [Lanes])
+    requires latches { length latches.now ≡ length c.now.latches }
+    requires inputs { length inputs.now ≡ length c.now.inputs }
+    requires out { length out.old ≡ c.now.max + 1 }
+    ensures { (k : ℕ) → k < 64 → in_lane k out.new ≡ simulation c.now (in_lane k latches.now) (in_lane k inputs.now) }
+{
+    ternary::eval3_lanes(c, latches, inputs, out)
 }
 
 /// A lasso that a drawn run shows is fair, and needs all its positions.

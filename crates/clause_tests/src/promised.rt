@@ -1,9 +1,10 @@
 //! Clauses of public calls, said again as clauses of this crate's own: where such a call comes to say less, the function
 //! here that makes it is not proved.
 ghost use Rattle.std.specs.Prelude.{◌≡◌, ℕ, List, OnOk, OnErr, Some, ◌≤◌, ◌++◌, take, length, IsTrue};
-ghost use Rattle.std.specs.Prelude.{◌↔◌, ◌<◌, ◌&&◌, [], Bool, true};
+ghost use Rattle.std.specs.Prelude.{◌↔◌, ◌<◌, ◌&&◌, [], Bool, true, IfOk, IsOk, vec_capacity};
 ghost use Rattle.std.specs.Int.Bits.{bit_or};
 ghost use Rattle.cdcl_trail.specs.Trails.{reason_of};
+ghost use Rattle.cdcl_trail.specs.Watched.{IsWatchable, IsWatchedAt};
 ghost use Rattle.ic3_frames.specs.Frames.{frame_at, with_lemma};
 ghost use Rattle.ic3_frames.specs.Signatures.{signature_of};
 ghost use Rattle.proof_semantics.specs.Clauses.{IsImplied, IsUnsatisfiable, clause_value, clauses_value, is_part};
@@ -16,7 +17,7 @@ use cdcl_trail::Trail;
 use cnf::{Clause, Cube, Db, Lit, Var};
 use ic3_frames::Frames;
 use lrat::{Checker, LratEnd};
-use std::alloc::AllocError;
+use std::alloc::{AllocError, Global};
 
 /// A line is accepted exactly where its definition says so, and what is added is implied.
 fn judged(checker: &mut Checker, line: &[u8]) -> Result<(), LratEnd>
@@ -46,6 +47,29 @@ fn is_refuted(checker: &Checker) -> bool
     checker.proved_empty()
 }
 
+/// A cube of up to four literals takes no memory.
+fn cube_of(alloc: Global, literals: &[Lit]) -> Result<Cube, AllocError>
+    ensures literals { IfOk result (λ cube. cube ≡ literals.now) }
+    ensures small { length literals.now ≤ 4 → IsOk result }
+{
+    Cube::from_slice(alloc, literals)
+}
+
+/// A list of clauses keeps them and their room.
+fn list_of(clauses: Vec<Clause>) -> Db
+    ensures clauses { result.clauses ≡ clauses.items }
+    ensures room { result.room ≡ vec_capacity clauses }
+{
+    Db::from_vec(clauses)
+}
+
+/// Whether each literal of a clause is one of another.
+fn is_part(part: &Clause, whole: &Clause) -> bool
+    ensures { result ≡ is_part part.now whole.now }
+{
+    cnf::subset(part, whole)
+}
+
 /// A cube is empty exactly where it has no literal.
 fn is_empty_cube(cube: &Cube) -> bool
     ensures { IsTrue result ↔ (cube.now ≡ []) }
@@ -65,6 +89,14 @@ fn reason_of(trail: &Trail, var: Var) -> Option<u64>
     ensures { result ≡ reason_of trail.now.steps var }
 {
     trail.reason(var)
+}
+
+/// The two watched literals of a clause.
+fn watched(trail: &Trail, number: u64) -> (Lit, Lit)
+    requires { IsWatchable trail.now number }
+    ensures { IsWatchedAt trail.now number result.0 result.1 }
+{
+    trail.watched(number)
 }
 
 /// A lemma comes into the frame of its level and those below, and an error changes nothing.

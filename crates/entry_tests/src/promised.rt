@@ -1,11 +1,12 @@
 //! Clauses of public calls, said again as clauses of this crate's own: where such a call comes to say less, the function
 //! here that makes it is not proved.
 ghost use Rattle.std.specs.Prelude.{◌≡◌, Ok, Err, length, ◌↔◌, ◌<◌, None, IfOk, List, ℕ, Some, Result, take};
-ghost use Rattle.std.specs.Prelude.{◌≤◌, [], ◌∷◌, ◌++◌, OnOk, OnErr, drop, false, map, true};
+ghost use Rattle.std.specs.Prelude.{◌≤◌, [], ◌∷◌, ◌++◌, OnOk, OnErr, drop, false, map, true, All};
 ghost use Rattle.edge.specs.Faults.{NoneFell, Rose};
 ghost use Rattle.edge.specs.Reads.{KeepsTexts, Reads};
 ghost use Rattle.answer_lines.specs.Left.{most_bytes};
 ghost use Rattle.stimulus.specs.Texts.{kept_lines};
+ghost use Rattle.entry.specs.Clauses.{clause_of};
 ghost use Rattle.entry.specs.CheckedEntries.{checked_in, viewed, GoesOnFrom};
 ghost use Rattle.entry.specs.LatchTables.{number_in};
 ghost use Rattle.entry.specs.Listing.{entries_of, numbered_of};
@@ -52,6 +53,14 @@ fn first_bad_use(user: User, list: &[Listed], uses: &[Use]) -> Option<u64>
     ensures { result ≡ first_bad_use user (entries_of list.now) uses.now }
 {
     entry::first_bad_use(user, list, uses)
+}
+
+/// A clause is over the numbers of latches, and a literal of none is told.
+fn clause_of(alloc: Global, c: &Circuit, literals: &[u64]) -> Result<Clause, EntryEnd>
+    ensures clause { Tells result (clause_of c.now literals.now) }
+    ensures over { IfOk result (λ clause. All (λ l. l.var < length c.now.latches) clause) }
+{
+    entry::clause_from_aiger(alloc, c, literals)
 }
 
 /// Which clause of a reach entry has no literal of the initial cube.

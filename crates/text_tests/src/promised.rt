@@ -2,7 +2,7 @@
 //! here that makes it is not proved.
 ghost use Rattle.std.specs.Prelude.{◌≡◌, Ok, Err, IfOk, ◌↔◌, IsTrue, ◌-◌, [], ◌++◌, IsErrOf};
 ghost use Rattle.std.specs.Prelude.{IsFalse, ◌≤◌, length, ◌<◌, take, OnErr, Some, IsErr, IfErr, OnOk};
-ghost use Rattle.std.specs.Prelude.{ℕ, List, ◌+◌, ◌^◌, drop, vec_len};
+ghost use Rattle.std.specs.Prelude.{ℕ, List, ◌+◌, ◌^◌, drop, is_err, vec_len};
 ghost use Rattle.unless_memory.specs.Answers.{Gives, GivesSome, GivesExactlyWhere};
 ghost use Rattle.proof_semantics.specs.Clauses.{clauses_value, values_of};
 ghost use Rattle.circuit.specs.declared.faults.ModelFault.{ModelFault as FaultOf};
@@ -22,7 +22,7 @@ ghost use Rattle.answer_lines.specs.Left.{left_of, given_line, most_bytes, IsToo
 ghost use Rattle.edge.specs.Faults.{HasCause, NoneFell, Rose, one_more};
 ghost use Rattle.edge.specs.InMemory.{named_texts, text_of};
 ghost use Rattle.edge.specs.Reads.{GivesBytes, KeepsTexts, Reads, Within, has_failed};
-ghost use Rattle.edge.specs.Writes.{Adds};
+ghost use Rattle.edge.specs.Writes.{Adds, AddsPart, Writes};
 ghost use Rattle.edge.specs.Units.{SpentConflict, SpentLemma, SpentFrame};
 ghost use Rattle.edge.specs.declared.metering.Counted.TheVariants.{Conflicts, Steps};
 
@@ -33,6 +33,7 @@ use circuit::{Circuit, ModelEnd};
 use cnf::{Clause, Db};
 use edge::{
     Failed, FileShelf, Held, MemShelf, MemSink, Meter, ReadEnd, Shelf, Sink, Spending, Spent,
+    StdSink,
 };
 use std::alloc::{AllocError, Global};
 use std::rt::Files;
@@ -225,6 +226,23 @@ fn write_once<O: Sink>(sink: &mut O, piece: &[u8]) -> Result<usize, Failed>
     sink.write(piece)
 }
 
+/// All bytes are written, or a front of them where a write failed, which is the last.
+fn all_written<O: Sink>(sink: &mut O, bytes: &[u8]) -> Result<(), Failed>
+    ensures all { OnOk result (Adds (O.taken sink.old) (O.taken sink.new) bytes.now) }
+    ensures part { OnErr result (AddsPart (O.taken sink.old) (O.taken sink.new) bytes.now) }
+    ensures cause { HasCause (O.faults sink.old) (O.faults sink.new) result }
+    ensures writes { Writes O.writes (is_err result) sink.old sink.new }
+{
+    edge::write_all(sink, bytes)
+}
+
+/// Standard output has counted no fault at first.
+fn stream_of<P: Print>(out: P) -> StdSink<P>
+    ensures { result ≡ 0 }
+{
+    StdSink::new(out)
+}
+
 /// A conflict is refused exactly at the limit, and else counted.
 fn count_conflict(meter: &mut Meter, held: &Db, learned: &Clause) -> Result<(), Spent>
     requires { SpentConflict held.now.clauses learned.now }
@@ -270,7 +288,13 @@ fn is_allowed<F: Held>(held: &F, state: &[bool]) -> bool
     held.allows(state)
 }
 
-/// What was counted tells its limit on steps.
+/// What was counted tells its limits.
+fn conflict_limit_of(spending: &Spending) -> Option<u64>
+    ensures { result ≡ spending.now.conflict_limit }
+{
+    spending.conflict_limit()
+}
+
 fn step_limit_of(spending: &Spending) -> Option<u64>
     ensures { result ≡ spending.now.step_limit }
 {
