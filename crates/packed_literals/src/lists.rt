@@ -4,7 +4,7 @@ ghost use Rattle.proof_semantics.specs.Clauses.{lit_eq};
 ghost use Rattle.proof_semantics.specs.declared.literals.Lit.{Lit};
 ghost use Rattle.packed_literals.specs.Lists.{IsWithout, list_at, list_for};
 
-use packed_literals::Packed;
+use crate::packed::Packed;
 use std::alloc::{AllocError, Global};
 
 /// The last place that a clause may have: it is kept in four bytes.
