@@ -20,8 +20,8 @@ use crate::aim::Aim;
 use crate::generalizing::generalize;
 use crate::lifting::lift_step;
 use crate::obligations::{
-    Consecution, Lifted, Node, Obligation, Obligations, Way, cube_at, put_due, put_node, state_at,
-    take_next,
+    Consecution, Lifted, Node, Obligation, Obligations, Top, Way, cube_at, put_due, put_node,
+    state_at, take_next,
 };
 use crate::replaying::way_of;
 use crate::step_solver::StepSolver;
