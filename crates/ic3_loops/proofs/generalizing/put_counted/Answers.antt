@@ -10,12 +10,12 @@ small a n is below = subst (λ m. m < 2 ^ 64) is below
 
 pub returns-in_err-put_lemma-clause-counted : goal.returns-in_err-put_lemma-clause-counted
 returns-in_err-put_lemma-clause-counted g c =
-    one_step c.args.meter.now c.lemma-2.new.self (small c.args.meter.now.steps c.steps_of-small.result c.steps_of-small.ensures.value c.steps_of-small.ensures.small)
+    one_step c.args.meter.now c.lemma.new.self (small c.args.meter.now.steps c.steps_of-small.result c.steps_of-small.ensures.value c.steps_of-small.ensures.small)
     c.in_ok-lemma.ensures.counted
 
 pub returns-clause-counted : goal.returns-clause-counted
 returns-clause-counted g c =
-    one_step c.args.meter.now c.lemma-2.new.self (small c.args.meter.now.steps c.steps_of-small.result c.steps_of-small.ensures.value c.steps_of-small.ensures.small)
+    one_step c.args.meter.now c.lemma.new.self (small c.args.meter.now.steps c.steps_of-small.result c.steps_of-small.ensures.value c.steps_of-small.ensures.small)
     c.in_ok-lemma.ensures.counted
 
 pub returns-clause-number : goal.returns-clause-number
