@@ -32,11 +32,11 @@ module _ (c : Circuit) (j : ℕ) (checked : IsChecked c) (limits : IsWithinLimit
   abbrev added_gates : List ℕ
   added_gates = map (λ gate. gate.var) (new_gates z c.latches (fair_literals c j))
 
-  top-is : greatest z ≡ c.max + added z
+  pub top-is : greatest z ≡ c.max + added z
   top-is = omega arith
 
   -- the new variables, section by section, are those behind the circuit's in their order
-  vars : (save z ∷ []) ++ added_latches ++ added_gates ≡ range_with_len (c.max + 1) (added z)
+  pub vars : (save z ∷ []) ++ added_latches ++ added_gates ≡ range_with_len (c.max + 1) (added z)
   vars =
       let one : List ℕ = range_with_len (c.max + 1) 1 in
       let a : c.max + 2 ≡ c.max + 1 + 1 = omega arith in
@@ -49,12 +49,12 @@ module _ (c : Circuit) (j : ℕ) (checked : IsChecked c) (limits : IsWithinLimit
       ∙ range_append (c.max + 1) (1 + (1 + z.latches + z.literals)) (2 + 7 * z.latches + 3 * z.literals)
       ∙ ap (range_with_len (c.max + 1)) d
 
-  gates-read : All (ReadsBefore c.max c) (new_gates z c.latches (fair_literals c j))
+  pub gates-read : All (ReadsBefore c.max c) (new_gates z c.latches (fair_literals c j))
   gates-read =
       new_gates_read z c c.latches (fair_literals c j) refl refl (own_latches_read c checked)
       (fair_all (IsOwn c) c j property (own_read c checked limits))
 
-  latches-read : All (λ latch. IsBefore c.max c (greatest z + 1) latch.next) (new_latches z)
+  pub latches-read : All (λ latch. IsBefore c.max c (greatest z + 1) latch.next) (new_latches z)
   latches-read = new_latches_read z c
 
   -- what the circuit gets more
