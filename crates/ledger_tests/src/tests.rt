@@ -46,10 +46,6 @@ const BOTH_POST: [Row; 6] = [
     (1, Event::Look, Told::Seen(1), (1, 6, 3, NONE)),
 ];
 
-fn both_post() -> &'static [Row] {
-    &BOTH_POST
-}
-
 // A pass that has seen an entry by a meeting finishes with it, and the other comes too late.
 const MEET: [Row; 6] = [
     (0, Event::Look, Told::Seen(0), (0, 1, 1, NONE)),
@@ -70,18 +66,10 @@ const MEET: [Row; 6] = [
     ),
 ];
 
-fn meet() -> &'static [Row] {
-    &MEET
-}
-
 const NO_ROOM: [Row; 2] = [
     (0, Event::Look, Told::Seen(0), (0, 1, 1, NONE)),
     (0, Event::Post(0), FULL, (0, 2, 2, NONE)),
 ];
-
-fn no_room() -> &'static [Row] {
-    &NO_ROOM
-}
 
 // Own entries and those of others are read back by a look.
 const READ_BACK: [Row; 5] = [
@@ -336,17 +324,17 @@ fn script_is<R: Wait>(
 
 fn both_post_is<R: Wait>(alloc: Global, rt: &R) -> Result<bool, EntryEnd> {
     let end = (1, Some(0), [None, None]);
-    script_is(alloc, rt, (false, (2, 2), false), both_post(), end)
+    script_is(alloc, rt, (false, (2, 2), false), &BOTH_POST, end)
 }
 
 fn meet_is<R: Wait>(alloc: Global, rt: &R) -> Result<bool, EntryEnd> {
     let end = (1, Some(0), [Some(b'2'), None]);
-    script_is(alloc, rt, (false, (2, 2), false), meet(), end)
+    script_is(alloc, rt, (false, (2, 2), false), &MEET, end)
 }
 
 fn no_room_is<R: Wait>(alloc: Global, rt: &R) -> Result<bool, EntryEnd> {
     let end = (0, None, [None, None]);
-    script_is(alloc, rt, (false, (2, 0), false), no_room(), end)
+    script_is(alloc, rt, (false, (2, 0), false), &NO_ROOM, end)
 }
 
 fn read_back_is<R: Wait>(alloc: Global, rt: &R) -> Result<bool, EntryEnd> {
@@ -425,9 +413,9 @@ fn stuck_is<R: Wait>(
 fn first_wrong_stuck<R: Wait>(alloc: Global, rt: &R) -> Result<Option<usize>, EntryEnd> {
     let met = (1, Some(0), [Some(b'7'), None]);
     Ok(first_wrong(&[
-        stuck_is(alloc, rt, 2, both_post(), (1, Some(0), [None, None]))?,
-        stuck_is(alloc, rt, 2, meet(), met)?,
-        stuck_is(alloc, rt, 0, no_room(), (0, None, [None, None]))?,
+        stuck_is(alloc, rt, 2, &BOTH_POST, (1, Some(0), [None, None]))?,
+        stuck_is(alloc, rt, 2, &MEET, met)?,
+        stuck_is(alloc, rt, 0, &NO_ROOM, (0, None, [None, None]))?,
     ]))
 }
 
